@@ -1,0 +1,97 @@
+//! Why a text is no version.
+
+ghost use Rattle.std.specs.Prelude.{◌≡◌};
+ghost use Rattle.deb_version.specs.Syntax.{name_of};
+ghost use Rattle.deb_version.specs.declared.fault.VersionFault.TheVariants.{Memory};
+
+use std::alloc::{AllocError, AllocFailed};
+use std::error::Error;
+use std::fmt;
+
+/// What is wrong with the text of a version: the first fault in the order of the checks
+/// (`Empty`, `TooLong`, the epoch, the upstream version, the revision). A place is the
+/// byte offset of the first bad byte, counted from 0 at the start of the whole text.
+/// Source: Debian Policy 5.6.12; the two limits are this project's own.
+#[derive(Clone, Copy, PartialEq, Eq, Debug)]
+pub enum VersionFault {
+    /// There is no text.
+    Empty,
+    /// Nothing stands before the first colon.
+    EpochEmpty,
+    /// A character other than a digit stands before the first colon.
+    EpochNotNumber,
+    /// The epoch is above 2147483647.
+    EpochTooLarge,
+    /// Nothing stands between the epoch and the revision.
+    UpstreamEmpty,
+    /// The byte at this place may not stand in an upstream version.
+    UpstreamBad(usize),
+    /// Nothing follows the last hyphen.
+    RevisionEmpty,
+    /// The byte at this place may not stand in a revision.
+    RevisionBad(usize),
+    /// The text has more than 1000 bytes.
+    TooLong,
+    /// The growth of a text was refused.
+    Memory,
+}
+
+impl VersionFault {
+    /// The name of the fault, as the enum writes it, without the place.
+    /// Source: this project's own.
+    pub fn name(&self) -> &'static str
+        ensures { result.now ≡ name_of self.now }
+    {
+        match self {
+            VersionFault::Empty => "Empty",
+            VersionFault::EpochEmpty => "EpochEmpty",
+            VersionFault::EpochNotNumber => "EpochNotNumber",
+            VersionFault::EpochTooLarge => "EpochTooLarge",
+            VersionFault::UpstreamEmpty => "UpstreamEmpty",
+            VersionFault::UpstreamBad(_) => "UpstreamBad",
+            VersionFault::RevisionEmpty => "RevisionEmpty",
+            VersionFault::RevisionBad(_) => "RevisionBad",
+            VersionFault::TooLong => "TooLong",
+            VersionFault::Memory => "Memory",
+        }
+    }
+}
+
+impl fmt::Display for VersionFault {
+    fn fmt<W: fmt::Write>(&self, f: &mut fmt::Formatter<W>) -> fmt::Result {
+        match self {
+            VersionFault::Empty => write!(f, "the version is empty"),
+            VersionFault::EpochEmpty => write!(f, "the epoch before the colon is empty"),
+            VersionFault::EpochNotNumber => write!(f, "the epoch is no number"),
+            VersionFault::EpochTooLarge => write!(f, "the epoch is above 2147483647"),
+            VersionFault::UpstreamEmpty => write!(f, "the upstream version is empty"),
+            VersionFault::UpstreamBad(place) => {
+                write!(f, "byte {place} may not stand in an upstream version")
+            }
+            VersionFault::RevisionEmpty => write!(f, "the revision after the hyphen is empty"),
+            VersionFault::RevisionBad(place) => {
+                write!(f, "byte {place} may not stand in a revision")
+            }
+            VersionFault::TooLong => write!(f, "the version has more than 1000 bytes"),
+            VersionFault::Memory => write!(f, "out of memory"),
+        }
+    }
+}
+
+impl Error for VersionFault {}
+
+impl From<AllocError> for VersionFault {
+    ghost from_gives = { λ _ fault. fault ≡ Memory };
+
+    fn from(_refused: AllocError) -> VersionFault {
+        VersionFault::Memory
+    }
+}
+
+impl<T: Drop> From<AllocFailed<T>> for VersionFault {
+    ghost from_gives = { λ _ fault. fault ≡ Memory };
+
+    fn from(_refused: AllocFailed<T>) -> VersionFault {
+        VersionFault::Memory
+    }
+}

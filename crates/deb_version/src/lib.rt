@@ -1,0 +1,9 @@
+//! Versions of packages: their text, their three parts, their order and the comparisons of relations, after Debian Policy 5.6.12.
+#![tactic(auto)]
+
+mod fault;
+mod parse;
+mod version;
+
+pub use fault::VersionFault;
+pub use version::Version;
