@@ -1,3 +1,4 @@
 pub mod CutLemmas
-pub mod ReadingLemmas
 pub mod NumberLemmas
+pub mod OrderLemmas
+pub mod ReadingLemmas

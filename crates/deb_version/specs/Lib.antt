@@ -1,1 +1,4 @@
+pub mod Operator
+pub mod Order
+pub mod OrderLaws
 pub mod Syntax

@@ -2,8 +2,12 @@
 #![tactic(auto)]
 
 mod fault;
+mod operator;
+mod order;
 mod parse;
 mod version;
 
 pub use fault::VersionFault;
+pub use operator::{Op, meets};
+pub use order::{ByOrder, compare};
 pub use version::Version;

@@ -1,0 +1,19 @@
+-- The comparisons that a relation between packages may ask for (Debian Policy 7.1).
+use Rattle.std.specs.Prelude.{ℕ, Bool, List}
+use Rattle.std.specs.declared.cmp.Ordering.{Ordering}
+use Rattle.std.specs.Ordering.{is_lt, is_le, is_eq, is_ge, is_gt}
+use Rattle.deb_version.specs.declared.operator.Op.{Op}
+use Rattle.deb_version.specs.declared.operator.Op.TheVariants.{Earlier, EarlierOrEqual, Equal, LaterOrEqual, Later}
+use Rattle.deb_version.specs.Order.{version_cmp}
+
+-- whether the answer of an order is one that the operator takes (Policy 7.1)
+abbrev pub takes : Op → Ordering → Bool
+takes Earlier order = is_lt order
+takes EarlierOrEqual order = is_le order
+takes Equal order = is_eq order
+takes LaterOrEqual order = is_ge order
+takes Later order = is_gt order
+
+-- whether the version at hand is, to the one asked for, as the operator says (Policy 7.1)
+unfoldable pub met : Op → List ℕ → List ℕ → Bool
+met op have want = takes op (version_cmp have want)
