@@ -1,4 +1,5 @@
 pub mod CutLemmas
+pub mod LawLemmas
 pub mod NumberLemmas
 pub mod OrderLemmas
 pub mod ReadingLemmas

@@ -1,5 +1,5 @@
 -- The text of a version: its cuts, its three parts and its faults (Debian Policy 5.6.12).
-use Rattle.std.specs.Prelude.{◌≡◌, ℕ, ◌+◌, ◌-◌, ◌*◌, Bool, not, ◌||◌, List, [], ◌∷◌, length, if◌then◌else◌, nat_lt, ◌==◌}
+use Rattle.std.specs.Prelude.{◌≡◌, ℕ, ◌+◌, ◌-◌, ◌*◌, Bool, not, ◌||◌, List, [], ◌∷◌, ◌++◌, length, if◌then◌else◌, nat_lt, ◌==◌}
 use Rattle.std.specs.Prelude.{Option, None, Some, Result, Ok, Err}
 use Rattle.std.specs.Prelude.{codes}
 use Rattle.std.specs.Char.{is_ascii_alphanumeric, is_ascii_digit}
@@ -129,6 +129,13 @@ outcome (Some fault) parts = Err fault
 -- the reading of a text: its parts where nothing is wrong with it, else its first fault (Policy 5.6.12)
 unfoldable pub reading_of : List ℕ → Result Parts VersionFault
 reading_of text = outcome (fault_of text) (parts_of text)
+
+-- a text is its parts, joined by the colon and the hyphen that cut them: `[epoch:]upstream[-revision]` (Policy 5.6.12)
+abbrev pub TextIsItsParts : Type 0
+TextIsItsParts = (text : List ℕ)
+    → text
+    ≡ (if has_epoch text then epoch_text text ++ 58 ∷ [] else [])
+    ++ (upstream_text text ++ (if has_revision text then 45 ∷ revision_text text else []))
 
 -- a number and two places that are a text's epoch and the ends of its upstream version, of a text with a reading (this project's own)
 pub record Remembers (text : List ℕ) (epoch start end : ℕ) : Type 0 where

@@ -2,6 +2,7 @@
 #![tactic(auto)]
 
 mod fault;
+pub mod laws;
 mod operator;
 mod order;
 mod parse;
@@ -11,3 +12,6 @@ pub use fault::VersionFault;
 pub use operator::{Op, meets};
 pub use order::{ByOrder, compare};
 pub use version::Version;
+
+#[cfg(test)]
+mod tests;
