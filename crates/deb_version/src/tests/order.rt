@@ -1,6 +1,8 @@
 use crate::{ByOrder, Op, Version, compare, meets};
+use std::alloc::Global;
 use std::cmp;
 use std::cmp::Ordering;
+use std::process::Abort;
 use std::test::Fail;
 
 // Two versions, and how the first compares to the second.
@@ -145,26 +147,42 @@ static MET: [(&str, Op, &str, bool); 28] = [
     ("1.0.2.3", Op::EarlierOrEqual, "1.0~", false),
 ];
 
-#[test]
-fn versions_compare(rt: HostRuntime) -> Result<(), Fail> {
-    for (left, want, right) in ORDER {
-        let a = Version::parse(rt.alloc(), left)?;
-        let b = Version::parse(rt.alloc(), right)?;
-        assert_eq!(rt; compare(&a, &b), want, "{left} and {right}");
+fn assert_order(
+    rt: &impl Abort,
+    alloc: Global,
+    cases: &[(&str, Ordering, &str)],
+) -> Result<(), Fail> {
+    for (left, want, right) in cases {
+        let a = Version::parse(alloc, left)?;
+        let b = Version::parse(alloc, right)?;
+        assert_eq!(rt; compare(&a, &b), *want, "{left} and {right}");
         assert_eq!(rt; compare(&b, &a), want.reverse(), "{right} and {left}");
-        assert_eq!(rt; ByOrder(&a).cmp(&ByOrder(&b)), want);
+        assert_eq!(rt; ByOrder(&a).cmp(&ByOrder(&b)), *want);
+    }
+    Ok(())
+}
+
+fn assert_met(
+    rt: &impl Abort,
+    alloc: Global,
+    cases: &[(&str, Op, &str, bool)],
+) -> Result<(), Fail> {
+    for (have, op, want, met) in cases {
+        let a = Version::parse(alloc, have)?;
+        let b = Version::parse(alloc, want)?;
+        assert_eq!(rt; meets(*op, &a, &b), *met, "{have} and {want}");
     }
     Ok(())
 }
 
 #[test]
+fn versions_compare(rt: HostRuntime) -> Result<(), Fail> {
+    assert_order(&rt, rt.alloc(), &ORDER)
+}
+
+#[test]
 fn operators_are_met(rt: HostRuntime) -> Result<(), Fail> {
-    for (have, op, want, met) in MET {
-        let a = Version::parse(rt.alloc(), have)?;
-        let b = Version::parse(rt.alloc(), want)?;
-        assert_eq!(rt; meets(op, &a, &b), met, "{have} and {want}");
-    }
-    Ok(())
+    assert_met(&rt, rt.alloc(), &MET)
 }
 
 #[test]

@@ -1,33 +1,35 @@
 use crate::{Version, VersionFault};
+use std::alloc::Global;
+use std::process::Abort;
 use std::test::Fail;
 
-// A text, its epoch, its upstream version and its revision.
-static READ: [(&str, u32, &str, Option<&str>); 25] = [
-    ("1-2-3", 0, "1-2", Some("3")),
-    ("2147483647:1", 2147483647, "1", None),
-    ("0001:0", 1, "0", None),
-    ("0", 0, "0", None),
-    ("0:0", 0, "0", None),
-    ("0:0-0", 0, "0", Some("0")),
-    ("0:0.0-0.0", 0, "0.0", Some("0.0")),
-    ("1:0", 1, "0", None),
-    ("5:1", 5, "1", None),
-    ("0:0-0-0", 0, "0-0", Some("0")),
-    ("0:0-0-0-0", 0, "0-0-0", Some("0")),
-    ("0:0:0-0", 0, "0:0", Some("0")),
-    ("0:0:0:0-0", 0, "0:0:0", Some("0")),
-    ("0:0:0-0-0", 0, "0:0-0", Some("0")),
-    ("0:0-0:0-0", 0, "0-0:0", Some("0")),
-    ("0:09azAZ.-+~:-0", 0, "09azAZ.-+~:", Some("0")),
-    ("0:0-azAZ09.+~", 0, "0", Some("azAZ09.+~")),
-    ("0:abc3-0", 0, "abc3", Some("0")),
-    ("foo5.2", 0, "foo5.2", None),
-    ("0:foo5.2", 0, "foo5.2", None),
-    ("1.0", 0, "1.0", None),
-    ("1:1.0", 1, "1.0", None),
-    ("1:1.0:1.0", 1, "1.0:1.0", None),
-    ("1.0-1", 0, "1.0", Some("1")),
-    ("1.0-1.0-1", 0, "1.0-1.0", Some("1")),
+// A text, its epoch, its upstream version and its revision, empty where there is none.
+static READ: [(&str, u32, &str, &str); 25] = [
+    ("1-2-3", 0, "1-2", "3"),
+    ("2147483647:1", 2147483647, "1", ""),
+    ("0001:0", 1, "0", ""),
+    ("0", 0, "0", ""),
+    ("0:0", 0, "0", ""),
+    ("0:0-0", 0, "0", "0"),
+    ("0:0.0-0.0", 0, "0.0", "0.0"),
+    ("1:0", 1, "0", ""),
+    ("5:1", 5, "1", ""),
+    ("0:0-0-0", 0, "0-0", "0"),
+    ("0:0-0-0-0", 0, "0-0-0", "0"),
+    ("0:0:0-0", 0, "0:0", "0"),
+    ("0:0:0:0-0", 0, "0:0:0", "0"),
+    ("0:0:0-0-0", 0, "0:0-0", "0"),
+    ("0:0-0:0-0", 0, "0-0:0", "0"),
+    ("0:09azAZ.-+~:-0", 0, "09azAZ.-+~:", "0"),
+    ("0:0-azAZ09.+~", 0, "0", "azAZ09.+~"),
+    ("0:abc3-0", 0, "abc3", "0"),
+    ("foo5.2", 0, "foo5.2", ""),
+    ("0:foo5.2", 0, "foo5.2", ""),
+    ("1.0", 0, "1.0", ""),
+    ("1:1.0", 1, "1.0", ""),
+    ("1:1.0:1.0", 1, "1.0:1.0", ""),
+    ("1.0-1", 0, "1.0", "1"),
+    ("1.0-1.0-1", 0, "1.0-1.0", "1"),
 ];
 
 // A text that is no version, and its fault.
@@ -106,25 +108,41 @@ static REFUSED: [(&str, VersionFault); 72] = [
     ("5.2@3-2", VersionFault::UpstreamBad(3)),
 ];
 
-#[test]
-fn texts_are_read(rt: HostRuntime) -> Result<(), Fail> {
-    for (text, epoch, upstream, revision) in READ {
-        let version = Version::parse(rt.alloc(), text)?;
-        assert_eq!(rt; version.text(), text);
-        assert_eq!(rt; version.epoch(), epoch, "in {text}");
-        assert_eq!(rt; version.upstream(), upstream, "in {text}");
-        assert_eq!(rt; version.revision(), revision, "in {text}");
+fn assert_read(
+    rt: &impl Abort,
+    alloc: Global,
+    cases: &[(&str, u32, &str, &str)],
+) -> Result<(), Fail> {
+    for (text, epoch, upstream, want) in cases {
+        let version = Version::parse(alloc, text)?;
+        let revision = match version.revision() {
+            Some(revision) => revision,
+            None => "",
+        };
+        assert_eq!(rt; version.text(), *text);
+        assert_eq!(rt; version.epoch(), *epoch, "in {text}");
+        assert_eq!(rt; version.upstream(), *upstream, "in {text}");
+        assert_eq!(rt; revision, *want, "in {text}");
     }
     Ok(())
 }
 
-#[test]
-fn faults_are_told(rt: HostRuntime) {
-    for (text, fault) in REFUSED {
+fn assert_refused(rt: &impl Abort, alloc: Global, cases: &[(&str, VersionFault)]) {
+    for (text, fault) in cases {
         assert_eq!(rt;
-            Version::parse(rt.alloc(), text).err(),
-            Some(fault),
+            Version::parse(alloc, text).err(),
+            Some(*fault),
             "in {text}"
         );
     }
+}
+
+#[test]
+fn texts_are_read(rt: HostRuntime) -> Result<(), Fail> {
+    assert_read(&rt, rt.alloc(), &READ)
+}
+
+#[test]
+fn faults_are_told(rt: HostRuntime) {
+    assert_refused(&rt, rt.alloc(), &REFUSED);
 }
