@@ -1,0 +1,10 @@
+pub mod Commands
+pub mod Limits
+pub mod Machine
+pub mod Moves
+pub mod Names
+pub mod Queue
+pub mod Record
+pub mod Refusals
+pub mod State
+pub mod Text

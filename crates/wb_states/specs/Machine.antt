@@ -1,0 +1,73 @@
+-- The state of the office, and its invariant (this project's own).
+use Rattle.std.specs.Prelude.{◌≡◌, ℕ, ◌≤◌, IsTrue, List, filter, IfSome, Some}
+use Rattle.std.specs.declared.cmp.Ordering.{Ordering}
+use Rattle.std.specs.Ordering.{on, then_cmp}
+use Rattle.std.specs.FinMap as map
+use Rattle.std.specs.FinSet as set
+use Rattle.wb_states.specs.declared.record.Record.{Record}
+use Rattle.wb_states.specs.declared.arch.OsCpu.{OsCpu}
+use Rattle.wb_states.specs.Text.{text_cmp}
+use Rattle.wb_states.specs.Names.{is_arch_name, is_os_cpu_word, is_builder_name, is_source_name}
+use Rattle.wb_states.specs.Limits.{count_limit}
+use Rattle.wb_states.specs.Record.{IsWellFormed}
+
+-- the order of two pairs of texts: by the first, then by the second
+abbrev pub pair_cmp : List ℕ × List ℕ → List ℕ × List ℕ → Ordering
+pair_cmp = then_cmp (on (λ p. p.0) text_cmp) (on (λ p. p.1) text_cmp)
+
+-- the state of the office: a record for each architecture and source package that has one, the words of each architecture, which builder builds for which architecture, and the two counts
+pub record Machine : Type 0 where
+  pub records : map.FinMap pair_cmp Record
+  pub archs : map.FinMap text_cmp OsCpu
+  pub builders : set.FinSet pair_cmp
+  pub handed : ℕ
+  pub accepted : ℕ
+
+-- the office with nothing in it
+unfoldable pub empty_office : Machine
+empty_office = record {
+  records = map.empty;
+  archs = map.empty;
+  builders = set.empty;
+  handed = 0;
+  accepted = 0;
+}
+
+-- the architectures for which a builder was added, by name
+abbrev pub archs_of : Machine → List ℕ → List (List ℕ)
+archs_of machine builder = filter (λ arch. set.contains machine.builders (builder, arch)) (map.keys machine.archs)
+
+-- an architecture and its words have their forms
+pub record IsArch (arch : List ℕ) (words : OsCpu) : Type 0 where
+  pub name : IsTrue (is_arch_name arch)
+  pub os : IsTrue (is_os_cpu_word words.os)
+  pub cpu : IsTrue (is_os_cpu_word words.cpu)
+
+-- a builder has its form, and builds for an architecture that is there
+pub record IsBuilder (machine : Machine) (builder arch : List ℕ) : Type 0 where
+  pub name : IsTrue (is_builder_name builder)
+  pub known : IsTrue (map.contains_key machine.archs arch)
+
+-- a record has its form, is of an architecture that is there, is held by a builder that was added for that architecture, and its take number was given
+pub record IsRecord (machine : Machine) (arch source : List ℕ) (current : Record) : Type 0 where
+  pub name : IsTrue (is_source_name source)
+  pub known : IsTrue (map.contains_key machine.archs arch)
+  pub fields : IsWellFormed current
+  pub holder : IfSome current.holder (λ builder. IsTrue (set.contains machine.builders (builder, arch)))
+  pub given : IfSome current.take (λ take_number. (1 ≤ take_number) × (take_number ≤ machine.handed))
+
+-- two records with one take number are one record
+abbrev pub HasDistinctTakes : Machine → Type 0
+HasDistinctTakes machine =
+    (one other : List ℕ × List ℕ) (first second : Record) (take_number : ℕ)
+    → map.get machine.records one ≡ Some first → map.get machine.records other ≡ Some second
+    → first.take ≡ Some take_number → second.take ≡ Some take_number → one ≡ other
+
+-- the invariant of the office: what is kept has its form, a source package on an architecture has at most one holder, which may build for it, and no take number is held twice
+pub record IsConsistent (machine : Machine) : Type 0 where
+  pub archs : (name : List ℕ) → IfSome (map.get machine.archs name) (IsArch name)
+  pub builders : (builder arch : List ℕ) → IsTrue (set.contains machine.builders (builder, arch)) → IsBuilder machine builder arch
+  pub records : (arch source : List ℕ) → IfSome (map.get machine.records (arch, source)) (IsRecord machine arch source)
+  pub takes : HasDistinctTakes machine
+  pub handed : machine.handed ≤ count_limit
+  pub accepted : machine.accepted ≤ count_limit

@@ -1,0 +1,61 @@
+-- The forms of names: of packages (Debian Policy 5.6.1), of priorities and sections (2.5 and 2.4), and, this project's own, of architectures, their words and builders.
+use Rattle.std.specs.Prelude.{ℕ, Bool, false, not, ◌&&◌, ◌||◌, List, [], ◌∷◌, length, nat_le, nat_eq, codes, bytes_eq}
+use Rattle.std.specs.List.{list_all}
+
+-- a lower-case letter or a digit (Debian Policy 5.6.1)
+abbrev pub is_lower_or_digit : ℕ → Bool
+is_lower_or_digit c = (nat_le 97 c && nat_le c 122) || (nat_le 48 c && nat_le c 57)
+
+-- a letter or a digit
+abbrev pub is_letter_or_digit : ℕ → Bool
+is_letter_or_digit c = (nat_le 65 c && nat_le c 90) || is_lower_or_digit c
+
+-- a text of this many bytes, both ends included
+abbrev pub has_length : ℕ → ℕ → List ℕ → Bool
+has_length least most text = nat_le least (length text) && nat_le (length text) most
+
+-- the first byte passes the test
+abbrev pub begins : (ℕ → Bool) → List ℕ → Bool
+begins test [] = false
+begins test (c ∷ _) = test c
+
+-- a byte of a package's name: a lower-case letter, a digit, `+`, `-` or `.` (Debian Policy 5.6.1)
+abbrev pub is_source_char : ℕ → Bool
+is_source_char c = is_lower_or_digit c || (nat_eq c 43 || (nat_eq c 45 || nat_eq c 46))
+
+-- the name of a source package: 2 to 200 of these bytes, the first a letter or a digit (Debian Policy 5.6.1; the upper limit is this project's own)
+unfoldable pub is_source_name : List ℕ → Bool
+is_source_name text = has_length 2 200 text && (begins is_lower_or_digit text && list_all is_source_char text)
+
+-- a byte of an architecture's name: a lower-case letter, a digit or `-`
+abbrev pub is_arch_char : ℕ → Bool
+is_arch_char c = is_lower_or_digit c || nat_eq c 45
+
+-- one of the words that name no single architecture (Debian Policy 5.6.8)
+abbrev pub is_no_single_arch : List ℕ → Bool
+is_no_single_arch text = bytes_eq text (codes "all") || (bytes_eq text (codes "any") || bytes_eq text (codes "source"))
+
+-- the name of an architecture: 1 to 40 of these bytes, the first a letter or a digit, and none of the words that name no single one (this project's own)
+unfoldable pub is_arch_name : List ℕ → Bool
+is_arch_name text =
+    has_length 1 40 text && (begins is_lower_or_digit text && (list_all is_arch_char text && not (is_no_single_arch text)))
+
+-- the word of an operating system or a processor: 1 to 20 lower-case letters and digits, and not `any` (this project's own)
+unfoldable pub is_os_cpu_word : List ℕ → Bool
+is_os_cpu_word text = has_length 1 20 text && (list_all is_lower_or_digit text && not (bytes_eq text (codes "any")))
+
+-- a byte of a builder's name: a letter, a digit, `.`, `_` or `-`
+abbrev pub is_builder_char : ℕ → Bool
+is_builder_char c = is_letter_or_digit c || (nat_eq c 46 || (nat_eq c 95 || nat_eq c 45))
+
+-- the name of a builder: 1 to 64 of these bytes, the first a letter or a digit (this project's own)
+unfoldable pub is_builder_name : List ℕ → Bool
+is_builder_name text = has_length 1 64 text && (begins is_letter_or_digit text && list_all is_builder_char text)
+
+-- a byte that can be seen, from `!` to `~`
+abbrev pub is_visible_char : ℕ → Bool
+is_visible_char c = nat_le 33 c && nat_le c 126
+
+-- a priority or a section: 1 to 64 bytes that can be seen (Debian Policy 2.5 and 2.4; the form is this project's own)
+unfoldable pub is_label_text : List ℕ → Bool
+is_label_text text = has_length 1 64 text && list_all is_visible_char text

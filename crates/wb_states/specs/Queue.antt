@@ -1,0 +1,110 @@
+-- The order in which the waiting source packages of an architecture are built (wanna-build's states page; the order of sections is this project's own).
+use Rattle.std.specs.Prelude.{◌≡◌, ℕ, ◌+◌, Bool, not, nat_lt, nat_eq, List, [], ◌∷◌, length, codes, bytes_eq, if◌then◌else◌, ◌&&◌, filter, Option, Some, None, ◌⊎◌}
+use Rattle.std.specs.List.{position_or_len, after_first}
+use Rattle.std.specs.declared.cmp.Ordering.{Ordering}
+use Rattle.std.specs.Ordering.{nat_cmp, bool_cmp, on, then_cmp, is_lt}
+use Rattle.std.specs.Cmp.{IsTotalOrder, on_total, then_total, nat_cmp_total, bool_cmp_total}
+use Rattle.std.specs.Cmp.Lexicographic.{nat_list_cmp_total}
+use Rattle.wb_states.specs.declared.record.Record.{Record}
+use Rattle.std.specs.FinMap as map
+use Rattle.wb_states.specs.declared.state.State.TheVariants.{NeedsBuild}
+use Rattle.wb_states.specs.State.{is_needs_build}
+use Rattle.wb_states.specs.Text.{text_cmp}
+use Rattle.wb_states.specs.Machine.{Machine}
+
+-- the place of a text in a list, from 0, or the list's length where it does not stand there
+abbrev pub place_among : List (List ℕ) → List ℕ → ℕ
+place_among [] text = 0
+place_among (name ∷ names) text = if bytes_eq text name then 0 else place_among names text + 1
+
+-- the priorities, the most urgent first (Debian Policy 2.5, and `extra` of its older versions)
+abbrev pub priorities : List (List ℕ)
+priorities = codes "required" ∷ codes "important" ∷ codes "standard" ∷ codes "optional" ∷ codes "extra" ∷ []
+
+-- the sections, the first to be built first (Debian Policy 2.4; the order is this project's own)
+abbrev pub sections : List (List ℕ)
+sections =
+    codes "libs" ∷ codes "base" ∷ codes "devel" ∷ codes "kernel" ∷ codes "shells" ∷ codes "perl" ∷ codes "python"
+    ∷ codes "admin" ∷ codes "utils" ∷ codes "text" ∷ codes "net" ∷ codes "web" ∷ codes "mail" ∷ codes "database"
+    ∷ codes "editors" ∷ codes "interpreters" ∷ codes "graphics" ∷ codes "sound" ∷ codes "video" ∷ codes "x11"
+    ∷ codes "gnome" ∷ codes "kde" ∷ codes "science" ∷ codes "math" ∷ codes "doc" ∷ codes "misc" ∷ codes "oldlibs"
+    ∷ codes "games" ∷ []
+
+abbrev pub is_slash : ℕ → Bool
+is_slash c = nat_eq c 47
+
+-- a section without the archive area that stands before its first slash (Debian Policy 2.4)
+abbrev pub without_area : List ℕ → List ℕ
+without_area section = if nat_lt (position_or_len is_slash section) (length section) then after_first is_slash section else section
+
+-- where a source package stands in the queue
+pub record Place : Type 0 where
+  pub is_new : Bool
+  pub priority : ℕ
+  pub section : ℕ
+  pub name : List ℕ
+
+-- the place of a record, and the name of its source package
+abbrev pub place_of : Record → List ℕ → Place
+place_of current source = record {
+  is_new = not current.earlier;
+  priority = place_among priorities current.priority;
+  section = place_among sections (without_area current.section);
+  name = source;
+}
+
+-- what was built earlier before what is new, then by priority, by section, and by the bytes of the name
+abbrev pub place_cmp : Place → Place → Ordering
+place_cmp =
+    then_cmp (on (λ p. p.is_new) bool_cmp)
+    (then_cmp (on (λ p. p.priority) nat_cmp) (then_cmp (on (λ p. p.section) nat_cmp) (on (λ p. p.name) text_cmp)))
+
+pub place_cmp_total : IsTotalOrder place_cmp
+place_cmp_total =
+    then_total (on_total (λ p. p.is_new) bool_cmp_total)
+    (then_total (on_total (λ p. p.priority) nat_cmp_total) (then_total (on_total (λ p. p.section) nat_cmp_total) (on_total (λ p. p.name) nat_list_cmp_total)))
+
+-- a key of the records, and the record at it
+abbrev pub Entry : Type 0
+Entry = (List ℕ × List ℕ) × Record
+
+-- the order of two records in the queue
+abbrev pub entry_cmp : Entry → Entry → Ordering
+entry_cmp = on (λ entry. place_of entry.1 entry.0.1) place_cmp
+
+-- a record of the architecture that waits for a builder
+abbrev pub is_waiting : List ℕ → Entry → Bool
+is_waiting arch entry = bytes_eq entry.0.0 arch && is_needs_build entry.1.state
+
+-- a list with one more item, before the first item that is not below it
+abbrev pub with_item : {X : Type 0} → (X → X → Ordering) → X → List X → List X
+with_item cmp item [] = item ∷ []
+with_item cmp item (x ∷ xs) = if is_lt (cmp x item) then x ∷ with_item cmp item xs else item ∷ x ∷ xs
+
+-- the items of a list in ascending order
+abbrev pub sorted_by : {X : Type 0} → (X → X → Ordering) → List X → List X
+sorted_by cmp [] = []
+sorted_by cmp (x ∷ xs) = with_item cmp x (sorted_by cmp xs)
+
+-- the queue of an architecture: its records that wait for a builder, each once, in ascending order of their places
+unfoldable pub queue_of : Machine → List ℕ → List Entry
+queue_of machine arch = sorted_by entry_cmp (filter (is_waiting arch) (map.entries machine.records))
+
+-- the first of a list, or none
+abbrev pub first_of : {X : Type 0} → List X → Option X
+first_of [] = None
+first_of (x ∷ _) = Some x
+
+-- the head of the queue of an architecture
+unfoldable pub head_of : Machine → List ℕ → Option Entry
+head_of machine arch = first_of (queue_of machine arch)
+
+-- an item stands in a list
+abbrev pub IsIn : {X : Type 0} → X → List X → Type 0
+IsIn item [] = ⊥
+IsIn item (x ∷ xs) = (item ≡ x) ⊎ IsIn item xs
+
+-- a record of the architecture that waits for a builder is kept at this key
+abbrev pub IsWaitingAt : Machine → List ℕ → Entry → Type 0
+IsWaitingAt machine arch entry =
+    (map.get machine.records entry.0 ≡ Some entry.1) × (entry.0.0 ≡ arch) × (entry.1.state ≡ NeedsBuild)

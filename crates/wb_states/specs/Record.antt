@@ -1,0 +1,32 @@
+-- The record of a source package on an architecture: when its fields have their forms and limits (this project's own).
+use Rattle.std.specs.Prelude.{◌≡◌, ℕ, ◌≤◌, Bool, true, false, ◌||◌, IsTrue, List, [], length, is_some, IfSome, IsOk, not, ◌∷◌}
+use Rattle.std.specs.Str.{IsUtf8}
+use Rattle.deb_version.specs.Syntax.{reading_of}
+use Rattle.wb_states.specs.declared.record.Record.{Record}
+use Rattle.wb_states.specs.State.{is_held, is_dep_wait}
+use Rattle.wb_states.specs.Names.{is_builder_name, is_label_text}
+use Rattle.wb_states.specs.Limits.{rebuild_limit, note_limit, relations_limit}
+
+abbrev pub is_empty_text : List ℕ → Bool
+is_empty_text [] = true
+is_empty_text (_ ∷ _) = false
+
+-- a UTF-8 text of at most this many bytes
+pub record IsTextWithin (limit : ℕ) (text : List ℕ) : Type 0 where
+  pub utf8 : IsUtf8 text
+  pub within : length text ≤ limit
+
+-- a record whose fields have their forms and limits: exactly a held one has a holder and a take number, and exactly Dep-Wait has waits
+pub record IsWellFormed (current : Record) : Type 0 where
+  pub version : IsOk (reading_of current.version)
+  pub priority : IsTrue (is_empty_text current.priority || is_label_text current.priority)
+  pub section : IsTrue (is_empty_text current.section || is_label_text current.section)
+  pub number : current.number ≤ rebuild_limit
+  pub held : is_some current.holder ≡ is_held current.state
+  pub taken : is_some current.take ≡ is_held current.state
+  pub builder : IfSome current.holder (λ builder. IsTrue (is_builder_name builder))
+  pub waiting : not (is_empty_text current.waits) ≡ is_dep_wait current.state
+  pub waits : IsTextWithin relations_limit current.waits
+  pub depends : IfSome current.depends (IsTextWithin relations_limit)
+  pub note : IsTextWithin note_limit current.note
+  pub message : IsTextWithin note_limit current.message

@@ -1,0 +1,10 @@
+//! The words of an architecture.
+use crate::Text;
+
+/// The words of an architecture's operating system and processor, such as `linux` and `amd64`
+/// (Debian Policy 11.1.1): each 1 to 20 lower-case letters and digits, and not `any`.
+#[derive(Clone, Debug, Drop)]
+pub struct OsCpu {
+    pub os: Text,
+    pub cpu: Text,
+}

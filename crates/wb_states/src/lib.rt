@@ -1,0 +1,28 @@
+//! The states of source packages, the records that the office keeps of them, the commands that move
+//! them, and the order in which they are built.
+#![tactic(auto)]
+
+mod arch;
+mod command;
+mod counts;
+pub mod laws;
+mod moves;
+mod names;
+mod queue;
+mod record;
+mod refusal;
+mod reply;
+mod state;
+mod text;
+
+pub use arch::OsCpu;
+pub use command::Command;
+pub use counts::{COUNT_LIMIT, Counts};
+pub use moves::{Move, build_text, move_record};
+pub use names::{is_arch, is_builder, is_label, is_os_cpu, is_source};
+pub use queue::QueueKey;
+pub use record::Record;
+pub use refusal::Refusal;
+pub use reply::{Assignment, Reply};
+pub use state::State;
+pub use text::Text;

@@ -1,0 +1,122 @@
+//! The forms of names.
+ghost use Rattle.std.specs.Prelude.{◌≡◌};
+ghost use Rattle.std.specs.List.{list_all};
+ghost use Rattle.wb_states.specs.Names.{is_source_name, is_arch_name, is_os_cpu_word, is_builder_name, is_label_text, is_lower_or_digit, is_letter_or_digit, has_length, begins, is_source_char, is_arch_char, is_builder_char, is_visible_char};
+
+/// Whether `text` is the name of a source package: 2 to 200 bytes, lower-case letters, digits, `+`, `-`
+/// and `.`, of which the first is a letter or a digit (Debian Policy 5.6.1; the upper limit is this
+/// project's own). Takes no memory.
+#[tactic(auto, unfolding(crate::specs::Names::is_source_name))]
+pub fn is_source(text: &str) -> bool
+    ensures value { result ≡ is_source_name text.now }
+{
+    is_long_between(text, 2, 200) && begins_lower(text) && is_all_source(text)
+}
+
+/// Whether `text` is the name of an architecture: 1 to 40 bytes, lower-case letters, digits and `-`, of
+/// which the first is a letter or a digit, and not `all`, `any` or `source` (this project's own). Takes
+/// no memory.
+#[tactic(auto, unfolding(crate::specs::Names::is_arch_name))]
+pub fn is_arch(text: &str) -> bool
+    ensures value { result ≡ is_arch_name text.now }
+{
+    is_long_between(text, 1, 40)
+        && begins_lower(text)
+        && is_all_arch(text)
+        && !(text == "all" || text == "any" || text == "source")
+}
+
+/// Whether `text` is the word of an operating system or a processor: 1 to 20 lower-case letters and
+/// digits, and not `any` (this project's own). Takes no memory.
+#[tactic(auto, unfolding(crate::specs::Names::is_os_cpu_word))]
+pub fn is_os_cpu(text: &str) -> bool
+    ensures value { result ≡ is_os_cpu_word text.now }
+{
+    is_long_between(text, 1, 20) && is_all_lower(text) && !(text == "any")
+}
+
+/// Whether `text` is the name of a builder: 1 to 64 bytes, letters, digits, `.`, `_` and `-`, of which
+/// the first is a letter or a digit (this project's own). Takes no memory.
+#[tactic(auto, unfolding(crate::specs::Names::is_builder_name))]
+pub fn is_builder(text: &str) -> bool
+    ensures value { result ≡ is_builder_name text.now }
+{
+    is_long_between(text, 1, 64) && begins_letter(text) && is_all_builder(text)
+}
+
+/// Whether `text` is a priority or a section: 1 to 64 bytes from `!` to `~` (Debian Policy 2.5 and 2.4;
+/// the form is this project's own). Takes no memory.
+#[tactic(auto, unfolding(crate::specs::Names::is_label_text))]
+pub fn is_label(text: &str) -> bool
+    ensures value { result ≡ is_label_text text.now }
+{
+    is_long_between(text, 1, 64) && is_all_visible(text)
+}
+
+fn is_long_between(text: &str, least: usize, most: usize) -> bool
+    ensures { result ≡ has_length least most text.now }
+{
+    least <= text.len() && text.len() <= most
+}
+
+fn is_lower(c: u8) -> bool
+    ensures { result ≡ is_lower_or_digit c }
+{
+    (b'a' <= c && c <= b'z') || (b'0' <= c && c <= b'9')
+}
+
+fn is_letter(c: u8) -> bool
+    ensures { result ≡ is_letter_or_digit c }
+{
+    (b'A' <= c && c <= b'Z') || is_lower(c)
+}
+
+fn begins_lower(text: &str) -> bool
+    ensures { result ≡ begins is_lower_or_digit text.now }
+{
+    match text.as_bytes() {
+        [] => false,
+        [first, ..] => is_lower(*first),
+    }
+}
+
+fn begins_letter(text: &str) -> bool
+    ensures { result ≡ begins is_letter_or_digit text.now }
+{
+    match text.as_bytes() {
+        [] => false,
+        [first, ..] => is_letter(*first),
+    }
+}
+
+fn is_all_lower(text: &str) -> bool
+    ensures { result ≡ list_all is_lower_or_digit text.now }
+{
+    text.bytes().all(|c| is_lower(c))
+}
+
+fn is_all_source(text: &str) -> bool
+    ensures { result ≡ list_all is_source_char text.now }
+{
+    text.bytes()
+        .all(|c| is_lower(c) || c == b'+' || c == b'-' || c == b'.')
+}
+
+fn is_all_arch(text: &str) -> bool
+    ensures { result ≡ list_all is_arch_char text.now }
+{
+    text.bytes().all(|c| is_lower(c) || c == b'-')
+}
+
+fn is_all_builder(text: &str) -> bool
+    ensures { result ≡ list_all is_builder_char text.now }
+{
+    text.bytes()
+        .all(|c| is_letter(c) || c == b'.' || c == b'_' || c == b'-')
+}
+
+fn is_all_visible(text: &str) -> bool
+    ensures { result ≡ list_all is_visible_char text.now }
+{
+    text.bytes().all(|c| b'!' <= c && c <= b'~')
+}

@@ -1,0 +1,144 @@
+//! The order in which waiting source packages are built.
+ghost use Rattle.std.specs.Prelude.{◌≡◌, ℕ};
+ghost use Rattle.std.specs.Ordering.{as_partial_cmp, eq_by_cmp};
+ghost use Rattle.std.specs.Cmp.{eq_by_cmp_equiv, partial_equiv_from_equiv, po};
+ghost use Rattle.std.specs.Cmp.Rules.{comparing};
+ghost use Rattle.std.proofs.Common.{rules, refl};
+ghost use Rattle.wb_states.specs.Queue.{place_of, place_cmp, place_cmp_total, place_among, priorities, sections, without_area};
+
+use crate::Record;
+use std::cmp::Ordering;
+use std::marker::Model;
+
+/// Where a source package stands in the queue of its architecture: what was built earlier before what is
+/// new, then by priority, by section without its archive area, and by the bytes of the name (wanna-build's
+/// states page; the order of sections is this project's own). The least is built first.
+#[derive(Debug, Drop)]
+pub struct QueueKey<'a> {
+    is_new: bool,
+    priority: u8,
+    section: u8,
+    name: &'a str,
+}
+
+impl<'a> Model for QueueKey<'a> {
+    ghost use Rattle.wb_states.specs.Queue.{Place};
+
+    ghost Value = { Place };
+
+    ghost view = { λ k. record { is_new = k.is_new; priority = k.priority; section = k.section; name = k.name.now } };
+}
+
+impl<'a> QueueKey<'a> {
+    /// The key of the source package `name` with this record. Takes no memory.
+    pub fn of(current: &Record, name: &'a str) -> QueueKey<'a>
+        ensures { result ≡ place_of current.now name.now }
+    {
+        QueueKey {
+            is_new: !current.earlier,
+            priority: priority_place(current.priority.as_str()),
+            section: section_place(area_free(current.section.as_str())),
+            name,
+        }
+    }
+}
+
+impl<'a> PartialEq for QueueKey<'a> {
+    ghost eq = { eq_by_cmp place_cmp };
+
+    ghost laws = { partial_equiv_from_equiv (eq_by_cmp_equiv place_cmp_total) };
+
+    fn eq(&self, other: &QueueKey<'a>) -> bool {
+        self.cmp(other) == Ordering::Equal
+    }
+}
+
+impl<'a> Eq for QueueKey<'a> {
+    ghost laws = { eq_by_cmp_equiv place_cmp_total };
+}
+
+impl<'a> Ord for QueueKey<'a> {
+    ghost cmp = { place_cmp };
+
+    ghost total = { place_cmp_total };
+
+    ghost matches_partial_cmp = { λ x y. refl };
+
+    ghost matches_eq = { λ x y. refl };
+
+    fn cmp(&self, other: &QueueKey<'a>) -> Ordering {
+        self.is_new
+            .cmp(&other.is_new)
+            .then(self.priority.cmp(&other.priority))
+            .then(self.section.cmp(&other.section))
+            .then(self.name.cmp(other.name))
+    }
+}
+
+impl<'a> PartialOrd for QueueKey<'a> {
+    ghost partial_cmp = { as_partial_cmp place_cmp };
+
+    ghost laws = { po place_cmp_total (λ x y. refl) };
+
+    fn partial_cmp(&self, other: &QueueKey<'a>) -> Option<Ordering> {
+        Some(self.cmp(other))
+    }
+}
+
+fn priority_place(priority: &str) -> u8
+    ensures { result ≡ place_among priorities priority.now }
+{
+    match priority {
+        "required" => 0,
+        "important" => 1,
+        "standard" => 2,
+        "optional" => 3,
+        "extra" => 4,
+        _ => 5,
+    }
+}
+
+fn area_free(section: &str) -> &str
+    ensures { result.now ≡ without_area section.now }
+{
+    match section.split_once('/') {
+        Some((_, rest)) => rest,
+        None => section,
+    }
+}
+
+fn section_place(section: &str) -> u8
+    ensures { result ≡ place_among sections section.now }
+{
+    match section {
+        "libs" => 0,
+        "base" => 1,
+        "devel" => 2,
+        "kernel" => 3,
+        "shells" => 4,
+        "perl" => 5,
+        "python" => 6,
+        "admin" => 7,
+        "utils" => 8,
+        "text" => 9,
+        "net" => 10,
+        "web" => 11,
+        "mail" => 12,
+        "database" => 13,
+        "editors" => 14,
+        "interpreters" => 15,
+        "graphics" => 16,
+        "sound" => 17,
+        "video" => 18,
+        "x11" => 19,
+        "gnome" => 20,
+        "kde" => 21,
+        "science" => 22,
+        "math" => 23,
+        "doc" => 24,
+        "misc" => 25,
+        "oldlibs" => 26,
+        "games" => 27,
+        _ => 28,
+    }
+}
