@@ -1,0 +1,4 @@
+pub mod CheckLemmas
+pub mod ConsistencyLemmas
+pub mod NextLemmas
+pub mod StepLemmas

@@ -1,0 +1,3 @@
+pub mod Checks
+pub mod Replay
+pub mod Step

@@ -1,0 +1,94 @@
+//! The office over its store.
+ghost use Rattle.std.specs.Prelude.{◌≡◌, ◌≢◌, IfOk, IfErr, OnErr};
+ghost use Rattle.wb_states.specs.declared.refusal.Refusal.TheVariants.{Memory};
+ghost use Rattle.wb_states.specs.Machine.{empty_office};
+ghost use Rattle.wb_office.specs.Step.{step};
+
+use crate::{builder, operator};
+use std::alloc::Global;
+use std::marker::Model;
+use wb_states::{Command, Refusal, Reply};
+use wb_store::Store;
+
+/// The office with all that it keeps. Clauses see it as its state: the records, the architectures, the
+/// builders and the two counts.
+#[derive(Drop)]
+pub struct Office {
+    alloc: Global,
+    store: Store,
+}
+
+impl Model for Office {
+    ghost use Rattle.wb_states.specs.Machine.{Machine};
+    ghost use Rattle.wb_store.specs.Tables.{coded_machine};
+
+    ghost Value = { Machine };
+
+    ghost coded = { coded_machine };
+
+    ghost view = { λ office. office.store };
+}
+
+impl Office {
+    /// The empty office, in memory: it ends with the program. Takes no memory; the allocator is kept for
+    /// the calls that follow (this project's own).
+    pub fn new(alloc: Global) -> Office
+        ensures value { result ≡ empty_office }
+    {
+        Office {
+            alloc,
+            store: Store::new(alloc),
+        }
+    }
+
+    /// How many commands were accepted. Takes no memory.
+    pub fn accepted(&self) -> u64
+        ensures value { result ≡ self.now.accepted }
+    {
+        self.store.office_row().accepted
+    }
+
+    /// Carries out one command, whole or not at all, and answers it.
+    ///
+    /// The refusal is the first that is true of the command in the order of [`Refusal`]; `Memory` comes
+    /// where there is no memory for it, at any point. After every refusal the office is as it was (this
+    /// project's own).
+    pub fn apply(&mut self, command: &Command) -> Result<Reply, Refusal>
+        ensures reply { IfOk result (λ reply. step self.old command.now ≡ (Ok reply, self.new)) }
+        ensures refused { IfErr result (λ refusal. refusal ≢ Memory
+            → step self.old command.now ≡ (Err refusal, self.old)) }
+        ensures unchanged { OnErr result (self.new ≡ self.old) }
+    {
+        match command {
+            Command::AddArch { name, os, cpu } => operator::add_arch(
+                &mut self.store,
+                name,
+                os,
+                cpu,
+            ),
+            Command::AddBuilder { name, arch } => operator::add_builder(
+                &mut self.store,
+                name,
+                arch,
+            ),
+            Command::Enter {
+                arch,
+                source,
+                version,
+                priority,
+                section,
+            } => operator::enter(
+                self.alloc,
+                &mut self.store,
+                arch,
+                source,
+                version,
+                priority,
+                section,
+            ),
+            Command::Next { arch, builder } => {
+                builder::next(self.alloc, &mut self.store, arch, builder)
+            }
+        }
+    }
+}
