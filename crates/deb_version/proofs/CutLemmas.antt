@@ -1,14 +1,12 @@
 -- Lemmas on the cuts of a version's text.
-use Rattle.std.proofs.Common.{◌≡◌, ℕ, ◌+◌, ◌-◌, ◌*◌, ◌<◌, ◌≤◌, Bool, true, false, not, ◌||◌, cond, ltb, List, [], ◌∷◌, length, get_or, take, drop, reverse, refl, sym, ap, ◌∙◌, subst, arith, length-take-le, length-drop, suc, min, Option, None, Some}
-use Rattle.std.specs.List.{list_any, position, position_or_len, suffix_len, slice_range}
+use Rattle.std.proofs.Common.{◌≡◌, ℕ, ◌+◌, ◌-◌, ◌<◌, ◌≤◌, Bool, true, false, not, ◌||◌, cond, ltb, List, [], ◌∷◌, length, get_or, take, drop, reverse, refl, sym, ap, ◌∙◌, arith, length-take-le, length-drop, suc, Option, None, Some}
+use Rattle.std.specs.List.{list_any, position, position_or_len, suffix_len}
 use Rattle.std.specs.Option.{option_or}
-use Rattle.std.specs.Str.{IsCharBoundary, IsUtf8}
-use Rattle.std.proofs.lemmas.List.{length-reverse, length-take, get_or-reverse, get_or-drop, drop-drop, take_all}
-use Rattle.std.proofs.lemmas.List.Sums.{passes_at_first, prefix_len-le-length, suffix_len-le-length}
+use Rattle.std.proofs.lemmas.List.{length-reverse, get_or-reverse}
+use Rattle.std.proofs.lemmas.List.Sums.{passes_at_first, prefix_len-le-length}
 use Rattle.std.proofs.lemmas.List.Sorted.{list_any-IsPermutation, IsPermutation-reverse}
 use Rattle.std.proofs.lemmas.Bool.Decides.{nat_tests}
-use borrow.Author.Tests.{ltb-true, ltb-false}
-use Rattle.std.proofs.lemmas.Str.{IsCharBoundary-before_ascii, IsCharBoundary-after_ascii, IsCharBoundary-end}
+use borrow.Author.Tests.{ltb-true}
 use Rattle.deb_version.specs.declared.fault.VersionFault.{VersionFault}
 use Rattle.deb_version.specs.Syntax.{is_colon, is_hyphen, has_epoch, epoch_text, epoch_of, epoch_fault, number_fault, value_of, rest_of, has_revision, upstream_text, revision_text, upstream_start, upstream_end, upstream_fault, revision_fault, upstream_part_fault, revision_part_fault}
 

@@ -1,17 +1,16 @@
 -- Lemmas on the reading of a version's text.
-use Rattle.std.proofs.Common.{◌≡◌, subst, ℕ, ◌+◌, ◌-◌, ◌<◌, ◌≤◌, Bool, true, false, cond, List, length, get_or, take, drop, refl, sym, ap, ◌∙◌, rules, arith, length-take-le, Option, None, Some, Result, Ok, Err, IsOk}
+use Rattle.std.proofs.Common.{◌≡◌, subst, ℕ, ◌+◌, ◌-◌, ◌<◌, ◌≤◌, Bool, true, false, cond, List, length, get_or, take, drop, refl, sym, ap, ◌∙◌, rules, arith, length-take-le, Option, None, Some, Err, IsOk}
 use Rattle.std.specs.List.{list_any, slice_range, position_or_len}
 use Rattle.std.specs.Option.{option_or, option_map}
 use Rattle.std.specs.Str.{IsCharBoundary, IsUtf8}
-use Rattle.std.proofs.lemmas.List.{get_or-drop, drop-drop, take_all, length-take}
+use Rattle.std.proofs.lemmas.List.{get_or-drop, drop-drop, take_all}
 use Rattle.std.proofs.lemmas.List.Sums.{passes_at_first}
-use Rattle.std.proofs.lemmas.Bool.Decides.{nat_tests}
-use borrow.Author.Tests.{ltb-true, ltb-false, eqb-true}
+use borrow.Author.Tests.{ltb-true, eqb-true}
 use Rattle.std.proofs.lemmas.Str.{IsCharBoundary-before_ascii, IsCharBoundary-after_ascii, IsCharBoundary-end}
 use Rattle.deb_version.specs.declared.fault.VersionFault.{VersionFault}
-use Rattle.deb_version.specs.declared.fault.VersionFault.TheVariants.{Empty, EpochEmpty, EpochNotNumber, EpochTooLarge, UpstreamEmpty, UpstreamBad, RevisionEmpty, RevisionBad, TooLong, Memory}
-use Rattle.deb_version.specs.Syntax.{Parts, parts_of, reading_of, fault_of, length_fault, epoch_fault, number_fault, upstream_fault, revision_fault, upstream_part_fault, revision_part_fault, has_epoch, has_revision, epoch_text, rest_of, upstream_text, revision_text, upstream_start, upstream_end, is_colon, is_hyphen}
-use Rattle.deb_version.proofs.CutLemmas.{rest_of-drop, upstream_start-le, length-rest_of, NoRevision, no_revision, RevisionAt, revision_at, hyphens, last-passes, list_any-last, list_any-first, has_revision-is}
+use Rattle.deb_version.specs.declared.fault.VersionFault.TheVariants.{Memory}
+use Rattle.deb_version.specs.Syntax.{reading_of, fault_of, length_fault, epoch_fault, number_fault, upstream_fault, revision_fault, upstream_part_fault, revision_part_fault, has_epoch, has_revision, epoch_text, rest_of, upstream_text, revision_text, upstream_start, upstream_end, is_colon, is_hyphen}
+use Rattle.deb_version.proofs.CutLemmas.{rest_of-drop, length-rest_of, no_revision, revision_at, hyphens, last-passes, list_any-last, list_any-first, has_revision-is}
 
 pub reading_of-ok : (t : List ℕ) → fault_of t ≡ None → IsOk (reading_of t)
 unfolding reading_of

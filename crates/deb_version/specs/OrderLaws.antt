@@ -1,5 +1,5 @@
 -- The laws of the order of versions: it is total, and it is by runs of characters (Debian Policy 5.6.12).
-use Rattle.std.specs.Prelude.{◌≡◌, ℕ, zero, suc, ◌+◌, ◌<◌, ◌≤◌, Bool, true, false, not, ℤ, pos, List, [], ◌∷◌, ◌++◌, map, length}
+use Rattle.std.specs.Prelude.{◌≡◌, ℕ, zero, suc, ◌+◌, ◌<◌, ◌≤◌, true, false, not, ℤ, pos, List, [], ◌∷◌, ◌++◌, map, length}
 use Rattle.std.specs.Char.{is_ascii_digit}
 use Rattle.std.specs.List.{list_all}
 use Rattle.std.specs.Cmp.{IsTotalOrder, then_total, on_total, int_cmp_total, nat_cmp_total}
@@ -7,7 +7,7 @@ use Rattle.std.specs.declared.cmp.Ordering.{Ordering}
 use Rattle.std.specs.declared.cmp.Ordering.TheVariants.{Less, Equal}
 use Rattle.std.specs.Ordering.{ordering_then, ordering_reverse, int_cmp, on, then_cmp}
 use Rattle.std.proofs.Common.{refl, sym, ap, ◌∙◌, arith}
-use Rattle.deb_version.specs.Syntax.{Parts, parts_of, value_of}
+use Rattle.deb_version.specs.Syntax.{parts_of, value_of}
 use Rattle.deb_version.specs.Order.{weight_of, key_of, key_cmp, part_cmp, revision_or_zero, parts_cmp, version_cmp}
 
 -- the first item of a key and the items after it, with 0 for a missing one (this project's own)

@@ -1,4 +1,4 @@
-use Rattle.std.proofs.Common.{◌≡◌, ◌<◌, ◌+◌, ◌∙◌, ℕ, List, sym, ap, arith, length, drop}
+use Rattle.std.proofs.Common.{◌<◌, ◌+◌, ◌∙◌, sym, ap, arith, length, drop}
 use Rattle.deb_version.specs.Order.{key_cmp, key_in_run}
 use Rattle.deb_version.proofs.OrderLemmas.{part_cmp-start, run_decided, run_passed, numbers_decide, numbers_shorten, is_ne-decided, is_ne-equal}
 use Rattle.deb_version.proofs.order.compare_parts.Goals as goal

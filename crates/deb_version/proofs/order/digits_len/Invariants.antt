@@ -1,4 +1,4 @@
-use Rattle.std.proofs.Common.{◌≡◌, ◌<◌, ◌≤◌, ℕ, length, true, get_or}
+use Rattle.std.proofs.Common.{◌≡◌, ◌<◌, ℕ, true, get_or}
 use Rattle.std.specs.Char.{is_ascii_digit}
 use Rattle.deb_version.proofs.order.digits_len.Given as goal
 

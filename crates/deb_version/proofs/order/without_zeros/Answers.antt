@@ -1,4 +1,4 @@
-use Rattle.std.proofs.Common.{◌≡◌, ◌∙◌, length, true, get_or, arith, rules}
+use Rattle.std.proofs.Common.{◌≡◌, ◌∙◌, get_or, arith, rules}
 use Rattle.deb_version.proofs.NumberLemmas.{zero_step}
 use Rattle.deb_version.proofs.order.without_zeros.Goals as goal
 

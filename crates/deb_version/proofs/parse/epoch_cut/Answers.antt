@@ -1,4 +1,4 @@
-use Rattle.std.proofs.Common.{◌≡◌, sym, ◌∙◌, ap, rules, arith, refl}
+use Rattle.std.proofs.Common.{sym, ◌∙◌}
 use Rattle.std.proofs.lemmas.Result.{err_from_is_err_and}
 use Rattle.deb_version.proofs.CutLemmas.{no_epoch, epoch_at}
 use Rattle.deb_version.proofs.parse.epoch_cut.Goals as goal

@@ -1,5 +1,4 @@
-use Rattle.std.proofs.Common.{◌≡◌, ◌<◌, ◌≤◌, ℕ, Bool, true, false, not, List, length, get_or, ap, ◌∙◌, ◌-◌, arith}
-use Rattle.std.specs.List.{list_any, suffix_len}
+use Rattle.std.proofs.Common.{◌≡◌, ℕ, true, not, List, get_or, ap, ◌∙◌, ◌-◌, arith}
 use Rattle.std.proofs.lemmas.List.{get_or_default}
 use Rattle.std.proofs.lemmas.List.Folds.{list_any_at, list_any_none}
 use Rattle.std.proofs.lemmas.List.Sums.{suffix_len_is}

@@ -1,5 +1,4 @@
-use Rattle.std.proofs.Common.{lit<, ◌≡◌, ◌<◌, ◌≤◌, ◌+◌, ◌-◌, ◌*◌, ℕ, List, length, get_or, refl, sym, ◌∙◌, arith}
-use Rattle.deb_version.specs.Syntax.{value_of}
+use Rattle.std.proofs.Common.{lit<, get_or, sym, ◌∙◌, arith}
 use Rattle.deb_version.proofs.NumberLemmas.{value_of-is, with_digit-is, digit_step}
 use Rattle.deb_version.proofs.parse.number_of.Goals as goal
 

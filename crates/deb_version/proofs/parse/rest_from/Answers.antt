@@ -1,4 +1,4 @@
-use Rattle.std.proofs.Common.{◌≡◌, sym, ◌∙◌, ap, drop}
+use Rattle.std.proofs.Common.{sym, ◌∙◌, ap, drop}
 use Rattle.std.proofs.lemmas.List.{take_rest}
 use Rattle.deb_version.proofs.CutLemmas.{rest_of-drop}
 use Rattle.deb_version.proofs.parse.rest_from.Goals as goal

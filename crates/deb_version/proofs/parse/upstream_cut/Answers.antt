@@ -1,7 +1,7 @@
-use Rattle.std.proofs.Common.{◌≡◌, ◌+◌, sym, ◌∙◌, ap, ◌-◌, arith, refl, take, drop}
+use Rattle.std.proofs.Common.{◌+◌, sym, ◌∙◌, ap}
 use Rattle.std.proofs.lemmas.List.{take_rest}
 use Rattle.std.specs.Option.{option_or}
-use Rattle.deb_version.specs.Syntax.{upstream_start, upstream_part_fault, revision_part_fault, upstream_fault, revision_fault}
+use Rattle.deb_version.specs.Syntax.{revision_fault}
 use Rattle.deb_version.proofs.CutLemmas.{cut_whole, cut_at}
 use Rattle.deb_version.proofs.parse.upstream_cut.Goals as goal
 

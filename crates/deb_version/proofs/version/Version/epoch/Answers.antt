@@ -1,4 +1,4 @@
-use Rattle.std.proofs.Common.{◌≡◌, ap, ◌∙◌}
+use Rattle.std.proofs.Common.{ap, ◌∙◌}
 use Rattle.deb_version.specs.Syntax.{epoch_of, parts_of}
 use Rattle.deb_version.proofs.version.Version.epoch.Goals as goal
 

@@ -1,4 +1,4 @@
-use Rattle.std.proofs.Common.{◌≡◌, ap, ◌∙◌, sym, rules}
+use Rattle.std.proofs.Common.{ap, ◌∙◌, sym}
 use Rattle.std.proofs.lemmas.Result.{err_from_is_err_and}
 use Rattle.deb_version.specs.Syntax.{fault_of}
 use Rattle.deb_version.proofs.ReadingLemmas.{reading_of-ok, reading_of-err, fault_of-not_memory}

@@ -1,4 +1,4 @@
-use Rattle.std.proofs.Common.{◌≡◌, refl, ◌<◌, ◌+◌, Bool, true, false, cond, ℕ, List, drop, Some, None, ap, ◌∙◌, sym, subst, rules, arith}
+use Rattle.std.proofs.Common.{◌≡◌, refl, ◌+◌, cond, ℕ, List, drop, Some, None, ap, ◌∙◌, sym, subst, arith}
 use Rattle.std.specs.Str.{IsCharBoundary}
 use Rattle.deb_version.specs.Syntax.{parts_of, has_revision, upstream_end, revision_text}
 use Rattle.deb_version.proofs.ReadingLemmas.{revision_place, revision_boundary, has_revision-end, has_revision-whole}

@@ -1,4 +1,4 @@
-use Rattle.std.proofs.Common.{◌≡◌, ap, ◌∙◌, sym, rules}
+use Rattle.std.proofs.Common.{ap, ◌∙◌, sym}
 use Rattle.deb_version.specs.Syntax.{fault_of}
 use Rattle.deb_version.proofs.ReadingLemmas.{reading_of-ok}
 use Rattle.deb_version.proofs.version.Version.text.Goals as goal

@@ -1,4 +1,4 @@
-use Rattle.std.proofs.Common.{◌≡◌, ◌<◌, ℕ, List, ap, ◌∙◌, sym, subst, rules, arith}
+use Rattle.std.proofs.Common.{ℕ, List, ap, ◌∙◌, sym, subst, arith}
 use Rattle.std.specs.Str.{IsCharBoundary}
 use Rattle.std.specs.List.{slice_range}
 use Rattle.deb_version.specs.Syntax.{parts_of, upstream_start, upstream_end, upstream_text}
