@@ -1,0 +1,324 @@
+-- Lemmas on runs over lines, as far as a loop has come.
+use Rattle.std.proofs.Common.{◌≡◌, ℕ, ◌+◌, ◌-◌, ◌<◌, ◌≤◌, Bool, true, false, ◌||◌, cond, eqb, max, List, [], ◌∷◌, ◌++◌, length, take, Option, None, Some, IfSome, IsTrue, ◌⊎◌, inl, inr, refl, sym, ap, ◌∙◌, subst, append_assoc, append-nil, length-append, length-take, arith, lit<}
+use Rattle.std.proofs.Math.Nat.{max-zero, zero-max}
+use Rattle.std.proofs.lemmas.Bool.{eqb-true}
+use Rattle.std.proofs.lemmas.Bool.Decides.{nat_tests}
+use Rattle.std.proofs.lemmas.List.Splits.{length-slice_split, slice_split-cons_no}
+use Rattle.std.proofs.lemmas.List.Folds.{list_any-append}
+use Rattle.std.specs.Io.KnownBytes.{Appends, Consumes, IsAtEnd}
+use Rattle.std.specs.List.{list_any, onto_first, slice_split}
+use Rattle.wb_states.specs.Machine.{Machine}
+use Rattle.wb_daemon.specs.Line.{ended_in, is_feed, is_long, bytes_of, lines_of, max_line, max_lines, through_long, HasNoFeed}
+use Rattle.wb_daemon.specs.Run.{Said, Says, Runs, RunEnds, RunStops, StopsBetween, StopsWithin, WereHeard, followed, silent}
+use Rattle.wb_daemon.specs.Turn.{Answers, AnswersInPart, GivesFed, GivesLast, Turns}
+use Rattle.wb_daemon.specs.declared.line.ByteRead.{ByteRead}
+use Rattle.wb_daemon.specs.declared.line.ByteRead.TheVariants as byte
+use Rattle.wb_daemon.specs.declared.run.Turn.TheVariants.{Stop}
+use Rattle.wb_daemon.proofs.LineLemmas.{Appends-same, Appends-then, Consumes-then, no_feed-one}
+use Rattle.wb_daemon.proofs.AnswerLemmas.{Says-long, answers-blank}
+use lib.Seq.{take-append_seam}
+
+-- ---- lines and their bytes
+
+-- lines, each with its line feed
+abbrev pub fed : List (List ℕ) → List ℕ
+fed [] = []
+fed (line ∷ lines) = line ++ 10 ∷ fed lines
+
+-- lines that a run answers and goes on
+abbrev pub AreLines : List (List ℕ) → Type 0
+AreLines [] = Unit {0}
+AreLines (line ∷ lines) = HasNoFeed line × (is_long line ≡ false) × AreLines lines
+
+fed-snoc : (lines : List (List ℕ)) (line : List ℕ) → fed (lines ++ line ∷ []) ≡ fed lines ++ (line ++ 10 ∷ [])
+fed-snoc [] line = refl
+fed-snoc (x ∷ xs) line = ap (λ l. x ++ 10 ∷ l) (fed-snoc xs line) ∙ sym (append_assoc x (10 ∷ fed xs) (line ++ 10 ∷ []))
+
+AreLines-snoc : (lines : List (List ℕ)) (line : List ℕ) → AreLines lines → HasNoFeed line → is_long line ≡ false → AreLines (lines ++ line ∷ [])
+AreLines-snoc [] line a h k = (h, k, tt)
+AreLines-snoc (x ∷ xs) line a h k = (a.0, a.1, AreLines-snoc xs line a.2 h k)
+
+or-false : (a b : Bool) → (a || b) ≡ false → (a ≡ false) × (b ≡ false)
+or-false true b h = cc
+or-false false b h = (refl, h)
+
+cond-same : {X : Type 0} (b : Bool) (x : X) → cond b x x ≡ x
+cond-same true x = refl
+cond-same false x = refl
+
+split-line : (line more : List ℕ) → HasNoFeed line → slice_split is_feed (line ++ 10 ∷ more) ≡ line ∷ slice_split is_feed more
+split-line [] more h = refl
+split-line (c ∷ cs) more h =
+    let parts = or-false (is_feed c) (list_any is_feed cs) h in
+    slice_split-cons_no is_feed c (cs ++ 10 ∷ more) parts.0 ∙ ap (onto_first c) (split-line cs more parts.1)
+
+split-last : (line : List ℕ) → HasNoFeed line → slice_split is_feed line ≡ line ∷ []
+split-last [] h = refl
+split-last (c ∷ cs) h =
+    let parts = or-false (is_feed c) (list_any is_feed cs) h in
+    slice_split-cons_no is_feed c cs parts.0 ∙ ap (onto_first c) (split-last cs parts.1)
+
+some_part : (parts : List (List ℕ)) → 0 < length parts → (first : List ℕ) × (rest : List (List ℕ)) × (parts ≡ first ∷ rest)
+some_part [] h = absurd (omega arith)
+some_part (x ∷ xs) h = (x, xs, refl)
+
+split-front : (line more : List ℕ) → HasNoFeed line
+    → (first : List ℕ) × (rest : List (List ℕ)) × (slice_split is_feed (line ++ more) ≡ (line ++ first) ∷ rest)
+split-front [] more h = some_part (slice_split is_feed more) (omega (arith, length-slice_split is_feed more))
+split-front (c ∷ cs) more h =
+    let parts = or-false (is_feed c) (list_any is_feed cs) h in
+    let before = split-front cs more parts.1 in
+    (before.0, before.1, slice_split-cons_no is_feed c (cs ++ more) parts.0 ∙ ap (onto_first c) before.2)
+
+split-fed : (lines : List (List ℕ)) (more : List ℕ) → AreLines lines → slice_split is_feed (fed lines ++ more) ≡ lines ++ slice_split is_feed more
+split-fed [] more a = refl
+split-fed (x ∷ xs) more a =
+    ap (slice_split is_feed) (append_assoc x (10 ∷ fed xs) more)
+    ∙ split-line x (fed xs ++ more) a.0
+    ∙ ap (λ l. x ∷ l) (split-fed xs more a.2)
+
+through-lines : (lines rest : List (List ℕ)) → AreLines lines → through_long (lines ++ rest) ≡ lines ++ through_long rest
+through-lines [] rest a = refl
+through-lines (x ∷ xs) rest a =
+    ap (λ b. x ∷ cond b [] (through_long (xs ++ rest))) a.1 ∙ ap (λ l. x ∷ l) (through-lines xs rest a.2)
+
+-- the lines of an input whose last line has no line feed
+lines_of-last : (lines : List (List ℕ)) (line : List ℕ) → AreLines lines → HasNoFeed line → lines_of (fed lines ++ line) ≡ lines ++ line ∷ []
+unfolding lines_of
+lines_of-last lines line a h =
+    ap through_long (split-fed lines line a ∙ ap (λ l. lines ++ l) (split-last line h))
+    ∙ through-lines lines (line ∷ []) a
+    ∙ ap (λ l. lines ++ line ∷ l) (cond-same (is_long line) [])
+
+is_long-append : (line more : List ℕ) → is_long line ≡ true → is_long (line ++ more) ≡ true
+is_long-append line more h = grind (arith, nat_tests, length-append line more)
+
+-- the lines of an input with a line that is too long
+lines_of-long : (lines : List (List ℕ)) (line more : List ℕ) → AreLines lines → HasNoFeed line → is_long line ≡ true
+    → (last : List ℕ) × (is_long last ≡ true) × (lines_of (fed lines ++ (line ++ more)) ≡ lines ++ last ∷ [])
+unfolding lines_of
+lines_of-long lines line more a h k =
+    let front = split-front line more h in
+    let long = is_long-append line front.0 k in
+    (line ++ front.0, long,
+    ap through_long (split-fed lines (line ++ more) a ∙ ap (λ l. lines ++ l) front.2)
+    ∙ through-lines lines ((line ++ front.0) ∷ front.1) a
+    ∙ ap (λ b. lines ++ (line ++ front.0) ∷ cond b [] (through_long front.1)) long)
+
+take-front : (lines : List (List ℕ)) (line : List ℕ) → take (length (lines ++ line ∷ []) - 1) (lines ++ line ∷ []) ≡ lines
+take-front lines line =
+    let count : length (lines ++ line ∷ []) - 1 ≡ length lines = omega (arith, length-append lines (line ∷ [])) in
+    ap (λ n. take n (lines ++ line ∷ [])) count ∙ take-append_seam lines (line ∷ [])
+
+-- the lines that line feeds have ended, where a line without one follows
+ended_in-fed : (lines : List (List ℕ)) (line : List ℕ) → AreLines lines → HasNoFeed line → ended_in (fed lines ++ line) ≡ lines
+unfolding ended_in
+ended_in-fed lines line a h =
+    ap (λ l. take (length l - 1) l) (split-fed lines line a ∙ ap (λ l. lines ++ l) (split-last line h)) ∙ take-front lines line
+
+-- ---- one line more
+
+said-same : {s t : List ℕ} {m : Machine} {j k : ℕ} → s ≡ t → j ≡ k
+    → ◌≡◌ {A = Said} (record { text = s; machine = m; status = j }) (record { text = t; machine = m; status = k })
+said-same {s} {t} {m} {j} {k} p q = ap (λ x. record { text = x; machine = m; status = j }) p ∙ ap (λ n. record { text = t; machine = m; status = n }) q
+
+max_assoc : (i j k : ℕ) → max (max i j) k ≡ max i (max j k)
+max_assoc i j k = omega arith
+
+Runs-snoc : (lines : List (List ℕ)) (machine : Machine) (whole : Said) (line : List ℕ) (said : Said)
+    → Runs machine lines whole → Says whole.machine line said → Runs machine (lines ++ line ∷ []) (followed whole said)
+Runs-snoc [] machine whole line said p q =
+    (said, silent said.machine,
+    subst (λ (x : Said). Says x.machine line said) p q,
+    refl,
+    ap (λ (x : Said). followed x said) p ∙ said-same {m = said.machine} (sym (append-nil said.text)) (zero-max said.status ∙ sym (max-zero said.status)))
+Runs-snoc (x ∷ xs) machine whole line said p q =
+    (p.0, followed p.1 said, p.2,
+    Runs-snoc xs p.0.machine p.1 line said p.3 (subst (λ (y : Said). Says y.machine line said) p.4 q),
+    ap (λ (y : Said). followed y said) p.4
+    ∙ said-same {m = said.machine} (append_assoc p.0.text p.1.text said.text) (max_assoc p.0.status p.1.status said.status))
+
+-- a run so far: each line that was read was answered
+pub record SoFar (input now old new : Option (List ℕ)) (before after : Machine) (status count : ℕ) : Type 0 where
+  pub lines : List (List ℕ)
+  pub text : List ℕ
+  pub are : AreLines lines
+  pub counted : length lines ≡ count
+  pub taken : Consumes input now (fed lines)
+  pub runs : Runs before lines (record { text = text; machine = after; status = status })
+  pub written : Appends old new text
+  pub small : status < 3
+
+Consumes-same : (a : Option (List ℕ)) → Consumes a a []
+Consumes-same None = tt
+Consumes-same (Some x) = refl
+
+pub so_far-start : (input old : Option (List ℕ)) (machine : Machine) → SoFar input input old old machine machine 0 0
+so_far-start input old machine = record {
+  lines = []; text = []; are = tt; counted = refl;
+  taken = Consumes-same input; runs = refl; written = Appends-same old; small = lit< tt
+}
+
+module _ {input now old new : Option (List ℕ)} {before after : Machine} {status count : ℕ} (far : SoFar input now old new before after status count) where
+  after_line : (line : List ℕ) (left : Option (List ℕ)) → Consumes now left (line ++ 10 ∷ []) → Consumes input left (fed (far.lines ++ line ∷ []))
+  after_line line left p =
+      subst (Consumes input left) (sym (fed-snoc far.lines line)) (Consumes-then input now left (fed far.lines) (line ++ 10 ∷ []) far.taken p)
+
+  pub so_far-line : (line : List ℕ) (left written : Option (List ℕ)) (next : Machine) (more : ℕ)
+      → GivesFed line now left → Answers line after next new written more
+      → SoFar input left old written before next (max status more) (count + 1)
+  so_far-line line left written next more g a = record {
+    lines = far.lines ++ line ∷ [];
+    text = far.text ++ a.0;
+    are = AreLines-snoc far.lines line far.are g.1 g.0;
+    counted = omega (arith, length-append far.lines (line ∷ []), far.counted);
+    taken = after_line line left g.2;
+    runs = Runs-snoc far.lines before _ line _ far.runs a.2;
+    written = Appends-then old new written far.text a.0 far.written a.3;
+    small = omega (arith, far.small, a.1)
+  }
+
+-- ---- how a run ends
+
+if_some : (o : Option (List ℕ)) (P Q : List ℕ → Type 0) → ((xs : List ℕ) → P xs → Q xs) → IfSome o P → IfSome o Q
+if_some None P Q f h = tt
+if_some (Some xs) P Q f h = f xs h
+
+-- what was read is the front of the input
+front_of_input : (input now left : Option (List ℕ)) (xs ys : List ℕ) → Consumes input now xs → Consumes now left ys
+    → IfSome input (λ bytes. (rest : List ℕ) × (bytes ≡ xs ++ (ys ++ rest)) × (left ≡ Some rest))
+front_of_input None now left xs ys p q = tt
+front_of_input (Some b) None left xs ys p q = absurd p
+front_of_input (Some b) (Some c) None xs ys p q = absurd q
+front_of_input (Some b) (Some c) (Some d) xs ys p q = (d, p ∙ ap (λ l. xs ++ l) q, refl)
+
+nothing_or_long : (left : Option (List ℕ)) (rest line : List ℕ) → left ≡ Some rest → IsAtEnd left ⊎ (is_long line ≡ true) → (rest ≡ []) ⊎ (is_long line ≡ true)
+nothing_or_long left rest line e (inl h) = inl (subst IsAtEnd e h)
+nothing_or_long left rest line e (inr h) = inr h
+
+-- the lines of an input whose last line was read, in so far as it is not too long
+last_lines : (lines : List (List ℕ)) (line rest : List ℕ) → AreLines lines → HasNoFeed line → (rest ≡ []) ⊎ (is_long line ≡ true)
+    → (last : List ℕ) × (lines_of (fed lines ++ (line ++ rest)) ≡ lines ++ last ∷ [])
+    × ((machine : Machine) (said : Said) → Says machine line said → Says machine last said)
+last_lines lines line rest a h (inl e) =
+    (line,
+    ap (λ l. lines_of (fed lines ++ l)) (ap (λ r. line ++ r) e ∙ append-nil line) ∙ lines_of-last lines line a h,
+    λ _ _ q. q)
+last_lines lines line rest a h (inr k) =
+    let long = lines_of-long lines line rest a h k in
+    (long.0, long.2, λ machine said q. Says-long machine line long.0 said k long.1 q)
+
+or-true : (b : Bool) → (b || true) ≡ true
+or-true true = refl
+or-true false = refl
+
+list_any-last : (lines : List (List ℕ)) (line : List ℕ) → is_long line ≡ true → list_any is_long (lines ++ line ∷ []) ≡ true
+list_any-last [] line h = ap (λ b. b || false) h
+list_any-last (x ∷ xs) line h = ap (λ b. is_long x || b) (list_any-last xs line h) ∙ or-true (is_long x)
+
+module _ {input now old new : Option (List ℕ)} {before after : Machine} {status count : ℕ} (far : SoFar input now old new before after status count) where
+  -- the last line was answered
+  pub ends-line : (line : List ℕ) (left written : Option (List ℕ)) (next : Machine) (more : ℕ)
+      → GivesLast line now left → Answers line after next new written more
+      → IfSome input (λ bytes. RunEnds bytes old written before next (max status more) × (length (lines_of bytes) ≤ count + 1))
+  ends-line line left written next more g a = if_some input _ _ (λ bytes k.
+      let last = last_lines far.lines line k.0 far.are g.0 (nothing_or_long left k.0 line k.2 g.2) in
+      let same : lines_of bytes ≡ far.lines ++ last.0 ∷ [] = ap lines_of k.1 ∙ last.1 in
+      ((far.text ++ a.0,
+        subst (λ l. Runs before l (record { text = far.text ++ a.0; machine = next; status = max status more })) (sym same)
+        (Runs-snoc far.lines before _ last.0 _ far.runs (last.2 _ _ a.2)),
+        Appends-then old new written far.text a.0 far.written a.3),
+      omega (arith, ap length same, length-append far.lines (last.0 ∷ []), far.counted)))
+      (front_of_input input now left (fed far.lines) line far.taken g.1)
+
+  -- nothing follows
+  pub ends-nothing : (left : Option (List ℕ)) → Consumes now left [] → IsAtEnd left
+      → IfSome input (λ bytes. RunEnds bytes old new before after status × (length (lines_of bytes) ≤ count + 1))
+  ends-nothing left p e =
+      subst (λ n. IfSome input (λ bytes. RunEnds bytes old new before after n × (length (lines_of bytes) ≤ count + 1))) (max-zero status)
+      (ends-line [] left new after 0 (refl, p, inl e) (answers-blank after [] new refl refl))
+
+  -- ---- how a run stops
+
+  -- the reader failed within a line
+  pub stops-between : (line : List ℕ) (left : Option (List ℕ)) → HasNoFeed line → Consumes now left line → RunStops input left old new before after
+  stops-between line left h p =
+      (fed far.lines ++ line, far.text, Consumes-then input now left (fed far.lines) line far.taken p, far.written,
+      inl (status, subst (λ l. Runs before l (record { text = far.text; machine = after; status = status })) (sym (ended_in-fed far.lines line far.are h)) far.runs))
+
+  within : (line : List ℕ) (written : Option (List ℕ)) (next : Machine) → (a : AnswersInPart line after next new written)
+      → StopsWithin (far.lines ++ line ∷ []) before (far.text ++ take a.3.0 a.0.text) next
+  within line written next a = record {
+    earlier = far.lines; last = line; answered = record { text = far.text; machine = after; status = status }; said = a.0; written = a.3.0;
+    parts = refl; runs = far.runs; says = a.1; cut = a.3.1; front = refl; office = a.2
+  }
+
+  -- the answer to a line was not written whole
+  pub stops-fed : (line : List ℕ) (left written : Option (List ℕ)) (next : Machine)
+      → GivesFed line now left → AnswersInPart line after next new written → RunStops input left old written before next
+  stops-fed line left written next g a =
+      let all = far.lines ++ line ∷ [] in
+      let are = AreLines-snoc far.lines line far.are g.1 g.0 in
+      (fed all, far.text ++ take a.3.0 a.0.text, after_line far line left g.2, Appends-then old new written far.text _ far.written a.3.2,
+      inr (all, inl (sym (ap ended_in (sym (append-nil (fed all))) ∙ ended_in-fed all [] are refl)), within line written next a))
+
+  at_last : (line : List ℕ) (left : Option (List ℕ)) → IsAtEnd left ⊎ (is_long line ≡ true) → IsAtEnd left ⊎ IsTrue (list_any is_long (far.lines ++ line ∷ []))
+  at_last line left (inl h) = inl h
+  at_last line left (inr h) = inr (list_any-last far.lines line h)
+
+  -- the answer to the last line was not written whole
+  pub stops-last : (line : List ℕ) (left written : Option (List ℕ)) (next : Machine)
+      → GivesLast line now left → AnswersInPart line after next new written → RunStops input left old written before next
+  stops-last line left written next g a =
+      let all = far.lines ++ line ∷ [] in
+      (fed far.lines ++ line, far.text ++ take a.3.0 a.0.text, Consumes-then input now left (fed far.lines) line far.taken g.1,
+      Appends-then old new written far.text _ far.written a.3.2,
+      inr (all, inr (sym (lines_of-last far.lines line far.are g.0), at_last line left g.2), within line written next a))
+
+  -- a turn stopped
+  pub stops-turn : (left written : Option (List ℕ)) (next : Machine) → Turns Stop after next now left new written → RunStops input left old written before next
+  stops-turn left written next t = elim t.1 [
+    inl p ↦ subst (λ w. RunStops input left old w before next) (sym p.3)
+      (subst (λ m. RunStops input left old new before m) (sym p.2) (stops-between t.0 left p.0 p.1))
+    | inr q ↦ elim q [ inl p ↦ stops-fed t.0 left written next p.0 p.1 | inr p ↦ stops-last t.0 left written next p.0 p.1 ]
+  ]
+
+byte_more : {input now old new : Option (List ℕ)} {before after : Machine} {status count : ℕ} (far : SoFar input now old new before after status count)
+    (byte : ℕ) (left : Option (List ℕ)) (b : Bool) → is_feed byte ≡ b → Consumes now left (byte ∷ []) → RunStops input left old new before after
+byte_more {now} {new} {after} far byte left true h p =
+    let line = so_far-line far [] left new after 0 (refl, refl, subst (λ n. Consumes now left (n ∷ [])) (eqb-true byte 10 h) p) (answers-blank after [] new refl refl) in
+    stops-between line [] left refl (Consumes-same left)
+byte_more far byte left false h p = stops-between far (byte ∷ []) left (ap (λ b. b || false) h) p
+
+-- a byte follows the last line that a run may have
+pub stops-byte : {input now old new : Option (List ℕ)} {before after : Machine} {status count : ℕ} (far : SoFar input now old new before after status count)
+    (byte : ℕ) (left : Option (List ℕ)) → Consumes now left (byte ∷ []) → RunStops input left old new before after
+stops-byte far byte left p = byte_more far byte left (is_feed byte) refl p
+
+-- what is left after the last line that a run may have
+pub stops-read : {input now old new : Option (List ℕ)} {before after : Machine} {status count : ℕ} (far : SoFar input now old new before after status count)
+    (came : ByteRead) (left : Option (List ℕ)) → Consumes now left (bytes_of came) → RunStops input left old new before after
+stops-read far (byte.Byte c) left p = stops-byte far c left p
+stops-read far byte.End left p = stops-between far [] left refl p
+stops-read far byte.Fault left p = stops-between far [] left refl p
+
+-- a run that could not begin
+pub stops-at_once : (input old : Option (List ℕ)) (machine : Machine) → RunStops input input old old machine machine
+stops-at_once input old machine = stops-between (so_far-start input old machine) [] input refl (Consumes-same input)
+
+-- the run goes on, or ends, with the greater of two statuses
+pub so_far-next : {input now old new : Option (List ℕ)} {before after : Machine} {status count : ℕ} (far : SoFar input now old new before after status count)
+    (line : List ℕ) (left written : Option (List ℕ)) (next : Machine) (more greatest : ℕ)
+    → GivesFed line now left → Answers line after next new written more → greatest ≡ max status more
+    → SoFar input left old written before next greatest (count + 1)
+so_far-next {input} {old} {before} {count} far line left written next more greatest g a e =
+    subst (λ n. SoFar input left old written before next n (count + 1)) (sym e) (so_far-line far line left written next more g a)
+
+pub within_limit : (input old new : Option (List ℕ)) (before after : Machine) (status greatest count : ℕ) → count ≤ max_lines → greatest ≡ status
+    → IfSome input (λ bytes. RunEnds bytes old new before after status × (length (lines_of bytes) ≤ count + 1))
+    → IfSome input (λ bytes. RunEnds bytes old new before after greatest × (length (lines_of bytes) ≤ max_lines + 1))
+within_limit input old new before after status greatest count h e k =
+    if_some input _ _ (λ bytes p. (subst (λ n. RunEnds bytes old new before after n) (sym e) p.0, omega (arith, p.1, h))) k
+
+pub short_line : (room : List ℕ) (len : ℕ) → len ≤ max_line → is_long (take len room) ≡ false
+short_line room len h = grind (arith, nat_tests, length-take len room)

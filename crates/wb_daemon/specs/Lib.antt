@@ -1,0 +1,4 @@
+pub mod Line
+pub mod Run
+pub mod Turn
+pub mod Answer

@@ -1,0 +1,91 @@
+//! Lines of an input, and the words of a line.
+ghost use Rattle.std.specs.Prelude.{◌≡◌, IfOk, IfSome, None, map, length, true, false};
+ghost use Rattle.std.specs.Str.{is_utf8};
+ghost use Rattle.std.specs.Io.KnownBytes.{Consumes, IsAtEnd};
+ghost use Rattle.wb_daemon.specs.declared.line.ByteRead.TheVariants.{End};
+ghost use Rattle.wb_daemon.specs.Line.{bytes_of, is_blank_line, max_line, words_of, TookLine};
+
+use std::alloc::{AllocError, Global};
+use std::io::Read;
+use std::str;
+
+/// The greatest length of a line, its line feed not counted.
+pub const MAX_LINE: usize = 65536;
+
+/// What a read of one byte gave.
+pub(crate) enum ByteRead {
+    Byte(u8),
+    End,
+    Fault,
+}
+
+/// What a read of one line gave. The line stands at the front of the room.
+#[derive(Clone, Copy)]
+pub(crate) enum LineRead {
+    /// A line of this length, and then a line feed.
+    Fed(usize),
+    /// A line of this length at the end of the input.
+    Last(usize),
+    /// The line is longer than a line may be.
+    Long,
+    /// The reader failed.
+    Fault,
+}
+
+pub(crate) fn read_byte<R: Read>(reader: &mut R) -> ByteRead
+    ensures value { Consumes (R.remaining reader.old) (R.remaining reader.new) (bytes_of result) }
+    ensures ended { result ≡ End → IsAtEnd (R.remaining reader.new) }
+{
+    let mut room = [0u8; 1];
+    match reader.read(&mut room) {
+        Ok(0) => ByteRead::End,
+        Ok(_) => ByteRead::Byte(room[0]),
+        Err(_) => ByteRead::Fault,
+    }
+}
+
+pub(crate) fn read_line<R: Read>(reader: &mut R, room: &mut [u8]) -> LineRead
+    requires { length room.old ≡ max_line }
+    ensures value { TookLine room.new (R.remaining reader.old) (R.remaining reader.new) result }
+{
+    for len in 0..room.len() {
+        match read_byte(reader) {
+            ByteRead::Byte(b'\n') => return LineRead::Fed(len),
+            ByteRead::Byte(byte) => room[len] = byte,
+            ByteRead::End => return LineRead::Last(len),
+            ByteRead::Fault => return LineRead::Fault,
+        }
+    }
+    match read_byte(reader) {
+        ByteRead::Byte(b'\n') => LineRead::Fed(room.len()),
+        ByteRead::Byte(_) => LineRead::Long,
+        ByteRead::End => LineRead::Last(room.len()),
+        ByteRead::Fault => LineRead::Fault,
+    }
+}
+
+pub(crate) fn is_blank_line(line: &[u8]) -> bool
+    ensures value { result ≡ is_blank_line line.now }
+{
+    line.iter().all(|c| *c == b' ' || *c == b'\t')
+}
+
+pub(crate) fn words_of<'a>(alloc: Global, text: &'a str) -> Result<Vec<&'a str>, AllocError>
+    ensures value { IfOk result (λ words. map (λ w. w.now) words.items ≡ words_of text.entry.now) }
+{
+    text.split(' ')
+        .flat_map(|part| part.split('\t'))
+        .filter(|word| !word.is_empty())
+        .collect(alloc)
+}
+
+/// The line as text, where it is UTF-8.
+pub(crate) fn text_of(line: &[u8]) -> Option<&str>
+    ensures value { IfSome result (λ text. (text.now ≡ line.now) × (is_utf8 line.now ≡ true)) }
+    ensures none { result ≡ None → is_utf8 line.now ≡ false }
+{
+    match str::from_utf8(line) {
+        Ok(text) => Some(text),
+        Err(_) => None,
+    }
+}

@@ -1,0 +1,4 @@
+mod names;
+mod queue;
+mod run;
+mod versions;

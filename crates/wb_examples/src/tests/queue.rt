@@ -1,0 +1,88 @@
+//! The queue of records that are set by hand.
+use deb_version::Version;
+use std::alloc::Global;
+use std::test::Fail;
+use wb_states::{Move, Record, Refusal, State, Text, build_text, move_record};
+use wb_store::Store;
+
+fn waiting(alloc: Global, earlier: bool, priority: &str, section: &str) -> Result<Record, Fail> {
+    Ok(Record {
+        state: State::NeedsBuild,
+        version: Version::parse(alloc, "2.0")?,
+        priority: Text::copied(alloc, priority)?,
+        section: Text::copied(alloc, section)?,
+        earlier,
+        number: 0,
+        holder: None,
+        take: None,
+        waits: Text::new(alloc),
+        depends: None,
+        note: Text::copied(alloc, "given back")?,
+        message: Text::new(alloc),
+    })
+}
+
+fn take_head(
+    alloc: Global,
+    store: &mut Store,
+    arch: &Text,
+    take_number: u64,
+) -> Result<Text, Fail> {
+    let (source, current) = store.head(arch).ok_or("an empty queue")?;
+    let change = Move::Take {
+        holder: Text::copied(alloc, "b1")?,
+        take_number,
+    };
+    let held = move_record(alloc, current, &change)?;
+    let source = source.clone()?;
+    store.put(arch.clone()?, source.clone()?, held)?;
+    Ok(source)
+}
+
+#[test]
+fn order_of_four_sources(rt: HostRuntime) -> Result<(), Fail> {
+    let alloc = rt.alloc();
+    let mut store = Store::new(alloc);
+    let amd64 = Text::copied(alloc, "amd64")?;
+    let rows = [
+        ("aa", false, "required", "libs"),
+        ("zz", true, "extra", "games"),
+        ("mm", true, "optional", "devel"),
+        ("nn", true, "optional", "non-free/libs"),
+    ];
+    for (source, earlier, priority, section) in rows {
+        let record = waiting(alloc, earlier, priority, section)?;
+        store.put(amd64.clone()?, Text::copied(alloc, source)?, record)?;
+    }
+    for (take_number, want) in [(1, "nn"), (2, "mm"), (3, "zz"), (4, "aa")] {
+        let source = take_head(alloc, &mut store, &amd64, take_number)?;
+        assert_eq!(rt; source.as_str(), want);
+        let current = store.get(&amd64, &source)?.ok_or("no record")?;
+        assert_eq!(rt; current.state, State::Building);
+        assert_eq!(rt; current.take, Some(take_number));
+        assert_eq!(rt; current.note.as_str(), "");
+    }
+    assert!(rt; store.head(&amd64).is_none());
+    Ok(())
+}
+
+#[test]
+fn only_what_waits_is_taken(rt: HostRuntime) -> Result<(), Fail> {
+    let alloc = rt.alloc();
+    let mut record = waiting(alloc, false, "optional", "devel")?;
+    record.number = 7;
+    assert_eq!(rt; build_text(alloc, &record)?.as_str(), "2.0+b7");
+    record.state = State::Built;
+    let change = Move::Take {
+        holder: Text::copied(alloc, "b1")?,
+        take_number: 1,
+    };
+    let refusal = move_record(alloc, &record, &change).err();
+    assert_eq!(rt;
+        refusal,
+        Some(Refusal::WrongState {
+            state: State::Built
+        })
+    );
+    Ok(())
+}

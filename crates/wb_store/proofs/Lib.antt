@@ -1,0 +1,3 @@
+mod QueueLemmas
+mod SortLemmas
+mod TableLemmas

@@ -1,0 +1,81 @@
+-- What is looked up in the tables of the office (this project's own).
+use Rattle.std.specs.Prelude.{ℕ, Bool, false, List, filter, nat_eq, bytes_eq, Option, Some, None, map, ◌&&◌, length}
+use Rattle.std.specs.declared.cmp.Ordering.{Ordering}
+use Rattle.std.specs.Ordering.{nat_cmp, on}
+use Rattle.std.specs.Borrow.{Bor}
+use Rattle.std.specs.Option.{unwrap_or}
+use Rattle.std.specs.FinMap as finite
+use Rattle.wb_states.specs.declared.record.Record.{Record}
+use Rattle.wb_states.specs.declared.state.State.{State}
+use Rattle.wb_states.specs.declared.state.State.TheVariants.{NeedsBuild, Building, Built, Uploaded, Installed, DepWait, BdUninstallable, Failed, NotForUs}
+use Rattle.wb_states.specs.State.{code_of}
+use Rattle.wb_states.specs.Machine.{Machine}
+use Rattle.wb_states.specs.Queue.{Entry, first_of, sorted_by}
+use Rattle.wb_store.specs.declared.counts.StateCounts.{StateCounts}
+
+-- the name of the source package of a record, and the record
+abbrev pub named : Entry → List ℕ × Record
+named entry = (entry.0.1, entry.1)
+
+-- a record that is lent, after its architecture and its source package
+abbrev pub Row : Type 0
+Row = Bor (List ℕ) × Bor (List ℕ) × Bor Record
+
+-- the key and the record that are lent
+abbrev pub entry_of : Row → Entry
+entry_of row = ((row.0.now, row.1.now), row.2.now)
+
+-- whether a value is there and passes the test
+abbrev pub has_value : {X : Type 0} → (X → Bool) → Option X → Bool
+has_value test None = false
+has_value test (Some x) = test x
+
+-- a record of the architecture
+abbrev pub is_of : List ℕ → Entry → Bool
+is_of arch entry = bytes_eq entry.0.0 arch
+
+-- a record that is held under the take number
+abbrev pub is_taken_as : ℕ → Entry → Bool
+is_taken_as take_number entry = has_value (nat_eq take_number) entry.1.take
+
+-- a record that the builder holds
+abbrev pub is_held_by : List ℕ → Entry → Bool
+is_held_by builder entry = has_value (bytes_eq builder) entry.1.holder
+
+-- the order of two records by their take numbers, where none counts as 0
+abbrev pub take_cmp : Entry → Entry → Ordering
+take_cmp = on (λ entry. unwrap_or entry.1.take 0) nat_cmp
+
+-- the first record, by architecture and source package, that is held under the take number
+unfoldable pub taken_as : Machine → ℕ → Option Entry
+taken_as machine take_number = first_of (filter (is_taken_as take_number) (finite.entries machine.records))
+
+-- the records that the builder holds, by take number
+unfoldable pub held_of : Machine → List ℕ → List Entry
+held_of machine builder = sorted_by take_cmp (filter (is_held_by builder) (finite.entries machine.records))
+
+-- the records of the architecture, by the names of their source packages
+unfoldable pub rows_of : Machine → List ℕ → List (List ℕ × Record)
+rows_of machine arch = map named (filter (is_of arch) (finite.entries machine.records))
+
+-- a record of the architecture that is in the state
+abbrev pub is_in : List ℕ → State → Entry → Bool
+is_in arch state entry = is_of arch entry && nat_eq (code_of entry.1.state) (code_of state)
+
+-- how many records of the architecture are in the state
+unfoldable pub number_in : Machine → List ℕ → State → ℕ
+number_in machine arch state = length (filter (is_in arch state) (finite.entries machine.records))
+
+-- how many records of the architecture are in each state
+unfoldable pub counts_of : Machine → List ℕ → StateCounts
+counts_of machine arch = record {
+  needs_build = number_in machine arch NeedsBuild;
+  building = number_in machine arch Building;
+  built = number_in machine arch Built;
+  uploaded = number_in machine arch Uploaded;
+  installed = number_in machine arch Installed;
+  dep_wait = number_in machine arch DepWait;
+  bd_uninstallable = number_in machine arch BdUninstallable;
+  failed = number_in machine arch Failed;
+  not_for_us = number_in machine arch NotForUs;
+}

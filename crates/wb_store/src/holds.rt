@@ -1,0 +1,50 @@
+//! The records that builders hold.
+ghost use Rattle.std.specs.Prelude.{◌≡◌, IfOk, bytes_eq, map as each};
+ghost use Rattle.std.specs.Option.{option_map};
+ghost use Rattle.wb_store.specs.Lookups.{entry_of, taken_as, held_of, has_value};
+
+use crate::Store;
+use std::alloc::AllocError;
+use wb_states::{Record, Text};
+
+impl Store {
+    /// The architecture, the source package and the record that is held under the take number, or none
+    /// where no record is: the first by architecture and source package. Takes no memory (this project's
+    /// own).
+    #[tactic(auto, unfolding(crate::specs::Lookups::taken_as))]
+    pub fn by_take(&self, take_number: u64) -> Option<(&Text, &Text, &Record)>
+        ensures value { option_map entry_of result ≡ taken_as self.now take_number }
+    {
+        for (key, current) in self.records.iter() {
+            if current.take == Some(take_number) {
+                return Some((&key.0, &key.1, current));
+            }
+        }
+        None
+    }
+
+    /// The records that the builder holds, each with its architecture and its source package, of all
+    /// architectures, by take number. The only error is that there is no memory for the list (this
+    /// project's own).
+    pub fn held_by(&self, builder: &Text) -> Result<Vec<(&Text, &Text, &Record)>, AllocError>
+        ensures value { IfOk result (λ rows. each entry_of rows.items ≡ held_of self.now builder.now) }
+    {
+        let mut held = Vec::new(self.alloc);
+        for (key, current) in self.records.iter() {
+            if is_holder(current, builder) {
+                held.push((&key.0, &key.1, current))?;
+            }
+        }
+        held.sort_by_key(|row| row.2.take.unwrap_or(0))?;
+        Ok(held)
+    }
+}
+
+fn is_holder(current: &Record, builder: &Text) -> bool
+    ensures { result ≡ has_value (bytes_eq builder.now) current.now.holder }
+{
+    match &current.holder {
+        None => false,
+        Some(holder) => builder.as_str() == holder.as_str(),
+    }
+}

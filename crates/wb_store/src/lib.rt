@@ -1,0 +1,12 @@
+//! The tables of the office, which hold its whole state, over ordered maps in memory.
+#![tactic(auto)]
+
+mod changes;
+mod counts;
+mod holds;
+mod lookups;
+mod queue;
+mod store;
+
+pub use counts::StateCounts;
+pub use store::Store;

@@ -1,0 +1,4 @@
+pub mod RowLemmas
+pub mod TreeLemmas
+pub mod UsageLemmas
+pub mod StartLemmas

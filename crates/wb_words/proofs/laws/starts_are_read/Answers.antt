@@ -1,0 +1,17 @@
+use Rattle.std.proofs.Common.{inl, inr, refl}
+use Rattle.clap.specs.declared.error.kind.ErrorKind.TheVariants as kind
+use Rattle.clap.proofs.OnLiterals.{clap_on_literals}
+use Rattle.wb_words.specs.Start.{start_app, start_faults}
+use Rattle.wb_words.proofs.laws.starts_are_read.Goals as goal
+
+pub returns : goal.returns
+unfolding start_faults start_app clap_on_literals
+returns c = record {
+  run = (refl, refl);
+  help = inl refl;
+  long_help = inr (inl refl);
+  short_help = inr (inl refl);
+  nothing = (refl, (kind.MissingSubcommand, inl refl, λ e. cc));
+  command = (refl, (kind.UnknownArgument, inl refl, λ e. cc));
+  many = (refl, (kind.UnknownArgument, inl refl, λ e. cc));
+}

@@ -1,0 +1,65 @@
+//! Why no command was read.
+ghost use Rattle.std.specs.Prelude.{◌≡◌};
+
+use clap::error::ErrorKind;
+use std::alloc::{AllocError, AllocFailed};
+use std::error::Error;
+use std::fmt;
+
+/// Why the words of a line gave no command.
+#[derive(Clone, Copy, Debug, PartialEq, Eq)]
+pub enum WordsFault {
+    /// The words are no command: the subcommand is missing or unknown, an argument is missing, or
+    /// there is a word too many or an option that is unknown.
+    NoCommand,
+    /// There is no memory to read them now.
+    Memory,
+}
+
+impl fmt::Display for WordsFault {
+    fn fmt<W: fmt::Write>(&self, f: &mut fmt::Formatter<W>) -> fmt::Result {
+        match self {
+            WordsFault::NoCommand => f.write_str("the words are no command"),
+            WordsFault::Memory => f.write_str("there is no memory for it now"),
+        }
+    }
+}
+
+impl Error for WordsFault {}
+
+impl From<AllocError> for WordsFault {
+    ghost use Rattle.wb_words.specs.declared.fault.WordsFault.TheVariants.{Memory};
+
+    ghost from_gives = { λ _ fault. fault ≡ Memory };
+
+    fn from(_refused: AllocError) -> WordsFault {
+        WordsFault::Memory
+    }
+}
+
+impl<T: Drop> From<AllocFailed<T>> for WordsFault {
+    ghost use Rattle.wb_words.specs.declared.fault.WordsFault.TheVariants.{Memory};
+
+    ghost from_gives = { λ _ fault. fault ≡ Memory };
+
+    fn from(_refused: AllocFailed<T>) -> WordsFault {
+        WordsFault::Memory
+    }
+}
+
+/// Want of memory stays what it is; each other error says that the words are no command.
+impl From<clap::Error> for WordsFault {
+    ghost use Rattle.std.specs.Prelude.{◌↔◌};
+    ghost use Rattle.clap.specs.Words.{kind_of};
+    ghost use Rattle.clap.specs.declared.error.kind.ErrorKind.TheVariants.{OutOfMemory};
+    ghost use Rattle.wb_words.specs.declared.fault.WordsFault.TheVariants.{Memory};
+
+    ghost from_gives = { λ error fault. (fault ≡ Memory) ↔ (kind_of error ≡ OutOfMemory) };
+
+    fn from(error: clap::Error) -> WordsFault {
+        match error.kind() {
+            ErrorKind::OutOfMemory => WordsFault::Memory,
+            _ => WordsFault::NoCommand,
+        }
+    }
+}
