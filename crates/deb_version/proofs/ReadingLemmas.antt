@@ -9,7 +9,7 @@ use borrow.Author.Tests.{ltb-true, eqb-true}
 use Rattle.std.proofs.lemmas.Str.{IsCharBoundary-before_ascii, IsCharBoundary-after_ascii, IsCharBoundary-end}
 use Rattle.deb_version.specs.declared.fault.VersionFault.{VersionFault}
 use Rattle.deb_version.specs.declared.fault.VersionFault.TheVariants.{Memory}
-use Rattle.deb_version.specs.Syntax.{reading_of, fault_of, length_fault, epoch_fault, number_fault, upstream_fault, revision_fault, upstream_part_fault, revision_part_fault, has_epoch, has_revision, epoch_text, rest_of, upstream_text, revision_text, upstream_start, upstream_end, is_colon, is_hyphen}
+use Rattle.deb_version.specs.Syntax.{rest_fault, reading_of, fault_of, length_fault, epoch_fault, number_fault, upstream_fault, revision_fault, upstream_part_fault, revision_part_fault, has_epoch, has_revision, epoch_text, rest_of, upstream_text, revision_text, upstream_start, upstream_end, is_colon, is_hyphen}
 use Rattle.deb_version.proofs.CutLemmas.{rest_of-drop, length-rest_of, no_revision, revision_at, hyphens, last-passes, list_any-last, list_any-first, has_revision-is}
 
 pub reading_of-ok : (t : List ℕ) → fault_of t ≡ None → IsOk (reading_of t)
@@ -54,7 +54,7 @@ unfolding revision_part_fault
 revision_part_fault-memory start part = search (choice, placed, rules)
 
 fault_of-memory : (t : List ℕ) → is_memory (fault_of t) ≡ false
-unfolding fault_of epoch_fault upstream_fault revision_fault
+unfolding fault_of rest_fault epoch_fault upstream_fault revision_fault
 fault_of-memory t =
     search (either, choice, length_fault-memory, number_fault-memory, upstream_part_fault-memory, revision_part_fault-memory, rules)
 

@@ -60,6 +60,10 @@ upstream_start text = if has_epoch text then length (epoch_text text) + 1 else 0
 unfoldable pub upstream_end : List ℕ → ℕ
 upstream_end text = upstream_start text + length (upstream_text text)
 
+-- whether a text is made of digits alone (this project's own)
+abbrev pub all_digits : List ℕ → Bool
+all_digits text = list_all is_ascii_digit text
+
 -- a number with one decimal digit more at its end (this project's own)
 unfoldable pub with_digit : ℕ → ℕ → ℕ
 with_digit n c = n * 10 + (c - 48)
@@ -91,7 +95,7 @@ length_fault text = if length text == 0 then Some Empty else (if nat_lt 1000 (le
 unfoldable pub number_fault : List ℕ → Option VersionFault
 number_fault digits =
     if length digits == 0 then Some EpochEmpty
-    else (if not (list_all is_ascii_digit digits) then Some EpochNotNumber
+    else (if not (all_digits digits) then Some EpochNotNumber
     else (if nat_lt 2147483647 (value_of digits) then Some EpochTooLarge else None))
 
 -- what is wrong with an upstream version that begins at the place start of the whole text (Policy 5.6.12)
@@ -116,10 +120,13 @@ upstream_fault text = upstream_part_fault (upstream_start text) (upstream_text t
 unfoldable pub revision_fault : List ℕ → Option VersionFault
 revision_fault text = if has_revision text then revision_part_fault (upstream_end text + 1) (revision_text text) else None
 
+-- what is wrong with what follows the epoch: its upstream version, then its revision (Policy 5.6.12)
+unfoldable pub rest_fault : List ℕ → Option VersionFault
+rest_fault text = option_or (upstream_fault text) (revision_fault text)
+
 -- the first fault of a text in the order of the checks: its length, its epoch, its upstream version, its revision (this project's own)
 unfoldable pub fault_of : List ℕ → Option VersionFault
-fault_of text =
-    option_or (length_fault text) (option_or (epoch_fault text) (option_or (upstream_fault text) (revision_fault text)))
+fault_of text = option_or (length_fault text) (option_or (epoch_fault text) (rest_fault text))
 
 -- the fault where there is one, else the parts (this project's own)
 abbrev pub outcome : Option VersionFault → Parts → Result Parts VersionFault

@@ -4,7 +4,7 @@ ghost use Rattle.std.specs.Prelude.{◌≡◌, ◌≢◌, ◌+◌, ◌+ℤ◌, �
 ghost use Rattle.std.specs.Char.{is_ascii_digit};
 ghost use Rattle.std.specs.List.{list_all, prefix_len};
 ghost use Rattle.std.specs.Ordering.{nat_cmp};
-ghost use Rattle.deb_version.specs.Syntax.{parts_of, value_of};
+ghost use Rattle.deb_version.specs.Syntax.{parts_of, value_of, all_digits};
 ghost use Rattle.deb_version.specs.Order.{first_weight, part_cmp, revision_or_zero, version_cmp};
 
 use crate::version::Version;
@@ -44,7 +44,7 @@ fn digits_len(part: &[u8]) -> usize
 fn split_digits(part: &[u8]) -> (&[u8], &[u8])
     ensures front { result.0.now ≡ take (prefix_len is_ascii_digit part.now) part.now }
     ensures back { result.1.now ≡ drop (prefix_len is_ascii_digit part.now) part.now }
-    ensures digits { list_all is_ascii_digit result.0.now ≡ true }
+    ensures digits { all_digits result.0.now ≡ true }
 {
     part.split_at(digits_len(part))
 }
@@ -52,7 +52,7 @@ fn split_digits(part: &[u8]) -> (&[u8], &[u8])
 // The digits without the zeros before them.
 fn without_zeros(digits: &[u8]) -> &[u8]
     ensures value { value_of result.now ≡ value_of digits.now }
-    ensures kept { list_all is_ascii_digit digits.now ≡ true → list_all is_ascii_digit result.now ≡ true }
+    ensures kept { all_digits digits.now ≡ true → all_digits result.now ≡ true }
     ensures first { slice_index result.now 0 ≢ 48 }
 {
     let mut rest = digits;
@@ -64,8 +64,8 @@ fn without_zeros(digits: &[u8]) -> &[u8]
 
 // Numbers of any length compare by their digits: the longer is the greater.
 fn compare_numbers(left: &[u8], right: &[u8]) -> Ordering
-    requires left_digits { list_all is_ascii_digit left.now ≡ true }
-    requires right_digits { list_all is_ascii_digit right.now ≡ true }
+    requires left_digits { all_digits left.now ≡ true }
+    requires right_digits { all_digits right.now ≡ true }
     ensures { result ≡ nat_cmp (value_of left.now) (value_of right.now) }
 {
     let a = without_zeros(left);

@@ -1,10 +1,9 @@
 //! The cuts of a text, and its first fault.
 
-ghost use Rattle.std.specs.Prelude.{◌≡◌, ◌+◌, ◌-◌, ◌<◌, ◌≤◌, ◌^◌, length, not, true, false, IfOk, IfErr, MatchOption};
+ghost use Rattle.std.specs.Prelude.{◌≡◌, ◌+◌, ◌-◌, ◌<◌, ◌≤◌, ◌^◌, length, not, true, false, IfOk, IfErr, IfSome, IfNone, MatchOption};
 ghost use Rattle.std.specs.List.{list_any, list_all, position, position_or_len, suffix_len};
-ghost use Rattle.std.specs.Option.{option_or};
 ghost use Rattle.std.specs.Char.{is_ascii_digit};
-ghost use Rattle.deb_version.specs.Syntax.{is_upstream_char, is_revision_char, is_colon, is_hyphen, value_of, value_after, number_fault, epoch_of, upstream_start, upstream_end, rest_of, epoch_fault, upstream_fault, revision_fault, upstream_part_fault, revision_part_fault, fault_of, Remembers};
+ghost use Rattle.deb_version.specs.Syntax.{is_upstream_char, is_revision_char, is_colon, is_hyphen, all_digits, value_of, value_after, number_fault, epoch_of, upstream_start, upstream_end, rest_of, epoch_fault, rest_fault, upstream_part_fault, revision_part_fault, fault_of, Remembers};
 
 use crate::fault::VersionFault;
 
@@ -71,15 +70,17 @@ fn fault_in_revision(start: usize, part: &[u8]) -> Option<VersionFault>
 }
 
 fn are_digits(text: &[u8]) -> bool
-    ensures { result ≡ list_all is_ascii_digit text.now }
+    ensures { result ≡ all_digits text.now }
 {
     text.iter().all(|byte| byte.is_ascii_digit())
 }
 
 // The number that the digits write, where it is at most the limit of an epoch.
 fn number_of(digits: &[u8]) -> Option<u32>
-    requires { list_all is_ascii_digit digits.now ≡ true }
-    ensures { MatchOption result (2147483647 < value_of digits.now) (λ n. (n ≡ value_of digits.now) × (n < 2147483648)) }
+    requires { all_digits digits.now ≡ true }
+    ensures none { IfNone result (2147483647 < value_of digits.now) }
+    ensures value { IfSome result (λ n. n ≡ value_of digits.now) }
+    ensures fits { IfSome result (λ n. n < 2147483648) }
 {
     let mut value = 0u32;
     let mut rest = digits;
@@ -132,7 +133,8 @@ fn last_hyphen(rest: &[u8]) -> Option<usize>
 
 // The epoch, and where the upstream version begins.
 fn epoch_cut(text: &[u8]) -> Result<(u32, usize), VersionFault>
-    ensures value { IfOk result (λ cut. (cut.0 ≡ epoch_of text.now) × (cut.1 ≡ upstream_start text.now)) }
+    ensures number { IfOk result (λ cut. cut.0 ≡ epoch_of text.now) }
+    ensures value { IfOk result (λ cut. cut.1 ≡ upstream_start text.now) }
     ensures inside { IfOk result (λ cut. cut.1 ≤ length text.now) }
     ensures ok { IfOk result (λ _. epoch_fault text.now ≡ None) }
     ensures refused { IfErr result (λ fault. epoch_fault text.now ≡ Some fault) }
@@ -156,8 +158,8 @@ fn upstream_cut(text: &[u8], start: usize) -> Result<usize, VersionFault>
     requires place { start ≡ upstream_start text.now }
     requires inside { start ≤ length text.now }
     ensures value { IfOk result (λ end. end ≡ upstream_end text.now) }
-    ensures ok { IfOk result (λ _. option_or (upstream_fault text.now) (revision_fault text.now) ≡ None) }
-    ensures refused { IfErr result (λ fault. option_or (upstream_fault text.now) (revision_fault text.now) ≡ Some fault) }
+    ensures ok { IfOk result (λ _. rest_fault text.now ≡ None) }
+    ensures refused { IfErr result (λ fault. rest_fault text.now ≡ Some fault) }
 {
     let rest = rest_from(text, start);
     let Some(hyphen) = last_hyphen(rest) else {

@@ -12,8 +12,7 @@ use Rattle.wb_words.specs.Words.{command_in}
 use Rattle.wb_api.specs.Encoding.{line_fault_text}
 use Rattle.wb_daemon.specs.Line.{is_blank_line, is_long, words_of}
 use Rattle.wb_daemon.specs.Run.{Said, Says, answer_said, command_of_line, command_said, fault_said, memory_said, needs_memory, said_of, silent, with_feed}
-use Rattle.wb_daemon.specs.Answer.{AnswersCommand}
-use Rattle.wb_daemon.specs.Turn.{Answers, AnswersInPart, AppendsFront}
+use Rattle.wb_daemon.specs.Turn.{Answers, AnswersCommand, AnswersInPart, AppendsFront}
 use Rattle.wb_daemon.proofs.LineLemmas.{Appends-same}
 
 said_of-long : (machine : Machine) (line : List ℕ) → is_long line ≡ true → said_of machine line ≡ fault_said machine
@@ -76,11 +75,12 @@ Says-memory machine line said h k u p = inr (needs_memory-read line h k u, p)
 -- a reply that finds no memory is said, and nothing of it is written
 pub reply-unwritten : (machine after : Machine) (command : Command) (reply : Reply) → step machine command ≡ (Ok reply, after)
     → (said : Said) × AnswersCommand machine command said × (after ≡ said.machine) × (0 < length said.text)
-reply-unwritten machine after command reply e =
-    (answer_said (name_of_command command) (Ok reply) after,
-    inl (sym (ap (λ outcome. answer_said (name_of_command command) outcome.0 outcome.1) e)),
-    refl,
-    omega (arith, length-append {A = ℕ}))
+reply-unwritten machine after command reply e = (
+  answer_said (name_of_command command) (Ok reply) after,
+  inl (sym (ap (λ outcome. answer_said (name_of_command command) outcome.0 outcome.1) e)),
+  refl,
+  omega (arith, length-append {A = ℕ}),
+)
 
 pub answers-blank : (machine : Machine) (line : List ℕ) (written : Option (List ℕ)) → is_long line ≡ false → is_blank_line line ≡ true
     → Answers line machine machine written written 0

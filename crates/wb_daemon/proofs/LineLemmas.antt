@@ -63,11 +63,12 @@ no_feed-one c h = grind (arith, nat_tests)
 pub over_long : (a b c : Option (List ℕ)) (line : List ℕ) (byte : ℕ) → max_line ≤ length line → HasNoFeed line → ¬ (byte ≡ 10)
     → Consumes a b line → Consumes b c (byte ∷ [])
     → (taken : List ℕ) × (is_long taken ≡ true) × HasNoFeed taken × Consumes a c taken
-over_long a b c line byte full none other p q =
-    (line ++ byte ∷ [],
-    grind (arith, nat_tests, length-append line (byte ∷ [])),
-    no_feed-append line (byte ∷ []) none (no_feed-one byte other),
-    Consumes-then a b c line (byte ∷ []) p q)
+over_long a b c line byte full none other p q = (
+  line ++ byte ∷ [],
+  grind (arith, nat_tests, length-append line (byte ∷ [])),
+  no_feed-append line (byte ∷ []) none (no_feed-one byte other),
+  Consumes-then a b c line (byte ∷ []) p q,
+)
 
 -- ---- UTF-8 as a test
 

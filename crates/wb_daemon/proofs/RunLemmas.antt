@@ -99,11 +99,13 @@ lines_of-long : (lines : List (List ℕ)) (line more : List ℕ) → AreLines li
 unfolding lines_of
 lines_of-long lines line more a h k =
     let front = split-front line more h in
-    let long = is_long-append line front.0 k in
-    (line ++ front.0, long,
-    ap through_long (split-fed lines (line ++ more) a ∙ ap (λ l. lines ++ l) front.2)
-    ∙ through-lines lines ((line ++ front.0) ∷ front.1) a
-    ∙ ap (λ b. lines ++ (line ++ front.0) ∷ cond b [] (through_long front.1)) long)
+    let long = is_long-append line front.0 k in (
+      line ++ front.0,
+      long,
+      ap through_long (split-fed lines (line ++ more) a ∙ ap (λ l. lines ++ l) front.2)
+          ∙ through-lines lines ((line ++ front.0) ∷ front.1) a
+          ∙ ap (λ b. lines ++ (line ++ front.0) ∷ cond b [] (through_long front.1)) long,
+    )
 
 take-front : (lines : List (List ℕ)) (line : List ℕ) → take (length (lines ++ line ∷ []) - 1) (lines ++ line ∷ []) ≡ lines
 take-front lines line =
@@ -127,16 +129,21 @@ max_assoc i j k = omega arith
 
 Runs-snoc : (lines : List (List ℕ)) (machine : Machine) (whole : Said) (line : List ℕ) (said : Said)
     → Runs machine lines whole → Says whole.machine line said → Runs machine (lines ++ line ∷ []) (followed whole said)
-Runs-snoc [] machine whole line said p q =
-    (said, silent said.machine,
-    subst (λ (x : Said). Says x.machine line said) p q,
-    refl,
-    ap (λ (x : Said). followed x said) p ∙ said-same {m = said.machine} (sym (append-nil said.text)) (zero-max said.status ∙ sym (max-zero said.status)))
-Runs-snoc (x ∷ xs) machine whole line said p q =
-    (p.0, followed p.1 said, p.2,
-    Runs-snoc xs p.0.machine p.1 line said p.3 (subst (λ (y : Said). Says y.machine line said) p.4 q),
-    ap (λ (y : Said). followed y said) p.4
-    ∙ said-same {m = said.machine} (append_assoc p.0.text p.1.text said.text) (max_assoc p.0.status p.1.status said.status))
+Runs-snoc [] machine whole line said p q = (
+  said,
+  silent said.machine,
+  subst (λ (x : Said). Says x.machine line said) p q,
+  refl,
+  ap (λ (x : Said). followed x said) p ∙ said-same {m = said.machine} (sym (append-nil said.text)) (zero-max said.status ∙ sym (max-zero said.status)),
+)
+Runs-snoc (x ∷ xs) machine whole line said p q = (
+  p.0,
+  followed p.1 said,
+  p.2,
+  Runs-snoc xs p.0.machine p.1 line said p.3 (subst (λ (y : Said). Says y.machine line said) p.4 q),
+  ap (λ (y : Said). followed y said) p.4
+      ∙ said-same {m = said.machine} (append_assoc p.0.text p.1.text said.text) (max_assoc p.0.status p.1.status said.status),
+)
 
 -- a run so far: each line that was read was answered
 pub record SoFar (input now old new : Option (List ℕ)) (before after : Machine) (status count : ℕ) : Type 0 where
@@ -155,8 +162,14 @@ Consumes-same (Some x) = refl
 
 pub so_far-start : (input old : Option (List ℕ)) (machine : Machine) → SoFar input input old old machine machine 0 0
 so_far-start input old machine = record {
-  lines = []; text = []; are = tt; counted = refl;
-  taken = Consumes-same input; runs = refl; written = Appends-same old; small = lit< tt
+  lines = [];
+  text = [];
+  are = tt;
+  counted = refl;
+  taken = Consumes-same input;
+  runs = refl;
+  written = Appends-same old;
+  small = lit< tt;
 }
 
 module _ {input now old new : Option (List ℕ)} {before after : Machine} {status count : ℕ} (far : SoFar input now old new before after status count) where
@@ -175,7 +188,7 @@ module _ {input now old new : Option (List ℕ)} {before after : Machine} {statu
     taken = after_line line left g.2;
     runs = Runs-snoc far.lines before _ line _ far.runs a.2;
     written = Appends-then old new written far.text a.0 far.written a.3;
-    small = omega (arith, far.small, a.1)
+    small = omega (arith, far.small, a.1);
   }
 
 -- ---- how a run ends
@@ -200,10 +213,11 @@ nothing_or_long left rest line e (inr h) = inr h
 last_lines : (lines : List (List ℕ)) (line rest : List ℕ) → AreLines lines → HasNoFeed line → (rest ≡ []) ⊎ (is_long line ≡ true)
     → (last : List ℕ) × (lines_of (fed lines ++ (line ++ rest)) ≡ lines ++ last ∷ [])
     × ((machine : Machine) (said : Said) → Says machine line said → Says machine last said)
-last_lines lines line rest a h (inl e) =
-    (line,
-    ap (λ l. lines_of (fed lines ++ l)) (ap (λ r. line ++ r) e ∙ append-nil line) ∙ lines_of-last lines line a h,
-    λ _ _ q. q)
+last_lines lines line rest a h (inl e) = (
+  line,
+  ap (λ l. lines_of (fed lines ++ l)) (ap (λ r. line ++ r) e ∙ append-nil line) ∙ lines_of-last lines line a h,
+  λ _ _ q. q,
+)
 last_lines lines line rest a h (inr k) =
     let long = lines_of-long lines line rest a h k in
     (long.0, long.2, λ machine said q. Says-long machine line long.0 said k long.1 q)
@@ -223,12 +237,15 @@ module _ {input now old new : Option (List ℕ)} {before after : Machine} {statu
       → IfSome input (λ bytes. RunEnds bytes old written before next (max status more) × (length (lines_of bytes) ≤ count + 1))
   ends-line line left written next more g a = if_some input _ _ (λ bytes k.
       let last = last_lines far.lines line k.0 far.are g.0 (nothing_or_long left k.0 line k.2 g.2) in
-      let same : lines_of bytes ≡ far.lines ++ last.0 ∷ [] = ap lines_of k.1 ∙ last.1 in
-      ((far.text ++ a.0,
-        subst (λ l. Runs before l (record { text = far.text ++ a.0; machine = next; status = max status more })) (sym same)
-        (Runs-snoc far.lines before _ last.0 _ far.runs (last.2 _ _ a.2)),
-        Appends-then old new written far.text a.0 far.written a.3),
-      omega (arith, ap length same, length-append far.lines (last.0 ∷ []), far.counted)))
+      let same : lines_of bytes ≡ far.lines ++ last.0 ∷ [] = ap lines_of k.1 ∙ last.1 in (
+        (
+          far.text ++ a.0,
+          subst (λ l. Runs before l (record { text = far.text ++ a.0; machine = next; status = max status more })) (sym same)
+              (Runs-snoc far.lines before _ last.0 _ far.runs (last.2 _ _ a.2)),
+          Appends-then old new written far.text a.0 far.written a.3,
+        ),
+        omega (arith, ap length same, length-append far.lines (last.0 ∷ []), far.counted),
+      ))
       (front_of_input input now left (fed far.lines) line far.taken g.1)
 
   -- nothing follows
@@ -242,15 +259,28 @@ module _ {input now old new : Option (List ℕ)} {before after : Machine} {statu
 
   -- the reader failed within a line
   pub stops-between : (line : List ℕ) (left : Option (List ℕ)) → HasNoFeed line → Consumes now left line → RunStops input left old new before after
-  stops-between line left h p =
-      (fed far.lines ++ line, far.text, Consumes-then input now left (fed far.lines) line far.taken p, far.written,
-      inl (status, subst (λ l. Runs before l (record { text = far.text; machine = after; status = status })) (sym (ended_in-fed far.lines line far.are h)) far.runs))
+  stops-between line left h p = (
+    fed far.lines ++ line,
+    far.text,
+    Consumes-then input now left (fed far.lines) line far.taken p,
+    far.written,
+    inl (status, subst (λ l. Runs before l (record { text = far.text; machine = after; status = status })) (sym (ended_in-fed far.lines line far.are h)) far.runs),
+  )
 
   within : (line : List ℕ) (written : Option (List ℕ)) (next : Machine) → (a : AnswersInPart line after next new written)
       → StopsWithin (far.lines ++ line ∷ []) before (far.text ++ take a.3.0 a.0.text) next
   within line written next a = record {
-    earlier = far.lines; last = line; answered = record { text = far.text; machine = after; status = status }; said = a.0; written = a.3.0;
-    parts = refl; runs = far.runs; says = a.1; cut = a.3.1; front = refl; office = a.2
+    earlier = far.lines;
+    last = line;
+    answered = record { text = far.text; machine = after; status = status };
+    said = a.0;
+    written = a.3.0;
+    parts = refl;
+    runs = far.runs;
+    says = a.1;
+    cut = a.3.1;
+    front = refl;
+    office = a.2;
   }
 
   -- the answer to a line was not written whole
@@ -258,9 +288,13 @@ module _ {input now old new : Option (List ℕ)} {before after : Machine} {statu
       → GivesFed line now left → AnswersInPart line after next new written → RunStops input left old written before next
   stops-fed line left written next g a =
       let all = far.lines ++ line ∷ [] in
-      let are = AreLines-snoc far.lines line far.are g.1 g.0 in
-      (fed all, far.text ++ take a.3.0 a.0.text, after_line far line left g.2, Appends-then old new written far.text _ far.written a.3.2,
-      inr (all, inl (sym (ap ended_in (sym (append-nil (fed all))) ∙ ended_in-fed all [] are refl)), within line written next a))
+      let are = AreLines-snoc far.lines line far.are g.1 g.0 in (
+        fed all,
+        far.text ++ take a.3.0 a.0.text,
+        after_line far line left g.2,
+        Appends-then old new written far.text _ far.written a.3.2,
+        inr (all, inl (sym (ap ended_in (sym (append-nil (fed all))) ∙ ended_in-fed all [] are refl)), within line written next a),
+      )
 
   at_last : (line : List ℕ) (left : Option (List ℕ)) → IsAtEnd left ⊎ (is_long line ≡ true) → IsAtEnd left ⊎ IsTrue (list_any is_long (far.lines ++ line ∷ []))
   at_last line left (inl h) = inl h
@@ -270,16 +304,19 @@ module _ {input now old new : Option (List ℕ)} {before after : Machine} {statu
   pub stops-last : (line : List ℕ) (left written : Option (List ℕ)) (next : Machine)
       → GivesLast line now left → AnswersInPart line after next new written → RunStops input left old written before next
   stops-last line left written next g a =
-      let all = far.lines ++ line ∷ [] in
-      (fed far.lines ++ line, far.text ++ take a.3.0 a.0.text, Consumes-then input now left (fed far.lines) line far.taken g.1,
-      Appends-then old new written far.text _ far.written a.3.2,
-      inr (all, inr (sym (lines_of-last far.lines line far.are g.0), at_last line left g.2), within line written next a))
+      let all = far.lines ++ line ∷ [] in (
+        fed far.lines ++ line,
+        far.text ++ take a.3.0 a.0.text,
+        Consumes-then input now left (fed far.lines) line far.taken g.1,
+        Appends-then old new written far.text _ far.written a.3.2,
+        inr (all, inr (sym (lines_of-last far.lines line far.are g.0), at_last line left g.2), within line written next a),
+      )
 
   -- a turn stopped
   pub stops-turn : (left written : Option (List ℕ)) (next : Machine) → Turns Stop after next now left new written → RunStops input left old written before next
   stops-turn left written next t = elim t.1 [
-    inl p ↦ subst (λ w. RunStops input left old w before next) (sym p.3)
-      (subst (λ m. RunStops input left old new before m) (sym p.2) (stops-between t.0 left p.0 p.1))
+    | inl p ↦ subst (λ w. RunStops input left old w before next) (sym p.3)
+        (subst (λ m. RunStops input left old new before m) (sym p.2) (stops-between t.0 left p.0 p.1))
     | inr q ↦ elim q [ inl p ↦ stops-fed t.0 left written next p.0 p.1 | inr p ↦ stops-last t.0 left written next p.0 p.1 ]
   ]
 

@@ -1,4 +1,3 @@
 pub mod Line
 pub mod Run
 pub mod Turn
-pub mod Answer

@@ -71,7 +71,7 @@ abbrev pub followed : Said → Said → Said
 followed first later = record {
   text = first.text ++ later.text;
   machine = later.machine;
-  status = max first.status later.status
+  status = max first.status later.status;
 }
 
 -- what is said to lines in their order, from this state of the office on
@@ -116,4 +116,4 @@ abbrev pub RunStops : Option (List ℕ) → Option (List ℕ) → Option (List �
 RunStops old_input new_input old_text new_text before after =
     (seen text : List ℕ) × Consumes old_input new_input seen × Appends old_text new_text text
     × (StopsBetween seen before text after
-      ⊎ ((lines : List (List ℕ)) × WereHeard seen new_input lines × StopsWithin lines before text after))
+    ⊎ ((lines : List (List ℕ)) × WereHeard seen new_input lines × StopsWithin lines before text after))

@@ -1,11 +1,23 @@
 -- What one turn of a run does: it reads a line and answers it (this project's own).
-use Rattle.std.specs.Prelude.{◌≡◌, ℕ, ◌<◌, false, true, ◌⊎◌, List, [], ◌∷◌, ◌++◌, length, take, Option}
+use Rattle.std.specs.Prelude.{◌≡◌, ℕ, ◌<◌, false, true, ◌⊎◌, List, [], ◌∷◌, ◌++◌, length, take, Option, Some}
+use Rattle.std.specs.Cow.{cow_str_bytes}
 use Rattle.std.specs.Io.KnownBytes.{Appends, Consumes, IsAtEnd}
 use Rattle.wb_states.specs.Machine.{Machine}
+use Rattle.wb_states.specs.declared.command.Command.{Command}
 use Rattle.wb_daemon.specs.Line.{is_long, HasNoFeed}
-use Rattle.wb_daemon.specs.Run.{Said, Says}
+use Rattle.wb_daemon.specs.Run.{Said, Says, command_said, memory_said, with_feed}
+use Rattle.wb_daemon.specs.declared.run.Answer.{Answer}
 use Rattle.wb_daemon.specs.declared.run.Turn.{Turn}
 use Rattle.wb_daemon.specs.declared.run.Turn.TheVariants.{More, End, Stop}
+
+-- what is said by an answer after which the office is in this state
+abbrev pub said_by : Answer → Machine → Said
+said_by answer after = record { text = with_feed (cow_str_bytes answer.text); machine = after; status = answer.status }
+
+-- what may be said to a command: that there is no memory for it is possible too
+abbrev pub AnswersCommand : Machine → Command → Said → Type 0
+AnswersCommand machine command said =
+    (said ≡ command_said machine (Some command)) ⊎ (said ≡ memory_said machine)
 
 -- a front of a text, but not the whole, is appended
 abbrev pub AppendsFront : Option (List ℕ) → Option (List ℕ) → List ℕ → Type 0
@@ -37,5 +49,5 @@ Turns (End status) before after old_input new_input old new =
     (line : List ℕ) × GivesLast line old_input new_input × Answers line before after old new status
 Turns Stop before after old_input new_input old new =
     (line : List ℕ) × ((HasNoFeed line × Consumes old_input new_input line × (after ≡ before) × (new ≡ old))
-      ⊎ ((GivesFed line old_input new_input × AnswersInPart line before after old new)
-      ⊎ (GivesLast line old_input new_input × AnswersInPart line before after old new)))
+    ⊎ ((GivesFed line old_input new_input × AnswersInPart line before after old new)
+    ⊎ (GivesLast line old_input new_input × AnswersInPart line before after old new)))

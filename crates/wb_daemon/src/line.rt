@@ -10,7 +10,7 @@ use std::io::Read;
 use std::str;
 
 /// The greatest length of a line, its line feed not counted.
-pub const MAX_LINE: usize = 65536;
+pub(crate) const MAX_LINE: usize = 65536;
 
 /// What a read of one byte gave.
 pub(crate) enum ByteRead {
@@ -32,9 +32,10 @@ pub(crate) enum LineRead {
     Fault,
 }
 
+/// Reads one byte. An interrupted read is a failed one too.
 pub(crate) fn read_byte<R: Read>(reader: &mut R) -> ByteRead
     ensures value { Consumes (R.remaining reader.old) (R.remaining reader.new) (bytes_of result) }
-    ensures ended { result ≡ End → IsAtEnd (R.remaining reader.new) }
+    ensures status { result ≡ End → IsAtEnd (R.remaining reader.new) }
 {
     let mut room = [0u8; 1];
     match reader.read(&mut room) {
@@ -44,6 +45,7 @@ pub(crate) fn read_byte<R: Read>(reader: &mut R) -> ByteRead
     }
 }
 
+/// Reads one line into the room, byte by byte, and no byte after it.
 pub(crate) fn read_line<R: Read>(reader: &mut R, room: &mut [u8]) -> LineRead
     requires { length room.old ≡ max_line }
     ensures value { TookLine room.new (R.remaining reader.old) (R.remaining reader.new) result }
@@ -64,12 +66,14 @@ pub(crate) fn read_line<R: Read>(reader: &mut R, room: &mut [u8]) -> LineRead
     }
 }
 
+/// Whether the line is of spaces and tabs alone.
 pub(crate) fn is_blank_line(line: &[u8]) -> bool
     ensures value { result ≡ is_blank_line line.now }
 {
     line.iter().all(|c| *c == b' ' || *c == b'\t')
 }
 
+/// The words of the line. The only error is that there is no memory for the list.
 pub(crate) fn words_of<'a>(alloc: Global, text: &'a str) -> Result<Vec<&'a str>, AllocError>
     ensures value { IfOk result (λ words. map (λ w. w.now) words.items ≡ words_of text.entry.now) }
 {
@@ -82,7 +86,7 @@ pub(crate) fn words_of<'a>(alloc: Global, text: &'a str) -> Result<Vec<&'a str>,
 /// The line as text, where it is UTF-8.
 pub(crate) fn text_of(line: &[u8]) -> Option<&str>
     ensures value { IfSome result (λ text. (text.now ≡ line.now) × (is_utf8 line.now ≡ true)) }
-    ensures none { result ≡ None → is_utf8 line.now ≡ false }
+    ensures err { result ≡ None → is_utf8 line.now ≡ false }
 {
     match str::from_utf8(line) {
         Ok(text) => Some(text),

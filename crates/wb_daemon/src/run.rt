@@ -5,10 +5,11 @@ ghost use Rattle.std.specs.Cow.{cow_str_bytes};
 ghost use Rattle.wb_words.specs.declared.fault.WordsFault.TheVariants.{Memory};
 ghost use Rattle.wb_daemon.specs.Line.{is_blank_line, is_long, lines_of, max_line, max_lines};
 ghost use Rattle.wb_daemon.specs.Run.{command_of_line, with_feed, RunEnds, RunStops, Said, Says};
-ghost use Rattle.wb_daemon.specs.Answer.{said_by, AnswersCommand};
-ghost use Rattle.wb_daemon.specs.Turn.{Answers, AnswersInPart, Turns};
+ghost use Rattle.wb_daemon.specs.Turn.{said_by, Answers, AnswersCommand, AnswersInPart, Turns};
 
-use crate::line::{ByteRead, LineRead, MAX_LINE, is_blank_line, read_byte, read_line, text_of, words_of};
+use crate::line::{
+    ByteRead, LineRead, MAX_LINE, is_blank_line, read_byte, read_line, text_of, words_of,
+};
 use crate::write::write_line;
 use std::alloc::Global;
 use std::borrow::CowStr;
@@ -18,12 +19,15 @@ use wb_office::Office;
 use wb_states::{Command, Refusal};
 use wb_words::{WordsFault, command_of};
 
-/// The greatest number of lines of a run.
+/// The greatest number of line feeds that a run reads.
 const MAX_LINES: u64 = 1_000_000_000;
 
 const ACCEPTED: u8 = 0;
+
 const REFUSED: u8 = 1;
+
 const LINE_FAULT: u8 = 2;
+
 const STOPPED: u8 = 3;
 
 /// What is written to a line, without its line feed, and the status of the line.
@@ -201,7 +205,19 @@ fn run_within<R: Read, W: Write>(
     }
 }
 
-/// Answers each line of the input with one line of JSON, and gives the status of the run.
+/// Acts on each line of the input in turn and answers it with one line of JSON. Gives the status of the run.
+///
+/// A line ends at a line feed, which the last may lack; its words are parted by spaces and tabs, without
+/// quoting. A line without words is not answered. A line that is not UTF-8, whose words are no command, or
+/// that is longer than 65536 bytes is a line fault; one that is too long is the last. A line for which there
+/// is no memory is answered as a refusal for want of memory. The status is the greatest of the lines': 0
+/// accepted, 1 refused, 2 a line fault.
+///
+/// Status 3 tells that the run stopped: a read failed, and the line that it cut off was not acted on; or a
+/// write failed or took no byte, also an interrupted one, or there was no memory for the reply to an
+/// accepted command, and the output ends within the answer to the last line that was acted on; or more
+/// follows the 1000000000th line feed; or there was no memory for the room that holds a line, and nothing
+/// was read. The commands of the lines that were answered stand (this project's own).
 pub fn run_lines<R: Read, W: Write>(
     alloc: Global,
     office: &mut Office,

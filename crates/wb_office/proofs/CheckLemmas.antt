@@ -1,5 +1,5 @@
 -- What holds of a command that no check refuses.
-use Rattle.std.proofs.Common.{◌≡◌, ℕ, ◌<◌, ◌≤◌, Bool, true, false, not, ◌&&◌, ◌||◌, Option, Some, None, Ok, Err, Result, IsTrue, IsOk, refl, sym, ap, ◌∙◌, List, option_map, nat_le, is_none, arith, cond}
+use Rattle.std.proofs.Common.{◌≡◌, Bool, true, false, not, ◌&&◌, ◌||◌, Option, Some, None, IsTrue, refl, sym, option_map}
 use Rattle.deb_version.specs.declared.fault.VersionFault.{VersionFault}
 use Rattle.wb_states.specs.declared.refusal.Refusal.{Refusal}
 use Rattle.wb_states.specs.declared.refusal.Refusal.TheVariants.{BadVersion}

@@ -1,6 +1,5 @@
 -- Every step keeps the invariant of the office.
-use Rattle.std.proofs.Common.{◌≡◌, ℕ, ◌+◌, ◌<◌, ◌≤◌, Bool, true, false, not, ◌&&◌, ◌||◌, Option, Some, None, Ok, Err, IsTrue, IsOk, IfSome, is_some, refl, sym, ap, subst, ◌∙◌, List, [], ◌∷◌, nat_le, arith, cond, rules}
-use Rattle.std.specs.declared.cmp.Ordering.TheVariants.{Equal}
+use Rattle.std.proofs.Common.{◌≡◌, ℕ, ◌+◌, ◌<◌, ◌≤◌, Bool, true, false, ◌||◌, Option, Some, None, IsTrue, IfSome, is_some, refl, sym, ap, subst, ◌∙◌, List, arith, cond}
 use Rattle.std.specs.declared.cmp.Ordering.{Ordering}
 use Rattle.std.specs.Ordering.{eq_by_cmp, is_eq}
 use Rattle.std.specs.Cmp.{IsTotalOrder}
@@ -9,15 +8,10 @@ use Rattle.std.specs.FinMap as map
 use Rattle.std.specs.FinSet as set
 use Rattle.wb_states.specs.declared.arch.OsCpu.{OsCpu}
 use Rattle.wb_states.specs.declared.record.Record.{Record}
-use Rattle.wb_states.specs.declared.command.Command.{Command}
-use Rattle.wb_states.specs.declared.command.Command.TheVariants.{AddArch, AddBuilder, Enter, Next}
 use Rattle.wb_states.specs.Limits.{count_limit}
-use Rattle.wb_states.specs.Machine.{Machine, empty_office, pair_cmp, IsArch, IsBuilder, IsRecord, IsConsistent, HasDistinctTakes}
-use Rattle.wb_states.specs.Record.{IsWellFormed}
+use Rattle.wb_states.specs.Machine.{Machine, empty_office, pair_cmp, IsArch, IsBuilder, IsRecord, IsConsistent}
 use Rattle.wb_states.specs.Text.{text_cmp}
 use Rattle.wb_states.proofs.KeyLemmas.{text_cmp_total, text_cmp-same, pair_cmp_total, pair_cmp-same, eq_by_cmp-same, insert_all}
-use Rattle.wb_office.specs.Checks.{first_refusal}
-use Rattle.wb_office.specs.Step.{step, accept, unless_refused}
 
 pub IsConsistent-empty_office : IsConsistent empty_office
 unfolding empty_office

@@ -1,5 +1,5 @@
 -- What a builder's command for the head of a queue answers.
-use Rattle.std.proofs.Common.{◌≡◌, ◌≢◌, ℕ, ◌+◌, ◌<◌, Bool, true, false, ◌||◌, Option, Some, None, Ok, Err, Result, refl, sym, ap, ◌∙◌, List, option_map, is_none, nat_le, IsOk, subst}
+use Rattle.std.proofs.Common.{◌≡◌, ◌≢◌, ℕ, ◌+◌, ◌<◌, Bool, true, false, ◌||◌, Option, Some, None, Ok, Err, refl, sym, ap, ◌∙◌, List, option_map, is_none, nat_le, IsOk, subst}
 use Rattle.std.proofs.lemmas.Bool.{lt-leb}
 use Rattle.deb_version.specs.declared.fault.VersionFault.{VersionFault}
 use Rattle.deb_version.specs.declared.fault.VersionFault.TheVariants.{Empty, EpochEmpty, EpochNotNumber, EpochTooLarge, UpstreamEmpty, UpstreamBad, RevisionEmpty, RevisionBad, TooLong, Memory as NoMemory}
@@ -13,13 +13,13 @@ use Rattle.wb_states.specs.declared.reply.Reply.TheVariants.{Job}
 use Rattle.wb_states.specs.Moves.{taken_by}
 use Rattle.wb_states.specs.declared.record.Record.{Record}
 use Rattle.wb_states.specs.declared.refusal.Refusal.{Refusal}
-use Rattle.wb_states.specs.declared.refusal.Refusal.TheVariants.{QueueEmpty, Spent, Memory, BadVersion, BadName, UnknownArch, UnknownBuilder, WrongArch, AlreadyThere}
+use Rattle.wb_states.specs.declared.refusal.Refusal.TheVariants.{QueueEmpty, Spent, Memory, BadVersion, BadName, UnknownArch, UnknownBuilder, WrongArch}
 use Rattle.wb_states.specs.Limits.{count_limit}
 use Rattle.wb_states.specs.Machine.{Machine}
 use Rattle.wb_states.specs.Queue.{Entry, head_of}
 use Rattle.wb_states.proofs.QueueLemmas.{head_of-waits}
 use Rattle.wb_store.specs.Lookups.{named}
-use Rattle.wb_office.specs.Checks.{first_refusal, or_refusal, when, MayAsk, is_spent, refusal_of_fault, has_bad_name, lacks_arch, lacks_builder, is_for_other_archs}
+use Rattle.wb_office.specs.Checks.{first_refusal, or_refusal, when, MayAsk, refusal_of_fault, has_bad_name, lacks_arch, lacks_builder, is_for_other_archs}
 use Rattle.wb_office.specs.Step.{Outcome, step, hand_out, unless_refused, accept, assignment_of}
 
 -- the checks that are left once a builder may ask

@@ -1,27 +1,23 @@
 -- A command that is not refused keeps the invariant of the office, and so does every step.
-use Rattle.std.proofs.Common.{◌≡◌, ℕ, ◌+◌, ◌<◌, ◌≤◌, Bool, true, false, not, ◌&&◌, ◌||◌, Option, Some, None, Ok, Err, IsTrue, IsOk, IfSome, is_some, is_none, refl, sym, ap, subst, ◌∙◌, List, [], ◌∷◌, nat_le, arith, option_map}
+use Rattle.std.proofs.Common.{◌≡◌, ℕ, ◌+◌, ◌<◌, Bool, true, false, ◌&&◌, ◌||◌, Option, Some, None, IsTrue, IsOk, IfSome, refl, sym, ap, subst, ◌∙◌, List, [], ◌∷◌, nat_le, arith, option_map}
 use Rattle.std.proofs.lemmas.Bool.{leb-false}
 use Rattle.std.proofs.lemmas.Str.{IsUtf8-nil}
-use Rattle.std.specs.FinMap as map
 use Rattle.std.specs.FinSet as set
 use Rattle.deb_version.specs.Syntax.{fault_of, reading_of}
-use Rattle.wb_states.specs.declared.arch.OsCpu.{OsCpu}
 use Rattle.wb_states.specs.declared.record.Record.{Record}
-use Rattle.wb_states.specs.declared.state.State.{State}
 use Rattle.wb_states.specs.declared.state.State.TheVariants.{NeedsBuild}
 use Rattle.wb_states.specs.declared.command.Command.{Command}
 use Rattle.wb_states.specs.declared.command.Command.TheVariants.{AddArch, AddBuilder, Enter, Next}
-use Rattle.wb_states.specs.declared.refusal.Refusal.{Refusal}
 use Rattle.wb_states.specs.declared.refusal.Refusal.TheVariants.{UnknownArch, UnknownBuilder, WrongArch, QueueEmpty, AlreadyThere, BadName, BadVersion, Spent}
 use Rattle.wb_states.specs.Limits.{count_limit, note_limit, relations_limit}
 use Rattle.wb_states.specs.Names.{is_arch_name, is_os_cpu_word, is_builder_name, is_source_name, is_label_text}
-use Rattle.wb_states.specs.Machine.{Machine, IsArch, IsBuilder, IsRecord, IsConsistent}
+use Rattle.wb_states.specs.Machine.{Machine, IsRecord, IsConsistent}
 use Rattle.wb_states.specs.Moves.{taken_by}
 use Rattle.wb_states.specs.Queue.{Entry, head_of, IsWaitingAt}
 use Rattle.wb_states.specs.Record.{IsWellFormed, IsTextWithin, is_empty_text}
-use Rattle.wb_states.specs.State.{is_held, is_dep_wait}
+use Rattle.wb_states.specs.State.{is_dep_wait}
 use Rattle.wb_states.proofs.QueueLemmas.{head_of-waits}
-use Rattle.wb_office.specs.Checks.{when, or_refusal, first_some, first_refusal, has_bad_name, version_fault, lacks_arch, lacks_builder, is_for_other_archs, has_empty_queue, is_there_already, is_spent}
+use Rattle.wb_office.specs.Checks.{when, or_refusal, first_refusal, has_bad_name, version_fault, lacks_arch, lacks_builder, is_for_other_archs, has_empty_queue, is_there_already, is_spent}
 use Rattle.wb_office.specs.Step.{step, accept, unless_refused, entered, hand_out}
 use Rattle.wb_office.specs.Replay.{replay}
 use Rattle.wb_office.proofs.CheckLemmas.{or_refusal-None, when-None, BadVersion-None, not-false, both-true, either-false}

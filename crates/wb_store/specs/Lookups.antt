@@ -48,11 +48,13 @@ take_cmp = on (λ entry. unwrap_or entry.1.take 0) nat_cmp
 
 -- the first record, by architecture and source package, that is held under the take number
 unfoldable pub taken_as : Machine → ℕ → Option Entry
-taken_as machine take_number = first_of (filter (is_taken_as take_number) (finite.entries machine.records))
+taken_as machine take_number =
+    first_of (filter (is_taken_as take_number) (finite.entries machine.records))
 
 -- the records that the builder holds, by take number
 unfoldable pub held_of : Machine → List ℕ → List Entry
-held_of machine builder = sorted_by take_cmp (filter (is_held_by builder) (finite.entries machine.records))
+held_of machine builder =
+    sorted_by take_cmp (filter (is_held_by builder) (finite.entries machine.records))
 
 -- the records of the architecture, by the names of their source packages
 unfoldable pub rows_of : Machine → List ℕ → List (List ℕ × Record)

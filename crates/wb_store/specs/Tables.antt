@@ -26,11 +26,18 @@ Parts = map.FinMap pair_cmp Record × (map.FinMap text_cmp OsCpu × (set.FinSet 
 abbrev pub coded_parts : Coded Parts
 coded_parts =
     coded× (map.code coded_pair row.the_row.coded)
-    (coded× (map.code coded_text words.the_row.coded) (coded× (set.code coded_pair) (coded× coded_ℕ coded_ℕ)))
+    (coded× (map.code coded_text words.the_row.coded)
+    (coded× (set.code coded_pair) (coded× coded_ℕ coded_ℕ)))
 
 -- the code of the state
 abbrev pub coded_machine : Coded Machine
 coded_machine =
     code_by Parts coded_parts (λ m. (m.records, (m.archs, (m.builders, (m.handed, m.accepted)))))
-    (λ p. record { records = p.0; archs = p.1.0; builders = p.1.1.0; handed = p.1.1.1.0; accepted = p.1.1.1.1 })
+    (λ p. record {
+      records = p.0;
+      archs = p.1.0;
+      builders = p.1.1.0;
+      handed = p.1.1.1.0;
+      accepted = p.1.1.1.1;
+    })
     (λ _. refl)

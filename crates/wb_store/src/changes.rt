@@ -8,24 +8,24 @@ use std::alloc::AllocError;
 use wb_states::{OsCpu, Record, Text};
 
 impl Store {
-    /// Gives the source package `source` on the architecture `arch` the record `current`, in the place of
-    /// the one that it had, if any. All else stays. The only error is that there is no memory for it; the
-    /// tables are then as they were (this project's own).
+    /// Gives the source package `source` on the architecture `arch` the record `current`, in the
+    /// place of the one that it had, if any. All else stays. The only error is that there is no
+    /// memory for it; the tables are then as they were (this project's own).
     pub fn put(&mut self, arch: Text, source: Text, current: Record) -> Result<(), AllocError>
-        ensures ok { OnOk result
-            (self.new ≡ record self.old { records = map.insert self.old.records (arch, source) current }) }
+        ensures ok { OnOk result (self.new
+            ≡ record self.old { records = map.insert self.old.records (arch, source) current }) }
         ensures err { OnErr result (self.new ≡ self.old) }
     {
         self.records.insert((arch, source), current)?;
         Ok(())
     }
 
-    /// Takes the record of the source package `source` on the architecture `arch` out, where it has one.
-    /// All else stays. The only error is that there is no memory for it; the tables are then as they were
-    /// (this project's own).
+    /// Takes the record of the source package `source` on the architecture `arch` out, where it has
+    /// one. All else stays. The only error is that there is no memory for it; the tables are then
+    /// as they were (this project's own).
     pub fn remove(&mut self, arch: &Text, source: &Text) -> Result<(), AllocError>
-        ensures ok { OnOk result
-            (self.new ≡ record self.old { records = map.remove self.old.records (arch.now, source.now) }) }
+        ensures ok { OnOk result (self.new
+            ≡ record self.old { records = map.remove self.old.records (arch.now, source.now) }) }
         ensures err { OnErr result (self.new ≡ self.old) }
     {
         let key = (arch.clone()?, source.clone()?);
@@ -33,23 +33,23 @@ impl Store {
         Ok(())
     }
 
-    /// Adds the architecture `name` with its words, or gives an architecture that is there these words. All
-    /// else stays. The only error is that there is no memory for it; the tables are then as they were (this
-    /// project's own).
+    /// Adds the architecture `name` with its words, or gives an architecture that is there these
+    /// words. All else stays. The only error is that there is no memory for it; the tables are then
+    /// as they were (this project's own).
     pub fn add_arch(&mut self, name: Text, words: OsCpu) -> Result<(), AllocError>
-        ensures ok { OnOk result
-            (self.new ≡ record self.old { archs = map.insert self.old.archs name words }) }
+        ensures ok { OnOk result (self.new
+            ≡ record self.old { archs = map.insert self.old.archs name words }) }
         ensures err { OnErr result (self.new ≡ self.old) }
     {
         self.archs.insert(name, words)?;
         Ok(())
     }
 
-    /// Adds that the builder builds for the architecture `arch`. All else stays. The only error is that
-    /// there is no memory for it; the tables are then as they were (this project's own).
+    /// Adds that the builder builds for the architecture `arch`. All else stays. The only error is
+    /// that there is no memory for it; the tables are then as they were (this project's own).
     pub fn add_builder(&mut self, builder: Text, arch: Text) -> Result<(), AllocError>
-        ensures ok { OnOk result
-            (self.new ≡ record self.old { builders = set.insert self.old.builders (builder, arch) }) }
+        ensures ok { OnOk result (self.new
+            ≡ record self.old { builders = set.insert self.old.builders (builder, arch) }) }
         ensures err { OnErr result (self.new ≡ self.old) }
     {
         self.builders.insert((builder, arch))?;

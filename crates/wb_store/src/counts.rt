@@ -20,7 +20,8 @@ pub struct StateCounts {
 }
 
 impl Store {
-    /// How many records of the architecture are in each state. Takes no memory (this project's own).
+    /// How many records of the architecture are in each state. Takes no memory (this project's
+    /// own).
     #[tactic(auto, unfolding(crate::specs::Lookups::counts_of))]
     pub fn counts(&self, arch: &Text) -> StateCounts
         ensures value { result ≡ counts_of self.now arch.now }

@@ -8,9 +8,9 @@ use std::alloc::AllocError;
 use wb_states::{Record, Text};
 
 impl Store {
-    /// The architecture, the source package and the record that is held under the take number, or none
-    /// where no record is: the first by architecture and source package. Takes no memory (this project's
-    /// own).
+    /// The architecture, the source package and the record that is held under the take number, or
+    /// none where no record is: the first by architecture and source package. Takes no memory (this
+    /// project's own).
     #[tactic(auto, unfolding(crate::specs::Lookups::taken_as))]
     pub fn by_take(&self, take_number: u64) -> Option<(&Text, &Text, &Record)>
         ensures value { option_map entry_of result ≡ taken_as self.now take_number }
@@ -23,11 +23,12 @@ impl Store {
         None
     }
 
-    /// The records that the builder holds, each with its architecture and its source package, of all
-    /// architectures, by take number. The only error is that there is no memory for the list (this
-    /// project's own).
+    /// The records that the builder holds, each with its architecture and its source package, of
+    /// all architectures, by take number. The only error is that there is no memory for the list
+    /// (this project's own).
     pub fn held_by(&self, builder: &Text) -> Result<Vec<(&Text, &Text, &Record)>, AllocError>
-        ensures value { IfOk result (λ rows. each entry_of rows.items ≡ held_of self.now builder.now) }
+        ensures value { IfOk result (λ rows.
+            each entry_of rows.items ≡ held_of self.now builder.now) }
     {
         let mut held = Vec::new(self.alloc);
         for (key, current) in self.records.iter() {

@@ -12,15 +12,16 @@ use std::alloc::AllocError;
 use wb_states::{OsCpu, Record, Text};
 
 impl Store {
-    /// The words of the architecture, or none where it was never added. Takes no memory (this project's own).
+    /// The words of the architecture, or none where it was never added. Takes no memory (this
+    /// project's own).
     pub fn arch(&self, name: &Text) -> Option<&OsCpu>
         ensures value { option_copied result ≡ map.get self.now.archs name.now }
     {
         self.archs.get(name)
     }
 
-    /// The architectures for which the builder was added, by name: none where the builder was never added.
-    /// The only error is that there is no memory for them (this project's own).
+    /// The architectures for which the builder was added, by name: none where the builder was never
+    /// added. The only error is that there is no memory for them (this project's own).
     pub fn archs_of(&self, builder: &Text) -> Result<Vec<Text>, AllocError>
         ensures value { IfOk result (λ archs. archs.items ≡ archs_of self.now builder.now) }
     {
@@ -43,8 +44,8 @@ impl Store {
         Ok(self.builders.contains(&pair))
     }
 
-    /// The record of the source package on the architecture, or none. The only error is that there is no
-    /// memory for the key by which it is sought (this project's own).
+    /// The record of the source package on the architecture, or none. The only error is that there
+    /// is no memory for the key by which it is sought (this project's own).
     pub fn get(&self, arch: &Text, source: &Text) -> Result<Option<&Record>, AllocError>
         ensures value { IfOk result (λ found.
             option_copied found ≡ map.get self.now.records (arch.now, source.now)) }
@@ -53,11 +54,12 @@ impl Store {
         Ok(self.records.get(&key))
     }
 
-    /// The records of the architecture with the names of their source packages, by name. The only error is
-    /// that there is no memory for the list (this project's own).
+    /// The records of the architecture with the names of their source packages, by name. The only
+    /// error is that there is no memory for the list (this project's own).
     #[tactic(auto, unfolding(crate::specs::Lookups::rows_of))]
     pub fn all_of(&self, arch: &Text) -> Result<Vec<(&Text, &Record)>, AllocError>
-        ensures value { IfOk result (λ rows. each deref_pair rows.items ≡ rows_of self.now arch.now) }
+        ensures value { IfOk result (λ rows.
+            each deref_pair rows.items ≡ rows_of self.now arch.now) }
     {
         let mut rows = Vec::new(self.alloc);
         for (key, current) in self.records.iter() {

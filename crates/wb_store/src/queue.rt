@@ -11,11 +11,12 @@ use crate::Store;
 use wb_states::{QueueKey, Record, State, Text};
 
 impl Store {
-    /// The head of the architecture's queue: the name of the source package that is built next, and its
-    /// record. None where no source package of the architecture waits for a builder. Takes no memory
-    /// (wanna-build's states page).
+    /// The head of the architecture's queue: the name of the source package that is built next, and
+    /// its record. None where no source package of the architecture waits for a builder. Takes no
+    /// memory (wanna-build's states page).
     pub fn head(&self, arch: &Text) -> Option<(&Text, &Record)>
-        ensures value { option_map deref_pair result ≡ option_map named (head_of self.now arch.now) }
+        ensures value { option_map deref_pair result
+            ≡ option_map named (head_of self.now arch.now) }
         ensures first { IfSome result (λ row. (row.1.now.state ≡ NeedsBuild)
             × (map.get self.now.records (arch.now, row.0.now) ≡ Some row.1.now)) }
     {

@@ -8,8 +8,8 @@ use std::marker::Model;
 use wb_states::{Counts, OsCpu, Record, Text};
 
 /// The tables of the office: the records, by architecture and source package, the words of the
-/// architectures, the pairs of a builder and an architecture for which it builds, and the two counts.
-/// Clauses see them as the state of the office (this project's own).
+/// architectures, the pairs of a builder and an architecture for which it builds, and the two
+/// counts. Clauses see them as the state of the office (this project's own).
 #[derive(Drop)]
 pub struct Store {
     pub(crate) alloc: Global,
@@ -39,8 +39,8 @@ impl Model for Store {
 }
 
 impl Store {
-    /// The tables of the empty office, with both counts 0. Takes no memory; the allocator is kept for the
-    /// calls that follow (this project's own).
+    /// The tables of the empty office, with both counts 0. Takes no memory; the allocator is kept
+    /// for the calls that follow (this project's own).
     pub fn new(alloc: Global) -> Store
         ensures value { result ≡ empty_office }
     {
@@ -63,10 +63,11 @@ impl Store {
         self.counts
     }
 
-    /// Sets both counts of the office; all else stays. It cannot fail and takes no memory (this project's
-    /// own).
+    /// Sets both counts of the office; all else stays. It cannot fail and takes no memory (this
+    /// project's own).
     pub fn set_counts(&mut self, counts: Counts)
-        ensures ok { self.new ≡ record self.old { handed = counts.handed; accepted = counts.accepted } }
+        ensures ok { self.new
+            ≡ record self.old { handed = counts.handed; accepted = counts.accepted } }
     {
         self.counts = counts;
     }

@@ -6,7 +6,7 @@ use Rattle.wb_daemon.proofs.line.read_line.Goals as goal
 pub returns-in-Byte-read_byte : goal.returns-in-Byte-read_byte
 returns-in-Byte-read_byte g c = record {
   value = over_long (g.R.Read.remaining c.args.reader.now) (g.R.Read.remaining c.loop-len.reader) (g.R.Read.remaining c.read_byte-2.new.reader)
-    (take c.loop-len.len c.loop-len.room) c.in-Byte-read_byte.field-0
-    (simp length-take (omega (arith, c.requires)))
-    c.loop-len.invariant.line c.in-Byte-read_byte.field-0-test.1 c.loop-len.invariant.taken c.in-Byte-read_byte.ensures.value
+      (take c.loop-len.len c.loop-len.room) c.in-Byte-read_byte.field-0
+      (simp length-take (omega (arith, c.requires)))
+      c.loop-len.invariant.line c.in-Byte-read_byte.field-0-test.1 c.loop-len.invariant.taken c.in-Byte-read_byte.ensures.value;
 }

@@ -7,5 +7,5 @@ use Rattle.wb_daemon.proofs.line.read_line.Given as goal
 abbrev pub invariant-loop-len : goal.invariant-loop-len
 invariant-loop-len g l = record {
   taken : Consumes (g.R.Read.remaining l.initial.reader) (g.R.Read.remaining l.reader) (take l.len l.room);
-  line : HasNoFeed (take l.len l.room)
+  line : HasNoFeed (take l.len l.room);
 }

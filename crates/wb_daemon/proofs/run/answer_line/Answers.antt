@@ -1,8 +1,7 @@
 -- What was written of what is said to the line.
 use Rattle.std.proofs.Common.{◌≡◌, ◌∙◌, ap, sym, refl, subst}
-use Rattle.wb_daemon.specs.Answer.{said_by}
 use Rattle.wb_daemon.specs.Run.{with_feed}
-use Rattle.wb_daemon.specs.Turn.{AppendsFront}
+use Rattle.wb_daemon.specs.Turn.{AppendsFront, said_by}
 use Rattle.wb_daemon.proofs.AnswerLemmas.{answers-blank, answers-unwritten}
 use Rattle.wb_daemon.proofs.run.answer_line.Goals as goal
 
@@ -17,7 +16,10 @@ returns-in_err-answer-clause-err g c = λ _.
     (c.answer_of.ensures.memory c.in_err-answer.was)
 
 pub returns-clause-err : goal.returns-clause-err
-returns-clause-err g c = λ _.
-    (said_by c.in_ok-answer.answer c.answer_of.new.office, c.in_ok-answer.ensures.value.1, refl,
-    subst (λ t. AppendsFront (g.W.Write.contents c.args.writer.now) (g.W.Write.contents c.write_line.new.writer) (with_feed t))
-    (c.as_bytes.ensures.value ∙ c.as_str.ensures.value) (c.write_line.ensures.err c.if-write_line.false))
+returns-clause-err g c = λ _. (
+  said_by c.in_ok-answer.answer c.answer_of.new.office,
+  c.in_ok-answer.ensures.value.1,
+  refl,
+  subst (λ t. AppendsFront (g.W.Write.contents c.args.writer.now) (g.W.Write.contents c.write_line.new.writer) (with_feed t))
+      (c.as_bytes.ensures.value ∙ c.as_str.ensures.value) (c.write_line.ensures.err c.if-write_line.false),
+)

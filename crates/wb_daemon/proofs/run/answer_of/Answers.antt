@@ -18,6 +18,8 @@ returns-in-Ok-clause-memory c = λ e.
 
 pub returns-in-Err-NoCommand-clause-value : goal.returns-in-Err-NoCommand-clause-value
 returns-in-Err-NoCommand-clause-value c =
-    let none = (rw c.in-Err-NoCommand.field-0-is at c.in-Err-NoCommand.ensures.refused) (λ (e : NoCommand ≡ Memory). cc) in
-    (lit< tt, Says-fault c.args.office.now c.args.line.now _ c.requires.short c.requires.words none
-    (ap (λ t. record { text = with_feed t; machine = c.args.office.now; status = 2 }) c.line_fault_json.ensures.value))
+    let none = (rw c.in-Err-NoCommand.field-0-is at c.in-Err-NoCommand.ensures.refused) (λ (e : NoCommand ≡ Memory). cc) in (
+      lit< tt,
+      Says-fault c.args.office.now c.args.line.now _ c.requires.short c.requires.words none
+          (ap (λ t. record { text = with_feed t; machine = c.args.office.now; status = 2 }) c.line_fault_json.ensures.value),
+    )

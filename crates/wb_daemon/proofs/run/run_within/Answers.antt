@@ -26,11 +26,11 @@ pub returns-in-End-read_byte-clause-value : goal.returns-in-End-read_byte-clause
 returns-in-End-read_byte-clause-value g c = λ _.
     within_limit (g.R.Read.remaining c.args.reader.now) (g.W.Write.contents c.args.writer.now) (g.W.Write.contents c.lines.writer)
     c.args.office.now c.lines.office c.lines.greatest c.lines.greatest c.lines._count c.lines.auto._count-end refl
-    (ends-nothing c.lines.invariant (g.R.Read.remaining c.read_byte.new.reader) c.in-End-read_byte.ensures.value (c.in-End-read_byte.ensures.ended refl))
+    (ends-nothing c.lines.invariant (g.R.Read.remaining c.read_byte.new.reader) c.in-End-read_byte.ensures.value (c.in-End-read_byte.ensures.status refl))
 
 pub returns-in-Byte : goal.returns-in-Byte
 returns-in-Byte g c = record {
   status = omega arith;
   value = λ h. absurd (omega (arith, h));
-  err = λ _. stops-read c.lines.invariant c.read_byte.result (g.R.Read.remaining c.read_byte.new.reader) c.read_byte.ensures.value
+  err = λ _. stops-read c.lines.invariant c.read_byte.result (g.R.Read.remaining c.read_byte.new.reader) c.read_byte.ensures.value;
 }

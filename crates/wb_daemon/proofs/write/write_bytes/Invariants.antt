@@ -6,7 +6,7 @@ use Rattle.wb_daemon.proofs.write.write_bytes.Given as goal
 abbrev pub invariant-loop-done : goal.invariant-loop-done
 invariant-loop-done g l = record {
   within : l.done ≤ length l.bytes;
-  taken : Appends (g.W.Write.contents l.initial.writer) (g.W.Write.contents l.writer) (take l.done l.bytes)
+  taken : Appends (g.W.Write.contents l.initial.writer) (g.W.Write.contents l.writer) (take l.done l.bytes);
 }
 
 abbrev pub decreases-loop-done : goal.decreases-loop-done

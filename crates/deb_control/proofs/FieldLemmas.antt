@@ -1,0 +1,49 @@
+-- Fields from the front of a text on: continuation lines, and the folded value.
+use Rattle.std.proofs.Common.{◌≡◌, ◌∙◌, ap, refl, ℕ, true, false, map, List, [], ◌∷◌, ◌++◌, append_assoc}
+use Rattle.std.specs.Prelude.{filter, fold}
+use Rattle.std.specs.List.{before_first, after_first, join_with_byte}
+use Rattle.deb_control.specs.Lines.{is_feed, is_continuation, lines_in, has_char, trim}
+use Rattle.deb_control.specs.Fields.{Entry, more_of, continued, continuations, folded_onto, folded_of}
+use Rattle.deb_control.proofs.LineLemmas.{lines_in-front}
+
+more_of-continuation : (line : List ℕ) (lines : List (List ℕ)) → is_continuation line ≡ true → more_of (line ∷ lines) ≡ line ∷ more_of lines
+more_of-continuation line lines is = rw is refl
+
+more_of-other : (line : List ℕ) (lines : List (List ℕ)) → is_continuation line ≡ false → more_of (line ∷ lines) ≡ []
+more_of-other line lines other = rw other refl
+
+-- the continuation lines where a text begins with one
+pub continuations-more : (text : List ℕ) → is_continuation (before_first is_feed text) ≡ true
+    → continuations text ≡ continued (before_first is_feed text) ∷ continuations (after_first is_feed text)
+unfolding continuations
+continuations-more [] is = cc
+continuations-more (c ∷ cs) is =
+    ap (λ (v : List (List ℕ)). map continued (more_of v)) (lines_in-front c cs)
+    ∙ ap (map continued) (more_of-continuation (before_first is_feed (c ∷ cs)) (lines_in (after_first is_feed (c ∷ cs))) is)
+
+-- and where it does not
+pub continuations-none : (text : List ℕ) → is_continuation (before_first is_feed text) ≡ false → continuations text ≡ []
+unfolding continuations lines_in
+continuations-none [] other = refl
+continuations-none (c ∷ cs) other =
+    ap (λ (v : List (List ℕ)). map continued (more_of v)) (lines_in-front c cs)
+    ∙ ap (map continued) (more_of-other (before_first is_feed (c ∷ cs)) (lines_in (after_first is_feed (c ∷ cs))) other)
+
+-- two pieces joined first and then with the rest
+join-onto : (text piece : List ℕ) (rest : List (List ℕ)) → join_with_byte 32 ((text ++ (32 ∷ piece)) ∷ rest) ≡ join_with_byte 32 (text ∷ piece ∷ rest)
+join-onto text piece [] = refl
+join-onto text piece (x ∷ xs) = append_assoc text (32 ∷ piece) (32 ∷ join_with_byte 32 (x ∷ xs))
+
+-- folding line by line gives the pieces that are not empty, joined
+fold-folded_onto : (text : List ℕ) (pieces : List (List ℕ)) → fold folded_onto text pieces ≡ join_with_byte 32 (filter has_char (text ∷ pieces))
+fold-folded_onto [] [] = refl
+fold-folded_onto (c ∷ cs) [] = refl
+fold-folded_onto [] ([] ∷ pieces) = fold-folded_onto [] pieces
+fold-folded_onto (c ∷ cs) ([] ∷ pieces) = fold-folded_onto (c ∷ cs) pieces
+fold-folded_onto [] ((d ∷ ds) ∷ pieces) = fold-folded_onto (d ∷ ds) pieces
+fold-folded_onto (c ∷ cs) ((d ∷ ds) ∷ pieces) =
+    fold-folded_onto ((c ∷ cs) ++ (32 ∷ d ∷ ds)) pieces ∙ join-onto (c ∷ cs) (d ∷ ds) (filter has_char pieces)
+
+pub folded_of-fold : (field : Entry) → fold folded_onto (trim field.first) (map trim field.lines) ≡ folded_of field
+unfolding folded_of
+folded_of-fold field = fold-folded_onto (trim field.first) (map trim field.lines)

@@ -1,0 +1,12 @@
+pub mod BlankLemmas
+pub mod LineLemmas
+pub mod RunLemmas
+pub mod FieldLemmas
+pub mod NameLemmas
+pub mod ReadLemmas
+pub mod FormLemmas
+pub mod ApartLemmas
+pub mod GrammarLemmas
+pub mod ParagraphLemmas
+pub mod CallLemmas
+pub mod BadLineLemmas

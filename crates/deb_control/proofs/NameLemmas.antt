@@ -1,0 +1,58 @@
+-- The names that were read: the first few one by one, the later ones by a test.
+use Rattle.std.proofs.Common.{◌≡◌, ◌∙◌, sym, ap, refl, ℕ, ◌<◌, ◌≤◌, Bool, true, false, cond, length, take, drop, List, [], ◌∷◌, ◌++◌, arith}
+use Rattle.std.specs.Prelude.{◌||◌}
+use Rattle.std.specs.List.{list_any}
+use Rattle.std.specs.Str.{bytes_eq}
+use Rattle.std.proofs.lemmas.Bool.{or_left}
+use Rattle.std.proofs.lemmas.List.{take-append-drop, take-map, drop_all, drop-append-le, length_push}
+use Rattle.std.proofs.lemmas.List.Folds.{list_any-append}
+use Rattle.deb_control.specs.Fields.{Entry, has_name, lower, is_among, names_in, Knows}
+
+-- a name is among the names of fields where one of the fields has it
+pub is_among-names_in : (name : List ℕ) (fields : List Entry) → is_among (lower name) (names_in fields) ≡ list_any (has_name name) fields
+is_among-names_in name [] = refl
+is_among-names_in name (field ∷ fields) = ap (λ (b : Bool). has_name name field || b) (is_among-names_in name fields)
+
+-- among the first few, or among the later ones
+is_among-split : (few : ℕ) (name : List ℕ) (fields : List Entry)
+    → is_among (lower name) (names_in fields) ≡ (list_any (has_name name) (take few fields) || is_among (lower name) (drop few (names_in fields)))
+is_among-split few name fields =
+    ap (is_among (lower name)) (sym (take-append-drop few (names_in fields)))
+    ∙ list_any-append (λ (other : List ℕ). bytes_eq other (lower name)) (take few (names_in fields)) (drop few (names_in fields))
+    ∙ ap (λ (v : List (List ℕ)). is_among (lower name) v || is_among (lower name) (drop few (names_in fields))) (take-map (λ (field : Entry). lower field.name) few fields)
+    ∙ ap (λ (b : Bool). b || is_among (lower name) (drop few (names_in fields))) (is_among-names_in name (take few fields))
+
+pub is_among-first : (few : ℕ) (name : List ℕ) (fields : List Entry) → list_any (has_name name) (take few fields) ≡ true → is_among (lower name) (names_in fields) ≡ true
+is_among-first few name fields first = is_among-split few name fields ∙ or_left _ _ first
+
+pub is_among-later : (few : ℕ) (name : List ℕ) (fields : List Entry) (test : List ℕ → Bool) → list_any (has_name name) (take few fields) ≡ false
+    → Knows test (drop few (names_in fields)) → test (lower name) ≡ is_among (lower name) (names_in fields)
+is_among-later few name fields test first knows =
+    knows (lower name)
+    ∙ sym (is_among-split few name fields ∙ ap (λ (b : Bool). b || is_among (lower name) (drop few (names_in fields))) first)
+
+-- while there are few names, the test knows of none
+pub Knows-few : (few : ℕ) (test : List ℕ → Bool) (names : List (List ℕ)) (name : List ℕ) → length names < few
+    → Knows test (drop few names) → Knows test (drop few (names ++ name ∷ []))
+Knows-few few test names name fewer knows other =
+    knows other
+    ∙ ap (is_among other) (drop_all few names (omega arith))
+    ∙ sym (ap (is_among other) (drop_all few (names ++ name ∷ []) (omega (arith, length_push names name))))
+
+last_name : (other name : List ℕ) (names : List (List ℕ)) → is_among other (names ++ name ∷ []) ≡ cond (bytes_eq name other) true (is_among other names)
+last_name other name names = list_any-append (λ (v : List ℕ). bytes_eq v other) names (name ∷ []) ∙ either (is_among other names) (bytes_eq name other)
+  where
+    either : (a b : Bool) → (a || (b || false)) ≡ cond b true a
+    either true true = refl
+    either true false = refl
+    either false true = refl
+    either false false = refl
+
+-- past that, a test that has learned the new name knows it
+pub Knows-later : (few : ℕ) (old new : List ℕ → Bool) (names : List (List ℕ)) (name text : List ℕ) → few ≤ length names → text ≡ name
+    → Knows old (drop few names) → ((other : List ℕ) → new other ≡ cond (bytes_eq text other) true (old other)) → Knows new (drop few (names ++ name ∷ []))
+Knows-later few old new names name text more is knows learned other =
+    learned other
+    ∙ ap (λ (v : List ℕ). cond (bytes_eq v other) true (old other)) is
+    ∙ ap (λ (b : Bool). cond (bytes_eq name other) true b) (knows other)
+    ∙ sym (ap (is_among other) (drop-append-le few names (name ∷ []) more) ∙ last_name other name (drop few names))

@@ -1,0 +1,20 @@
+use Rattle.std.proofs.lemmas.Result.{err_from_is_err_and}
+use Rattle.deb_control.proofs.ReadLemmas.{reading_of-large, reading_of-not_utf8, reading_of-fault, reading_of-fields}
+use Rattle.deb_control.proofs.paragraph.Paragraph.read.Goals as goal
+
+pub returns-then-bytes-gt-LARGEST-clause-err : goal.returns-then-bytes-gt-LARGEST-clause-err
+returns-then-bytes-gt-LARGEST-clause-err c = λ _. reading_of-large c.args.bytes.now c.if-bytes-gt-LARGEST.true
+
+pub returns-in_default-clause-err : goal.returns-in_default-clause-err
+returns-in_default-clause-err c = λ _. reading_of-not_utf8 c.args.bytes.now c.if-bytes-gt-LARGEST.false c.in_default.ensures.cases.0
+
+pub returns-in_err-fields-clause-err : goal.returns-in_err-fields-clause-err
+returns-in_err-fields-clause-err c =
+    let p = err_from_is_err_and c.from_residual.result c.from_residual.ensures.1 in
+    rw (p.1, p.2) (λ other.
+    reading_of-fault c.args.bytes.now c.in-Ok.text.now c.in_err-fields.field-0.0 c.if-bytes-gt-LARGEST.false c.in-Ok.ensures.cases (c.in_err-fields.ensures.err other))
+
+pub returns-clause-ok : goal.returns-clause-ok
+returns-clause-ok c =
+    reading_of-fields c.args.bytes.now c.in-Ok.text.now c.in_ok-fields.fields.items c.if-bytes-gt-LARGEST.false c.in-Ok.ensures.cases
+    c.in_ok-fields.ensures.ok c.in_ok-fields.ensures.fields

@@ -1,0 +1,203 @@
+-- The fields that the lines of a paragraph are, and the first fault of lines that are none, after Debian Policy 5.1.
+use Rattle.std.specs.Prelude.{◌≡◌, ℕ, Bool, true, false, not, ◌&&◌, ◌||◌, ◌==◌, ◌<◌, ◌≤◌, nat_lt, ⊤, IsUtf8, if◌then◌else◌, List, [], ◌∷◌, ◌++◌, map, length, drop, Option, None, Some, Result, Ok, Err, filter, find}
+use Rattle.std.specs.List.{before_first, after_first, position_or_len, list_all, list_any, concat, join_with_byte}
+use Rattle.std.specs.Char.{to_ascii_lowercase, is_ascii_graphic}
+use Rattle.std.specs.Str.{is_utf8, bytes_eq}
+use Rattle.deb_control.specs.declared.fault.ControlFaultKind.{ControlFaultKind}
+use Rattle.deb_control.specs.declared.fault.ControlFaultKind.TheVariants.{TooLarge, NotUtf8, Orphan, NoColon, BadName, Duplicate}
+use Rattle.deb_control.specs.Lines.{has_char, is_continuation, body_of, lines_in, trim_end, trim}
+
+-- a field with its name, what stands behind the colon, and its continuation lines (Policy 5.1)
+pub record Entry : Type 0 where
+  pub name : List ℕ
+  pub first : List ℕ
+  pub lines : List (List ℕ)
+
+-- a colon, which ends a field's name (Policy 5.1)
+abbrev pub is_colon : ℕ → Bool
+is_colon c = c == 58
+
+-- what a continuation line adds: all but its first character and the spaces and tabs at its end (this project's own)
+unfoldable pub continued : List ℕ → List ℕ
+continued line = trim_end (drop 1 line)
+
+-- the continuation lines that come first (Policy 5.1)
+abbrev pub more_of : List (List ℕ) → List (List ℕ)
+more_of [] = []
+more_of (line ∷ lines) = if is_continuation line then line ∷ more_of lines else []
+
+-- whether a line has a colon (Policy 5.1)
+unfoldable pub has_colon : List ℕ → Bool
+has_colon line = nat_lt (position_or_len is_colon line) (length line)
+
+-- the name of a field, which stands before the first colon (Policy 5.1)
+unfoldable pub name_of : List ℕ → List ℕ
+name_of line = before_first is_colon line
+
+-- the first value of a field, which stands behind the first colon, trimmed (Policy 5.1)
+unfoldable pub first_of : List ℕ → List ℕ
+first_of line = trim (after_first is_colon line)
+
+-- whether a character may stand in a name: `!` to `9` and `;` to `~` (Policy 5.1)
+unfoldable pub is_name_char : ℕ → Bool
+is_name_char c = is_ascii_graphic c && not (is_colon c)
+
+-- whether a text begins with a character that may begin a name, so neither `#` nor `-` (Policy 5.1)
+unfoldable pub begins_name : List ℕ → Bool
+begins_name [] = false
+begins_name (c ∷ _) = not (c == 35 || c == 45)
+
+-- whether a text is the name of a field (Policy 5.1)
+unfoldable pub is_name : List ℕ → Bool
+is_name name = begins_name name && list_all is_name_char name
+
+-- a name in lower case, since names compare without case (Policy 5.1)
+unfoldable pub lower : List ℕ → List ℕ
+lower name = map to_ascii_lowercase name
+
+-- the field of a line that is no continuation and of the lines behind it (Policy 5.1)
+unfoldable pub field_of : List ℕ → List (List ℕ) → Entry
+field_of line lines = record { name = name_of line; first = first_of line; lines = map continued (more_of lines) }
+
+-- the fields of lines: one for each line that is no continuation (Policy 5.1)
+abbrev pub fields_of : List (List ℕ) → List Entry
+fields_of [] = []
+fields_of (line ∷ lines) = if is_continuation line then fields_of lines else field_of line lines ∷ fields_of lines
+
+-- the first fault, or else the second (this project's own)
+abbrev pub or_fault : Option ControlFaultKind → Option ControlFaultKind → Option ControlFaultKind
+or_fault (Some kind) later = Some kind
+or_fault None later = later
+
+-- what is wrong with a line that is no continuation, by itself (Policy 5.1)
+unfoldable pub form_fault : List ℕ → Option ControlFaultKind
+form_fault line = if has_colon line then (if is_name (name_of line) then None else Some BadName) else Some NoColon
+
+-- whether a name in lower case is among names in lower case (Policy 5.1)
+abbrev pub is_among : List ℕ → List (List ℕ) → Bool
+is_among name names = list_any (λ other. bytes_eq other name) names
+
+-- the names of fields, in lower case (Policy 5.1)
+abbrev pub names_in : List Entry → List (List ℕ)
+names_in fields = map (λ field. lower field.name) fields
+
+-- what is wrong with a line behind lines that gave these names (Policy 5.1)
+unfoldable pub line_fault : List (List ℕ) → List ℕ → Option ControlFaultKind
+line_fault names line =
+    if is_continuation line then (if length names == 0 then Some Orphan else None)
+    else or_fault (form_fault line) (if is_among (lower (name_of line)) names then Some Duplicate else None)
+
+-- the names in lower case once a line was read (Policy 5.1)
+unfoldable pub names_after : List (List ℕ) → List ℕ → List (List ℕ)
+names_after names line = if is_continuation line then names else names ++ lower (name_of line) ∷ []
+
+-- whether a test tells which names in lower case are among these (this project's own)
+abbrev pub Knows : (List ℕ → Bool) → List (List ℕ) → Type 0
+Knows test names = (name : List ℕ) → test name ≡ is_among name names
+
+-- the field that begins at a line, if one does, where this text stands behind the line (Policy 5.1)
+unfoldable pub fields_at : List ℕ → List ℕ → List Entry
+fields_at line rest = if is_continuation line then [] else field_of line (lines_in rest) ∷ []
+
+-- what is wrong with the first bad line, behind lines that gave these names (this project's own order)
+abbrev pub first_fault : List (List ℕ) → List (List ℕ) → Option ControlFaultKind
+first_fault names [] = None
+first_fault names (line ∷ lines) = or_fault (line_fault names line) (first_fault (names_after names line) lines)
+
+-- the greatest number of bytes of a paragraph, line feeds included (this project's own)
+abbrev pub largest_paragraph : ℕ
+largest_paragraph = 4194304
+
+-- what is wrong with a paragraph: its size, its encoding, or its first bad line (this project's own order)
+unfoldable pub fault_of : List (List ℕ) → Option ControlFaultKind
+fault_of lines =
+    if nat_lt largest_paragraph (length (concat lines)) then Some TooLarge
+    else if is_utf8 (concat lines) then first_fault [] (map body_of lines) else Some NotUtf8
+
+-- the fault where there is one, or else the fields (this project's own)
+abbrev pub outcome : Option ControlFaultKind → List Entry → Result (List Entry) ControlFaultKind
+outcome None fields = Ok fields
+outcome (Some kind) fields = Err kind
+
+-- the fields of a paragraph, or its fault (Policy 5.1)
+unfoldable pub reading_of : List (List ℕ) → Result (List Entry) ControlFaultKind
+reading_of lines = outcome (fault_of lines) (fields_of (map body_of lines))
+
+-- whether two names are the same but for case (Policy 5.1)
+abbrev pub has_name : List ℕ → Entry → Bool
+has_name name field = bytes_eq (lower field.name) (lower name)
+
+-- the field of a name, without regard to case (Policy 5.1)
+unfoldable pub field_named : List ℕ → List Entry → Option Entry
+field_named name fields = find (has_name name) fields
+
+-- the continuation lines that a text begins with, as a field has them (Policy 5.1)
+unfoldable pub continuations : List ℕ → List (List ℕ)
+continuations text = map continued (more_of (lines_in text))
+
+-- the field of a name and a first value, behind whose line this text stands (Policy 5.1)
+abbrev pub entry : List ℕ → List ℕ → List ℕ → Entry
+entry name first rest = record { name = name; first = first; lines = continuations rest }
+
+-- a folded text with one more line behind it, parted by a space where both have a character (Policy 5.1)
+abbrev pub folded_onto : List ℕ → List ℕ → List ℕ
+folded_onto text [] = text
+folded_onto [] line = line
+folded_onto text line = text ++ (32 ∷ line)
+
+-- the folded value: the lines that are not blank, trimmed and joined by one space (Policy 5.1)
+unfoldable pub folded_of : Entry → List ℕ
+folded_of field = join_with_byte 32 (filter has_char (map trim (field.first ∷ field.lines)))
+
+-- a line and continuation lines that are a field: a name, a colon and a value, and what the others add (Policy 5.1)
+pub record IsField (field : Entry) (line : List ℕ) (more : List (List ℕ)) : Type 0 where
+  pub value : List ℕ
+  pub begins : line ≡ field.name ++ (58 ∷ value)
+  pub form : is_name field.name ≡ true
+  pub trimmed : field.first ≡ trim value
+  pub continues : list_all is_continuation more ≡ true
+  pub added : field.lines ≡ map continued more
+
+-- lines that are these fields, one behind the other (Policy 5.1)
+abbrev pub Reads : List (List ℕ) → List Entry → Type 0
+Reads lines [] = lines ≡ []
+Reads lines (field ∷ fields) =
+    (line : List ℕ) × (more : List (List ℕ)) × (rest : List (List ℕ)) × (lines ≡ line ∷ (more ++ rest)) × IsField field line more × Reads rest fields
+
+-- no two fields have one name, without regard to case (Policy 5.1)
+abbrev pub HaveDistinctNames : List Entry → Type 0
+HaveDistinctNames [] = ⊤
+HaveDistinctNames (field ∷ fields) = (list_any (λ later. has_name later.name field) fields ≡ false) × HaveDistinctNames fields
+
+-- a paragraph of these lines has these fields: it is small enough, is UTF-8, and its lines are the fields (Policy 5.1)
+pub record IsReading (lines : List (List ℕ)) (fields : List Entry) : Type 0 where
+  pub size : length (concat lines) ≤ largest_paragraph
+  pub text : IsUtf8 (concat lines)
+  pub is : Reads (map body_of lines) fields
+  pub names : HaveDistinctNames fields
+
+-- what is wrong with a line behind lines that are these fields (Policy 5.1)
+abbrev pub IsLineFault : ControlFaultKind → List Entry → List ℕ → Type 0
+IsLineFault Orphan fields line = (is_continuation line ≡ true) × (fields ≡ [])
+IsLineFault NoColon fields line = (is_continuation line ≡ false) × (has_colon line ≡ false)
+IsLineFault BadName fields line = (is_continuation line ≡ false) × (has_colon line ≡ true) × (is_name (name_of line) ≡ false)
+IsLineFault Duplicate fields line =
+    (is_continuation line ≡ false) × (has_colon line ≡ true) × (is_name (name_of line) ≡ true) × (list_any (has_name (name_of line)) fields ≡ true)
+IsLineFault _ fields line = ⊥
+
+-- lines of which a bad one with this fault stands behind lines that are fields (Policy 5.1)
+pub record HasBadLine (kind : ControlFaultKind) (lines : List (List ℕ)) : Type 0 where
+  pub good : List (List ℕ)
+  pub bad : List ℕ
+  pub rest : List (List ℕ)
+  pub fields : List Entry
+  pub cut : lines ≡ good ++ (bad ∷ rest)
+  pub read : Reads good fields
+  pub names : HaveDistinctNames fields
+  pub fault : IsLineFault kind fields bad
+
+-- a paragraph of these lines has this fault: it is too large, or else no UTF-8, or else has a bad line (this project's own order)
+abbrev pub IsFault : ControlFaultKind → List (List ℕ) → Type 0
+IsFault TooLarge lines = largest_paragraph < length (concat lines)
+IsFault NotUtf8 lines = (length (concat lines) ≤ largest_paragraph) × ¬ (IsUtf8 (concat lines))
+IsFault kind lines = (length (concat lines) ≤ largest_paragraph) × IsUtf8 (concat lines) × HasBadLine kind (map body_of lines)

@@ -1,0 +1,90 @@
+-- The lines of control data and the runs of lines that are its paragraphs, after Debian Policy 5.1.
+use Rattle.std.specs.Prelude.{◌≡◌, ℕ, ◌+◌, Bool, true, false, not, ◌||◌, ◌==◌, if◌then◌else◌, List, [], ◌∷◌, ◌++◌, map, filter, reverse, take}
+use Rattle.std.specs.List.{before_first, position_or_len, slice_split, onto_first, list_all, list_any}
+
+-- a line feed (Policy 5.1)
+abbrev pub is_feed : ℕ → Bool
+is_feed c = c == 10
+
+-- a space or a tab (Policy 5.1)
+abbrev pub is_blank : ℕ → Bool
+is_blank c = c == 32 || c == 9
+
+-- whether a line begins with a space or a tab, and so continues the field before it (Policy 5.1)
+abbrev pub is_continuation : List ℕ → Bool
+is_continuation [] = false
+is_continuation (c ∷ _) = is_blank c
+
+-- the lines of a text, each with its line feed, which the last may lack (Policy 5.1)
+abbrev pub lines_of : List ℕ → List (List ℕ)
+lines_of [] = []
+lines_of (c ∷ cs) = if is_feed c then (c ∷ []) ∷ lines_of cs else onto_first c (lines_of cs)
+
+-- a line without its line feed (Policy 5.1)
+unfoldable pub body_of : List ℕ → List ℕ
+body_of line = before_first is_feed line
+
+-- the lines of a text, each without its line feed (Policy 5.1)
+unfoldable pub lines_in : List ℕ → List (List ℕ)
+lines_in text = map body_of (lines_of text)
+
+-- the first line of a text, with its line feed (Policy 5.1)
+unfoldable pub front_line : List ℕ → List ℕ
+front_line text = take (position_or_len is_feed text + 1) text
+
+-- whether a line parts paragraphs, being empty or of spaces and tabs alone (Policy 5.1)
+unfoldable pub is_separator : List ℕ → Bool
+is_separator line = list_all is_blank (body_of line)
+
+-- whether there is a line (Policy 5.1)
+abbrev pub has_line : List (List ℕ) → Bool
+has_line [] = false
+has_line (_ ∷ _) = true
+
+-- the paragraphs, which are the longest runs of lines that are no separators (Policy 5.1)
+unfoldable pub paragraphs_in : List (List ℕ) → List (List (List ℕ))
+paragraphs_in lines = filter has_line (slice_split is_separator lines)
+
+-- whether a text has a character (this project's own)
+abbrev pub has_char : List ℕ → Bool
+has_char [] = false
+has_char (_ ∷ _) = true
+
+-- whether a text begins with a separator (Policy 5.1)
+unfoldable pub begins_separator : List ℕ → Bool
+begins_separator [] = false
+begins_separator (c ∷ cs) = is_separator (front_line (c ∷ cs))
+
+-- whether a text begins with a line of a paragraph (Policy 5.1)
+unfoldable pub begins_paragraph : List ℕ → Bool
+begins_paragraph [] = false
+begins_paragraph (c ∷ cs) = not (is_separator (front_line (c ∷ cs)))
+
+-- the first paragraph of a text, and what stands behind it (Policy 5.1)
+abbrev pub IsFirstParagraph : List ℕ → List ℕ → List ℕ → Type 0
+IsFirstParagraph text first rest = paragraphs_in (lines_of text) ≡ lines_of first ∷ paragraphs_in (lines_of rest)
+
+-- whether lines begin with no line of a paragraph, but with a separator or not at all (Policy 5.1)
+abbrev pub begin_no_paragraph : List (List ℕ) → Bool
+begin_no_paragraph [] = true
+begin_no_paragraph (line ∷ _) = is_separator line
+
+-- lines of which these are the paragraphs: longest runs of lines that are no separators, with separators alone round them (Policy 5.1)
+abbrev pub HaveParagraphs : List (List ℕ) → List (List (List ℕ)) → Type 0
+HaveParagraphs lines [] = list_all is_separator lines ≡ true
+HaveParagraphs lines (paragraph ∷ paragraphs) =
+    (before : List (List ℕ)) × (after : List (List ℕ)) × (lines ≡ before ++ (paragraph ++ after)) × (list_all is_separator before ≡ true)
+    × (has_line paragraph ≡ true) × (list_any is_separator paragraph ≡ false) × (begin_no_paragraph after ≡ true) × HaveParagraphs after paragraphs
+
+-- a text without the spaces and tabs at its start (Policy 5.1)
+abbrev pub trim_start : List ℕ → List ℕ
+trim_start [] = []
+trim_start (c ∷ cs) = if is_blank c then trim_start cs else c ∷ cs
+
+-- a text without the spaces and tabs at its end (Policy 5.1)
+unfoldable pub trim_end : List ℕ → List ℕ
+trim_end text = reverse (trim_start (reverse text))
+
+-- a text without the spaces and tabs round it (Policy 5.1)
+unfoldable pub trim : List ℕ → List ℕ
+trim text = trim_end (trim_start text)

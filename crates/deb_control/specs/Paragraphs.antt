@@ -1,0 +1,67 @@
+-- What a reader of control data answers, call by call, after Debian Policy 5.1.
+use Rattle.std.specs.Prelude.{◌≡◌, ℕ, zero, suc, ◌+◌, Bool, true, false, IsTrue, List, [], ◌∷◌, Option, None, Some, Result, Ok, Err, is_ok}
+use Rattle.deb_control.specs.declared.fault.ControlFault.{ControlFault}
+use Rattle.deb_control.specs.declared.fault.ControlFaultKind.{ControlFaultKind}
+use Rattle.deb_control.specs.declared.fault.ControlFaultKind.TheVariants.{Ended}
+use Rattle.deb_control.specs.Fields.{Entry, reading_of}
+
+-- where a reader stands: how many paragraphs it went through, and those ahead, or none once it has refused (this project's own)
+pub record Place : Type 0 where
+  pub passed : ℕ
+  pub ahead : Option (List (List (List ℕ)))
+
+-- what one call answers: the fields of a paragraph, none at the end, or a fault (this project's own)
+abbrev pub Answer : Type 0
+Answer = Result (Option (List Entry)) ControlFault
+
+-- the place before the first of these paragraphs (this project's own)
+abbrev pub begun : List (List (List ℕ)) → Place
+begun paragraphs = record { passed = 0; ahead = Some paragraphs }
+
+-- the place of a reader that ended at the paragraph of this number (this project's own)
+abbrev pub ended_at : ℕ → Place
+ended_at number = record { passed = number; ahead = None }
+
+-- the answer for the paragraph of this number, by its reading, and the place behind it (Policy 5.1)
+abbrev pub told : ℕ → List (List (List ℕ)) → Result (List Entry) ControlFaultKind → Answer × Place
+told number later (Ok fields) = (Ok (Some fields), record { passed = number; ahead = Some later })
+told number later (Err kind) = (Err (record { paragraph = number; kind = kind }), ended_at number)
+
+-- the answer behind so many paragraphs where these are ahead, and the place then (this project's own)
+abbrev pub step_over : ℕ → Option (List (List (List ℕ))) → Answer × Place
+step_over passed None = (Err (record { paragraph = passed; kind = Ended }), ended_at passed)
+step_over passed (Some []) = (Ok None, record { passed = passed; ahead = Some [] })
+step_over passed (Some (lines ∷ later)) = told (passed + 1) later (reading_of lines)
+
+-- what one call answers at a place, and the place then, memory aside (this project's own)
+abbrev pub step : Place → Answer × Place
+step place = step_over place.passed place.ahead
+
+-- whether a paragraph is ahead (this project's own)
+abbrev pub has_next : Option (List (List (List ℕ))) → Bool
+has_next None = false
+has_next (Some []) = false
+has_next (Some (_ ∷ _)) = true
+
+-- a call that wanted memory ends the reader at the paragraph that was next (this project's own)
+pub record MemoryEnds (old : Place) (fault : ControlFault) (new : Place) : Type 0 where
+  pub next : IsTrue (has_next old.ahead)
+  pub paragraph : fault.paragraph ≡ old.passed + 1
+  pub ended : new ≡ ended_at (old.passed + 1)
+
+-- the place after so many calls, memory aside (this project's own)
+abbrev pub after_calls : ℕ → Place → Place
+after_calls zero place = place
+after_calls (suc n) place = after_calls n (step place).1
+
+-- what the next call answers after so many calls, memory aside (this project's own)
+abbrev pub answer_after : ℕ → Place → Answer
+answer_after n place = (step (after_calls n place)).0
+
+-- the answer for the paragraph of this number: its fields or its fault (Policy 5.1)
+abbrev pub answer_for : ℕ → List (List ℕ) → Answer
+answer_for number lines = (told number [] (reading_of lines)).0
+
+-- whether a paragraph has a reading (Policy 5.1)
+abbrev pub has_reading : List (List ℕ) → Bool
+has_reading lines = is_ok (reading_of lines)

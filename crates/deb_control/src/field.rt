@@ -1,0 +1,170 @@
+//! A field of a paragraph, with its continuation lines.
+ghost use Rattle.std.specs.Prelude.{◌≡◌, ◌∷◌, [], true, false, OnOk, IfOk, IfNone, IfSome, OnSome, string_bytes};
+ghost use Rattle.std.specs.Iterator.{YieldsFirstRef, item_count};
+ghost use Rattle.std.specs.List.{list_all};
+ghost use Rattle.deb_control.specs.Fields.{continuations, has_colon, name_of, first_of, is_name_char, is_name, entry, folded_onto, folded_of};
+
+use crate::lines::{after_blank, split_text, without_blank_end, without_blanks};
+use std::alloc::{AllocError, Global};
+use std::marker::Model;
+
+/// The name and the trimmed first value of a field's line, which stand before
+/// and behind its first colon.
+#[tactic(auto, unfolding(crate::specs::Fields::has_colon, crate::specs::Fields::name_of, crate::specs::Fields::first_of))]
+pub(crate) fn colon_parts(line: &str) -> Option<(&str, &str)>
+    ensures none { IfNone result (has_colon line.now ≡ false) }
+    ensures some { OnSome result (has_colon line.now ≡ true) }
+    ensures name { IfSome result (λ parts. parts.0.now ≡ name_of line.now) }
+    ensures first { IfSome result (λ parts. parts.1.now ≡ first_of line.now) }
+{
+    let (name, value) = line.split_once(':')?;
+    Some((name, without_blanks(value)))
+}
+
+/// Whether each character may stand in a name.
+#[tactic(auto, unfolding(crate::specs::Fields::is_name_char))]
+fn has_name_chars(name: &str) -> bool
+    ensures { result ≡ list_all is_name_char name.now }
+{
+    name.bytes().all(|b| b.is_ascii_graphic() && b != b':')
+}
+
+/// Whether a text is the name of a field.
+#[tactic(auto, unfolding(crate::specs::Fields::is_name, crate::specs::Fields::begins_name))]
+pub(crate) fn is_name(name: &str) -> bool
+    ensures { result ≡ is_name name.now }
+{
+    match name.as_bytes() {
+        [] | [b'#' | b'-', ..] => false,
+        _ => has_name_chars(name),
+    }
+}
+
+/// The first line of a text as a field has it, where it is a continuation
+/// line, and what stands behind it.
+fn next_continuation(text: &str) -> Option<(&str, &str)>
+    ensures none { IfNone result (continuations text.now ≡ []) }
+    ensures some { IfSome result (λ cut.
+        continuations text.now ≡ cut.0.now ∷ continuations cut.1.now) }
+{
+    let (line, rest) = split_text(text);
+    let added = after_blank(line)?;
+    Some((without_blank_end(added), rest))
+}
+
+/// Puts a line behind a folded text, with a space between where both are not
+/// empty.
+fn fold_line(text: &mut String, line: &str) -> Result<(), AllocError>
+    ensures { OnOk result (string_bytes text.new ≡ folded_onto (string_bytes text.old) line.now) }
+{
+    if line.is_empty() {
+        return Ok(());
+    }
+    if !text.is_empty() {
+        text.push(' ')?;
+    }
+    text.push_str(line)
+}
+
+/// A field of a paragraph: its name, its first value, and the continuation
+/// lines that follow (Debian Policy 5.1). All are slices of the text read.
+#[derive(Debug, Drop)]
+pub struct Field<'a> {
+    name: &'a str,
+    first: &'a str,
+    rest: &'a str,
+}
+
+impl<'a> Model for Field<'a> {
+    ghost use Rattle.deb_control.specs.Fields.{Entry, entry};
+
+    ghost Value = { Entry };
+
+    ghost view = { λ f. entry f.name.now f.first.now f.rest.now };
+}
+
+impl<'a> Field<'a> {
+    /// The field of this name and first value, with the continuation lines
+    /// that `rest` begins with.
+    pub(crate) fn new(name: &'a str, first: &'a str, rest: &'a str) -> Self
+        ensures { result ≡ entry name.now first.now rest.now }
+    {
+        Field { name, first, rest }
+    }
+
+    /// The name as it is written, in ASCII (Debian Policy 5.1).
+    pub fn name(&self) -> &'a str
+        ensures { result.now ≡ self.now.name }
+    {
+        self.name
+    }
+
+    /// What stands behind the colon, without the spaces and tabs round it;
+    /// it may be empty (Debian Policy 5.1).
+    pub fn first(&self) -> &'a str
+        ensures { result.now ≡ self.now.first }
+    {
+        self.first
+    }
+
+    /// The continuation lines, each without its first character and without
+    /// the spaces and tabs at its end (this project's own).
+    pub fn lines(&self) -> Lines<'a>
+        ensures { result ≡ self.now.lines }
+    {
+        Lines { rest: self.rest }
+    }
+
+    /// The first value and the continuation lines as one line: each trimmed,
+    /// the empty ones left out, joined by one space (Debian Policy 5.1).
+    /// An error says that memory ran out.
+    pub fn folded(&self, alloc: Global) -> Result<String, AllocError>
+        ensures { IfOk result (λ text. string_bytes text ≡ folded_of self.now) }
+    {
+        let mut text = String::from_str(alloc, without_blanks(self.first()))?;
+        for line in self.lines() {
+            fold_line(&mut text, without_blanks(line))?;
+        }
+        Ok(text)
+    }
+
+    /// The same field.
+    pub(crate) fn again(&self) -> Field<'a>
+        ensures { result ≡ self.now }
+    {
+        Field {
+            name: self.name,
+            first: self.first,
+            rest: self.rest,
+        }
+    }
+}
+
+/// The continuation lines of a field that are left, in their order.
+#[derive(Debug, Drop)]
+pub struct Lines<'a> {
+    rest: &'a str,
+}
+
+impl<'a> Model for Lines<'a> {
+    ghost use Rattle.std.specs.Prelude.{List, ℕ};
+    ghost use Rattle.deb_control.specs.Fields.{continuations};
+
+    ghost Value = { List (List ℕ) };
+
+    ghost view = { λ l. continuations l.rest.now };
+}
+
+impl<'a> Iterator for Lines<'a> {
+    type Item = &'a str;
+
+    ghost next_gives = { YieldsFirstRef (λ lines. lines) };
+
+    ghost remaining = { item_count (λ lines. lines) };
+
+    fn next(&mut self) -> Option<&'a str> {
+        let (line, rest) = next_continuation(self.rest)?;
+        self.rest = rest;
+        Some(line)
+    }
+}

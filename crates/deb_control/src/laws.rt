@@ -1,0 +1,59 @@
+//! Laws of the definitions that the contracts cite.
+ghost use Rattle.std.specs.Prelude.{◌≡◌, ◌≢◌, ◌+◌, ◌∷◌, ◌++◌, ℕ, List, true, false, None, Ok, Err, length};
+ghost use Rattle.std.specs.List.{list_all};
+ghost use Rattle.deb_control.specs.declared.fault.ControlFaultKind.{ControlFaultKind};
+ghost use Rattle.deb_control.specs.declared.fault.ControlFaultKind.TheVariants.{Memory, Ended};
+ghost use Rattle.deb_control.specs.Lines.{paragraphs_in, HaveParagraphs};
+ghost use Rattle.deb_control.specs.Fields.{Entry, reading_of, IsReading, IsFault};
+ghost use Rattle.deb_control.specs.Paragraphs.{begun, has_reading, answer_after, answer_for};
+
+/// The paragraphs of lines are the longest runs of lines that are no
+/// separators (Debian Policy 5.1).
+pub fn paragraphs_are_runs()
+    ensures are { (lines : List (List ℕ)) → HaveParagraphs lines (paragraphs_in lines) }
+    ensures only { (lines : List (List ℕ)) (paragraphs : List (List (List ℕ))) →
+        HaveParagraphs lines paragraphs → paragraphs_in lines ≡ paragraphs }
+{}
+
+/// A paragraph has the reading of the fields that its lines are, and has one
+/// where its lines are fields (Debian Policy 5.1).
+pub fn paragraph_is_fields()
+    ensures is { (lines : List (List ℕ)) (fields : List Entry) →
+        reading_of lines ≡ Ok fields → IsReading lines fields }
+    ensures only { (lines : List (List ℕ)) (fields : List Entry) →
+        IsReading lines fields → reading_of lines ≡ Ok fields }
+{}
+
+/// A paragraph has the fault that it is too large, or else that it is not
+/// UTF-8, or else that of its first bad line (this project's own order).
+pub fn paragraph_has_fault()
+    ensures is { (lines : List (List ℕ)) (kind : ControlFaultKind) →
+        reading_of lines ≡ Err kind → IsFault kind lines }
+    ensures only { (lines : List (List ℕ)) (kind : ControlFaultKind) →
+        IsFault kind lines → reading_of lines ≡ Err kind }
+{}
+
+/// Call by call a reader answers the paragraphs in their order, each by its
+/// reading, up to and with the first that has none; behind the last it
+/// answers none, behind a refusal `Ended` (this project's own).
+pub fn calls_give_paragraphs()
+    ensures value { (before : List (List (List ℕ))) (lines : List (List ℕ))
+        (later : List (List (List ℕ))) → list_all has_reading before ≡ true →
+        answer_after (length before) (begun (before ++ lines ∷ later))
+        ≡ answer_for (length before + 1) lines }
+    ensures end { (paragraphs : List (List (List ℕ))) (more : ℕ) →
+        list_all has_reading paragraphs ≡ true →
+        answer_after (length paragraphs + more) (begun paragraphs) ≡ Ok None }
+    ensures ended { (before : List (List (List ℕ))) (lines : List (List ℕ))
+        (later : List (List (List ℕ))) (more : ℕ) → list_all has_reading before ≡ true →
+        has_reading lines ≡ false →
+        answer_after (length before + 1 + more) (begun (before ++ lines ∷ later))
+        ≡ Err (record { paragraph = length before + 1; kind = Ended }) }
+{}
+
+/// No paragraph has the fault `Memory` or `Ended`, which say why none was
+/// read (this project's own).
+pub fn faults_are_of_text()
+    ensures memory { (lines : List (List ℕ)) → reading_of lines ≢ Err Memory }
+    ensures ended { (lines : List (List ℕ)) → reading_of lines ≢ Err Ended }
+{}

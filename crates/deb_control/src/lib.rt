@@ -1,0 +1,22 @@
+//! Control data: paragraphs of fields, as Debian's package indices and
+//! `debian/control` files hold them, after Debian Policy 5.1.
+//! Text is read where it lies: names and values are slices of the input.
+#![tactic(auto)]
+
+mod fault;
+mod field;
+mod laws;
+mod lines;
+mod paragraph;
+mod paragraphs;
+#[cfg(test)]
+mod tests;
+
+pub use fault::{ControlFault, ControlFaultKind};
+pub use field::{Field, Lines};
+pub use laws::{
+    calls_give_paragraphs, faults_are_of_text, paragraph_has_fault, paragraph_is_fields,
+    paragraphs_are_runs,
+};
+pub use paragraph::Paragraph;
+pub use paragraphs::Paragraphs;

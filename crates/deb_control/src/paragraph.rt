@@ -1,0 +1,185 @@
+//! A paragraph: its fields, and how they are read.
+ghost use Rattle.std.specs.Prelude.{◌≡◌, ◌≢◌, ◌++◌, ◌∷◌, [], Some, None, Ok, Err, not, drop, IfOk, IfErr, OnOk, option_copied, string_bytes};
+ghost use Rattle.std.specs.Bool.{OnTrue};
+ghost use Rattle.std.specs.List.{list_any};
+ghost use Rattle.std.specs.Str.{bytes_eq};
+ghost use Rattle.std.specs.BTreeSet.{contains_text};
+ghost use Rattle.deb_control.specs.declared.fault.ControlFaultKind.TheVariants.{Memory};
+ghost use Rattle.deb_control.specs.Lines.{is_continuation, lines_of, lines_in};
+ghost use Rattle.deb_control.specs.Fields.{has_name, lower, is_among, names_in, Knows, fields_at, line_fault, first_fault, fields_of, field_named, reading_of};
+
+use crate::ControlFaultKind;
+use crate::field::{Field, colon_parts, is_name};
+use crate::lines::{is_continuation_line, split_text};
+use std::alloc::{AllocError, Global};
+use std::collections::BTreeSet;
+use std::marker::Model;
+
+/// The greatest number of bytes of a paragraph, line feeds included.
+const LARGEST: usize = 4194304;
+
+/// So many names are compared one by one; those of later fields stand in a set.
+const FEW: usize = 32;
+
+/// Whether two names are the same but for case.
+#[tactic(auto, unfolding(crate::specs::Fields::lower))]
+fn is_same_name(left: &str, right: &str) -> bool
+    ensures { result ≡ bytes_eq (lower left.now) (lower right.now) }
+{
+    left.eq_ignore_ascii_case(right)
+}
+
+/// Whether one of the fields has this name, without regard to case.
+fn is_name_of_any(fields: &[Field<'_>], name: &str) -> bool
+    ensures { result ≡ list_any (has_name name.now) fields.now }
+{
+    fields.iter().any(|field| is_same_name(field.name(), name))
+}
+
+/// A name in lower case.
+#[tactic(auto, unfolding(crate::specs::Fields::lower))]
+fn lower_name(alloc: Global, name: &str) -> Result<String, AllocError>
+    ensures { IfOk result (λ text. string_bytes text ≡ lower name.now) }
+{
+    let mut text = String::from_str(alloc, name)?;
+    text.make_ascii_lowercase();
+    Ok(text)
+}
+
+/// Whether no field has this name yet; if so, it is known from now on.
+fn add_name(
+    alloc: Global,
+    fields: &[Field<'_>],
+    later: &mut BTreeSet<String>,
+    name: &str,
+) -> Result<bool, AllocError>
+    requires { Knows (contains_text later.old) (drop FEW (names_in fields.now)) }
+    ensures value { IfOk result (λ new.
+        new ≡ not (is_among (lower name.now) (names_in fields.now))) }
+    ensures known { IfOk result (λ new. OnTrue new (Knows (contains_text later.new)
+        (drop FEW (names_in fields.now ++ lower name.now ∷ [])))) }
+{
+    if fields.len() < FEW {
+        return Ok(!is_name_of_any(fields, name));
+    }
+    if is_name_of_any(&fields[..FEW], name) {
+        return Ok(false);
+    }
+    let new = later.insert(lower_name(alloc, name)?)?;
+    Ok(new)
+}
+
+/// Reads one line, behind which `rest` stands.
+#[tactic(auto, unfolding(crate::specs::Fields::line_fault, crate::specs::Fields::form_fault, crate::specs::Fields::fields_at, crate::specs::Fields::field_of, crate::specs::Fields::continuations))]
+fn read_line<'a>(
+    alloc: Global,
+    fields: &mut Vec<Field<'a>>,
+    later: &mut BTreeSet<String>,
+    line: &'a str,
+    rest: &'a str,
+) -> Result<(), ControlFaultKind>
+    requires { Knows (contains_text later.old) (drop FEW (names_in fields.old.items)) }
+    ensures err { IfErr result (λ kind. kind ≢ Memory →
+        line_fault (names_in fields.old.items) line.now ≡ Some kind) }
+    ensures ok { OnOk result (line_fault (names_in fields.old.items) line.now ≡ None) }
+    ensures fields { OnOk result (
+        fields.new.items ≡ fields.old.items ++ fields_at line.now rest.now) }
+    ensures known { OnOk result (
+        Knows (contains_text later.new) (drop FEW (names_in fields.new.items))) }
+{
+    if is_continuation_line(line) {
+        if fields.is_empty() {
+            return Err(ControlFaultKind::Orphan);
+        }
+        return Ok(());
+    }
+    let Some((name, first)) = colon_parts(line) else {
+        return Err(ControlFaultKind::NoColon);
+    };
+    if !is_name(name) {
+        return Err(ControlFaultKind::BadName);
+    }
+    if !add_name(alloc, fields, later, name)? {
+        return Err(ControlFaultKind::Duplicate);
+    }
+    fields.push(Field::new(name, first, rest))?;
+    Ok(())
+}
+
+/// Reads the fields of a text that has no separator.
+fn read_fields<'a>(alloc: Global, text: &'a str) -> Result<Vec<Field<'a>>, ControlFaultKind>
+    ensures err { IfErr result (λ kind. kind ≢ Memory →
+        first_fault [] (lines_in text.now) ≡ Some kind) }
+    ensures ok { OnOk result (first_fault [] (lines_in text.now) ≡ None) }
+    ensures fields { IfOk result (λ fields. fields.items ≡ fields_of (lines_in text.now)) }
+{
+    let mut fields = Vec::new(alloc);
+    let mut later = BTreeSet::new(alloc);
+    let mut left = text;
+    while !left.is_empty() {
+        let (line, rest) = split_text(left);
+        read_line(alloc, &mut fields, &mut later, line, rest)?;
+        left = rest;
+    }
+    Ok(fields)
+}
+
+/// A paragraph: its fields in their order, which are slices of the bytes read
+/// (Debian Policy 5.1).
+#[derive(Debug, Drop)]
+pub struct Paragraph<'a> {
+    fields: Vec<Field<'a>>,
+}
+
+impl<'a> Model for Paragraph<'a> {
+    ghost use Rattle.std.specs.Prelude.{List};
+    ghost use Rattle.deb_control.specs.Fields.{Entry};
+
+    ghost Value = { List Entry };
+
+    ghost view = { λ p. p.fields.items };
+}
+
+impl<'a> Paragraph<'a> {
+    /// Reads the lines of a paragraph.
+    pub(crate) fn read(alloc: Global, bytes: &'a [u8]) -> Result<Self, ControlFaultKind>
+        ensures ok { IfOk result (λ paragraph. reading_of (lines_of bytes.now) ≡ Ok paragraph) }
+        ensures err { IfErr result (λ kind. kind ≢ Memory →
+            reading_of (lines_of bytes.now) ≡ Err kind) }
+    {
+        if bytes.len() > LARGEST {
+            return Err(ControlFaultKind::TooLarge);
+        }
+        let Ok(text) = str::from_utf8(bytes) else {
+            return Err(ControlFaultKind::NotUtf8);
+        };
+        let fields = read_fields(alloc, text)?;
+        Ok(Paragraph { fields })
+    }
+
+    /// The fields in the order in which they stand.
+    pub fn fields(&self) -> &[Field<'a>]
+        ensures { result.now ≡ self.now }
+    {
+        &self.fields
+    }
+
+    /// The first field of this name, without regard to case.
+    #[tactic(auto, unfolding(crate::specs::Fields::field_named))]
+    fn find(&self, name: &str) -> Option<&Field<'a>>
+        ensures { option_copied result ≡ field_named name.now self.now }
+    {
+        self.fields
+            .iter()
+            .find(|field| is_same_name(field.name(), name))
+    }
+
+    /// The field of this name, without regard to case, where the paragraph
+    /// has it (Debian Policy 5.1).
+    pub fn get(&self, name: &str) -> Option<Field<'a>>
+        ensures { result ≡ field_named name.now self.now }
+    {
+        let field = self.find(name)?;
+        Some(field.again())
+    }
+}

@@ -1,0 +1,383 @@
+//! Outside values: cases of dpkg and apt, and the limits.
+use crate::{ControlFault, ControlFaultKind, Paragraph, Paragraphs};
+use std::alloc::Global;
+use std::test::Fail;
+
+/// Texts, and what they hold: a line for each field with its name, its folded
+/// value and its continuation lines, an empty line behind each paragraph, and
+/// the fault.
+const CASES: [(&str, &str); 10] = [
+    // apt tagfile_test.cc SingleField
+    (
+        "FieldA-12345678: the value of the field",
+        "FieldA-12345678=the value of the field\n\
+         \n",
+    ),
+    // apt tagfile_test.cc MultipleSections
+    (
+        "Package: pkgA\n\
+         Version: 1\n\
+         Size: 100\n\
+         Description: aaa\n\
+         \x20aaa\n\
+         \n\
+         Package: pkgB\n\
+         Version: 1\n\
+         Flag: no\n\
+         Description: bbb\n\
+         \n\
+         Package: pkgC\n\
+         Version: 2\n\
+         Flag: yes\n\
+         Description:\n\
+         \x20ccc\n",
+        "Package=pkgA\n\
+         Version=1\n\
+         Size=100\n\
+         Description=aaa aaa<aaa>\n\
+         \n\
+         Package=pkgB\n\
+         Version=1\n\
+         Flag=no\n\
+         Description=bbb\n\
+         \n\
+         Package=pkgC\n\
+         Version=2\n\
+         Flag=yes\n\
+         Description=ccc<ccc>\n\
+         \n",
+    ),
+    // dpkg scripts/t/Dpkg_Control_Tests/tests-missing-fields
+    (
+        "Tests: aaa\n\
+         \n\
+         Test-Command: command\n\
+         \n\
+         Other:\n\
+         \n\
+         Tests: bbb\n",
+        "Tests=aaa\n\
+         \n\
+         Test-Command=command\n\
+         \n\
+         Other=\n\
+         \n\
+         Tests=bbb\n\
+         \n",
+    ),
+    // dpkg scripts/t/Dpkg_Control_Tests/tests-valid
+    (
+        "Tests: aaa, bbb, ccc\n\
+         \n\
+         Tests: danger, warning\n\
+         Restrictions: rw-build-tree, needs-root, breaks-testbed\n\
+         \n\
+         Tests: depends\n\
+         Depends: @, @builddeps@, extra-package\n\
+         \n\
+         Tests: dir\n\
+         Tests-Directory: .\n\
+         \n\
+         Tests: feature\n\
+         Features:\n\
+         \n\
+         Tests: class\n\
+         Classes: self-test\n\
+         \n\
+         Test-Command: command arg1 arg2\n",
+        "Tests=aaa, bbb, ccc\n\
+         \n\
+         Tests=danger, warning\n\
+         Restrictions=rw-build-tree, needs-root, breaks-testbed\n\
+         \n\
+         Tests=depends\n\
+         Depends=@, @builddeps@, extra-package\n\
+         \n\
+         Tests=dir\n\
+         Tests-Directory=.\n\
+         \n\
+         Tests=feature\n\
+         Features=\n\
+         \n\
+         Tests=class\n\
+         Classes=self-test\n\
+         \n\
+         Test-Command=command arg1 arg2\n\
+         \n",
+    ),
+    // dpkg scripts/t/Dpkg_Control/control-1 without its comment lines
+    (
+        "Source: mysource\n\
+         numeric-field: 0\n\
+         my-field-one: myvalue1\n\
+         my-field-two: myvalue2\n\
+         long-field: line1\n\
+         \x20line 2 line 2 line 2    \n\
+         \x20.\n\
+         \x20  line 3 line 3 line 3\n\
+         \x20.\t  \n\
+         \x20..\n\
+         \x20line 4\n\
+         empty-field: \n\
+         \x20    \n\
+         Package: mypackage1\n\
+         Architecture: any\n\
+         Depends: libc6\n\
+         \n\
+         Package: mypackage2\n\
+         Architecture: all\n\
+         Depends: hello\n\
+         \n\
+         Package: mypackage3\n\
+         Architecture: all\n\
+         Depends:hello\n\
+         Description:   short one\n\
+         \x20long one\n\
+         \x20very long one\n",
+        "Source=mysource\n\
+         numeric-field=0\n\
+         my-field-one=myvalue1\n\
+         my-field-two=myvalue2\n\
+         long-field=line1 line 2 line 2 line 2 . line 3 line 3 line 3 . .. line 4<line 2 line 2 line 2><.><  line 3 line 3 line 3><.><..><line 4>\n\
+         empty-field=\n\
+         \n\
+         Package=mypackage1\n\
+         Architecture=any\n\
+         Depends=libc6\n\
+         \n\
+         Package=mypackage2\n\
+         Architecture=all\n\
+         Depends=hello\n\
+         \n\
+         Package=mypackage3\n\
+         Architecture=all\n\
+         Depends=hello\n\
+         Description=short one long one very long one<long one><very long one>\n\
+         \n",
+    ),
+    // dpkg scripts/t/Dpkg_Control/control-1
+    (
+        "Source: mysource\n\
+         # This is a comment\n\
+         numeric-field: 0\n\
+         my-field-one: myvalue1\n\
+         my-field-two: myvalue2\n\
+         long-field: line1\n\
+         \x20line 2 line 2 line 2    \n\
+         \x20.\n\
+         \x20  line 3 line 3 line 3\n\
+         \x20.\t  \n\
+         \x20..\n\
+         \x20line 4\n\
+         empty-field: \n\
+         \x20    \n\
+         # First package\n\
+         Package: mypackage1\n\
+         Architecture: any\n\
+         Depends: libc6\n\
+         \n\
+         # Second package\n\
+         Package: mypackage2\n\
+         Architecture: all\n\
+         Depends: hello\n\
+         \n\
+         Package: mypackage3\n\
+         Architecture: all\n\
+         Depends:hello\n\
+         Description:   short one\n\
+         \x20long one\n\
+         \x20very long one\n",
+        "!NoColon in paragraph 1",
+    ),
+    // dpkg scripts/t/Dpkg_Control_Tests/tests-plain-text
+    (
+        "This is a plain text file\n\
+         that does not contain\n\
+         \n\
+         \x20 any of the expected fields nor values\n\
+         \n\
+         and should fail to load.\n",
+        "!NoColon in paragraph 1",
+    ),
+    // dpkg scripts/t/Dpkg_Control/bogus-unsigned.dsc
+    (
+        "-----BEGIN PGP MESSAGE-----\n\
+         \n\
+         Source: fail\n\
+         \n\
+         -----END PGP MESSAGE-----\n",
+        "!NoColon in paragraph 1",
+    ),
+    // dpkg scripts/t/Dpkg_Control/bogus-armor-no-sig.dsc
+    (
+        "-----BEGIN PGP SIGNED MESSAGE-----\n\
+         Hash: SHA1\n\
+         \n\
+         Source: pass\n",
+        "!NoColon in paragraph 1",
+    ),
+    // dpkg scripts/t/Dpkg_Control/bogus-armor-spaces.dsc
+    (
+        "-----BEGIN PGP SIGNED MESSAGE-----    \t\n\
+         Hash: SHA1\n\
+         \x20\t \n\
+         Source: pass\n\
+         \x20 \n\
+         -----BEGIN PGP SIGNATURE-----\t\t  \n\
+         Version: GnuPG v1.4.12 (GNU/Linux)\n\
+         \x20 \n\
+         Valid signature here.\n\
+         -----END PGP SIGNATURE-----\n\
+         \n\
+         Source: fail\n\
+         \n\
+         -----BEGIN PGP SIGNATURE\n\
+         Version: vim v7.3.547 (GNU/Linux)\n\
+         \n\
+         Fake signature here.\n\
+         -----END PGP SIGNATURE\n",
+        "!NoColon in paragraph 1",
+    ),
+];
+
+/// Puts a paragraph's fields behind a text, a line each.
+fn show(alloc: Global, text: &mut String, paragraph: &Paragraph<'_>) -> Result<(), Fail> {
+    for field in paragraph.fields() {
+        let folded = field.folded(alloc)?;
+        write!(text, "{}={folded}", field.name())?;
+        for line in field.lines() {
+            write!(text, "<{line}>")?;
+        }
+        text.push('\n')?;
+    }
+    text.push('\n')?;
+    Ok(())
+}
+
+/// What bytes hold, as in `CASES`.
+fn shown(alloc: Global, bytes: &[u8]) -> Result<String, Fail> {
+    let mut text = String::new(alloc);
+    let mut reader = Paragraphs::of(bytes);
+    for _ in 0..bytes.len() {
+        match reader.next(alloc) {
+            Ok(Some(paragraph)) => show(alloc, &mut text, &paragraph)?,
+            Ok(None) => break,
+            Err(fault) => {
+                write!(text, "!{fault}")?;
+                break;
+            }
+        }
+    }
+    Ok(text)
+}
+
+#[test]
+fn reads_cases_of_others(rt: HostRuntime) -> Result<(), Fail> {
+    for (text, want) in CASES {
+        let got = shown(rt.alloc(), text.as_bytes())?;
+        assert_eq!(rt; got.as_str(), want, "from {text:?}");
+    }
+    Ok(())
+}
+
+#[test]
+fn reads_a_text_cut_anywhere(rt: HostRuntime) -> Result<(), Fail> {
+    let bytes = b"\n\nA: 1\n \t2 \n\t  \nB: 3";
+    let cases = [
+        (0, ""),
+        (2, ""),
+        (3, "!NoColon in paragraph 1"),
+        (4, "A=\n\n"),
+        (5, "A=\n\n"),
+        (6, "A=1\n\n"),
+        (7, "A=1\n\n"),
+        (17, "A=1 2<\t2>\n\n!NoColon in paragraph 2"),
+        (18, "A=1 2<\t2>\n\nB=\n\n"),
+        (19, "A=1 2<\t2>\n\nB=\n\n"),
+        (20, "A=1 2<\t2>\n\nB=3\n\n"),
+    ];
+    for (end, want) in cases {
+        let got = shown(rt.alloc(), &bytes[..end])?;
+        assert_eq!(rt; got.as_str(), want, "cut at {end}");
+    }
+    Ok(())
+}
+
+#[test]
+fn names_the_first_fault(rt: HostRuntime) -> Result<(), Fail> {
+    let cases: [(&[u8], &str); 8] = [
+        (b"Package: a\nPACKAGE: b", "!Duplicate in paragraph 1"),
+        (b" x", "!Orphan in paragraph 1"),
+        (b"# x", "!NoColon in paragraph 1"),
+        (b"# x: y", "!BadName in paragraph 1"),
+        (b"\xef\xbb\xbfA: b", "!BadName in paragraph 1"),
+        (b"A: b\r\n\r\n", "!NoColon in paragraph 1"),
+        (b"a\nA: \xff", "!NotUtf8 in paragraph 1"),
+        (b"A: b\n\nA: \xc3\n\nA", "A=b\n\n!NotUtf8 in paragraph 2"),
+    ];
+    for (bytes, want) in cases {
+        let got = shown(rt.alloc(), bytes)?;
+        assert_eq!(rt; got.as_str(), want, "from {bytes:?}");
+    }
+    Ok(())
+}
+
+#[test]
+fn counts_line_feeds_in_the_size(rt: HostRuntime) -> Result<(), Fail> {
+    let alloc = rt.alloc();
+    for end in [b'x', b'\n'] {
+        let mut bytes = Vec::from_slice(alloc, b"A:")?;
+        for _ in 2..4194304 {
+            bytes.push(b'x')?;
+        }
+        assert!(rt; matches!(Paragraphs::of(&bytes).next(alloc), Ok(Some(_))));
+        bytes.push(end)?;
+        let fault = ControlFault {
+            paragraph: 1,
+            kind: ControlFaultKind::TooLarge,
+        };
+        assert_eq!(rt; Paragraphs::of(&bytes).next(alloc).err(), Some(fault));
+    }
+    Ok(())
+}
+
+#[test]
+fn finds_a_late_duplicate(rt: HostRuntime) -> Result<(), Fail> {
+    let mut text = String::new(rt.alloc());
+    for number in 0..40 {
+        writeln!(text, "Field{number}: x")?;
+    }
+    let mut reader = Paragraphs::of(text.as_bytes());
+    let count = match reader.next(rt.alloc()) {
+        Ok(Some(paragraph)) => paragraph.fields().len(),
+        _ => 0,
+    };
+    assert_eq!(rt; count, 40);
+    text.push_str("fIELD35: y")?;
+    let mut reader = Paragraphs::of(text.as_bytes());
+    let fault = reader.next(rt.alloc()).err();
+    assert_eq!(rt; fault.map(|fault| fault.kind.name()), Some("Duplicate"));
+    Ok(())
+}
+
+#[test]
+fn gets_fields_and_ends(rt: HostRuntime) -> Result<(), Fail> {
+    let alloc = rt.alloc();
+    let mut reader = Paragraphs::of(b"Source: a\nVersion: 1\n\nx\n\nSource: b");
+    let paragraph = reader.next(alloc).ok().flatten().ok_or("no paragraph")?;
+    let version = paragraph.get("vERSION").ok_or("no version")?;
+    assert_eq!(rt; version.first(), "1");
+    assert!(rt; paragraph.get("Versio").is_none());
+    let fault = reader.next(alloc).err().ok_or("no fault")?;
+    assert_eq!(rt; (fault.name(), fault.paragraph), ("NoColon", 2));
+    for _ in 0..2 {
+        let fault = reader.next(alloc).err().ok_or("no fault")?;
+        assert_eq!(rt; (fault.name(), fault.paragraph), ("Ended", 2));
+    }
+    let mut reader = Paragraphs::of(b"A: b\n \n\t\n");
+    assert!(rt; matches!(reader.next(alloc), Ok(Some(_))));
+    for _ in 0..2 {
+        assert!(rt; matches!(reader.next(alloc), Ok(None)));
+    }
+    Ok(())
+}
