@@ -1,4 +1,6 @@
+mod failing;
 mod names;
 mod queue;
 mod run;
 mod versions;
+mod words;

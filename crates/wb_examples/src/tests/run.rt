@@ -1,5 +1,6 @@
 //! What a run prints and how it ends.
 use std::alloc::Global;
+use std::process::Abort;
 use std::test::Fail;
 use wb_daemon::run_lines;
 use wb_office::Office;
@@ -36,114 +37,129 @@ fn five_lines(rt: HostRuntime) -> Result<(), Fail> {
     Ok(())
 }
 
-#[test]
-fn refusals(rt: HostRuntime) -> Result<(), Fail> {
+/// What a line of commands in a row answers, and with which status.
+static REFUSALS: [(&str, &str, u8); 15] = [
+    (
+        "add-arch all linux amd64",
+        r#"{"code":11,"refused":"BadName"}"#,
+        1,
+    ),
+    (
+        "add-arch amd64 linux amd64",
+        r#"{"accepted":1,"ok":"add-arch"}"#,
+        0,
+    ),
+    (
+        "add-arch amd64 linux amd64",
+        r#"{"code":10,"refused":"AlreadyThere"}"#,
+        1,
+    ),
+    (
+        "add-builder b1 armhf",
+        r#"{"code":1,"refused":"UnknownArch"}"#,
+        1,
+    ),
+    (
+        "next amd64 b9",
+        r#"{"code":2,"refused":"UnknownBuilder"}"#,
+        1,
+    ),
+    (
+        "add-arch arm64 linux arm64",
+        r#"{"accepted":2,"ok":"add-arch"}"#,
+        0,
+    ),
+    (
+        "add-builder b2 arm64",
+        r#"{"accepted":3,"ok":"add-builder"}"#,
+        0,
+    ),
+    (
+        "add-builder b2 arm64",
+        r#"{"code":10,"refused":"AlreadyThere"}"#,
+        1,
+    ),
+    ("next amd64 b2", r#"{"code":3,"refused":"WrongArch"}"#, 1),
+    ("next arm64 b2", r#"{"code":7,"refused":"QueueEmpty"}"#, 1),
+    (
+        "enter amd64 hello :1 optional devel",
+        r#"{"code":12,"fault":"EpochEmpty","refused":"BadVersion"}"#,
+        1,
+    ),
+    (
+        "enter s390x hello 1_0- optional devel",
+        r#"{"code":12,"fault":"UpstreamBad","refused":"BadVersion"}"#,
+        1,
+    ),
+    (
+        "enter s390x hello 1.0 optional devel",
+        r#"{"code":1,"refused":"UnknownArch"}"#,
+        1,
+    ),
+    (
+        "enter amd64 hello 1.0 optional devel",
+        r#"{"accepted":4,"ok":"enter"}"#,
+        0,
+    ),
+    (
+        "enter amd64 hello 2.0 optional devel",
+        r#"{"code":10,"refused":"AlreadyThere"}"#,
+        1,
+    ),
+];
+
+/// Runs of one office each: the input, what is printed, and the status.
+static INPUTS: [(&str, &str, u8); 10] = [
+    ("", "", 0),
+    ("\n \t\n\n", "", 0),
+    (
+        " \tadd-arch  amd64\tlinux amd64 ",
+        "{\"accepted\":1,\"ok\":\"add-arch\"}\n",
+        0,
+    ),
+    (
+        "add-arch amd64 linux amd64\r\n",
+        "{\"code\":11,\"refused\":\"BadName\"}\n",
+        1,
+    ),
+    ("\r\n", "{\"fault\":\"line\"}\n", 2),
+    ("help\n", "{\"fault\":\"line\"}\n", 2),
+    ("next amd64 b1 --help\n", "{\"fault\":\"line\"}\n", 2),
+    ("next amd64\n", "{\"fault\":\"line\"}\n", 2),
+    (
+        "next amd64 -- -b1\n",
+        "{\"code\":11,\"refused\":\"BadName\"}\n",
+        1,
+    ),
+    ("take amd64 b1 hello 1.0\n", "{\"fault\":\"line\"}\n", 2),
+];
+
+fn in_a_row(rt: &(impl Abort + AllocGlobal), cases: &[(&str, &str, u8)]) -> Result<(), Fail> {
     let mut office = Office::new(rt.alloc());
-    let cases = [
-        (
-            "add-arch all linux amd64",
-            r#"{"code":11,"refused":"BadName"}"#,
-            1,
-        ),
-        (
-            "add-arch amd64 linux amd64",
-            r#"{"accepted":1,"ok":"add-arch"}"#,
-            0,
-        ),
-        (
-            "add-arch amd64 linux amd64",
-            r#"{"code":10,"refused":"AlreadyThere"}"#,
-            1,
-        ),
-        (
-            "add-builder b1 armhf",
-            r#"{"code":1,"refused":"UnknownArch"}"#,
-            1,
-        ),
-        (
-            "next amd64 b9",
-            r#"{"code":2,"refused":"UnknownBuilder"}"#,
-            1,
-        ),
-        (
-            "add-arch arm64 linux arm64",
-            r#"{"accepted":2,"ok":"add-arch"}"#,
-            0,
-        ),
-        (
-            "add-builder b2 arm64",
-            r#"{"accepted":3,"ok":"add-builder"}"#,
-            0,
-        ),
-        (
-            "add-builder b2 arm64",
-            r#"{"code":10,"refused":"AlreadyThere"}"#,
-            1,
-        ),
-        ("next amd64 b2", r#"{"code":3,"refused":"WrongArch"}"#, 1),
-        ("next arm64 b2", r#"{"code":7,"refused":"QueueEmpty"}"#, 1),
-        (
-            "enter amd64 hello :1 optional devel",
-            r#"{"code":12,"fault":"EpochEmpty","refused":"BadVersion"}"#,
-            1,
-        ),
-        (
-            "enter s390x hello 1_0- optional devel",
-            r#"{"code":12,"fault":"UpstreamBad","refused":"BadVersion"}"#,
-            1,
-        ),
-        (
-            "enter s390x hello 1.0 optional devel",
-            r#"{"code":1,"refused":"UnknownArch"}"#,
-            1,
-        ),
-        (
-            "enter amd64 hello 1.0 optional devel",
-            r#"{"accepted":4,"ok":"enter"}"#,
-            0,
-        ),
-        (
-            "enter amd64 hello 2.0 optional devel",
-            r#"{"code":10,"refused":"AlreadyThere"}"#,
-            1,
-        ),
-    ];
-    for (line, want, want_status) in cases {
-        let (text, status) = printed(rt.alloc(), &mut office, line)?;
-        assert_eq!(rt; text.trim_end(), want, "{line}");
-        assert_eq!(rt; status, want_status, "{line}");
+    for case in cases {
+        let (text, status) = printed(rt.alloc(), &mut office, case.0)?;
+        assert_eq!(rt; text.trim_end(), case.1, "{}", case.0);
+        assert_eq!(rt; status, case.2, "{}", case.0);
+    }
+    Ok(())
+}
+
+fn each_alone(rt: &(impl Abort + AllocGlobal), cases: &[(&str, &str, u8)]) -> Result<(), Fail> {
+    for case in cases {
+        let mut office = Office::new(rt.alloc());
+        let (text, status) = printed(rt.alloc(), &mut office, case.0)?;
+        assert_eq!(rt; text.as_str(), case.1, "{:?}", case.0);
+        assert_eq!(rt; status, case.2, "{:?}", case.0);
     }
     Ok(())
 }
 
 #[test]
+fn refusals(rt: HostRuntime) -> Result<(), Fail> {
+    in_a_row(&rt, &REFUSALS)
+}
+
+#[test]
 fn lines(rt: HostRuntime) -> Result<(), Fail> {
-    let fault = "{\"fault\":\"line\"}\n";
-    let added = "{\"accepted\":1,\"ok\":\"add-arch\"}\n";
-    let cases = [
-        ("", "", 0),
-        ("\n \t\n\n", "", 0),
-        (" \tadd-arch  amd64\tlinux amd64 ", added, 0),
-        (
-            "add-arch amd64 linux amd64\r\n",
-            "{\"code\":11,\"refused\":\"BadName\"}\n",
-            1,
-        ),
-        ("help\n", fault, 2),
-        ("next amd64 b1 --help\n", fault, 2),
-        ("next amd64\n", fault, 2),
-        (
-            "next amd64 -- -b1\n",
-            "{\"code\":11,\"refused\":\"BadName\"}\n",
-            1,
-        ),
-        ("take amd64 b1 hello 1.0\n", fault, 2),
-    ];
-    for (input, want, want_status) in cases {
-        let mut office = Office::new(rt.alloc());
-        let (text, status) = printed(rt.alloc(), &mut office, input)?;
-        assert_eq!(rt; text.as_str(), want, "{input:?}");
-        assert_eq!(rt; status, want_status, "{input:?}");
-    }
-    Ok(())
+    each_alone(&rt, &INPUTS)
 }
