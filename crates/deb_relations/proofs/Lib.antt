@@ -1,0 +1,12 @@
+mod Answered
+mod ArchLemmas
+mod Complete
+mod Cuts
+mod MapLemmas
+mod Owing
+mod ReadsBack
+mod Runs
+mod ScannerLemmas
+mod Sound
+mod Turns
+mod VersionForm

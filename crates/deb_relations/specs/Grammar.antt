@@ -1,0 +1,177 @@
+-- The grammar of relations between packages (Debian Policy 7.1, names after 5.6.1).
+use Rattle.std.specs.Prelude.{◌≡◌, ℕ, ◌≤◌, ◌==◌, Bool, true, false, not, ◌&&◌, ◌||◌, List, [], ◌∷◌, ◌++◌, map, filter, length, nat_lt, if◌then◌else◌, bytes_eq, codes}
+use Rattle.std.specs.Prelude.{Option, None, Some}
+use Rattle.std.specs.Char.{is_ascii_alphanumeric, is_ascii_lowercase, is_ascii_digit}
+use Rattle.std.specs.List.{list_all, slice_split}
+use Rattle.deb_version.specs.declared.operator.Op.{Op}
+use Rattle.deb_version.specs.declared.operator.Op.TheVariants.{Earlier, EarlierOrEqual, Equal, LaterOrEqual, Later}
+use Rattle.deb_version.specs.Syntax.{fault_of}
+use Rattle.deb_relations.specs.declared.relations.Kind.{Kind}
+use Rattle.deb_relations.specs.declared.relations.Kind.TheVariants.{Arch, Profile}
+use Rattle.deb_relations.specs.declared.relations.Term.{Term}
+use Rattle.deb_relations.specs.declared.relations.Restriction.{Restriction}
+use Rattle.deb_relations.specs.declared.relations.Alternative.{Alternative}
+use Rattle.deb_relations.specs.Printing.{term_text}
+use Rattle.deb_relations.specs.Reduction.{is_filled}
+
+-- a space, a tab, a line feed or a carriage return (Policy 7.1)
+unfoldable pub is_white : ℕ → Bool
+is_white c = c == 32 || (c == 9 || (c == 10 || c == 13))
+
+-- whether a text has white space alone (this project's own)
+abbrev pub is_blank : List ℕ → Bool
+is_blank text = list_all is_white text
+
+-- the comma between groups, and the bar between alternatives (Policy 7.1)
+abbrev pub is_comma : ℕ → Bool
+is_comma c = c == 44
+
+abbrev pub is_bar : ℕ → Bool
+is_bar c = c == 124
+
+-- a lower-case letter or a digit (Policy 5.6.1)
+unfoldable pub is_lower_or_digit : ℕ → Bool
+is_lower_or_digit c = is_ascii_lowercase c || is_ascii_digit c
+
+-- of which the name of a package is made (Policy 5.6.1)
+unfoldable pub is_package_char : ℕ → Bool
+is_package_char c = is_lower_or_digit c || (c == 43 || (c == 45 || c == 46))
+
+-- of which a qualifier and an architecture word are made (Policy 11.1.1)
+unfoldable pub is_arch_char : ℕ → Bool
+is_arch_char c = is_lower_or_digit c || c == 45
+
+-- of which the name of a build profile is made (this project's own)
+unfoldable pub is_profile_char : ℕ → Bool
+is_profile_char c = is_ascii_alphanumeric c || (c == 46 || (c == 43 || (c == 45 || c == 95)))
+
+-- of which an operator is made (Policy 7.1)
+unfoldable pub is_op_char : ℕ → Bool
+is_op_char c = c == 60 || (c == 61 || c == 62)
+
+-- whether a text begins with a lower-case letter or a digit (Policy 5.6.1)
+abbrev pub begins_well : List ℕ → Bool
+begins_well [] = false
+begins_well (c ∷ cs) = is_lower_or_digit c
+
+-- the name of a package, of 2 to 200 bytes (Policy 5.6.1, the upper limit this project's own)
+unfoldable pub is_package : List ℕ → Bool
+is_package name = begins_well name && (list_all is_package_char name && (nat_lt 1 (length name) && nat_lt (length name) 201))
+
+-- a qualifier (Policy 7.1)
+unfoldable pub is_qualifier : List ℕ → Bool
+is_qualifier word = is_filled word && list_all is_arch_char word
+
+-- a word of a list of either kind (Policy 7.1)
+unfoldable pub is_word : Kind → List ℕ → Bool
+is_word Arch word = begins_well word && list_all is_arch_char word
+is_word Profile word = is_filled word && list_all is_profile_char word
+
+-- the operator that a text writes, where `<` and `>` are the old forms of `<=` and `>=` (Policy 7.1)
+unfoldable pub op_of : List ℕ → Option Op
+op_of text =
+    if bytes_eq text (codes "<<") then Some Earlier
+    else (if bytes_eq text (codes "<=") then Some EarlierOrEqual
+    else (if bytes_eq text (codes "<") then Some EarlierOrEqual
+    else (if bytes_eq text (codes "=") then Some Equal
+    else (if bytes_eq text (codes ">=") then Some LaterOrEqual
+    else (if bytes_eq text (codes ">") then Some LaterOrEqual
+    else (if bytes_eq text (codes ">>") then Some Later else None))))))
+
+-- white space, a package name, and what is left (Policy 7.1)
+pub record TakesName (text name rest : List ℕ) : Type 0 where
+  pub gap : List ℕ
+  pub split : text ≡ gap ++ (name ++ rest)
+  pub blank : is_blank gap ≡ true
+  pub form : is_package name ≡ true
+
+-- nothing, or directly a colon and a qualifier, and what is left (Policy 7.1)
+abbrev pub TakesQualifier : List ℕ → Option (List ℕ) → List ℕ → Type 0
+TakesQualifier text None rest = text ≡ rest
+TakesQualifier text (Some word) rest = (text ≡ 58 ∷ (word ++ rest)) × (is_qualifier word ≡ true)
+
+-- white space, a bracket, the text inside, its closing bracket, and what is left (Policy 7.1)
+pub record InBrackets (left right : ℕ) (text inside rest : List ℕ) : Type 0 where
+  pub gap : List ℕ
+  pub split : text ≡ gap ++ (left ∷ (inside ++ (right ∷ rest)))
+  pub blank : is_blank gap ≡ true
+
+-- an operator and a version, with white space round them (Policy 7.1)
+pub record IsRestriction (inside : List ℕ) (asked : Restriction) : Type 0 where
+  pub front : List ℕ
+  pub operator : List ℕ
+  pub middle : List ℕ
+  pub back : List ℕ
+  pub split : inside ≡ front ++ (operator ++ (middle ++ (asked.version ++ back)))
+  pub front_blank : is_blank front ≡ true
+  pub middle_blank : is_blank middle ≡ true
+  pub back_blank : is_blank back ≡ true
+  pub means : op_of operator ≡ Some asked.op
+  pub version : fault_of asked.version ≡ None
+
+-- nothing, or an operator and a version in parentheses, and what is left (Policy 7.1)
+abbrev pub TakesRestriction : List ℕ → Option Restriction → List ℕ → Type 0
+TakesRestriction text None rest = text ≡ rest
+TakesRestriction text (Some asked) rest = (inside : List ℕ) × (InBrackets 40 41 text inside rest × IsRestriction inside asked)
+
+-- the words of a text, which white space parts (Policy 7.1)
+unfoldable pub words : List ℕ → List (List ℕ)
+words text = filter is_filled (slice_split is_white text)
+
+-- words of one kind, each perhaps after `!`, and at least one of them (Policy 7.1)
+pub record ReadsTerms (kind : Kind) (inside : List ℕ) (terms : List Term) : Type 0 where
+  pub said : words inside ≡ map term_text terms
+  pub filled : is_filled terms ≡ true
+  pub forms : list_all (λ term. is_word kind term.word) terms ≡ true
+
+-- whether all words of a list are negated, or none is (Policy 7.1)
+abbrev pub are_alike : List Term → Bool
+are_alike [] = true
+are_alike (term ∷ terms) = list_all (λ other. if term.negated then other.negated else not other.negated) terms
+
+-- nothing, or architecture words of one sign in brackets, and what is left (Policy 7.1)
+abbrev pub TakesArchs : List ℕ → List Term → List ℕ → Type 0
+TakesArchs text [] rest = text ≡ rest
+TakesArchs text (term ∷ terms) rest =
+    (inside : List ℕ) × (InBrackets 91 93 text inside rest × (ReadsTerms Arch inside (term ∷ terms) × (are_alike (term ∷ terms) ≡ true)))
+
+-- each list of build profiles in angle brackets, and at the end white space alone (Policy 7.1)
+abbrev pub ReadsProfiles : List ℕ → List (List Term) → Type 0
+ReadsProfiles text [] = is_blank text ≡ true
+ReadsProfiles text (terms ∷ more) =
+    (inside : List ℕ) × ((rest : List ℕ) × (InBrackets 60 62 text inside rest × (ReadsTerms Profile inside terms × ReadsProfiles rest more)))
+
+-- the parts of an alternative, one behind the other (Policy 7.1)
+pub record ReadsAlternative (text : List ℕ) (a : Alternative) : Type 0 where
+  pub after_name : List ℕ
+  pub after_qualifier : List ℕ
+  pub after_restriction : List ℕ
+  pub after_archs : List ℕ
+  pub name : TakesName text a.name after_name
+  pub qualifier : TakesQualifier after_name a.qualifier after_qualifier
+  pub restriction : TakesRestriction after_qualifier a.restriction after_restriction
+  pub archs : TakesArchs after_restriction a.archs after_archs
+  pub profiles : ReadsProfiles after_archs a.profiles
+
+-- the items of two lists of one length are related in pairs (this project's own)
+abbrev pub Each : {X Y : Type 0} → (X → Y → Type 0) → List X → List Y → Type 0
+Each R [] [] = Unit {0}
+Each R [] (y ∷ ys) = ⊥
+Each R (x ∷ xs) [] = ⊥
+Each R (x ∷ xs) (y ∷ ys) = R x y × Each R xs ys
+
+-- alternatives between bars (Policy 7.1)
+abbrev pub ReadsGroup : List ℕ → List Alternative → Type 0
+ReadsGroup text group = Each ReadsAlternative (slice_split is_bar text) group
+
+-- whether a text has more than white space (this project's own)
+unfoldable pub is_said : List ℕ → Bool
+is_said text = not (is_blank text)
+
+-- a text of at most 65536 bytes with its groups between commas, where blank groups are skipped (Policy 7.1, the limit and the skipping this project's own)
+unfoldable pub Reads : List ℕ → List (List Alternative) → Type 0
+Reads text groups = (length text ≤ 65536) × Each ReadsGroup (filter is_said (slice_split is_comma text)) groups
+
+-- whether a text is no relations (this project's own)
+abbrev pub HasNoReading : List ℕ → Type 0
+HasNoReading text = (groups : List (List Alternative)) → ¬ (Reads text groups)

@@ -1,0 +1,9 @@
+pub mod Arch
+pub mod Faults
+pub mod Grammar
+pub mod Printing
+pub mod Reader
+pub mod Reduction
+pub mod Satisfaction
+pub mod Scanner
+pub mod Text

@@ -1,0 +1,46 @@
+-- What packages are available in which versions, and when they satisfy relations (Debian Policy 7.1).
+use Rattle.std.specs.Prelude.{ℕ, Bool, true, List, [], ◌∷◌, ◌++◌, Option, None, Some, unwrap_or}
+use Rattle.std.specs.List.{list_any, list_all}
+use Rattle.std.specs.Coded.{Coded, coded_ℕ, coded_list}
+use Rattle.std.specs.FinMap as map
+use Rattle.deb_version.specs.Operator.{met}
+use Rattle.deb_relations.specs.Text.{text_cmp}
+use Rattle.deb_relations.specs.declared.relations.Restriction.{Restriction}
+use Rattle.deb_relations.specs.declared.relations.Alternative.{Alternative}
+
+-- what is available: to each name the versions of its packages (this project's own)
+abbrev pub Pairs : Type 0
+Pairs = map.FinMap text_cmp (List (List ℕ))
+
+-- the code of what is available (this project's own)
+abbrev pub coded_pairs : Coded Pairs
+coded_pairs = map.code (coded_list coded_ℕ) (coded_list (coded_list coded_ℕ))
+
+-- nothing is available (this project's own)
+abbrev pub no_pairs : Pairs
+no_pairs = map.empty
+
+-- the versions in which a package of a name is available (this project's own)
+unfoldable pub versions_of : Pairs → List ℕ → List (List ℕ)
+versions_of pairs name = unwrap_or (map.get pairs name) []
+
+-- the same and a version of a name more (this project's own)
+unfoldable pub with_pair : Pairs → List ℕ → List ℕ → Pairs
+with_pair pairs name version = map.insert pairs name (versions_of pairs name ++ version ∷ [])
+
+-- whether a version is one that is asked for (Policy 7.1)
+abbrev pub meets_restriction : Option Restriction → List ℕ → Bool
+meets_restriction None version = true
+meets_restriction (Some asked) version = met asked.op version asked.version
+
+-- whether a package of the alternative's name is available in a version that it asks for (Policy 7.1)
+unfoldable pub is_alternative_met : Pairs → Alternative → Bool
+is_alternative_met pairs a = list_any (meets_restriction a.restriction) (versions_of pairs a.name)
+
+-- whether an alternative of a group is met (Policy 7.1)
+unfoldable pub is_group_met : Pairs → List Alternative → Bool
+is_group_met pairs group = list_any (is_alternative_met pairs) group
+
+-- whether each group is met (Policy 7.1)
+unfoldable pub satisfied : Pairs → List (List Alternative) → Bool
+satisfied pairs groups = list_all (is_group_met pairs) groups

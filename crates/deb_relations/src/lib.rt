@@ -1,0 +1,23 @@
+//! Relations between packages: their reading, printing and reduction for an architecture, and
+//! whether they are satisfied by what is available, after Debian Policy 7.1 and 11.1.1.
+#![tactic(auto)]
+
+mod arch;
+mod available;
+mod fault;
+mod items;
+pub mod laws;
+mod parse;
+mod print;
+mod reduce;
+mod relations;
+mod scanner;
+mod text;
+
+pub use arch::{ArchWords, arch_matches};
+pub use available::Available;
+pub use fault::RelationFault;
+pub use relations::Relations;
+
+#[cfg(test)]
+mod tests;

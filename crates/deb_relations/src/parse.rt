@@ -1,0 +1,440 @@
+//! The reading of relations, part by part.
+
+ghost use Rattle.std.specs.Prelude.{◌≡◌, ◌≢◌, ◌<◌, ◌==◌, true, false, not, List, ℕ, Some, None, length, filter, IfOk, IfErr, if◌then◌else◌};
+ghost use Rattle.std.specs.Option.{option_map};
+ghost use Rattle.std.specs.List.{list_all, slice_split};
+ghost use Rattle.deb_relations.specs.Grammar.{is_blank, is_said, is_package, is_word, begins_well, op_of, words, are_alike, Reads, HasNoReading};
+ghost use Rattle.deb_relations.specs.Reader.{between, read_name, read_qualifier, is_version, restriction_of, read_restriction, signed, term_of, all_some, terms_of, with_group, archs_of, read_archs, profile_of, read_profiles, read_alternative, read_group, read_groups};
+ghost use Rattle.deb_relations.specs.Scanner.{halves_of};
+ghost use Rattle.deb_relations.specs.Faults.{told, Owes, IsPlain};
+ghost use Rattle.deb_relations.specs.declared.relations.Alternative.{Alternative};
+ghost use Rattle.deb_relations.specs.declared.fault.RelationFault.TheVariants.{Memory, TooLong};
+
+use crate::fault::RelationFault;
+use crate::items::Items;
+use crate::relations::{Alternative, Kind, Relations, Restriction, Term};
+use crate::scanner::{Class, cut_at, is_all, is_lower_or_digit, run_of, skip_white, strip};
+use crate::text::Text;
+use deb_version::{Op, Version, VersionFault};
+use std::alloc::Global;
+
+const MAX_LEN: usize = 65536;
+
+fn begins_well(text: &str) -> bool
+    ensures { result ≡ begins_well text.now }
+{
+    match text.as_bytes() {
+        [] => false,
+        [first, ..] => is_lower_or_digit(*first),
+    }
+}
+
+#[tactic(auto, unfolding(crate::specs::Grammar::is_package))]
+fn is_package(name: &str) -> bool
+    ensures { result ≡ is_package name.now }
+{
+    begins_well(name) && is_all(Class::Package, name) && 1 < name.len() && name.len() < 201
+}
+
+#[tactic(auto, unfolding(crate::specs::Grammar::is_word))]
+fn is_word(kind: Kind, word: &str) -> bool
+    ensures { result ≡ is_word kind word.now }
+{
+    match kind {
+        Kind::Arch => begins_well(word) && is_all(Class::Arch, word),
+        Kind::Profile => !word.is_empty() && is_all(Class::Profile, word),
+    }
+}
+
+// Where a text stands that ends at this place.
+fn place_of(text: &str, end: usize) -> usize {
+    end.saturating_sub(text.len())
+}
+
+#[tactic(auto, unfolding(crate::specs::Reader::read_name))]
+fn read_name(alloc: Global, text: &str) -> Result<(Text, &str), RelationFault>
+    ensures ok { IfOk result (λ found. read_name text.now ≡ Some (found.0, found.1.now)) }
+    ensures refused { IfErr result (λ fault. fault ≢ Memory → read_name text.now ≡ None) }
+    ensures short { IfErr result (λ fault. fault ≢ TooLong) }
+    ensures plain { IfErr result IsPlain }
+{
+    let front = skip_white(text);
+    let (name, rest) = run_of(Class::Package, front);
+    if !is_package(name) {
+        return Err(if front.is_empty() {
+            RelationFault::EmptyAlternative
+        } else {
+            RelationFault::BadName
+        });
+    }
+    Ok((Text::copied(alloc, name)?, rest))
+}
+
+#[tactic(auto, unfolding(crate::specs::Reader::read_qualifier))]
+fn read_qualifier(alloc: Global, text: &str) -> Result<(Option<Text>, &str), RelationFault>
+    ensures ok { IfOk result (λ found. read_qualifier text.now ≡ Some (found.0, found.1.now)) }
+    ensures refused { IfErr result (λ fault. fault ≢ Memory → read_qualifier text.now ≡ None) }
+    ensures short { IfErr result (λ fault. fault ≢ TooLong) }
+    ensures plain { IfErr result IsPlain }
+{
+    let Some(behind) = strip(':', text) else {
+        return Ok((None, text));
+    };
+    let (word, rest) = run_of(Class::Arch, behind);
+    if word.is_empty() {
+        return Err(RelationFault::BadName);
+    }
+    Ok((Some(Text::copied(alloc, word)?), rest))
+}
+
+// What stands between two brackets and behind them, or none where the first does not stand.
+#[tactic(auto, unfolding(crate::specs::Reader::between))]
+fn between(left: char, right: char, text: &str) -> Result<Option<(&str, &str)>, RelationFault>
+    requires left { left < 128 }
+    requires right { right < 128 }
+    ensures ok { IfOk result (λ found. between left right text.now ≡ Some (option_map halves_of found)) }
+    ensures refused { IfErr result (λ fault. between left right text.now ≡ None) }
+    ensures short { IfErr result (λ fault. fault ≢ TooLong) }
+    ensures plain { IfErr result IsPlain }
+{
+    let Some(behind) = strip(left, skip_white(text)) else {
+        return Ok(None);
+    };
+    match cut_at(right, behind) {
+        Some(halves) => Ok(Some(halves)),
+        None => Err(RelationFault::Unclosed),
+    }
+}
+
+#[tactic(auto, unfolding(crate::specs::Grammar::op_of))]
+fn op_of(word: &str) -> Option<Op>
+    ensures { result ≡ op_of word.now }
+{
+    match word {
+        "<<" => Some(Op::Earlier),
+        "<=" | "<" => Some(Op::EarlierOrEqual),
+        "=" => Some(Op::Equal),
+        ">=" | ">" => Some(Op::LaterOrEqual),
+        ">>" => Some(Op::Later),
+        _ => None,
+    }
+}
+
+fn told(fault: VersionFault) -> RelationFault
+    ensures { result ≡ told fault }
+{
+    match fault {
+        VersionFault::Memory => RelationFault::Memory,
+        _ => RelationFault::BadVersion(fault),
+    }
+}
+
+fn read_version(alloc: Global, text: &str) -> Result<Version, RelationFault>
+    ensures value { IfOk result (λ version. version ≡ text.now) }
+    ensures ok { IfOk result (λ _. is_version text.now ≡ true) }
+    ensures refused { IfErr result (λ fault. fault ≢ Memory → is_version text.now ≡ false) }
+    ensures short { IfErr result (λ fault. fault ≢ TooLong) }
+    ensures owed { IfErr result (Owes text.now) }
+{
+    match Version::parse(alloc, text) {
+        Ok(version) => Ok(version),
+        Err(fault) => Err(told(fault)),
+    }
+}
+
+#[tactic(auto, unfolding(crate::specs::Reader::restriction_of))]
+fn restriction_of(alloc: Global, inside: &str, end: usize) -> Result<Restriction, RelationFault>
+    ensures ok { IfOk result (λ asked. restriction_of inside.now ≡ Some asked) }
+    ensures refused { IfErr result (λ fault. fault ≢ Memory → restriction_of inside.now ≡ None) }
+    ensures short { IfErr result (λ fault. fault ≢ TooLong) }
+    ensures owed { IfErr result (Owes inside.now) }
+{
+    let (word, behind) = run_of(Class::Op, skip_white(inside));
+    let Some(op) = op_of(word) else {
+        return Err(RelationFault::BadOperator);
+    };
+    let (version, after) = run_of(Class::Solid, skip_white(behind));
+    let version = read_version(alloc, version)?;
+    if !is_all(Class::White, after) {
+        return Err(RelationFault::Stray(place_of(skip_white(after), end)));
+    }
+    Ok(Restriction { op, version })
+}
+
+#[tactic(auto, unfolding(crate::specs::Reader::read_restriction))]
+fn read_restriction(
+    alloc: Global,
+    text: &str,
+    end: usize,
+) -> Result<(Option<Restriction>, &str), RelationFault>
+    ensures ok { IfOk result (λ found. read_restriction text.now ≡ Some (found.0, found.1.now)) }
+    ensures refused { IfErr result (λ fault. fault ≢ Memory → read_restriction text.now ≡ None) }
+    ensures short { IfErr result (λ fault. fault ≢ TooLong) }
+    ensures owed { IfErr result (Owes text.now) }
+{
+    let Some((inside, rest)) = between('(', ')', text)? else {
+        return Ok((None, text));
+    };
+    let asked = restriction_of(alloc, inside, place_of(rest, end).saturating_sub(1))?;
+    Ok((Some(asked), rest))
+}
+
+fn signed(alloc: Global, kind: Kind, negated: bool, word: &str) -> Result<Term, RelationFault>
+    ensures ok { IfOk result (λ term. signed kind negated word.now ≡ Some term) }
+    ensures refused { IfErr result (λ fault. fault ≢ Memory → signed kind negated word.now ≡ None) }
+    ensures short { IfErr result (λ fault. fault ≢ TooLong) }
+    ensures plain { IfErr result IsPlain }
+{
+    if !is_word(kind, word) {
+        return Err(RelationFault::BadName);
+    }
+    Ok(Term {
+        negated,
+        word: Text::copied(alloc, word)?,
+    })
+}
+
+#[tactic(auto, unfolding(crate::specs::Reader::term_of))]
+fn term_of(alloc: Global, kind: Kind, word: &str) -> Result<Term, RelationFault>
+    ensures ok { IfOk result (λ term. term_of kind word.now ≡ Some term) }
+    ensures refused { IfErr result (λ fault. fault ≢ Memory → term_of kind word.now ≡ None) }
+    ensures short { IfErr result (λ fault. fault ≢ TooLong) }
+    ensures plain { IfErr result IsPlain }
+{
+    match strip('!', word) {
+        None => signed(alloc, kind, false, word),
+        Some(behind) => signed(alloc, kind, true, behind),
+    }
+}
+
+// The words of a list, of which there may be none.
+fn collect_terms(alloc: Global, kind: Kind, inside: &str) -> Result<Items<Term>, RelationFault>
+    ensures ok { IfOk result (λ terms. all_some (term_of kind) (words inside.now) ≡ Some terms) }
+    ensures refused { IfErr result (λ fault. fault ≢ Memory → all_some (term_of kind) (words inside.now) ≡ None) }
+    ensures short { IfErr result (λ fault. fault ≢ TooLong) }
+    ensures plain { IfErr result IsPlain }
+{
+    let mut made = Items::new(alloc);
+    let mut rest = skip_white(inside);
+    while !rest.is_empty() {
+        let (word, behind) = run_of(Class::Solid, rest);
+        made.push(term_of(alloc, kind, word)?)?;
+        rest = skip_white(behind);
+    }
+    Ok(made)
+}
+
+#[tactic(auto, unfolding(crate::specs::Reader::terms_of))]
+fn terms_of(alloc: Global, kind: Kind, inside: &str) -> Result<Items<Term>, RelationFault>
+    ensures ok { IfOk result (λ terms. terms_of kind inside.now ≡ Some terms) }
+    ensures refused { IfErr result (λ fault. fault ≢ Memory → terms_of kind inside.now ≡ None) }
+    ensures short { IfErr result (λ fault. fault ≢ TooLong) }
+    ensures plain { IfErr result IsPlain }
+{
+    let terms = collect_terms(alloc, kind, inside)?;
+    if terms.as_slice().is_empty() {
+        return Err(RelationFault::BadName);
+    }
+    Ok(terms)
+}
+
+// Whether all words are negated, or none is, as this says.
+fn are_signed(negated: bool, terms: &[Term]) -> bool
+    ensures { result ≡ list_all (λ other. if negated then other.negated else not other.negated) terms.now }
+{
+    for term in terms {
+        if term.negated != negated {
+            return false;
+        }
+    }
+    true
+}
+
+fn are_alike(terms: &[Term]) -> bool
+    ensures { result ≡ are_alike terms.now }
+{
+    match terms {
+        [] => true,
+        [first, others @ ..] => are_signed(first.negated, others),
+    }
+}
+
+#[tactic(auto, unfolding(crate::specs::Reader::archs_of))]
+fn archs_of(alloc: Global, inside: &str) -> Result<Items<Term>, RelationFault>
+    ensures ok { IfOk result (λ terms. archs_of inside.now ≡ Some terms) }
+    ensures refused { IfErr result (λ fault. fault ≢ Memory → archs_of inside.now ≡ None) }
+    ensures short { IfErr result (λ fault. fault ≢ TooLong) }
+    ensures plain { IfErr result IsPlain }
+{
+    let terms = terms_of(alloc, Kind::Arch, inside)?;
+    if !are_alike(terms.as_slice()) {
+        return Err(RelationFault::Mixed);
+    }
+    Ok(terms)
+}
+
+#[tactic(auto, unfolding(crate::specs::Reader::read_archs))]
+fn read_archs(alloc: Global, text: &str) -> Result<(Items<Term>, &str), RelationFault>
+    ensures ok { IfOk result (λ found. read_archs text.now ≡ Some (found.0, found.1.now)) }
+    ensures refused { IfErr result (λ fault. fault ≢ Memory → read_archs text.now ≡ None) }
+    ensures short { IfErr result (λ fault. fault ≢ TooLong) }
+    ensures plain { IfErr result IsPlain }
+{
+    let Some((inside, rest)) = between('[', ']', text)? else {
+        return Ok((Items::new(alloc), text));
+    };
+    Ok((archs_of(alloc, inside)?, rest))
+}
+
+// A list of build profiles, of which the closing bracket is cut off.
+#[tactic(auto, unfolding(crate::specs::Reader::profile_of))]
+fn profile_of(alloc: Global, piece: &str, end: usize) -> Result<Items<Term>, RelationFault>
+    ensures ok { IfOk result (λ terms. profile_of piece.now ≡ Some terms) }
+    ensures refused { IfErr result (λ fault. fault ≢ Memory → profile_of piece.now ≡ None) }
+    ensures short { IfErr result (λ fault. fault ≢ TooLong) }
+    ensures plain { IfErr result IsPlain }
+{
+    let front = skip_white(piece);
+    match strip('<', front) {
+        Some(inside) => terms_of(alloc, Kind::Profile, inside),
+        None => Err(RelationFault::Stray(place_of(front, end))),
+    }
+}
+
+// What is wrong with characters behind the last list.
+fn end_fault(rest: &str, end: usize) -> RelationFault
+    ensures memory { result ≢ Memory }
+    ensures short { result ≢ TooLong }
+    ensures plain { IsPlain result }
+{
+    let front = skip_white(rest);
+    match strip('<', front) {
+        Some(_) => RelationFault::Unclosed,
+        None => RelationFault::Stray(place_of(front, end)),
+    }
+}
+
+#[tactic(auto, unfolding(crate::specs::Reader::read_profiles))]
+fn read_profiles(alloc: Global, text: &str, end: usize) -> Result<Items<Items<Term>>, RelationFault>
+    ensures ok { IfOk result (λ lists. read_profiles text.now ≡ Some lists) }
+    ensures refused { IfErr result (λ fault. fault ≢ Memory → read_profiles text.now ≡ None) }
+    ensures short { IfErr result (λ fault. fault ≢ TooLong) }
+    ensures plain { IfErr result IsPlain }
+{
+    let mut made = Items::new(alloc);
+    let mut rest = text;
+    while let Some((piece, after)) = cut_at('>', rest) {
+        made.push(profile_of(alloc, piece, place_of(after, end).saturating_sub(1))?)?;
+        rest = after;
+    }
+    if !is_all(Class::White, rest) {
+        return Err(end_fault(rest, end));
+    }
+    Ok(made)
+}
+
+#[tactic(auto, unfolding(crate::specs::Reader::read_alternative))]
+fn read_alternative(alloc: Global, text: &str, end: usize) -> Result<Alternative, RelationFault>
+    ensures ok { IfOk result (λ a. read_alternative text.now ≡ Some a) }
+    ensures refused { IfErr result (λ fault. fault ≢ Memory → read_alternative text.now ≡ None) }
+    ensures short { IfErr result (λ fault. fault ≢ TooLong) }
+    ensures owed { IfErr result (Owes text.now) }
+{
+    let (name, after_name) = read_name(alloc, text)?;
+    let (qualifier, after_qualifier) = read_qualifier(alloc, after_name)?;
+    let (restriction, after_restriction) = read_restriction(alloc, after_qualifier, end)?;
+    let (archs, after_archs) = read_archs(alloc, after_restriction)?;
+    let profiles = read_profiles(alloc, after_archs, end)?;
+    Ok(Alternative {
+        name,
+        qualifier,
+        restriction,
+        archs,
+        profiles,
+    })
+}
+
+fn read_group(alloc: Global, text: &str, end: usize) -> Result<Items<Alternative>, RelationFault>
+    ensures ok { IfOk result (λ group. read_group text.now ≡ Some group) }
+    ensures refused { IfErr result (λ fault. fault ≢ Memory → read_group text.now ≡ None) }
+    ensures short { IfErr result (λ fault. fault ≢ TooLong) }
+    ensures owed { IfErr result (Owes text.now) }
+{
+    let mut made = Items::new(alloc);
+    let mut rest = text;
+    while let Some((piece, after)) = cut_at('|', rest) {
+        made.push(read_alternative(alloc, piece, place_of(after, end).saturating_sub(1))?)?;
+        rest = after;
+    }
+    made.push(read_alternative(alloc, rest, end)?)?;
+    Ok(made)
+}
+
+// A group more, where the piece has more than white space.
+#[tactic(auto, unfolding(crate::specs::Reader::with_group, crate::specs::Grammar::is_said))]
+fn add_group(
+    alloc: Global,
+    made: &mut Items<Items<Alternative>>,
+    piece: &str,
+    end: usize,
+) -> Result<(), RelationFault>
+    ensures ok { IfOk result (λ _. with_group made.old piece.now ≡ Some made.new) }
+    ensures refused { IfErr result (λ fault. fault ≢ Memory → with_group made.old piece.now ≡ None) }
+    ensures short { IfErr result (λ fault. fault ≢ TooLong) }
+    ensures owed { IfErr result (Owes piece.now) }
+{
+    if !is_all(Class::White, piece) {
+        made.push(read_group(alloc, piece, end)?)?;
+    }
+    Ok(())
+}
+
+fn read_groups(alloc: Global, text: &str) -> Result<Items<Items<Alternative>>, RelationFault>
+    ensures ok { IfOk result (λ groups. read_groups text.now ≡ Some groups) }
+    ensures refused { IfErr result (λ fault. fault ≢ Memory → read_groups text.now ≡ None) }
+    ensures short { IfErr result (λ fault. fault ≢ TooLong) }
+    ensures owed { IfErr result (Owes text.now) }
+{
+    let mut made = Items::new(alloc);
+    let mut rest = text;
+    while let Some((piece, after)) = cut_at(',', rest) {
+        add_group(
+            alloc,
+            &mut made,
+            piece,
+            place_of(after, text.len()).saturating_sub(1),
+        )?;
+        rest = after;
+    }
+    add_group(alloc, &mut made, rest, text.len())?;
+    Ok(made)
+}
+
+impl Relations {
+    /// Reads relations, a text of at most 65536 bytes. Groups stand between commas, and blank ones
+    /// are skipped; alternatives stand between bars. An alternative is a package name, directly
+    /// behind it perhaps `:` and a qualifier, then perhaps an operator and a version in parentheses,
+    /// architecture words in brackets, all negated by `!` or none, and any number of lists of build
+    /// profiles in angle brackets. White space parts them and says nothing else; none stands inside
+    /// a word or behind `!`. The old operators `<` and `>` are read as `<=` and `>=`.
+    ///
+    /// Errors: `TooLong` above 65536 bytes, and before all else; `Memory` where the growth of a text
+    /// or of a list was refused; any other fault of [`RelationFault`] only where the text has no
+    /// reading, and of several the first from the left. `BadVersion` has the fault of the text that
+    /// stands where a version should.
+    /// Source: Debian Policy 7.1; the limit and the skipping of blank groups are this project's own.
+    pub fn parse(alloc: Global, text: &str) -> Result<Relations, RelationFault>
+        ensures value { IfOk result (λ relations. Reads text.now relations) }
+        ensures refused { IfErr result (λ fault. fault ≢ Memory → HasNoReading text.now) }
+        ensures first { 65536 < length text.now → result ≡ Err TooLong }
+        ensures long { IfErr result (λ fault. fault ≡ TooLong → 65536 < length text.now) }
+        ensures version { IfErr result (Owes text.now) }
+    {
+        if text.len() > MAX_LEN {
+            return Err(RelationFault::TooLong);
+        }
+        Ok(Relations {
+            groups: read_groups(alloc, text)?,
+        })
+    }
+}

@@ -1,0 +1,81 @@
+mod reading;
+
+use crate::{ArchWords, Available, RelationFault, Relations, arch_matches};
+use deb_version::{Version, VersionFault};
+use std::test::Fail;
+
+#[test]
+fn words_match_an_architecture(rt: HostRuntime) -> Result<(), Fail> {
+    let arch = ArchWords::new(rt.alloc(), "kfreebsd-i386", "kfreebsd", "i386")?;
+    let cases = [
+        ("kfreebsd-i386", true),
+        ("any", true),
+        ("any-any", true),
+        ("kfreebsd-any", true),
+        ("any-i386", true),
+        ("i386", false),
+        ("linux-any", false),
+        ("any-amd64", false),
+        ("any-any-any", false),
+        ("kfreebsd", false),
+        ("all", false),
+    ];
+    for (word, want) in cases {
+        assert_eq!(rt; arch_matches(word, &arch), want, "at {word}");
+    }
+    Ok(())
+}
+
+#[test]
+fn what_is_available_satisfies(rt: HostRuntime) -> Result<(), Fail> {
+    let mut available = Available::new(rt.alloc());
+    available.add("libx-dev", Version::parse(rt.alloc(), "2~rc1")?)?;
+    available.add("foo", Version::parse(rt.alloc(), "1.0-1")?)?;
+    available.add("libx-dev", Version::parse(rt.alloc(), "1")?)?;
+    let cases = [
+        ("libx-dev (>= 2)", false),
+        ("libx-dev", true),
+        ("libx-dev (<< 1)", false),
+        ("libx-dev (<= 1)", true),
+        ("foo (= 1.0-1), libx-dev (>> 1)", true),
+        ("foo (>> 1.0-1)", false),
+        ("foo, bar", false),
+        ("bar | foo", true),
+        ("foo:any [i386] <x>", true),
+        ("", true),
+    ];
+    for (text, want) in cases {
+        let relations = Relations::parse(rt.alloc(), text)?;
+        assert_eq!(rt; relations.satisfied(&available), want, "at {text}");
+    }
+    available.add("libx-dev", Version::parse(rt.alloc(), "2")?)?;
+    let relations = Relations::parse(rt.alloc(), "libx-dev (>= 2)")?;
+    assert!(rt; relations.satisfied(&available));
+    Ok(())
+}
+
+#[test]
+fn the_longest_text_has_65536_bytes(rt: HostRuntime) -> Result<(), Fail> {
+    let mut text = String::new(rt.alloc());
+    for _ in 0..65536 {
+        text.push_str(",")?;
+    }
+    let relations = Relations::parse(rt.alloc(), text.as_str())?;
+    assert_eq!(rt; relations.print(rt.alloc())?.as_str(), "");
+    text.push_str(",")?;
+    let refused = Relations::parse(rt.alloc(), text.as_str()).err();
+    assert_eq!(rt; refused, Some(RelationFault::TooLong));
+    Ok(())
+}
+
+#[test]
+fn a_fault_says_what(rt: HostRuntime) -> Result<(), Fail> {
+    let fault = RelationFault::Stray(16);
+    assert_eq!(rt; fault.name(), "Stray");
+    let text = format!(in rt.alloc(); "{fault}")?;
+    assert_eq!(rt; text.as_str(), "byte 16 belongs to no alternative");
+    let fault = RelationFault::BadVersion(VersionFault::Empty);
+    let text = format!(in rt.alloc(); "{fault}")?;
+    assert_eq!(rt; text.as_str(), "the version is empty");
+    Ok(())
+}
