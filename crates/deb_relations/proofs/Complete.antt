@@ -1,10 +1,9 @@
 -- What has a reading in the grammar is read, and as that.
-use Rattle.std.proofs.Common.{◌≡◌, ◌≢◌, ◌⊎◌, inl, inr, ℕ, ◌<◌, ◌≤◌, ◌+◌, Bool, true, false, cond, not, ◌&&◌, ◌||◌, eqb, List, [], ◌∷◌, ◌++◌, map, filter, length, refl, sym, ap, subst, ◌∙◌, arith, append_assoc, Option, Some, None}
+use Rattle.std.proofs.Common.{◌≡◌, ℕ, Bool, true, false, cond, not, ◌&&◌, ◌||◌, eqb, List, [], ◌∷◌, ◌++◌, map, filter, refl, sym, ap, subst, ◌∙◌, arith, append_assoc, Option, Some, None}
 use Rattle.std.specs.List.{list_all, slice_split, onto_first}
 use Rattle.std.proofs.lemmas.Bool.Decides.{nat_tests}
 use Rattle.std.proofs.lemmas.Slice.Eq.{bytes_eq-Decides}
 use Rattle.std.specs.Prelude.{bytes_eq, codes}
-use Rattle.std.specs.Char.{is_ascii_alphanumeric, is_ascii_lowercase, is_ascii_digit}
 use Rattle.deb_version.specs.declared.operator.Op.{Op}
 use Rattle.deb_version.specs.Syntax.{fault_of, is_upstream_char, is_revision_char}
 use Rattle.deb_relations.specs.declared.relations.Kind.{Kind}
@@ -14,10 +13,10 @@ use Rattle.deb_relations.specs.declared.relations.Restriction.{Restriction}
 use Rattle.deb_relations.specs.declared.relations.Alternative.{Alternative}
 use Rattle.deb_relations.specs.Printing.{term_text}
 use Rattle.deb_relations.specs.Reduction.{is_filled}
-use Rattle.deb_relations.specs.Grammar.{is_white, is_blank, is_lower_or_digit, is_package_char, is_arch_char, is_profile_char, is_op_char, begins_well, is_package, is_qualifier, is_word, is_said, op_of, words, are_alike, TakesName, TakesQualifier, InBrackets, IsRestriction, TakesRestriction, ReadsTerms, TakesArchs, ReadsProfiles, ReadsAlternative, Each, ReadsGroup, Reads}
-use Rattle.deb_relations.specs.Reader.{run, skip, strip, cut, is_solid, between, between_opened, some_of, read_between, with_rest, read_name, read_behind_colon, read_qualifier, has_no_fault, is_version, asked_of, asked_behind, asked_from, restriction_of, asked_inside, read_restriction, signed, term_behind, term_of, both, all_some, filled_only, terms_of, alike_only, archs_of, read_archs, profile_behind, profile_of, lists_of, read_profiles, with_profiles, with_archs, with_asked, with_qualifier, with_name, read_alternative, read_group, read_groups}
-use Rattle.deb_relations.proofs.Runs.{both-true, and-true, stops, opens, run-all, skip-all, skip-front, skip-none, opens-stops, opens-weaker, all-weaker, all-both}
-use Rattle.deb_relations.proofs.Cuts.{strip-here, strip-other, cut-here, split-here, split-none}
+use Rattle.deb_relations.specs.Grammar.{is_white, is_blank, is_lower_or_digit, is_package_char, is_arch_char, is_profile_char, is_op_char, begins_well, is_package, is_qualifier, is_word, is_said, op_of, words, TakesName, TakesQualifier, InBrackets, IsRestriction, TakesRestriction, ReadsTerms, TakesArchs, ReadsProfiles, ReadsAlternative, Each, ReadsGroup, Reads}
+use Rattle.deb_relations.specs.Reader.{run, skip, strip, is_solid, between, between_opened, some_of, read_between, with_rest, read_name, read_behind_colon, read_qualifier, has_no_fault, is_version, asked_of, asked_behind, asked_from, restriction_of, asked_inside, read_restriction, term_behind, term_of, both, all_some, filled_only, terms_of, alike_only, archs_of, read_archs, profile_behind, profile_of, lists_of, read_profiles, with_profiles, with_archs, with_asked, with_qualifier, with_name, read_alternative, read_group, read_groups}
+use Rattle.deb_relations.proofs.Runs.{both-true, and-true, stops, opens, run-all, skip-all, opens-stops, opens-weaker, all-weaker, all-both}
+use Rattle.deb_relations.proofs.Cuts.{strip-here, cut-here, split-here, split-none}
 use Rattle.deb_relations.proofs.Turns.{lists-cons, split-has}
 use Rattle.deb_relations.proofs.VersionForm.{version-form, version-filled}
 

@@ -1,8 +1,8 @@
 -- The fault of a version that is told is that of a text that stands in the whole.
-use Rattle.std.proofs.Common.{◌≡◌, ◌≢◌, ℕ, List, [], ◌∷◌, ◌++◌, refl, sym, ap, subst, ◌∙◌, append_assoc, append-nil, Option, Some, None, Result, Err}
+use Rattle.std.proofs.Common.{◌≡◌, ◌≢◌, ℕ, List, [], ◌∷◌, ◌++◌, sym, ap, ◌∙◌, append_assoc, append-nil, Option, Some, None, Err}
 use Rattle.deb_version.specs.declared.fault.VersionFault.{VersionFault}
 use Rattle.deb_version.specs.declared.fault.VersionFault.TheVariants as version
-use Rattle.deb_version.specs.Syntax.{fault_of, reading_of}
+use Rattle.deb_version.specs.Syntax.{reading_of}
 use Rattle.deb_relations.specs.declared.fault.RelationFault.{RelationFault}
 use Rattle.deb_relations.specs.declared.fault.RelationFault.TheVariants as relation
 use Rattle.deb_relations.specs.Faults.{told, StandsIn, Owes, IsPlain}

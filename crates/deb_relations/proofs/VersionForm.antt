@@ -1,15 +1,15 @@
 -- The characters of a version.
-use Rattle.std.proofs.Common.{◌≡◌, ℕ, zero, suc, ◌+◌, ◌<◌, ◌≤◌, Bool, true, false, cond, not, ◌&&◌, ◌||◌, eqb, ltb, List, [], ◌∷◌, ◌++◌, length, refl, sym, ap, subst, ◌∙◌, arith, Option, Some, None}
-use Rattle.std.specs.List.{list_all, position, position_or_len, prefix_len}
+use Rattle.std.proofs.Common.{◌≡◌, ℕ, ◌+◌, ◌≤◌, Bool, true, false, cond, not, ◌&&◌, ◌||◌, eqb, ltb, List, [], ◌∷◌, ◌++◌, length, refl, sym, ap, subst, arith, Option, Some, None}
+use Rattle.std.specs.List.{list_all, position_or_len}
 use Rattle.std.specs.Option.{option_or, option_map}
-use Rattle.std.specs.Char.{is_ascii_alphanumeric, is_ascii_digit}
+use Rattle.std.specs.Char.{is_ascii_digit}
 use Rattle.std.proofs.lemmas.Bool.Decides.{nat_tests}
 use Rattle.deb_version.specs.declared.fault.VersionFault.{VersionFault}
-use Rattle.deb_version.specs.declared.fault.VersionFault.TheVariants.{Empty, EpochEmpty, EpochNotNumber, EpochTooLarge, UpstreamEmpty, UpstreamBad, RevisionEmpty, RevisionBad, TooLong, Memory}
-use Rattle.deb_version.specs.Syntax.{is_revision_char, is_upstream_char, has_epoch, epoch_text, has_revision, upstream_text, revision_text, upstream_start, upstream_end, fault_of, length_fault, number_fault, epoch_fault, upstream_fault, revision_fault, upstream_part_fault, revision_part_fault, value_of}
+use Rattle.deb_version.specs.declared.fault.VersionFault.TheVariants.{EpochEmpty, EpochNotNumber, UpstreamEmpty, UpstreamBad, RevisionEmpty, RevisionBad}
+use Rattle.deb_version.specs.Syntax.{is_revision_char, is_upstream_char, has_epoch, epoch_text, has_revision, upstream_text, revision_text, upstream_start, upstream_end, fault_of, length_fault, number_fault, epoch_fault, upstream_fault, revision_fault, upstream_part_fault, revision_part_fault, rest_fault}
 use Rattle.deb_version.proofs.LawLemmas.{text_parts}
 use Rattle.deb_relations.specs.Reduction.{is_filled}
-use Rattle.deb_relations.proofs.Runs.{all-both, all-weaker, and-true, both-true}
+use Rattle.deb_relations.proofs.Runs.{all-both, all-weaker, and-true}
 
 abbrev pub Fault : Type 0
 Fault = Option VersionFault
@@ -90,7 +90,7 @@ revision-by false start part h = refl
 
 -- a version has its characters alone
 pub version-form : (v : List ℕ) → fault_of v ≡ None → list_all is_upstream_char v ≡ true
-unfolding fault_of epoch_fault upstream_fault revision_fault
+unfolding fault_of epoch_fault rest_fault upstream_fault revision_fault
 version-form v h =
     let one = or-none (length_fault v) _ h in
     let two = or-none (cond (has_epoch v) (number_fault (epoch_text v)) None) _ one.1 in

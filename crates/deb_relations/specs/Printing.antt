@@ -1,5 +1,5 @@
 -- How relations are printed (Debian Policy 7.1).
-use Rattle.std.specs.Prelude.{ℕ, Bool, List, [], ◌∷◌, ◌++◌, Option, None, Some, if◌then◌else◌, codes}
+use Rattle.std.specs.Prelude.{ℕ, List, [], ◌∷◌, ◌++◌, Option, None, Some, if◌then◌else◌, codes}
 use Rattle.std.specs.List.{flat_map}
 use Rattle.deb_version.specs.declared.operator.Op.{Op}
 use Rattle.deb_version.specs.declared.operator.Op.TheVariants.{Earlier, EarlierOrEqual, Equal, LaterOrEqual, Later}

@@ -1,8 +1,7 @@
 -- The reading of relations as a function, part by part; the grammar says what it is to give (Debian Policy 7.1).
-use Rattle.std.specs.Prelude.{◌≡◌, ℕ, ◌==◌, Bool, true, false, not, ◌&&◌, List, [], ◌∷◌, ◌++◌, map, filter, length, if◌then◌else◌}
+use Rattle.std.specs.Prelude.{ℕ, ◌==◌, Bool, true, false, not, ◌&&◌, List, [], ◌∷◌, ◌++◌, filter, if◌then◌else◌}
 use Rattle.std.specs.Prelude.{Option, None, Some}
-use Rattle.std.specs.Option.{option_map}
-use Rattle.std.specs.List.{list_all, slice_split}
+use Rattle.std.specs.List.{slice_split}
 use Rattle.deb_version.specs.declared.fault.VersionFault.{VersionFault}
 use Rattle.deb_version.specs.declared.operator.Op.{Op}
 use Rattle.deb_version.specs.Syntax.{fault_of}

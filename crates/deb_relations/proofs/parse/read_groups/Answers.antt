@@ -1,4 +1,4 @@
-use Rattle.std.proofs.Common.{◌≡◌, ◌∙◌, ap, sym, rules, eqb, None, Some}
+use Rattle.std.proofs.Common.{◌≡◌, ◌∙◌, ap, sym, rules, eqb, None}
 use Rattle.std.specs.List.{slice_split}
 use Rattle.deb_relations.specs.Reader.{cut, read_groups, with_group}
 use Rattle.deb_relations.proofs.Cuts.{cut-shorter}

@@ -3,7 +3,7 @@ use Rattle.std.specs.List.{slice_split}
 use Rattle.deb_relations.specs.Grammar.{is_blank}
 use Rattle.deb_relations.specs.Reader.{cut, lists_of, profile_of, read_profiles}
 use Rattle.deb_relations.proofs.Cuts.{cut-shorter}
-use Rattle.deb_relations.proofs.Turns.{onto, onto-start, some_pair, no_pair, list-turn, list-refused, lists-end, lists-stray}
+use Rattle.deb_relations.proofs.Turns.{onto, some_pair, no_pair, list-turn, list-refused, lists-end, lists-stray}
 use Rattle.deb_relations.proofs.parse.read_profiles.Goals as goal
 
 pub returns-in_err-profile_of-clause-refused : goal.returns-in_err-profile_of-clause-refused

@@ -1,9 +1,9 @@
 use Rattle.deb_relations.proofs.Owing.{stands-between, owes-in}
 use Rattle.deb_relations.specs.declared.fault.RelationFault.{RelationFault}
-use Rattle.deb_relations.specs.Faults.{StandsIn, Owes, IsPlain}
-use Rattle.std.proofs.Common.{◌≡◌, rules, Some}
+use Rattle.deb_relations.specs.Faults.{Owes}
+use Rattle.std.proofs.Common.{◌≡◌, rules}
 use Rattle.deb_relations.specs.Reader.{between}
-use Rattle.deb_relations.proofs.Turns.{some_pair, found_pair}
+use Rattle.deb_relations.proofs.Turns.{found_pair}
 use Rattle.deb_relations.proofs.parse.read_restriction.Goals as goal
 
 pub returns-in_err-asked-clause-owed : goal.returns-in_err-asked-clause-owed

@@ -1,7 +1,7 @@
 use Rattle.deb_relations.proofs.ScannerLemmas.{version-read, version-refused}
 use Rattle.deb_relations.proofs.Owing.{told-owes}
 use Rattle.std.proofs.Common.{subst, sym}
-use Rattle.deb_relations.specs.Faults.{StandsIn, Owes, IsPlain}
+use Rattle.deb_relations.specs.Faults.{Owes}
 use Rattle.deb_relations.proofs.parse.read_version.Goals as goal
 
 pub returns-in-Ok-clause-ok : goal.returns-in-Ok-clause-ok

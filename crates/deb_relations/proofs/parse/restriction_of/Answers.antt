@@ -1,7 +1,7 @@
 use Rattle.deb_relations.proofs.Owing.{version-stands, owes-in}
 use Rattle.deb_relations.specs.declared.fault.RelationFault.{RelationFault}
-use Rattle.deb_relations.specs.Faults.{StandsIn, Owes, IsPlain}
-use Rattle.std.proofs.Common.{◌≡◌, ◌∙◌, ap, subst, sym, rules}
+use Rattle.deb_relations.specs.Faults.{StandsIn, Owes}
+use Rattle.std.proofs.Common.{◌≡◌, subst, sym, rules}
 use Rattle.deb_relations.specs.Grammar.{is_white, is_op_char}
 use Rattle.deb_relations.specs.Reader.{run, skip, is_solid}
 use Rattle.deb_relations.proofs.parse.restriction_of.Goals as goal

@@ -1,5 +1,5 @@
 use Rattle.std.proofs.Common.{◌∙◌}
-use Rattle.deb_relations.proofs.ScannerLemmas.{EndsAt, ends-at}
+use Rattle.deb_relations.proofs.ScannerLemmas.{ends-at}
 use Rattle.deb_relations.proofs.scanner.run_of.Goals as goal
 
 pub split_at-requires : goal.split_at-requires
