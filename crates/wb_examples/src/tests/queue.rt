@@ -2,7 +2,7 @@
 use deb_version::Version;
 use std::alloc::Global;
 use std::test::Fail;
-use wb_states::{Move, OsCpu, Record, Refusal, State, Text, build_text, move_record};
+use wb_states::{Move, Record, Refusal, State, Text, build_text, move_record};
 use wb_store::Store;
 
 fn waiting(alloc: Global, earlier: bool, priority: &str, section: &str) -> Result<Record, Fail> {
@@ -84,47 +84,5 @@ fn only_what_waits_is_taken(rt: HostRuntime) -> Result<(), Fail> {
             state: State::Built
         })
     );
-    Ok(())
-}
-
-#[test]
-fn tables(rt: HostRuntime) -> Result<(), Fail> {
-    let alloc = rt.alloc();
-    let mut store = Store::new(alloc);
-    let amd64 = Text::copied(alloc, "amd64")?;
-    let arm64 = Text::copied(alloc, "arm64")?;
-    let builder = Text::copied(alloc, "b1")?;
-    for arch in [&arm64, &amd64] {
-        let words = OsCpu {
-            os: Text::copied(alloc, "linux")?,
-            cpu: arch.clone()?,
-        };
-        store.add_arch(arch.clone()?, words)?;
-        store.add_builder(builder.clone()?, arch.clone()?)?;
-    }
-    assert!(rt; store.has_builder(&builder, &amd64)?);
-    assert!(rt; !store.has_builder(&amd64, &builder)?);
-    let archs = store.archs_of(&builder)?;
-    assert_eq!(rt; archs.len(), 2);
-    assert_eq!(rt; archs[0].as_str(), "amd64");
-    for (arch, source) in [(&amd64, "aa"), (&amd64, "bb"), (&arm64, "aa")] {
-        let record = waiting(alloc, false, "optional", "devel")?;
-        store.put(arch.clone()?, Text::copied(alloc, source)?, record)?;
-    }
-    let source = take_head(alloc, &mut store, &amd64, 5)?;
-    let (arch, held, record) = store.by_take(5).ok_or("not held")?;
-    assert_eq!(rt; (arch.as_str(), held.as_str()), ("amd64", "aa"));
-    assert_eq!(rt; record.state, State::Building);
-    assert!(rt; store.by_take(4).is_none());
-    assert_eq!(rt; store.held_by(&builder)?.len(), 1);
-    assert_eq!(rt; store.all_of(&amd64)?.len(), 2);
-    let counts = store.counts(&amd64);
-    assert_eq!(rt;
-        (counts.needs_build, counts.building, counts.built),
-        (1, 1, 0)
-    );
-    store.remove(&amd64, &source)?;
-    assert!(rt; store.get(&amd64, &source)?.is_none());
-    assert_eq!(rt; store.all_of(&arm64)?.len(), 1);
     Ok(())
 }
