@@ -1,19 +1,105 @@
--- Texts that have no reading.
-use Rattle.std.proofs.Common.{◌≡◌, ℕ, ◌<◌, ◌≤◌, List, length, Option, None, Some, sym, ◌∙◌, arith}
+-- What the reading of a text is, by its length and by what its groups are read as.
+use Rattle.std.proofs.Common.{◌≡◌, ◌≢◌, subst, ℕ, ◌<◌, ◌≤◌, Bool, true, false, cond, ltb, List, length, Option, None, Some, Result, Ok, Err, sym, ap, ◌∙◌, arith, refl}
+use Rattle.std.proofs.lemmas.Bool.Decides.{nat_tests}
+use Rattle.deb_relations.specs.declared.fault.RelationFault.{RelationFault}
+use Rattle.deb_relations.specs.declared.fault.RelationFault.TheVariants.{TooLong}
 use Rattle.deb_relations.specs.declared.relations.Alternative.{Alternative}
 use Rattle.deb_relations.specs.Grammar.{Reads}
 use Rattle.deb_relations.specs.Reader.{read_groups}
+use Rattle.deb_relations.specs.Reading.{groups_fault, outcome, reading_of}
 use Rattle.deb_relations.proofs.Complete.{reads-complete}
+use Rattle.deb_relations.proofs.FaultTells.{Tells, groups-tell}
+use Rattle.deb_relations.proofs.Sound.{reads-sound}
 
-pub not-long : (t : List ℕ) (groups : List (List Alternative)) → 65536 < length t → Reads t groups → ⊥
+abbrev Groups : Type 0
+Groups = List (List Alternative)
+
+abbrev Answer : Type 0
+Answer = Result Groups RelationFault
+
+is-long : (n : ℕ) → 65536 < n → ltb 65536 n ≡ true
+is-long n h = grind (arith, nat_tests)
+
+is-short : (n : ℕ) → n ≤ 65536 → ltb 65536 n ≡ false
+is-short n h = grind (arith, nat_tests)
+
+long-is : (n : ℕ) → ltb 65536 n ≡ true → 65536 < n
+long-is n h = grind (arith, nat_tests)
+
+short-is : (n : ℕ) → ltb 65536 n ≡ false → n ≤ 65536
+short-is n h = grind (arith, nat_tests)
+
+pub reading-long : (t : List ℕ) → 65536 < length t → reading_of t ≡ Err TooLong
+unfolding reading_of
+reading-long t l = ap (λ b. cond b (Err TooLong) (outcome (read_groups t) (groups_fault t))) (is-long (length t) l)
+
+reading-short : (t : List ℕ) → length t ≤ 65536 → reading_of t ≡ outcome (read_groups t) (groups_fault t)
+unfolding reading_of
+reading-short t l = ap (λ b. cond b (Err TooLong) (outcome (read_groups t) (groups_fault t))) (is-short (length t) l)
+
+pub reading-groups : (t : List ℕ) (groups : Groups) → length t ≤ 65536 → read_groups t ≡ Some groups → reading_of t ≡ Ok groups
+reading-groups t groups l h = reading-short t l ∙ ap (λ o. outcome o (groups_fault t)) h
+
+pub reading-fault : (t : List ℕ) (fault : RelationFault) → length t ≤ 65536 → read_groups t ≡ None → fault ≡ groups_fault t → reading_of t ≡ Err fault
+reading-fault t fault l h e = reading-short t l ∙ ap (λ o. outcome o (groups_fault t)) h ∙ ap Err (sym e)
+
+-- the three readings of a text: too long, its groups, or the fault of a text without a reading
+pub data Read (t : List ℕ) (answer : Answer) : Type 0 where
+  long : 65536 < length t → answer ≡ Err TooLong → Read t answer
+  whole : (made : Groups) → length t ≤ 65536 → read_groups t ≡ Some made → answer ≡ Ok made → Read t answer
+  faulty : length t ≤ 65536 → answer ≡ Err (groups_fault t) → Read t answer
+
+read-by : (t : List ℕ) → length t ≤ 65536 → (o : Option Groups) → read_groups t ≡ o → Read t (outcome o (groups_fault t))
+read-by t l None e = faulty l refl
+read-by t l (Some made) e = whole made l e refl
+
+read-at : (t : List ℕ) (b : Bool) → ltb 65536 (length t) ≡ b → Read t (cond b (Err TooLong) (outcome (read_groups t) (groups_fault t)))
+read-at t true e = long (long-is (length t) e) refl
+read-at t false e = read-by t (short-is (length t) e) (read_groups t) refl
+
+pub read-of : (t : List ℕ) → Read t (reading_of t)
+unfolding reading_of
+read-of t = read-at t (ltb 65536 (length t)) refl
+
+ok-same : (a b : Groups) (answer : Answer) → answer ≡ Ok a → answer ≡ Ok b → a ≡ b
+ok-same a b answer h k = let same : ◌≡◌ {A = Answer} (Ok a) (Ok b) = sym h ∙ k in cc
+
+reads-by : (t : List ℕ) (groups : Groups) (answer : Answer) → Read t answer → answer ≡ Ok groups → Reads t groups
+reads-by t gs answer (long l e) h = absurd (cc)
+reads-by t gs answer (whole made l r e) h = reads-sound t gs l (r ∙ ap Some (ok-same made gs answer e h))
+reads-by t gs answer (faulty l e) h = absurd (cc)
+
+pub reading-reads : (t : List ℕ) (groups : Groups) → reading_of t ≡ Ok groups → Reads t groups
+reading-reads t groups h = reads-by t groups (reading_of t) (read-of t) h
+
+short-enough : (t : List ℕ) (groups : Groups) → Reads t groups → length t ≤ 65536
 unfolding Reads
-not-long t groups l r = let most : length t ≤ 65536 = r.0 in omega arith
+short-enough t groups h = h.0
 
-pub not-read : (t : List ℕ) → read_groups t ≡ None → (groups : List (List Alternative)) → Reads t groups → ⊥
-not-read t e groups r = let both : ◌≡◌ {A = Option (List (List Alternative))} (Some groups) None = sym (reads-complete t groups r) ∙ e in cc
+pub reads-reading : (t : List ℕ) (groups : Groups) → Reads t groups → reading_of t ≡ Ok groups
+reads-reading t groups h = reading-groups t groups (short-enough t groups h) (reads-complete t groups h)
 
-some-same : (a b : List (List Alternative)) → ◌≡◌ {A = Option (List (List Alternative))} (Some a) (Some b) → a ≡ b
-some-same a b h = cc
+pub one-reading : (t : List ℕ) (a b : Groups) → Reads t a → Reads t b → a ≡ b
+one-reading t a b p q = ok-same a b (reading_of t) (reads-reading t a p) (reads-reading t b q)
 
-pub one-reading : (t : List ℕ) (a b : List (List Alternative)) → Reads t a → Reads t b → a ≡ b
-one-reading t a b p q = some-same a b (sym (reads-complete t a p) ∙ reads-complete t b q)
+not-both : (fault : RelationFault) (made : Groups) (answer : Answer) → answer ≡ Ok made → answer ≡ Err fault → ⊥
+not-both fault made answer h k = let same : ◌≡◌ {A = Answer} (Ok made) (Err fault) = sym h ∙ k in cc
+
+err-same : (a b : RelationFault) (answer : Answer) → answer ≡ Err a → answer ≡ Err b → a ≡ b
+err-same a b answer h k = let same : ◌≡◌ {A = Answer} (Err a) (Err b) = sym h ∙ k in cc
+
+tells-by : (t : List ℕ) (fault : RelationFault) (answer : Answer) → Read t answer → answer ≡ Err fault → fault ≢ TooLong → Tells t fault
+tells-by t fault answer (long l e) h n = absurd (n (err-same fault TooLong answer h e))
+tells-by t fault answer (whole made l r e) h n = absurd (not-both fault made answer e h)
+tells-by t fault answer (faulty l e) h n = subst (Tells t) (err-same (groups_fault t) fault answer e h) (groups-tell t)
+
+pub reading-tells : (t : List ℕ) (fault : RelationFault) → reading_of t ≡ Err fault → fault ≢ TooLong → Tells t fault
+reading-tells t fault h n = tells-by t fault (reading_of t) (read-of t) h n
+
+long-by : (t : List ℕ) (answer : Answer) → Read t answer → answer ≡ Err TooLong → 65536 < length t
+long-by t answer (long l e) h = l
+long-by t answer (whole made l r e) h = absurd (not-both TooLong made answer e h)
+long-by t answer (faulty l e) h = absurd (subst (Tells t) (err-same (groups_fault t) TooLong answer e h) (groups-tell t))
+
+pub reading-is_long : (t : List ℕ) → reading_of t ≡ Err TooLong → 65536 < length t
+reading-is_long t h = long-by t (reading_of t) (read-of t) h

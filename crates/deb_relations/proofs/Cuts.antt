@@ -103,3 +103,20 @@ cut-none c (x ∷ xs) h =
 
 pub split-none : (c : ℕ) (xs : List ℕ) → list_all (λ x. not (eqb x c)) xs ≡ true → slice_split (λ b. eqb b c) xs ≡ xs ∷ []
 split-none c xs h = split-last c xs (cut-none c xs h)
+
+-- the front of a text that was cut has no such character
+clear-behind : (c x : ℕ) (xs : List ℕ) (o : Option Halves) → ((q : Halves) → o ≡ Some q → list_all (λ b. not (eqb b c)) q.0 ≡ true) → (p : Halves) → eqb x c ≡ false → onto_front x o ≡ Some p → list_all (λ b. not (eqb b c)) p.0 ≡ true
+clear-behind c x xs None f p e h = absurd (cc)
+clear-behind c x xs (Some q) f p e h =
+    let made : ◌≡◌ {A = Halves} (x ∷ q.0, q.1) p = cc in
+    subst (λ (r : Halves). list_all (λ b. not (eqb b c)) r.0 ≡ true) made (ap (λ v. not v && list_all (λ b. not (eqb b c)) q.0) e ∙ f q refl)
+
+clear-first : (c x : ℕ) (xs : List ℕ) (v : Bool) → eqb x c ≡ v → ((q : Halves) → cut c xs ≡ Some q → list_all (λ b. not (eqb b c)) q.0 ≡ true) → (p : Halves) → cond v (Some ([], xs)) (onto_front x (cut c xs)) ≡ Some p → list_all (λ b. not (eqb b c)) p.0 ≡ true
+clear-first c x xs true e f p h =
+    let made : ◌≡◌ {A = Halves} ([], xs) p = cc in
+    subst (λ (r : Halves). list_all (λ b. not (eqb b c)) r.0 ≡ true) made refl
+clear-first c x xs false e f p h = clear-behind c x xs (cut c xs) f p e h
+
+pub cut-clear : (c : ℕ) (t : List ℕ) (p : Halves) → cut c t ≡ Some p → list_all (λ b. not (eqb b c)) p.0 ≡ true
+cut-clear c [] p h = absurd (cc)
+cut-clear c (x ∷ xs) p h = clear-first c x xs (eqb x c) refl (cut-clear c xs) p h

@@ -2,11 +2,13 @@ mod Answered
 mod ArchLemmas
 mod Complete
 mod Cuts
+mod FaultTells
+mod FaultTurns
 mod MapLemmas
-mod Owing
 mod ReadsBack
 mod Runs
 mod ScannerLemmas
 mod Sound
 mod Turns
 mod VersionForm
+pub mod PrintedLemmas

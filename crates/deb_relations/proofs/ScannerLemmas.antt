@@ -16,6 +16,7 @@ use Rattle.deb_version.specs.declared.fault.VersionFault.TheVariants as version
 use Rattle.deb_relations.specs.Faults.{told}
 use Rattle.deb_relations.specs.Grammar.{is_white, is_lower_or_digit, is_package_char, is_arch_char, is_profile_char, is_op_char}
 use Rattle.deb_relations.specs.Reader.{run, skip, strip, cut, is_solid, has_no_fault, is_version}
+use Rattle.deb_relations.specs.Reading.{version_fault}
 use Rattle.deb_relations.specs.Scanner.{test_of, text_of, halves_of}
 use Rattle.deb_relations.proofs.Runs.{run-is}
 use Rattle.deb_relations.proofs.Cuts.{strip-here, strip-other, cut-here, cut-none}
@@ -114,9 +115,14 @@ not-version t fault h = ap has_no_fault h
 pub told-memory : (fault : VersionFault) → told fault ≢ relation.Memory → fault ≢ version.Memory
 told-memory fault h e = h (ap told e)
 
-pub told-short : (fault : VersionFault) → told fault ≢ relation.TooLong
-told-short version.Memory h = absurd (cc)
-told-short _ h = absurd (cc)
-
 pub version-refused : (t : List ℕ) (fault : VersionFault) (r : RelationFault) → r ≡ told fault → (fault ≢ version.Memory → reading_of t ≡ Err fault) → r ≢ relation.Memory → is_version t ≡ false
 version-refused t fault r e h n = not-version t fault (fault-read t fault (h (told-memory fault (λ k. n (e ∙ k)))))
+
+told-bad : (fault : VersionFault) → fault ≢ version.Memory → told fault ≡ relation.BadVersion fault
+told-bad version.Memory h = absurd (h refl)
+told-bad _ h = refl
+
+pub version-told : (t : List ℕ) (fault : VersionFault) (r : RelationFault) → r ≡ told fault → (fault ≢ version.Memory → reading_of t ≡ Err fault) → r ≢ relation.Memory → (place : ℕ) → r ≡ version_fault (fault_of t) place
+version-told t fault r e h n place =
+    let kept : fault ≢ version.Memory = told-memory fault (λ k. n (e ∙ k)) in
+    e ∙ told-bad fault kept ∙ sym (ap (λ o. version_fault o place) (fault-read t fault (h kept)))

@@ -171,7 +171,3 @@ is_said text = not (is_blank text)
 -- a text of at most 65536 bytes with its groups between commas, where blank groups are skipped (Policy 7.1, the limit and the skipping this project's own)
 unfoldable pub Reads : List ℕ → List (List Alternative) → Type 0
 Reads text groups = (length text ≤ 65536) × Each ReadsGroup (filter is_said (slice_split is_comma text)) groups
-
--- whether a text is no relations (this project's own)
-abbrev pub HasNoReading : List ℕ → Type 0
-HasNoReading text = (groups : List (List Alternative)) → ¬ (Reads text groups)

@@ -3,6 +3,7 @@ pub mod Faults
 pub mod Grammar
 pub mod Printing
 pub mod Reader
+pub mod Reading
 pub mod Reduction
 pub mod Satisfaction
 pub mod Scanner

@@ -18,11 +18,11 @@ pub enum RelationFault {
     BadName,
     /// No operator stands at the front of a pair of parentheses.
     BadOperator,
-    /// What follows the operator is no version.
+    /// What follows the operator, up to white space or the closing parenthesis, is no version.
     BadVersion(VersionFault),
     /// A list of architectures has both plain and negated words.
     Mixed,
-    /// A bracket is not closed.
+    /// A bracket is not closed before the next bar or comma, or the end.
     Unclosed,
     /// Nothing stands between two bars, or between a bar and the end of a group.
     EmptyAlternative,

@@ -39,6 +39,16 @@ impl<T> Items<T> {
     }
 }
 
+/// Takes a list over as it is, without taking memory.
+/// Source: this project's own.
+impl<T> From<Vec<T>> for Items<T> {
+    ghost from_gives = { λ list items. items ≡ list.items };
+
+    fn from(list: Vec<T>) -> Items<T> {
+        Items { items: list }
+    }
+}
+
 impl<T: Drop> Items<T> {
     /// Adds an item at the end. The only error is that there is no memory for it; the list then stays as it was.
     /// Source: this project's own.

@@ -1,10 +1,13 @@
 //! Laws of the definitions, each on a function with nothing to run.
 
-ghost use Rattle.std.specs.Prelude.{◌≡◌, ◌≤◌, List, ℕ, length};
+ghost use Rattle.std.specs.Prelude.{◌≡◌, ◌≢◌, ◌↔◌, ◌<◌, ◌≤◌, List, ℕ, Ok, Err, length};
+ghost use Rattle.deb_version.specs.declared.fault.VersionFault.{VersionFault};
 ghost use Rattle.deb_relations.specs.declared.arch.ArchWords.{ArchWords};
 ghost use Rattle.deb_relations.specs.declared.relations.Alternative.{Alternative};
+ghost use Rattle.deb_relations.specs.declared.fault.RelationFault.TheVariants.{BadVersion, TooLong, Memory};
 ghost use Rattle.deb_relations.specs.Grammar.{Reads};
 ghost use Rattle.deb_relations.specs.Printing.{printed};
+ghost use Rattle.deb_relations.specs.Reading.{reading_of, HasBadVersion};
 ghost use Rattle.deb_relations.specs.Reduction.{reduced};
 
 /// What is printed reads back as the same, for each reading and each reduction of one whose printed
@@ -27,4 +30,25 @@ pub fn printed_reads()
         → Reads text a
         → Reads text b
         → a ≡ b }
+{}
+
+/// A text is read as the groups that the grammar gives it, and has a fault where it gives none:
+/// too long is exactly above 65536 bytes, none is want of memory, and that of a version is the
+/// fault of a text that stands behind an operator in parentheses.
+/// Source: Debian Policy 7.1; the limit is this project's own.
+pub fn readings_are_of_grammar()
+    ensures reads { (text : List ℕ)
+        → (groups : List (List Alternative))
+        → reading_of text ≡ Ok groups
+        → Reads text groups }
+    ensures only { (text : List ℕ)
+        → (groups : List (List Alternative))
+        → Reads text groups
+        → reading_of text ≡ Ok groups }
+    ensures long { (text : List ℕ) → (reading_of text ≡ Err TooLong) ↔ (65536 < length text) }
+    ensures memory { (text : List ℕ) → reading_of text ≢ Err Memory }
+    ensures version { (text : List ℕ)
+        → (fault : VersionFault)
+        → reading_of text ≡ Err (BadVersion fault)
+        → HasBadVersion text fault }
 {}

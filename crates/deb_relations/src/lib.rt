@@ -17,7 +17,9 @@ mod text;
 pub use arch::{ArchWords, arch_matches};
 pub use available::Available;
 pub use fault::RelationFault;
+pub use items::Items;
 pub use relations::Relations;
+pub use text::Text;
 
 #[cfg(test)]
 mod tests;

@@ -2,13 +2,15 @@
 
 ghost use Rattle.std.specs.Prelude.{◌≡◌, ◌≢◌, ◌<◌, ◌==◌, true, false, not, List, ℕ, Some, None, length, filter, IfOk, IfErr, if◌then◌else◌};
 ghost use Rattle.std.specs.Option.{option_map};
-ghost use Rattle.std.specs.List.{list_all, slice_split};
-ghost use Rattle.deb_relations.specs.Grammar.{is_blank, is_said, is_package, is_word, begins_well, op_of, words, are_alike, Reads, HasNoReading};
+ghost use Rattle.std.specs.List.{list_all};
+ghost use Rattle.deb_version.specs.Syntax.{fault_of};
+ghost use Rattle.deb_relations.specs.Grammar.{is_blank, is_package, is_word, begins_well, op_of, words, are_alike, Reads};
 ghost use Rattle.deb_relations.specs.Reader.{between, read_name, read_qualifier, is_version, restriction_of, read_restriction, signed, term_of, all_some, terms_of, with_group, archs_of, read_archs, profile_of, read_profiles, read_alternative, read_group, read_groups};
 ghost use Rattle.deb_relations.specs.Scanner.{halves_of};
-ghost use Rattle.deb_relations.specs.Faults.{told, Owes, IsPlain};
+ghost use Rattle.deb_relations.specs.Faults.{told};
+ghost use Rattle.deb_relations.specs.Reading.{place_of, end_before, name_fault, version_fault, asked_fault, restriction_fault, words_fault, archs_fault, list_fault, profiles_fault, alternative_fault, group_fault, groups_fault, reading_of};
 ghost use Rattle.deb_relations.specs.declared.relations.Alternative.{Alternative};
-ghost use Rattle.deb_relations.specs.declared.fault.RelationFault.TheVariants.{Memory, TooLong};
+ghost use Rattle.deb_relations.specs.declared.fault.RelationFault.TheVariants.{BadName, Unclosed, TooLong, Memory};
 
 use crate::fault::RelationFault;
 use crate::items::Items;
@@ -46,17 +48,25 @@ fn is_word(kind: Kind, word: &str) -> bool
     }
 }
 
-// Where a text stands that ends at this place.
-fn place_of(text: &str, end: usize) -> usize {
+// Where a text begins that ends at this place.
+fn place_of(text: &str, end: usize) -> usize
+    ensures { result ≡ place_of end text.now }
+{
     end.saturating_sub(text.len())
 }
 
-#[tactic(auto, unfolding(crate::specs::Reader::read_name))]
+// Where the text before a mark ends, when the text behind it ends at this place.
+fn end_before(behind: &str, end: usize) -> usize
+    ensures { result ≡ end_before end behind.now }
+{
+    place_of(behind, end).saturating_sub(1)
+}
+
+#[tactic(auto, unfolding(crate::specs::Reader::read_name, crate::specs::Reading::name_fault))]
 fn read_name(alloc: Global, text: &str) -> Result<(Text, &str), RelationFault>
     ensures ok { IfOk result (λ found. read_name text.now ≡ Some (found.0, found.1.now)) }
     ensures refused { IfErr result (λ fault. fault ≢ Memory → read_name text.now ≡ None) }
-    ensures short { IfErr result (λ fault. fault ≢ TooLong) }
-    ensures plain { IfErr result IsPlain }
+    ensures err { IfErr result (λ fault. fault ≢ Memory → fault ≡ name_fault text.now) }
 {
     let front = skip_white(text);
     let (name, rest) = run_of(Class::Package, front);
@@ -74,8 +84,7 @@ fn read_name(alloc: Global, text: &str) -> Result<(Text, &str), RelationFault>
 fn read_qualifier(alloc: Global, text: &str) -> Result<(Option<Text>, &str), RelationFault>
     ensures ok { IfOk result (λ found. read_qualifier text.now ≡ Some (found.0, found.1.now)) }
     ensures refused { IfErr result (λ fault. fault ≢ Memory → read_qualifier text.now ≡ None) }
-    ensures short { IfErr result (λ fault. fault ≢ TooLong) }
-    ensures plain { IfErr result IsPlain }
+    ensures err { IfErr result (λ fault. fault ≢ Memory → fault ≡ BadName) }
 {
     let Some(behind) = strip(':', text) else {
         return Ok((None, text));
@@ -94,8 +103,7 @@ fn between(left: char, right: char, text: &str) -> Result<Option<(&str, &str)>, 
     requires right { right < 128 }
     ensures ok { IfOk result (λ found. between left right text.now ≡ Some (option_map halves_of found)) }
     ensures refused { IfErr result (λ fault. between left right text.now ≡ None) }
-    ensures short { IfErr result (λ fault. fault ≢ TooLong) }
-    ensures plain { IfErr result IsPlain }
+    ensures err { IfErr result (λ fault. fault ≡ Unclosed) }
 {
     let Some(behind) = strip(left, skip_white(text)) else {
         return Ok(None);
@@ -133,8 +141,7 @@ fn read_version(alloc: Global, text: &str) -> Result<Version, RelationFault>
     ensures value { IfOk result (λ version. version ≡ text.now) }
     ensures ok { IfOk result (λ _. is_version text.now ≡ true) }
     ensures refused { IfErr result (λ fault. fault ≢ Memory → is_version text.now ≡ false) }
-    ensures short { IfErr result (λ fault. fault ≢ TooLong) }
-    ensures owed { IfErr result (Owes text.now) }
+    ensures err { IfErr result (λ fault. fault ≢ Memory → (place : ℕ) → fault ≡ version_fault (fault_of text.now) place) }
 {
     match Version::parse(alloc, text) {
         Ok(version) => Ok(version),
@@ -142,12 +149,11 @@ fn read_version(alloc: Global, text: &str) -> Result<Version, RelationFault>
     }
 }
 
-#[tactic(auto, unfolding(crate::specs::Reader::restriction_of))]
+#[tactic(auto, unfolding(crate::specs::Reader::restriction_of, crate::specs::Reading::asked_fault, crate::specs::Reading::fault_behind_operator))]
 fn restriction_of(alloc: Global, inside: &str, end: usize) -> Result<Restriction, RelationFault>
     ensures ok { IfOk result (λ asked. restriction_of inside.now ≡ Some asked) }
     ensures refused { IfErr result (λ fault. fault ≢ Memory → restriction_of inside.now ≡ None) }
-    ensures short { IfErr result (λ fault. fault ≢ TooLong) }
-    ensures owed { IfErr result (Owes inside.now) }
+    ensures err { IfErr result (λ fault. fault ≢ Memory → fault ≡ asked_fault end inside.now) }
 {
     let (word, behind) = run_of(Class::Op, skip_white(inside));
     let Some(op) = op_of(word) else {
@@ -161,7 +167,7 @@ fn restriction_of(alloc: Global, inside: &str, end: usize) -> Result<Restriction
     Ok(Restriction { op, version })
 }
 
-#[tactic(auto, unfolding(crate::specs::Reader::read_restriction))]
+#[tactic(auto, unfolding(crate::specs::Reader::read_restriction, crate::specs::Reading::restriction_fault))]
 fn read_restriction(
     alloc: Global,
     text: &str,
@@ -169,21 +175,19 @@ fn read_restriction(
 ) -> Result<(Option<Restriction>, &str), RelationFault>
     ensures ok { IfOk result (λ found. read_restriction text.now ≡ Some (found.0, found.1.now)) }
     ensures refused { IfErr result (λ fault. fault ≢ Memory → read_restriction text.now ≡ None) }
-    ensures short { IfErr result (λ fault. fault ≢ TooLong) }
-    ensures owed { IfErr result (Owes text.now) }
+    ensures err { IfErr result (λ fault. fault ≢ Memory → fault ≡ restriction_fault end text.now) }
 {
     let Some((inside, rest)) = between('(', ')', text)? else {
         return Ok((None, text));
     };
-    let asked = restriction_of(alloc, inside, place_of(rest, end).saturating_sub(1))?;
+    let asked = restriction_of(alloc, inside, end_before(rest, end))?;
     Ok((Some(asked), rest))
 }
 
 fn signed(alloc: Global, kind: Kind, negated: bool, word: &str) -> Result<Term, RelationFault>
     ensures ok { IfOk result (λ term. signed kind negated word.now ≡ Some term) }
     ensures refused { IfErr result (λ fault. fault ≢ Memory → signed kind negated word.now ≡ None) }
-    ensures short { IfErr result (λ fault. fault ≢ TooLong) }
-    ensures plain { IfErr result IsPlain }
+    ensures err { IfErr result (λ fault. fault ≢ Memory → fault ≡ BadName) }
 {
     if !is_word(kind, word) {
         return Err(RelationFault::BadName);
@@ -198,8 +202,7 @@ fn signed(alloc: Global, kind: Kind, negated: bool, word: &str) -> Result<Term, 
 fn term_of(alloc: Global, kind: Kind, word: &str) -> Result<Term, RelationFault>
     ensures ok { IfOk result (λ term. term_of kind word.now ≡ Some term) }
     ensures refused { IfErr result (λ fault. fault ≢ Memory → term_of kind word.now ≡ None) }
-    ensures short { IfErr result (λ fault. fault ≢ TooLong) }
-    ensures plain { IfErr result IsPlain }
+    ensures err { IfErr result (λ fault. fault ≢ Memory → fault ≡ BadName) }
 {
     match strip('!', word) {
         None => signed(alloc, kind, false, word),
@@ -211,8 +214,7 @@ fn term_of(alloc: Global, kind: Kind, word: &str) -> Result<Term, RelationFault>
 fn collect_terms(alloc: Global, kind: Kind, inside: &str) -> Result<Items<Term>, RelationFault>
     ensures ok { IfOk result (λ terms. all_some (term_of kind) (words inside.now) ≡ Some terms) }
     ensures refused { IfErr result (λ fault. fault ≢ Memory → all_some (term_of kind) (words inside.now) ≡ None) }
-    ensures short { IfErr result (λ fault. fault ≢ TooLong) }
-    ensures plain { IfErr result IsPlain }
+    ensures err { IfErr result (λ fault. fault ≢ Memory → fault ≡ BadName) }
 {
     let mut made = Items::new(alloc);
     let mut rest = skip_white(inside);
@@ -228,8 +230,7 @@ fn collect_terms(alloc: Global, kind: Kind, inside: &str) -> Result<Items<Term>,
 fn terms_of(alloc: Global, kind: Kind, inside: &str) -> Result<Items<Term>, RelationFault>
     ensures ok { IfOk result (λ terms. terms_of kind inside.now ≡ Some terms) }
     ensures refused { IfErr result (λ fault. fault ≢ Memory → terms_of kind inside.now ≡ None) }
-    ensures short { IfErr result (λ fault. fault ≢ TooLong) }
-    ensures plain { IfErr result IsPlain }
+    ensures err { IfErr result (λ fault. fault ≢ Memory → fault ≡ BadName) }
 {
     let terms = collect_terms(alloc, kind, inside)?;
     if terms.as_slice().is_empty() {
@@ -259,12 +260,11 @@ fn are_alike(terms: &[Term]) -> bool
     }
 }
 
-#[tactic(auto, unfolding(crate::specs::Reader::archs_of))]
+#[tactic(auto, unfolding(crate::specs::Reader::archs_of, crate::specs::Reading::words_fault))]
 fn archs_of(alloc: Global, inside: &str) -> Result<Items<Term>, RelationFault>
     ensures ok { IfOk result (λ terms. archs_of inside.now ≡ Some terms) }
     ensures refused { IfErr result (λ fault. fault ≢ Memory → archs_of inside.now ≡ None) }
-    ensures short { IfErr result (λ fault. fault ≢ TooLong) }
-    ensures plain { IfErr result IsPlain }
+    ensures err { IfErr result (λ fault. fault ≢ Memory → fault ≡ words_fault inside.now) }
 {
     let terms = terms_of(alloc, Kind::Arch, inside)?;
     if !are_alike(terms.as_slice()) {
@@ -273,12 +273,11 @@ fn archs_of(alloc: Global, inside: &str) -> Result<Items<Term>, RelationFault>
     Ok(terms)
 }
 
-#[tactic(auto, unfolding(crate::specs::Reader::read_archs))]
+#[tactic(auto, unfolding(crate::specs::Reader::read_archs, crate::specs::Reading::archs_fault))]
 fn read_archs(alloc: Global, text: &str) -> Result<(Items<Term>, &str), RelationFault>
     ensures ok { IfOk result (λ found. read_archs text.now ≡ Some (found.0, found.1.now)) }
     ensures refused { IfErr result (λ fault. fault ≢ Memory → read_archs text.now ≡ None) }
-    ensures short { IfErr result (λ fault. fault ≢ TooLong) }
-    ensures plain { IfErr result IsPlain }
+    ensures err { IfErr result (λ fault. fault ≢ Memory → fault ≡ archs_fault text.now) }
 {
     let Some((inside, rest)) = between('[', ']', text)? else {
         return Ok((Items::new(alloc), text));
@@ -287,12 +286,11 @@ fn read_archs(alloc: Global, text: &str) -> Result<(Items<Term>, &str), Relation
 }
 
 // A list of build profiles, of which the closing bracket is cut off.
-#[tactic(auto, unfolding(crate::specs::Reader::profile_of))]
+#[tactic(auto, unfolding(crate::specs::Reader::profile_of, crate::specs::Reading::list_fault))]
 fn profile_of(alloc: Global, piece: &str, end: usize) -> Result<Items<Term>, RelationFault>
     ensures ok { IfOk result (λ terms. profile_of piece.now ≡ Some terms) }
     ensures refused { IfErr result (λ fault. fault ≢ Memory → profile_of piece.now ≡ None) }
-    ensures short { IfErr result (λ fault. fault ≢ TooLong) }
-    ensures plain { IfErr result IsPlain }
+    ensures err { IfErr result (λ fault. fault ≢ Memory → fault ≡ list_fault BadName end piece.now) }
 {
     let front = skip_white(piece);
     match strip('<', front) {
@@ -302,10 +300,9 @@ fn profile_of(alloc: Global, piece: &str, end: usize) -> Result<Items<Term>, Rel
 }
 
 // What is wrong with characters behind the last list.
+#[tactic(auto, unfolding(crate::specs::Reading::list_fault))]
 fn end_fault(rest: &str, end: usize) -> RelationFault
-    ensures memory { result ≢ Memory }
-    ensures short { result ≢ TooLong }
-    ensures plain { IsPlain result }
+    ensures { result ≡ list_fault Unclosed end rest.now }
 {
     let front = skip_white(rest);
     match strip('<', front) {
@@ -314,17 +311,16 @@ fn end_fault(rest: &str, end: usize) -> RelationFault
     }
 }
 
-#[tactic(auto, unfolding(crate::specs::Reader::read_profiles))]
+#[tactic(auto, unfolding(crate::specs::Reader::read_profiles, crate::specs::Reading::profiles_fault))]
 fn read_profiles(alloc: Global, text: &str, end: usize) -> Result<Items<Items<Term>>, RelationFault>
     ensures ok { IfOk result (λ lists. read_profiles text.now ≡ Some lists) }
     ensures refused { IfErr result (λ fault. fault ≢ Memory → read_profiles text.now ≡ None) }
-    ensures short { IfErr result (λ fault. fault ≢ TooLong) }
-    ensures plain { IfErr result IsPlain }
+    ensures err { IfErr result (λ fault. fault ≢ Memory → fault ≡ profiles_fault end text.now) }
 {
     let mut made = Items::new(alloc);
     let mut rest = text;
     while let Some((piece, after)) = cut_at('>', rest) {
-        made.push(profile_of(alloc, piece, place_of(after, end).saturating_sub(1))?)?;
+        made.push(profile_of(alloc, piece, end_before(after, end))?)?;
         rest = after;
     }
     if !is_all(Class::White, rest) {
@@ -333,12 +329,11 @@ fn read_profiles(alloc: Global, text: &str, end: usize) -> Result<Items<Items<Te
     Ok(made)
 }
 
-#[tactic(auto, unfolding(crate::specs::Reader::read_alternative))]
+#[tactic(auto, unfolding(crate::specs::Reader::read_alternative, crate::specs::Reading::alternative_fault))]
 fn read_alternative(alloc: Global, text: &str, end: usize) -> Result<Alternative, RelationFault>
     ensures ok { IfOk result (λ a. read_alternative text.now ≡ Some a) }
     ensures refused { IfErr result (λ fault. fault ≢ Memory → read_alternative text.now ≡ None) }
-    ensures short { IfErr result (λ fault. fault ≢ TooLong) }
-    ensures owed { IfErr result (Owes text.now) }
+    ensures err { IfErr result (λ fault. fault ≢ Memory → fault ≡ alternative_fault end text.now) }
 {
     let (name, after_name) = read_name(alloc, text)?;
     let (qualifier, after_qualifier) = read_qualifier(alloc, after_name)?;
@@ -357,13 +352,12 @@ fn read_alternative(alloc: Global, text: &str, end: usize) -> Result<Alternative
 fn read_group(alloc: Global, text: &str, end: usize) -> Result<Items<Alternative>, RelationFault>
     ensures ok { IfOk result (λ group. read_group text.now ≡ Some group) }
     ensures refused { IfErr result (λ fault. fault ≢ Memory → read_group text.now ≡ None) }
-    ensures short { IfErr result (λ fault. fault ≢ TooLong) }
-    ensures owed { IfErr result (Owes text.now) }
+    ensures err { IfErr result (λ fault. fault ≢ Memory → fault ≡ group_fault end text.now) }
 {
     let mut made = Items::new(alloc);
     let mut rest = text;
     while let Some((piece, after)) = cut_at('|', rest) {
-        made.push(read_alternative(alloc, piece, place_of(after, end).saturating_sub(1))?)?;
+        made.push(read_alternative(alloc, piece, end_before(after, end))?)?;
         rest = after;
     }
     made.push(read_alternative(alloc, rest, end)?)?;
@@ -380,8 +374,7 @@ fn add_group(
 ) -> Result<(), RelationFault>
     ensures ok { IfOk result (λ _. with_group made.old piece.now ≡ Some made.new) }
     ensures refused { IfErr result (λ fault. fault ≢ Memory → with_group made.old piece.now ≡ None) }
-    ensures short { IfErr result (λ fault. fault ≢ TooLong) }
-    ensures owed { IfErr result (Owes piece.now) }
+    ensures err { IfErr result (λ fault. fault ≢ Memory → fault ≡ group_fault end piece.now) }
 {
     if !is_all(Class::White, piece) {
         made.push(read_group(alloc, piece, end)?)?;
@@ -392,18 +385,12 @@ fn add_group(
 fn read_groups(alloc: Global, text: &str) -> Result<Items<Items<Alternative>>, RelationFault>
     ensures ok { IfOk result (λ groups. read_groups text.now ≡ Some groups) }
     ensures refused { IfErr result (λ fault. fault ≢ Memory → read_groups text.now ≡ None) }
-    ensures short { IfErr result (λ fault. fault ≢ TooLong) }
-    ensures owed { IfErr result (Owes text.now) }
+    ensures err { IfErr result (λ fault. fault ≢ Memory → fault ≡ groups_fault text.now) }
 {
     let mut made = Items::new(alloc);
     let mut rest = text;
     while let Some((piece, after)) = cut_at(',', rest) {
-        add_group(
-            alloc,
-            &mut made,
-            piece,
-            place_of(after, text.len()).saturating_sub(1),
-        )?;
+        add_group(alloc, &mut made, piece, end_before(after, text.len()))?;
         rest = after;
     }
     add_group(alloc, &mut made, rest, text.len())?;
@@ -419,16 +406,17 @@ impl Relations {
     /// a word or behind `!`. The old operators `<` and `>` are read as `<=` and `>=`.
     ///
     /// Errors: `TooLong` above 65536 bytes, and before all else; `Memory` where the growth of a text
-    /// or of a list was refused; any other fault of [`RelationFault`] only where the text has no
-    /// reading, and of several the first from the left. `BadVersion` has the fault of the text that
-    /// stands where a version should.
-    /// Source: Debian Policy 7.1; the limit and the skipping of blank groups are this project's own.
+    /// or of a list was refused; else, where the text has no reading, the first fault from the left:
+    /// that of the first piece between commas, and in it between bars, that has none. A bracket is
+    /// closed in its own piece or not at all. `BadVersion` has the fault of the text up to white
+    /// space or `)`, and `Stray` the byte offset in the whole text.
+    /// Source: Debian Policy 7.1; the limit, the skipping of blank groups and the order of the faults
+    /// are this project's own.
     pub fn parse(alloc: Global, text: &str) -> Result<Relations, RelationFault>
         ensures value { IfOk result (λ relations. Reads text.now relations) }
-        ensures refused { IfErr result (λ fault. fault ≢ Memory → HasNoReading text.now) }
+        ensures ok { IfOk result (λ relations. reading_of text.now ≡ Ok relations) }
+        ensures refused { IfErr result (λ fault. fault ≢ Memory → reading_of text.now ≡ Err fault) }
         ensures first { 65536 < length text.now → result ≡ Err TooLong }
-        ensures long { IfErr result (λ fault. fault ≡ TooLong → 65536 < length text.now) }
-        ensures version { IfErr result (Owes text.now) }
     {
         if text.len() > MAX_LEN {
             return Err(RelationFault::TooLong);

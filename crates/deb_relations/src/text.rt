@@ -1,5 +1,6 @@
 //! Text whose value is its bytes, whatever room it has.
-ghost use Rattle.std.specs.Prelude.{◌≡◌, IfOk};
+ghost use Rattle.std.specs.Prelude.{◌≡◌, ℕ, List, [], IfOk};
+ghost use Rattle.std.specs.String.{string_bytes};
 ghost use Rattle.std.specs.Ordering.{as_partial_cmp};
 ghost use Rattle.std.specs.Cmp.{partial_order_from_own_ties};
 ghost use Rattle.std.specs.Cmp.Rules.{comparing};
@@ -8,6 +9,7 @@ ghost use Rattle.deb_relations.specs.Text.{text_cmp};
 
 use std::alloc::{AllocError, Global};
 use std::cmp::Ordering;
+use std::fmt;
 use std::marker::Model;
 
 /// A name or a word that is kept. Clauses see it as the list of its bytes, and texts are in the order of their bytes.
@@ -18,15 +20,22 @@ pub struct Text {
 }
 
 impl Model for Text {
-    ghost use Rattle.std.specs.Prelude.{List, ℕ};
-    ghost use Rattle.std.specs.String.{string_bytes};
-
     ghost Value = { List ℕ };
 
     ghost view = { λ t. string_bytes t.string };
 }
 
 impl Text {
+    /// The empty text, which takes no memory.
+    /// Source: this project's own.
+    pub fn new(alloc: Global) -> Text
+        ensures { result ≡ [] }
+    {
+        Text {
+            string: String::new(alloc),
+        }
+    }
+
     /// A copy of a text. The only error is that there is no memory for it.
     /// Source: this project's own.
     pub fn copied(alloc: Global, text: &str) -> Result<Text, AllocError>
@@ -46,6 +55,26 @@ impl Text {
     }
 }
 
+/// Takes a string over as it is, without taking memory.
+/// Source: this project's own.
+impl From<String> for Text {
+    ghost from_gives = { λ string text. text ≡ string_bytes string };
+
+    fn from(string: String) -> Text {
+        Text { string }
+    }
+}
+
+/// Gives the string back as it is, without taking memory.
+/// Source: this project's own.
+impl From<Text> for String {
+    ghost from_gives = { λ text string. string_bytes string ≡ text };
+
+    fn from(text: Text) -> String {
+        text.string
+    }
+}
+
 impl Clone for Text {
     ghost is_clone = { λ source copy. copy ≡ source };
 
@@ -53,6 +82,17 @@ impl Clone for Text {
         Ok(Text {
             string: self.string.clone()?,
         })
+    }
+}
+
+impl fmt::Display for Text {
+    ghost use Rattle.std.specs.Prelude.{Some};
+
+    ghost output = { λ text. Some text };
+
+    fn fmt<W: fmt::Write>(&self, f: &mut fmt::Formatter<W>) -> fmt::Result {
+        let text = self.as_str();
+        write!(f, "{text}")
     }
 }
 

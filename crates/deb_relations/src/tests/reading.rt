@@ -52,7 +52,7 @@ static READ: [(&str, &str, &str, &str); 8] = [
 ];
 
 // A text that is no relations, and its fault.
-static REFUSED: [(&str, RelationFault); 21] = [
+static REFUSED: [(&str, RelationFault); 25] = [
     ("a|b (>=1.0)|c (>= 2.0)", RelationFault::BadName),
     ("x|y|a|b|c (<= 0.5)|c (>=1.5)|d|e", RelationFault::BadName),
     ("self, @, @builddeps@", RelationFault::BadName),
@@ -80,6 +80,10 @@ static REFUSED: [(&str, RelationFault); 21] = [
     ("aa (~ 2)", RelationFault::BadOperator),
     ("aa <x", RelationFault::Unclosed),
     ("aa [x", RelationFault::Unclosed),
+    ("aa, bb | cc (>= 1 2) | dd", RelationFault::Stray(18)),
+    ("aa, bb <x> cc, dd", RelationFault::Stray(11)),
+    ("aa x> <y>", RelationFault::Stray(3)),
+    ("aa <x> <y", RelationFault::Unclosed),
 ];
 
 fn assert_printed<R: Abort>(

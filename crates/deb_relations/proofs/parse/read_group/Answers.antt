@@ -1,11 +1,13 @@
+use Rattle.std.proofs.lemmas.Result.{err_from_is_err_and}
 use Rattle.std.proofs.Common.{◌≡◌, ◌∙◌, ap, sym, rules, eqb, None, Some}
 use Rattle.std.specs.List.{slice_split}
 use Rattle.deb_relations.specs.Reader.{cut, all_some, read_alternative, read_group}
 use Rattle.deb_relations.proofs.Cuts.{cut-shorter}
 use Rattle.deb_relations.proofs.Turns.{onto, onto-start, some_pair, no_pair, piece-turn, piece-refused, piece-end, last-refused}
-use Rattle.deb_relations.proofs.Owing.{stands-self, stands-piece, stands-rest, owes-in}
+use Rattle.std.proofs.Common.{refl}
 use Rattle.deb_relations.specs.declared.fault.RelationFault.{RelationFault}
-use Rattle.deb_relations.specs.Faults.{StandsIn, Owes}
+use Rattle.deb_relations.specs.Reading.{is_alternative, alternative_fault, group_fault}
+use Rattle.deb_relations.proofs.FaultTurns.{first-passed, first-told, last-told, is-read, not-read}
 use Rattle.deb_relations.proofs.parse.read_group.Goals as goal
 
 pub returns-in_err-read_alternative-clause-refused : goal.returns-in_err-read_alternative-clause-refused
@@ -13,7 +15,7 @@ unfolding read_group
 returns-in_err-read_alternative-clause-refused c =
     let h : cut 124 c.loop-piece.rest.now ≡ some_pair c.in-Some.piece.now c.in-Some.after.now = search rules in
     let stop : read_alternative c.in-Some.piece.now ≡ None → read_group c.args.text.now ≡ None =
-    λ e. sym c.loop-piece.invariant.2 ∙ piece-refused read_alternative 124 c.loop-piece.made c.loop-piece.rest.now (c.in-Some.piece.now, c.in-Some.after.now) h e in
+    λ e. sym c.loop-piece.invariant.1 ∙ piece-refused read_alternative 124 c.loop-piece.made c.loop-piece.rest.now (c.in-Some.piece.now, c.in-Some.after.now) h e in
     search (rules, stop)
 
 pub loop-piece-smaller : goal.loop-piece-smaller
@@ -25,9 +27,10 @@ pub loop-piece-preserved : goal.loop-piece-preserved
 loop-piece-preserved c =
     let h : cut 124 c.loop-piece.rest.now ≡ some_pair c.in-Some.piece.now c.in-Some.after.now = search rules in (
       search rules,
-      stands-rest 124 c.loop-piece.rest.now c.args.text.now (c.in-Some.piece.now, c.in-Some.after.now) h c.loop-piece.invariant.1,
       ap (λ m. onto m (all_some read_alternative (slice_split (λ b. eqb b 124) c.in-Some.after.now))) c.in_ok-push.ensures.value
           ∙ piece-turn read_alternative 124 c.loop-piece.made c.loop-piece.rest.now (c.in-Some.piece.now, c.in-Some.after.now) c.in_ok-read_alternative.field-0 h c.in_ok-read_alternative.ensures.ok
+          ∙ c.loop-piece.invariant.1,
+      first-passed is_alternative alternative_fault 124 c.args.end c.loop-piece.rest.now (c.in-Some.piece.now, c.in-Some.after.now) h (is-read c.in-Some.piece.now c.in_ok-read_alternative.field-0 c.in_ok-read_alternative.ensures.ok)
           ∙ c.loop-piece.invariant.2,
     )
 
@@ -36,33 +39,41 @@ unfolding read_group
 returns-in_err-read_alternative-2-clause-refused c =
     let h : cut 124 c.loop-piece.rest.now ≡ no_pair = search rules in
     let stop : read_alternative c.loop-piece.rest.now ≡ None → read_group c.args.text.now ≡ None =
-    λ e. sym c.loop-piece.invariant.2 ∙ last-refused read_alternative 124 c.loop-piece.made c.loop-piece.rest.now h e in
+    λ e. sym c.loop-piece.invariant.1 ∙ last-refused read_alternative 124 c.loop-piece.made c.loop-piece.rest.now h e in
     search (rules, stop)
 
 pub returns-clause-ok : goal.returns-clause-ok
 unfolding read_group
 returns-clause-ok c =
     let h : cut 124 c.loop-piece.rest.now ≡ no_pair = search rules in
-    sym c.loop-piece.invariant.2
+    sym c.loop-piece.invariant.1
     ∙ piece-end read_alternative 124 c.loop-piece.made c.loop-piece.rest.now c.in_ok-read_alternative-2.field-0 h c.in_ok-read_alternative-2.ensures.ok
     ∙ ap Some (sym c.in_ok-push-2.ensures.value)
 
 pub loop-piece-init : goal.loop-piece-init
 loop-piece-init c = (
   search rules,
-  stands-self c.args.text.now,
   ap (λ m. onto m (all_some read_alternative (slice_split (λ b. eqb b 124) c.args.text.now))) c.new-made.ensures
       ∙ onto-start (all_some read_alternative (slice_split (λ b. eqb b 124) c.args.text.now)),
+  refl,
 )
 
-pub returns-in_err-read_alternative-clause-owed : goal.returns-in_err-read_alternative-clause-owed
-returns-in_err-read_alternative-clause-owed c =
+pub returns-in_err-read_alternative-clause-err : goal.returns-in_err-read_alternative-clause-err
+unfolding group_fault
+returns-in_err-read_alternative-clause-err c =
     let h : cut 124 c.loop-piece.rest.now ≡ some_pair c.in-Some.piece.now c.in-Some.after.now = search rules in
-    let stands : StandsIn c.in-Some.piece.now c.args.text.now = stands-piece 124 c.loop-piece.rest.now c.args.text.now (c.in-Some.piece.now, c.in-Some.after.now) h c.loop-piece.invariant.1 in
-    let stop : (fault : RelationFault) → Owes c.in-Some.piece.now fault → Owes c.args.text.now fault = owes-in c.in-Some.piece.now c.args.text.now stands in
-    search (rules, stop)
+    let stop : (f : RelationFault) → read_alternative c.in-Some.piece.now ≡ None → f ≡ alternative_fault c.end_before.result c.in-Some.piece.now → f ≡ group_fault c.args.end c.args.text.now =
+    λ f r e. e ∙ ap (λ n. alternative_fault n c.in-Some.piece.now) c.end_before.ensures
+    ∙ sym (first-told is_alternative alternative_fault 124 c.args.end c.loop-piece.rest.now (c.in-Some.piece.now, c.in-Some.after.now) h (not-read c.in-Some.piece.now r))
+    ∙ c.loop-piece.invariant.2 in
+    let p = err_from_is_err_and c.from_residual.result c.from_residual.ensures.1 in
+    rw (p.1, p.2) (λ n. stop _ (c.in_err-read_alternative.ensures.refused n) (c.in_err-read_alternative.ensures.err n))
 
-pub returns-in_err-read_alternative-2-clause-owed : goal.returns-in_err-read_alternative-2-clause-owed
-returns-in_err-read_alternative-2-clause-owed c =
-    let stop : (fault : RelationFault) → Owes c.loop-piece.rest.now fault → Owes c.args.text.now fault = owes-in c.loop-piece.rest.now c.args.text.now c.loop-piece.invariant.1 in
-    search (rules, stop)
+pub returns-in_err-read_alternative-2-clause-err : goal.returns-in_err-read_alternative-2-clause-err
+unfolding group_fault
+returns-in_err-read_alternative-2-clause-err c =
+    let h : cut 124 c.loop-piece.rest.now ≡ no_pair = search rules in
+    let stop : (f : RelationFault) → read_alternative c.loop-piece.rest.now ≡ None → f ≡ alternative_fault c.args.end c.loop-piece.rest.now → f ≡ group_fault c.args.end c.args.text.now =
+    λ f r e. e ∙ sym (last-told is_alternative alternative_fault 124 c.args.end c.loop-piece.rest.now h (not-read c.loop-piece.rest.now r)) ∙ c.loop-piece.invariant.2 in
+    let p = err_from_is_err_and c.from_residual-in_err-read_alternative-2.result c.from_residual-in_err-read_alternative-2.ensures.1 in
+    rw (p.1, p.2) (λ n. stop _ (c.in_err-read_alternative-2.ensures.refused n) (c.in_err-read_alternative-2.ensures.err n))

@@ -1,7 +1,4 @@
-use Rattle.deb_relations.proofs.ScannerLemmas.{version-read, version-refused}
-use Rattle.deb_relations.proofs.Owing.{told-owes}
-use Rattle.std.proofs.Common.{subst, sym}
-use Rattle.deb_relations.specs.Faults.{Owes}
+use Rattle.deb_relations.proofs.ScannerLemmas.{version-read, version-refused, version-told}
 use Rattle.deb_relations.proofs.parse.read_version.Goals as goal
 
 pub returns-in-Ok-clause-ok : goal.returns-in-Ok-clause-ok
@@ -10,5 +7,5 @@ returns-in-Ok-clause-ok c = version-read c.args.text.now c.in-Ok.ensures.ok
 pub returns-in-Err-clause-refused : goal.returns-in-Err-clause-refused
 returns-in-Err-clause-refused c = version-refused c.args.text.now c.in-Err.fault c.told.result c.told.ensures c.in-Err.ensures.refused
 
-pub returns-in-Err-clause-owed : goal.returns-in-Err-clause-owed
-returns-in-Err-clause-owed c = subst (Owes c.args.text.now) (sym c.told.ensures) (told-owes c.args.text.now c.in-Err.fault c.in-Err.ensures.refused)
+pub returns-in-Err-clause-err : goal.returns-in-Err-clause-err
+returns-in-Err-clause-err c = version-told c.args.text.now c.in-Err.fault c.told.result c.told.ensures c.in-Err.ensures.refused

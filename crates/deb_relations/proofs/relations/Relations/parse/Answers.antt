@@ -1,18 +1,25 @@
-use Rattle.std.proofs.Common.{◌≡◌, List, None, arith, rules}
-use Rattle.deb_relations.specs.declared.relations.Alternative.{Alternative}
-use Rattle.deb_relations.specs.Grammar.{Reads}
+use Rattle.std.proofs.lemmas.Result.{err_from_is_err_and}
+use Rattle.std.proofs.Common.{◌≡◌, ◌≤◌, length, None, Err, arith}
+use Rattle.deb_relations.specs.declared.fault.RelationFault.{RelationFault}
 use Rattle.deb_relations.specs.Reader.{read_groups}
-use Rattle.deb_relations.proofs.Answered.{not-long, not-read}
+use Rattle.deb_relations.specs.Reading.{groups_fault, reading_of}
+use Rattle.deb_relations.proofs.Answered.{reading-long, reading-groups, reading-fault}
 use Rattle.deb_relations.proofs.Sound.{reads-sound}
 use Rattle.deb_relations.proofs.relations.Relations.parse.Goals as goal
 
 pub returns-then-text-gt-MAX_LEN-clause-refused : goal.returns-then-text-gt-MAX_LEN-clause-refused
-returns-then-text-gt-MAX_LEN-clause-refused c = λ _ groups. not-long c.args.text.now groups (omega arith)
+returns-then-text-gt-MAX_LEN-clause-refused c = λ _. reading-long c.args.text.now (omega arith)
 
 pub returns-in_err-read_groups-clause-refused : goal.returns-in_err-read_groups-clause-refused
 returns-in_err-read_groups-clause-refused c =
-    let stop : read_groups c.args.text.now ≡ None → (groups : List (List Alternative)) → Reads c.args.text.now groups → ⊥ = not-read c.args.text.now in
-    search (rules, stop)
+    let short : length c.args.text.now ≤ 65536 = omega arith in
+    let stop : (fault : RelationFault) → read_groups c.args.text.now ≡ None → fault ≡ groups_fault c.args.text.now → reading_of c.args.text.now ≡ Err fault =
+    λ fault h e. reading-fault c.args.text.now fault short h e in
+    let p = err_from_is_err_and c.from_residual.result c.from_residual.ensures.1 in
+    rw (p.1, p.2) (λ n. stop _ (c.in_err-read_groups.ensures.refused n) (c.in_err-read_groups.ensures.err n))
 
 pub returns-clause-value : goal.returns-clause-value
 returns-clause-value c = reads-sound c.args.text.now c.in_ok-read_groups.field-0 (omega arith) c.in_ok-read_groups.ensures.ok
+
+pub returns-clause-ok : goal.returns-clause-ok
+returns-clause-ok c = reading-groups c.args.text.now c.in_ok-read_groups.field-0 (omega arith) c.in_ok-read_groups.ensures.ok
