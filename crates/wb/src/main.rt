@@ -1,14 +1,34 @@
 //! The program `wb`: the central office of an autobuilder network.
 #![tactic(auto)]
 
-use std::env;
+use std::alloc::{AllocError, Global};
 use std::io::{self, BufReader};
 use std::process::ExitCode;
-use std::rt::Env;
+use std::rt::{Env, Files};
+use std::{env, fs};
 use wb_api::line_fault_json;
-use wb_daemon::run_lines;
+use wb_daemon::{Lists, run_lines};
 use wb_office::Office;
 use wb_words::{HELP, Start, start_of};
+
+/// The lists that stand in files, whose names are paths from the working directory.
+struct FileLists<'a, F> {
+    files: &'a F,
+}
+
+impl<'a, F> Drop for FileLists<'a, F> {
+    fn drop(self) {
+        let FileLists { files: _ } = self;
+    }
+}
+
+impl<'a, F: Files> Lists for FileLists<'a, F> {
+    type List = F::File;
+
+    fn open(&mut self, _alloc: Global, name: &str) -> Result<Option<F::File>, AllocError> {
+        Ok(fs::open(self.files, name).ok())
+    }
+}
 
 /// Answers the lines of the input, or says how the program is used.
 ///
@@ -40,12 +60,19 @@ fn start(rt: &(impl Env + AllocGlobal + Eprint)) -> Option<Start> {
 }
 
 /// Answers the lines of standard input on standard output.
-fn run(rt: &(impl Input + Print + AllocGlobal)) -> u8 {
+fn run(rt: &(impl Input + Print + AllocGlobal + Files)) -> u8 {
     let mut office = Office::new(rt.alloc());
     let Ok(mut reader) = BufReader::new(rt.alloc(), rt.reader()) else {
         return 3;
     };
-    run_lines(rt.alloc(), &mut office, &mut reader, &mut io::writer(rt))
+    let mut lists = FileLists { files: rt };
+    run_lines(
+        rt.alloc(),
+        &mut office,
+        &mut reader,
+        &mut io::writer(rt),
+        &mut lists,
+    )
 }
 
 /// The status after something was printed, or that of a failed write.

@@ -1,49 +1,106 @@
 -- The JSON texts of what the office answers (RFC 8259), with their keys in byte order and no space; the keys are this project's own.
 -- A text is written here piece by piece, as it stands in the output: `decimal` gives a number's digits, `quoted` a text between
 -- quotation marks with JSON's shortest escapes, and `concat` the pieces one after the other.
-use Rattle.std.specs.Prelude.{◌≡◌, ℕ, List, [], ◌∷◌, codes, decimal}
-use Rattle.std.specs.List.{concat}
+use Rattle.std.specs.Prelude.{◌≡◌, ℕ, List, [], ◌∷◌, ◌++◌, map, Option, None, Some, codes, decimal}
+use Rattle.std.specs.List.{concat, join_with_byte}
 use Rattle.std.specs.Cow.{cow_str_bytes, IsBorrowedStr}
 use Rattle.std.specs.declared.alloc.Global.{Global}
 use Rattle.std.specs.declared.borrow.CowStr.{CowStr}
 use Rattle.json.specs.Print.{quoted}
 use Rattle.deb_version.specs.Syntax.{name_of as name_of_fault}
+use Rattle.deb_control.specs.Faults.{fault_name}
+use Rattle.deb_relations.specs.Faults.{name_of as name_of_relation_fault}
+use Rattle.deb_relations.specs.declared.fault.RelationFault.{RelationFault}
 use Rattle.wb_states.specs.State.{name_of}
-use Rattle.wb_states.specs.Refusals.{code_of_refusal, name_of_refusal}
+use Rattle.wb_states.specs.Refusals.{code_of_refusal, name_of_refusal, name_of_list, name_of_field}
+use Rattle.wb_states.specs.declared.refusal.ListingFault.TheVariants.{Control, Missing, BadValue}
 use Rattle.wb_states.specs.declared.refusal.Refusal.{Refusal}
-use Rattle.wb_states.specs.declared.refusal.Refusal.TheVariants.{WrongState, BadVersion}
+use Rattle.wb_states.specs.declared.refusal.Refusal.TheVariants.{OtherVersion, WrongState, AfterAhead, BadVersion, BadRelations, BadListing}
+use Rattle.wb_states.specs.declared.reply.Assignment.{Assignment}
+use Rattle.wb_states.specs.declared.reply.PartEnd.{PartEnd}
+use Rattle.wb_states.specs.declared.reply.PartEnd.TheVariants.{Merged as part_Merged, Refused}
+use Rattle.wb_states.specs.declared.reply.PartReply.{PartReply}
 use Rattle.wb_states.specs.declared.reply.Reply.{Reply}
-use Rattle.wb_states.specs.declared.reply.Reply.TheVariants.{Done, Job}
+use Rattle.wb_states.specs.declared.reply.Reply.TheVariants.{Done, Job, Again, Merged}
 
--- the text of a reply to the command of this name, which is the value of `ok` (this project's own)
-unfoldable pub reply_text : List ℕ → Reply → List ℕ
-reply_text name (Done accepted) = concat
-    (codes "{\"accepted\":" ∷ decimal accepted ∷
-    codes ",\"ok\":" ∷ quoted name ∷ codes "}" ∷ [])
-reply_text name (Job accepted assignment) = concat
+-- the text of an assignment, with this value of `ok` (this project's own)
+unfoldable pub job_text : List ℕ → ℕ → Assignment → List ℕ
+job_text ok accepted assignment = concat
     (codes "{\"accepted\":" ∷ decimal accepted ∷
     codes ",\"arch\":" ∷ quoted assignment.arch ∷
     codes ",\"build\":" ∷ quoted assignment.build ∷
     codes ",\"message\":" ∷ quoted assignment.message ∷
     codes ",\"number\":" ∷ decimal assignment.number ∷
-    codes ",\"ok\":" ∷ quoted name ∷
+    codes ",\"ok\":" ∷ quoted ok ∷
     codes ",\"source\":" ∷ quoted assignment.source ∷
     codes ",\"take\":" ∷ decimal assignment.take ∷
     codes ",\"version\":" ∷ quoted assignment.version ∷ codes "}" ∷ [])
 
--- the text of a refusal that tells no more than its number and its name (this project's own)
-unfoldable pub plain_text : Refusal → List ℕ
-plain_text refusal = concat
-    (codes "{\"code\":" ∷ decimal (code_of_refusal refusal) ∷
+-- the name of what is wrong with relations, of which nothing may be left (this project's own)
+abbrev pub name_of_relations : Option RelationFault → List ℕ
+name_of_relations None = codes "Nothing"
+name_of_relations (Some fault) = name_of_relation_fault fault
+
+-- the text of a refusal after its opening brace: its number and its name, and what some tell further (this project's own)
+unfoldable pub refusal_members : Refusal → List ℕ
+refusal_members (OtherVersion have) = concat
+    (codes "\"code\":5,\"have\":" ∷ quoted have ∷ codes ",\"refused\":\"OtherVersion\"}" ∷ [])
+refusal_members (WrongState state) = concat
+    (codes "\"code\":6,\"refused\":\"WrongState\",\"state\":" ∷ quoted (name_of state) ∷ codes "}" ∷ [])
+refusal_members (AfterAhead handed) = concat
+    (codes "\"code\":9,\"handed\":" ∷ decimal handed ∷ codes ",\"refused\":\"AfterAhead\"}" ∷ [])
+refusal_members (BadVersion fault) = concat
+    (codes "\"code\":12,\"fault\":" ∷ quoted (name_of_fault fault) ∷ codes ",\"refused\":\"BadVersion\"}" ∷ [])
+refusal_members (BadRelations fault) = concat
+    (codes "\"code\":13,\"fault\":" ∷ quoted (name_of_relations fault) ∷ codes ",\"refused\":\"BadRelations\"}" ∷ [])
+refusal_members (BadListing which paragraph (Control kind)) = concat
+    (codes "\"code\":15,\"fault\":" ∷ quoted (fault_name kind) ∷
+    codes ",\"paragraph\":" ∷ decimal paragraph ∷
+    codes ",\"refused\":\"BadListing\",\"which\":" ∷ quoted (name_of_list which) ∷ codes "}" ∷ [])
+refusal_members (BadListing which paragraph (Missing field)) = concat
+    (codes "\"code\":15,\"fault\":\"Missing\",\"field\":" ∷ quoted (name_of_field field) ∷
+    codes ",\"paragraph\":" ∷ decimal paragraph ∷
+    codes ",\"refused\":\"BadListing\",\"which\":" ∷ quoted (name_of_list which) ∷ codes "}" ∷ [])
+refusal_members (BadListing which paragraph (BadValue field)) = concat
+    (codes "\"code\":15,\"fault\":\"BadValue\",\"field\":" ∷ quoted (name_of_field field) ∷
+    codes ",\"paragraph\":" ∷ decimal paragraph ∷
+    codes ",\"refused\":\"BadListing\",\"which\":" ∷ quoted (name_of_list which) ∷ codes "}" ∷ [])
+refusal_members refusal = concat
+    (codes "\"code\":" ∷ decimal (code_of_refusal refusal) ∷
     codes ",\"refused\":" ∷ quoted (name_of_refusal refusal) ∷ codes "}" ∷ [])
 
--- the text of a refusal, where some tell more than their number and their name (this project's own)
+-- the text of a refusal (this project's own)
 unfoldable pub refusal_text : Refusal → List ℕ
-refusal_text (WrongState state) = concat
-    (codes "{\"code\":6,\"refused\":\"WrongState\",\"state\":" ∷ quoted (name_of state) ∷ codes "}" ∷ [])
-refusal_text (BadVersion fault) = concat
-    (codes "{\"code\":12,\"fault\":" ∷ quoted (name_of_fault fault) ∷ codes ",\"refused\":\"BadVersion\"}" ∷ [])
-refusal_text refusal = plain_text refusal
+refusal_text refusal = codes "{" ++ refusal_members refusal
+
+-- the text of the end of a part on this architecture: what the merge did to its records, or its refusal with the architecture before all else (this project's own)
+unfoldable pub end_text : List ℕ → PartEnd → List ℕ
+end_text arch (part_Merged counts) = concat
+    (codes "{\"added\":" ∷ decimal counts.added ∷
+    codes ",\"arch\":" ∷ quoted arch ∷
+    codes ",\"changed\":" ∷ decimal counts.changed ∷
+    codes ",\"kept\":" ∷ decimal counts.kept ∷
+    codes ",\"removed\":" ∷ decimal counts.removed ∷ codes "}" ∷ [])
+end_text arch (Refused refusal) = codes "{\"arch\":" ++ (quoted arch ++ (codes "," ++ refusal_members refusal))
+
+-- the text of a part of a merge (this project's own)
+abbrev pub part_text : PartReply → List ℕ
+part_text part = end_text part.arch part.end
+
+-- the texts of the parts of a merge, with a comma between each two (this project's own)
+abbrev pub parts_text : List PartReply → List ℕ
+parts_text parts = join_with_byte 44 (map part_text parts)
+
+-- the text of a reply to the command of this name, which is the value of `ok`, save where the builder is told again of what it has (this project's own)
+unfoldable pub reply_text : List ℕ → Reply → List ℕ
+reply_text name (Done accepted) = concat
+    (codes "{\"accepted\":" ∷ decimal accepted ∷
+    codes ",\"ok\":" ∷ quoted name ∷ codes "}" ∷ [])
+reply_text name (Job accepted assignment) = job_text name accepted assignment
+reply_text name (Again accepted assignment) = job_text (codes "again") accepted assignment
+reply_text name (Merged accepted parts) = concat
+    (codes "{\"accepted\":" ∷ decimal accepted ∷
+    codes ",\"ok\":\"merge\",\"parts\":[" ∷ parts_text parts ∷ codes "]}" ∷ [])
 
 -- the text of the refusal for want of memory (this project's own)
 abbrev pub memory_text : List ℕ
@@ -56,3 +113,7 @@ IsMemoryText text = IsBorrowedStr text × (cow_str_bytes text ≡ memory_text)
 -- the text in answer to a line that holds no command (this project's own)
 abbrev pub line_fault_text : List ℕ
 line_fault_text = codes "{\"fault\":\"line\"}"
+
+-- the text in answer to a line that names a file which cannot be read (this project's own)
+abbrev pub file_fault_text : List ℕ
+file_fault_text = codes "{\"fault\":\"file\"}"

@@ -1,26 +1,24 @@
-//! The answers of the office as compact JSON, with the keys of each object in byte order.
-ghost use Rattle.std.specs.Prelude.{◌≡◌, ◌⊎◌, IfOk};
+//! The replies of the office as compact JSON, with the keys of each object in byte order.
+ghost use Rattle.std.specs.Prelude.{◌≡◌, map, IfOk};
 ghost use Rattle.std.specs.String.{string_bytes};
-ghost use Rattle.std.specs.Cow.{cow_str_bytes};
-ghost use Rattle.serde_json.specs.View.{view};
-ghost use Rattle.wb_states.specs.declared.refusal.Refusal.TheVariants.{Memory};
-ghost use Rattle.wb_api.specs.Encoding.{reply_text, refusal_text, line_fault_text, IsMemoryText};
-ghost use Rattle.wb_api.specs.Values.{value_of_reply, value_of_refusal};
+ghost use Rattle.serde_json.specs.Data.{array};
+ghost use Rattle.serde_json.specs.View.{view, items_view};
+ghost use Rattle.wb_api.specs.Encoding.{reply_text};
+ghost use Rattle.wb_api.specs.Values.{value_of_counts, value_of_job, value_of_part, value_of_reply, values_of_parts, with_arch};
 
-use serde_json::{Value, json};
+use crate::refusal::value_of_refusal;
+use serde_json::{Value, json, put};
 use std::alloc::{AllocError, Global};
-use std::borrow::CowStr;
-use wb_states::{Refusal, Reply};
-
-/// The refusal for want of memory, whose text must not need any.
-const MEMORY: &str = "{\"code\":20,\"refused\":\"Memory\"}";
+use wb_states::{Assignment, MergeCounts, PartEnd, PartReply, Reply};
 
 /// The reply to an accepted command as one JSON object (RFC 8259), with no space and no line feed.
 ///
-/// `name` is the command's name and stands under `ok`. A count and a take number stand in all their
-/// digits. In a text `"`, `\` and the control bytes are escaped, the short escapes where JSON has one and
-/// `\u00` with two lower-case digits elsewhere; all other bytes stand as they are. The only error is that
-/// there is no memory for the text. The keys are this project's own.
+/// `name` is the command's name and stands under `ok`, save that `again` stands there where the builder is
+/// told again of what it has. A count and a take number stand in all their digits. The parts of a merge
+/// stand in their order, a refused one as its refusal with its architecture. In a text `"`, `\` and the
+/// control bytes are escaped, the short escapes where JSON has one and `\u00` with two lower-case digits
+/// elsewhere; all other bytes stand as they are. The only error is that there is no memory for the text.
+/// The keys are this project's own.
 #[tactic(auto, using(crate::proofs::EncodingLemmas::printing))]
 pub fn reply_json(alloc: Global, name: &str, reply: &Reply) -> Result<String, AllocError>
     ensures value { IfOk result (λ text. string_bytes text ≡ reply_text name.now reply.now) }
@@ -37,66 +35,98 @@ fn value_of_reply(alloc: Global, name: &str, reply: &Reply) -> Result<Value, All
         Reply::Job {
             accepted,
             assignment,
-        } => json!(in alloc; {
-            "accepted": *accepted,
-            "arch": assignment.arch.as_str(),
-            "build": assignment.build.as_str(),
-            "message": assignment.message.as_str(),
-            "number": assignment.number,
-            "ok": name,
-            "source": assignment.source.as_str(),
-            "take": assignment.take,
-            "version": assignment.version.as_str()
-        }),
-    }
-}
-
-/// A refusal as one JSON object (RFC 8259), with no space and no line feed: its number, its name and what
-/// it tells further, in all as the keys of this project have it.
-///
-/// There is no error: where there is no memory for the text, the refusal for want of memory stands in its
-/// place, which is a constant. The text of that refusal itself never takes memory.
-pub fn refusal_json(alloc: Global, refusal: &Refusal) -> CowStr<'static>
-    ensures value { (cow_str_bytes result ≡ refusal_text refusal.now) ⊎ IsMemoryText result }
-    ensures memory { refusal.now ≡ Memory → IsMemoryText result }
-{
-    if let Refusal::Memory = refusal {
-        return CowStr::Borrowed(MEMORY);
-    }
-    match text_of_refusal(alloc, refusal) {
-        Ok(text) => CowStr::Owned(text),
-        Err(_) => CowStr::Borrowed(MEMORY),
-    }
-}
-
-#[tactic(auto, using(crate::proofs::EncodingLemmas::printing))]
-fn text_of_refusal(alloc: Global, refusal: &Refusal) -> Result<String, AllocError>
-    ensures { IfOk result (λ text. string_bytes text ≡ refusal_text refusal.now) }
-{
-    let value = value_of_refusal(alloc, refusal)?;
-    value.to_string(alloc)
-}
-
-fn value_of_refusal(alloc: Global, refusal: &Refusal) -> Result<Value, AllocError>
-    ensures { IfOk result (λ value. view value ≡ value_of_refusal refusal.now) }
-{
-    let code = refusal.code();
-    let name = refusal.name();
-    match refusal {
-        Refusal::WrongState { state } => {
-            json!(in alloc; {"code": code, "refused": name, "state": state.name()})
+        } => value_of_job(alloc, name, *accepted, assignment),
+        Reply::Again {
+            accepted,
+            assignment,
+        } => value_of_job(alloc, "again", *accepted, assignment),
+        Reply::Merged { accepted, parts } => {
+            let parts = values_of_parts(alloc, parts.as_slice())?;
+            json!(in alloc; {"accepted": *accepted, "ok": "merge", "parts": parts})
         }
-        Refusal::BadVersion { fault } => {
-            json!(in alloc; {"code": code, "fault": fault.name(), "refused": name})
-        }
-        _ => json!(in alloc; {"code": code, "refused": name}),
     }
 }
 
-/// The answer to a line that holds no command, as one JSON object (RFC 8259; the key is this project's
-/// own). Takes no memory.
-pub fn line_fault_json() -> &'static str
-    ensures value { result.now ≡ line_fault_text }
+fn value_of_job(
+    alloc: Global,
+    ok: &str,
+    accepted: u64,
+    assignment: &Assignment,
+) -> Result<Value, AllocError>
+    ensures { IfOk result (λ value. view value ≡ value_of_job ok.now accepted assignment.now) }
 {
-    "{\"fault\":\"line\"}"
+    json!(in alloc; {
+        "accepted": accepted,
+        "arch": assignment.arch.as_str(),
+        "build": assignment.build.as_str(),
+        "message": assignment.message.as_str(),
+        "number": assignment.number,
+        "ok": ok,
+        "source": assignment.source.as_str(),
+        "take": assignment.take,
+        "version": assignment.version.as_str()
+    })
+}
+
+/// The array of the parts' objects.
+fn values_of_parts(alloc: Global, parts: &[PartReply]) -> Result<Value, AllocError>
+    ensures { IfOk result (λ value. view value ≡ array (values_of_parts parts.now)) }
+{
+    Ok(array_of(list_of_parts(alloc, parts)?))
+}
+
+fn array_of(values: Vec<Value>) -> Value
+    ensures { view result ≡ array (items_view values.items) }
+{
+    Value::Array(values)
+}
+
+/// The parts' objects, in their order.
+fn list_of_parts(alloc: Global, parts: &[PartReply]) -> Result<Vec<Value>, AllocError>
+    ensures { IfOk result (λ values. map view values.items ≡ map value_of_part parts.now) }
+{
+    let mut values = Vec::new(alloc);
+    for part in parts {
+        values.push(value_of_part(alloc, part)?)?;
+    }
+    Ok(values)
+}
+
+fn value_of_part(alloc: Global, part: &PartReply) -> Result<Value, AllocError>
+    ensures { IfOk result (λ value. view value ≡ value_of_part part.now) }
+{
+    let arch = part.arch.as_str();
+    match &part.end {
+        PartEnd::Merged { counts } => value_of_counts(alloc, arch, counts),
+        PartEnd::Refused { refusal } => {
+            let value = value_of_refusal(alloc, refusal)?;
+            with_arch(alloc, arch, value)
+        }
+    }
+}
+
+fn value_of_counts(alloc: Global, arch: &str, counts: &MergeCounts) -> Result<Value, AllocError>
+    ensures { IfOk result (λ value. view value ≡ value_of_counts arch.now counts.now) }
+{
+    json!(in alloc; {
+        "added": counts.added,
+        "arch": arch,
+        "changed": counts.changed,
+        "kept": counts.kept,
+        "removed": counts.removed
+    })
+}
+
+/// The object with the architecture among its members.
+fn with_arch(alloc: Global, arch: &str, value: Value) -> Result<Value, AllocError>
+    ensures { IfOk result (λ made. view made ≡ with_arch arch.now (view value)) }
+{
+    match value {
+        Value::Object(mut members) => {
+            let arch = json!(in alloc; arch)?;
+            put(&mut members, alloc, "arch", arch)?;
+            Ok(Value::Object(members))
+        }
+        other => Ok(other),
+    }
 }

@@ -2,5 +2,9 @@
 #![tactic(auto)]
 
 mod encode;
+mod fault;
+mod refusal;
 
-pub use encode::{line_fault_json, refusal_json, reply_json};
+pub use encode::reply_json;
+pub use fault::{file_fault_json, line_fault_json};
+pub use refusal::refusal_json;

@@ -1,37 +1,51 @@
 -- Lemmas on what may be said to a line.
-use Rattle.std.proofs.Common.{◌≡◌, ℕ, ◌+◌, ◌<◌, Bool, true, false, not, ◌&&◌, cond, List, [], ◌∷◌, ◌++◌, length, take, Option, None, Some, Result, Ok, Err, IfSome, IsTrue, ◌⊎◌, inl, inr, refl, sym, ap, ◌∙◌, arith, lit<, length-append}
+use Rattle.std.proofs.Common.{◌≡◌, ℕ, ◌<◌, Bool, true, false, not, ◌&&◌, cond, List, [], length, Option, None, Some, Ok, IfSome, IsTrue, ◌⊎◌, inl, inr, refl, sym, ap, ◌∙◌, subst, arith, length-append}
 use Rattle.std.proofs.lemmas.Bool.{false≢true}
 use Rattle.std.specs.Str.{is_utf8}
-use Rattle.std.specs.Io.KnownBytes.{Appends}
+use Rattle.std.specs.Io.KnownBytes.{Appends, Consumes}
 use Rattle.wb_states.specs.Commands.{name_of_command}
 use Rattle.wb_states.specs.Machine.{Machine}
 use Rattle.wb_states.specs.declared.command.Command.{Command}
 use Rattle.wb_states.specs.declared.reply.Reply.{Reply}
 use Rattle.wb_office.specs.Step.{step}
-use Rattle.wb_words.specs.Words.{command_in}
+use Rattle.wb_words.specs.Words.{asked_in}
+use Rattle.wb_words.specs.declared.words.Asked.{Asked}
+use Rattle.wb_words.specs.declared.words.Asked.TheVariants.{Command as asked_Command, Merge as asked_Merge}
+use Rattle.wb_words.specs.declared.words.PartNames.{PartNames}
 use Rattle.wb_api.specs.Encoding.{line_fault_text}
-use Rattle.wb_daemon.specs.Line.{is_blank_line, is_long, words_of}
-use Rattle.wb_daemon.specs.Run.{Said, Says, answer_said, command_of_line, command_said, fault_said, memory_said, needs_memory, said_of, silent, with_feed}
-use Rattle.wb_daemon.specs.Turn.{Answers, AnswersCommand, AnswersInPart, AppendsFront}
+use Rattle.wb_daemon.specs.Line.{is_blank_line, is_long, words_of, HasNoFeed}
+use Rattle.wb_daemon.specs.Lists.{Gives, GivesMerge, GivesNoMore}
+use Rattle.wb_daemon.specs.Run.{Said, Says, SaysHeard, Heard, Silence, Fault, Asks, heard_in, heard_of, answer_said, asked_of_line, fault_said, memory_said, needs_memory, with_feed}
+use Rattle.wb_daemon.specs.Turn.{Answers, AnswersAsked, AnswersCommand, AnswersInPart, AppendsFront, GivesFed, GivesLast, Turns}
+use Rattle.wb_daemon.specs.declared.run.Turn.{Turn}
+use Rattle.wb_daemon.specs.declared.run.Turn.TheVariants.{More, End, Stop}
 use Rattle.wb_daemon.proofs.LineLemmas.{Appends-same}
+use Rattle.wb_daemon.proofs.ListLemmas.{GivesParts-more}
 
-said_of-long : (machine : Machine) (line : List ℕ) → is_long line ≡ true → said_of machine line ≡ fault_said machine
-unfolding said_of
-said_of-long machine line h =
-    ap (λ b. cond b (fault_said machine) (cond (is_blank_line line) (silent machine) (command_said machine (command_of_line line)))) h
+-- ---- what is heard in a line
 
-said_of-blank : (machine : Machine) (line : List ℕ) → is_long line ≡ false → is_blank_line line ≡ true → said_of machine line ≡ silent machine
-unfolding said_of
-said_of-blank machine line h k =
-    ap (λ b. cond b (fault_said machine) (cond (is_blank_line line) (silent machine) (command_said machine (command_of_line line)))) h
-    ∙ ap (λ b. cond b (silent machine) (command_said machine (command_of_line line))) k
+heard_in-long : (line : List ℕ) → is_long line ≡ true → heard_in line ≡ Fault
+unfolding heard_in
+heard_in-long line h =
+    ap (λ b. cond b Fault (cond (is_blank_line line) Silence (heard_of (asked_of_line line)))) h
 
-said_of-read : (machine : Machine) (line : List ℕ) → is_long line ≡ false → is_blank_line line ≡ false
-    → said_of machine line ≡ command_said machine (command_of_line line)
-unfolding said_of
-said_of-read machine line h k =
-    ap (λ b. cond b (fault_said machine) (cond (is_blank_line line) (silent machine) (command_said machine (command_of_line line)))) h
-    ∙ ap (λ b. cond b (silent machine) (command_said machine (command_of_line line))) k
+heard_in-blank : (line : List ℕ) → is_long line ≡ false → is_blank_line line ≡ true → heard_in line ≡ Silence
+unfolding heard_in
+heard_in-blank line h k =
+    ap (λ b. cond b Fault (cond (is_blank_line line) Silence (heard_of (asked_of_line line)))) h
+    ∙ ap (λ b. cond b Silence (heard_of (asked_of_line line))) k
+
+heard_in-read : (line : List ℕ) → is_long line ≡ false → is_blank_line line ≡ false
+    → heard_in line ≡ heard_of (asked_of_line line)
+unfolding heard_in
+heard_in-read line h k =
+    ap (λ b. cond b Fault (cond (is_blank_line line) Silence (heard_of (asked_of_line line)))) h
+    ∙ ap (λ b. cond b Silence (heard_of (asked_of_line line))) k
+
+-- what may be said to what is heard in a line may be said to the line
+Says-heard : (gives : Gives) (machine : Machine) (line : List ℕ) (heard : Heard) (said : Said) → heard_in line ≡ heard
+    → SaysHeard gives machine heard said → Says gives machine line said
+Says-heard gives machine line heard said e h = inl (subst (λ (x : Heard). SaysHeard gives machine x said) (sym e) h)
 
 needs_memory-read : (line : List ℕ) → is_long line ≡ false → is_blank_line line ≡ false → is_utf8 line ≡ true → IsTrue (needs_memory line)
 needs_memory-read line h k u =
@@ -43,34 +57,93 @@ needs_memory-long : (line : List ℕ) → is_long line ≡ true → needs_memory
 needs_memory-long line h = ap (λ b. not b && (not (is_blank_line line) && is_utf8 line)) h
 
 -- what may be said to a line that is too long may be said to every such line
-pub Says-long : (machine : Machine) (line other : List ℕ) (said : Said) → is_long line ≡ true → is_long other ≡ true
-    → Says machine line said → Says machine other said
-Says-long machine line other said h k (inl e) = inl (e ∙ said_of-long machine line h ∙ sym (said_of-long machine other k))
-Says-long machine line other said h k (inr p) = absurd (false≢true (sym (needs_memory-long line h) ∙ p.0))
+pub Says-long : (gives : Gives) (machine : Machine) (line other : List ℕ) (said : Said) → is_long line ≡ true → is_long other ≡ true
+    → Says gives machine line said → Says gives machine other said
+Says-long gives machine line other said h k (inl e) =
+    inl (subst (λ (x : Heard). SaysHeard gives machine x said) (heard_in-long line h ∙ sym (heard_in-long other k)) e)
+Says-long gives machine line other said h k (inr p) = absurd (false≢true (sym (needs_memory-long line h) ∙ p.0))
 
-utf8-command : (line : List ℕ) (command : Command) (b : Bool) → is_utf8 line ≡ b → command_of_line line ≡ Some command → b ≡ true
-unfolding command_of_line
-utf8-command line command true u e = refl
-utf8-command line command false u e =
-    let none : command_of_line line ≡ None = ap (λ b. cond b (command_in (words_of line)) None) u in
-    let differ : Some command ≡ None = sym e ∙ none in
+utf8-asked : (line : List ℕ) (asked : Asked) (b : Bool) → is_utf8 line ≡ b → asked_of_line line ≡ Some asked → b ≡ true
+unfolding asked_of_line
+utf8-asked line asked true u e = refl
+utf8-asked line asked false u e =
+    let none : asked_of_line line ≡ None = ap (λ b. cond b (asked_in (words_of line)) None) u in
+    let differ : Some asked ≡ None = sym e ∙ none in
     cc
 
--- what may be said to a command may be said to the line that asks for it
-pub Says-command : (machine : Machine) (line : List ℕ) (command : Command) (said : Said) → is_long line ≡ false → is_blank_line line ≡ false
-    → command_of_line line ≡ Some command → AnswersCommand machine command said → Says machine line said
-Says-command machine line command said h k e (inl p) =
-    inl (p ∙ sym (said_of-read machine line h k ∙ ap (command_said machine) e))
-Says-command machine line command said h k e (inr p) =
-    inr (needs_memory-read line h k (utf8-command line command (is_utf8 line) refl e), p)
+-- what may be said to what a line asks for may be said to the line
+pub Says-asked : (gives : Gives) (machine : Machine) (line : List ℕ) (asked : Asked) (said : Said) → is_long line ≡ false → is_blank_line line ≡ false
+    → asked_of_line line ≡ Some asked → AnswersAsked gives machine asked said → Says gives machine line said
+Says-asked gives machine line asked said h k e (inl p) =
+    Says-heard gives machine line (Asks asked) said (heard_in-read line h k ∙ ap heard_of e) p
+Says-asked gives machine line asked said h k e (inr p) =
+    inr (needs_memory-read line h k (utf8-asked line asked (is_utf8 line) refl e), p)
 
-pub Says-fault : (machine : Machine) (line : List ℕ) (said : Said) → is_long line ≡ false → is_blank_line line ≡ false
-    → command_of_line line ≡ None → said ≡ fault_said machine → Says machine line said
-Says-fault machine line said h k e p = inl (p ∙ sym (said_of-read machine line h k ∙ ap (command_said machine) e))
+pub Says-fault : (gives : Gives) (machine : Machine) (line : List ℕ) (said : Said) → is_long line ≡ false → is_blank_line line ≡ false
+    → asked_of_line line ≡ None → said ≡ fault_said machine → Says gives machine line said
+Says-fault gives machine line said h k e p = Says-heard gives machine line Fault said (heard_in-read line h k ∙ ap heard_of e) p
 
-pub Says-memory : (machine : Machine) (line : List ℕ) (said : Said) → is_long line ≡ false → is_blank_line line ≡ false
-    → IsTrue (is_utf8 line) → said ≡ memory_said machine → Says machine line said
-Says-memory machine line said h k u p = inr (needs_memory-read line h k u, p)
+pub Says-memory : (gives : Gives) (machine : Machine) (line : List ℕ) (said : Said) → is_long line ≡ false → is_blank_line line ≡ false
+    → IsTrue (is_utf8 line) → said ≡ memory_said machine → Says gives machine line said
+Says-memory gives machine line said h k u p = inr (needs_memory-read line h k u, p)
+
+-- what may be said to the merge of what the lists gave may be said to the line's merge
+pub asked-merge : (gives : Gives) (machine : Machine) (sources : List ℕ) (parts : List PartNames) (command : Command) (said : Said)
+    → GivesMerge gives sources parts command → AnswersCommand machine command said → AnswersAsked gives machine (asked_Merge sources parts) said
+asked-merge gives machine sources parts command said g (inl p) = inl (inl (command, g, p))
+asked-merge gives machine sources parts command said g (inr p) = inr p
+
+pub asked-command : (gives : Gives) (machine : Machine) (command : Command) (said : Said)
+    → AnswersCommand machine command said → AnswersAsked gives machine (asked_Command command) said
+asked-command gives machine command said (inl p) = inl p
+asked-command gives machine command said (inr p) = inr p
+
+-- ---- lists that gave no more than they might
+
+GivesMerge-more : (old new : Gives) → GivesNoMore old new → (sources : List ℕ) (names : List PartNames) (command : Command)
+    → GivesMerge new sources names command → GivesMerge old sources names command
+GivesMerge-more old new m sources names command g =
+    (g.0, g.1, (m sources g.0 g.2.0, g.2.1), GivesParts-more old new m names g.1 g.3, g.4)
+
+SaysHeard-more : (old new : Gives) → GivesNoMore old new → (machine : Machine) (heard : Heard) (said : Said)
+    → SaysHeard new machine heard said → SaysHeard old machine heard said
+SaysHeard-more old new m machine Silence said h = h
+SaysHeard-more old new m machine Fault said h = h
+SaysHeard-more old new m machine (Asks (asked_Command command)) said h = h
+SaysHeard-more old new m machine (Asks (asked_Merge sources parts)) said (inl h) =
+    inl (h.0, GivesMerge-more old new m sources parts h.0 h.1, h.2)
+SaysHeard-more old new m machine (Asks (asked_Merge sources parts)) said (inr h) = inr h
+
+Says-more : (old new : Gives) → GivesNoMore old new → (machine : Machine) (line : List ℕ) (said : Said)
+    → Says new machine line said → Says old machine line said
+Says-more old new m machine line said (inl h) = inl (SaysHeard-more old new m machine (heard_in line) said h)
+Says-more old new m machine line said (inr h) = inr h
+
+Answers-more : (old new : Gives) → GivesNoMore old new → (line : List ℕ) (before after : Machine) (a b : Option (List ℕ)) (status : ℕ)
+    → Answers new line before after a b status → Answers old line before after a b status
+Answers-more old new m line before after a b status h = (h.0, h.1, Says-more old new m before line _ h.2, h.3)
+
+AnswersInPart-more : (old new : Gives) → GivesNoMore old new → (line : List ℕ) (before after : Machine) (a b : Option (List ℕ))
+    → AnswersInPart new line before after a b → AnswersInPart old line before after a b
+AnswersInPart-more old new m line before after a b h = (h.0, Says-more old new m before line h.0 h.1, h.2, h.3)
+
+Stop-more : (old new : Gives) → GivesNoMore old new → (line : List ℕ) (before after : Machine) (i j a b : Option (List ℕ))
+    → (HasNoFeed line × Consumes i j line × (after ≡ before) × (b ≡ a))
+    ⊎ ((GivesFed line i j × AnswersInPart new line before after a b) ⊎ (GivesLast line i j × AnswersInPart new line before after a b))
+    → (HasNoFeed line × Consumes i j line × (after ≡ before) × (b ≡ a))
+    ⊎ ((GivesFed line i j × AnswersInPart old line before after a b) ⊎ (GivesLast line i j × AnswersInPart old line before after a b))
+Stop-more old new m line before after i j a b (inl h) = inl h
+Stop-more old new m line before after i j a b (inr (inl h)) = inr (inl (h.0, AnswersInPart-more old new m line before after a b h.1))
+Stop-more old new m line before after i j a b (inr (inr h)) = inr (inr (h.0, AnswersInPart-more old new m line before after a b h.1))
+
+-- what a turn did with lists that gave no more than those of the run's start
+pub Turns-more : (old new : Gives) → GivesNoMore old new → (turn : Turn) (before after : Machine) (i j a b : Option (List ℕ))
+    → Turns new turn before after i j a b → Turns old turn before after i j a b
+Turns-more old new m (More status) before after i j a b t = (t.0, t.1, Answers-more old new m t.0 before after a b status t.2)
+Turns-more old new m (End status) before after i j a b t = (t.0, t.1, Answers-more old new m t.0 before after a b status t.2)
+Turns-more old new m Stop before after i j a b t = (t.0, Stop-more old new m t.0 before after i j a b t.1)
+
+-- ---- what was written
 
 -- a reply that finds no memory is said, and nothing of it is written
 pub reply-unwritten : (machine after : Machine) (command : Command) (reply : Reply) → step machine command ≡ (Ok reply, after)
@@ -82,22 +155,25 @@ reply-unwritten machine after command reply e = (
   omega (arith, length-append {A = ℕ}),
 )
 
-pub answers-blank : (machine : Machine) (line : List ℕ) (written : Option (List ℕ)) → is_long line ≡ false → is_blank_line line ≡ true
-    → Answers line machine machine written written 0
-answers-blank machine line written h k = ([], lit< tt, inl (sym (said_of-blank machine line h k)), Appends-same written)
+pub answers-blank : (gives : Gives) (machine : Machine) (line : List ℕ) (written : Option (List ℕ)) → is_long line ≡ false → is_blank_line line ≡ true
+    → Answers gives line machine machine written written 0
+answers-blank gives machine line written h k =
+    ([], omega arith, Says-heard gives machine line Silence _ (heard_in-blank line h k) refl, Appends-same written)
 
-pub answers-unwritten : (line : List ℕ) (before after : Machine) (written : Option (List ℕ))
-    → (said : Said) × Says before line said × (after ≡ said.machine) × (0 < length said.text)
-    → AnswersInPart line before after written written
-answers-unwritten line before after written p = (p.0, p.1, p.2, (0, p.3, Appends-same written))
+pub answers-unwritten : (gives : Gives) (line : List ℕ) (before after : Machine) (written : Option (List ℕ))
+    → (said : Said) × Says gives before line said × (after ≡ said.machine) × (0 < length said.text)
+    → AnswersInPart gives line before after written written
+answers-unwritten gives line before after written p = (p.0, p.1, p.2, (0, p.3, Appends-same written))
 
-pub answers-long : (line : List ℕ) (machine : Machine) (old new : Option (List ℕ)) → is_long line ≡ true
-    → Appends old new (with_feed line_fault_text) → Answers line machine machine old new 2
-answers-long line machine old new h p = (with_feed line_fault_text, lit< tt, inl (sym (said_of-long machine line h)), p)
+pub answers-long : (gives : Gives) (line : List ℕ) (machine : Machine) (old new : Option (List ℕ)) → is_long line ≡ true
+    → Appends old new (with_feed line_fault_text) → Answers gives line machine machine old new 2
+answers-long gives line machine old new h p =
+    (with_feed line_fault_text, omega arith, Says-heard gives machine line Fault _ (heard_in-long line h) refl, p)
 
-pub answers-long_cut : (line : List ℕ) (machine : Machine) (old new : Option (List ℕ)) → is_long line ≡ true
-    → AppendsFront old new (with_feed line_fault_text) → AnswersInPart line machine machine old new
-answers-long_cut line machine old new h p = (fault_said machine, inl (sym (said_of-long machine line h)), refl, p)
+pub answers-long_cut : (gives : Gives) (line : List ℕ) (machine : Machine) (old new : Option (List ℕ)) → is_long line ≡ true
+    → AppendsFront old new (with_feed line_fault_text) → AnswersInPart gives line machine machine old new
+answers-long_cut gives line machine old new h p =
+    (fault_said machine, Says-heard gives machine line Fault _ (heard_in-long line h) refl, refl, p)
 
 pub if_some-weaker : {X : Type 0} (o : Option X) (P Q : X → Type 0) → ((x : X) → P x → Q x) → IfSome o P → IfSome o Q
 if_some-weaker None P Q f h = tt

@@ -1,3 +1,4 @@
 pub mod AnswerLemmas
 pub mod LineLemmas
+pub mod ListLemmas
 pub mod RunLemmas

@@ -1,20 +1,20 @@
 -- Lemmas on runs over lines, as far as a loop has come.
-use Rattle.std.proofs.Common.{◌≡◌, ℕ, ◌+◌, ◌-◌, ◌<◌, ◌≤◌, Bool, true, false, ◌||◌, cond, eqb, max, List, [], ◌∷◌, ◌++◌, length, take, Option, None, Some, IfSome, IsTrue, ◌⊎◌, inl, inr, refl, sym, ap, ◌∙◌, subst, append_assoc, append-nil, length-append, length-take, arith, lit<}
+use Rattle.std.proofs.Common.{◌≡◌, ℕ, ◌+◌, ◌-◌, ◌<◌, ◌≤◌, Bool, true, false, ◌||◌, cond, max, List, [], ◌∷◌, ◌++◌, length, take, Option, None, Some, IfSome, IsTrue, ◌⊎◌, inl, inr, refl, sym, ap, ◌∙◌, subst, append_assoc, append-nil, length-append, length-take, arith}
 use Rattle.std.proofs.Math.Nat.{max-zero, zero-max}
 use Rattle.std.proofs.lemmas.Bool.{eqb-true}
 use Rattle.std.proofs.lemmas.Bool.Decides.{nat_tests}
 use Rattle.std.proofs.lemmas.List.Splits.{length-slice_split, slice_split-cons_no}
-use Rattle.std.proofs.lemmas.List.Folds.{list_any-append}
 use Rattle.std.specs.Io.KnownBytes.{Appends, Consumes, IsAtEnd}
 use Rattle.std.specs.List.{list_any, onto_first, slice_split}
 use Rattle.wb_states.specs.Machine.{Machine}
 use Rattle.wb_daemon.specs.Line.{ended_in, is_feed, is_long, bytes_of, lines_of, max_line, max_lines, through_long, HasNoFeed}
-use Rattle.wb_daemon.specs.Run.{Said, Says, Runs, RunEnds, RunStops, StopsBetween, StopsWithin, WereHeard, followed, silent}
+use Rattle.wb_daemon.specs.Lists.{Gives}
+use Rattle.wb_daemon.specs.Run.{Said, Says, Runs, RunEnds, RunStops, StopsWithin, followed, silent}
 use Rattle.wb_daemon.specs.Turn.{Answers, AnswersInPart, GivesFed, GivesLast, Turns}
 use Rattle.wb_daemon.specs.declared.line.ByteRead.{ByteRead}
 use Rattle.wb_daemon.specs.declared.line.ByteRead.TheVariants as byte
 use Rattle.wb_daemon.specs.declared.run.Turn.TheVariants.{Stop}
-use Rattle.wb_daemon.proofs.LineLemmas.{Appends-same, Appends-then, Consumes-then, no_feed-one}
+use Rattle.wb_daemon.proofs.LineLemmas.{Appends-same, Appends-then, Consumes-then}
 use Rattle.wb_daemon.proofs.AnswerLemmas.{Says-long, answers-blank}
 use lib.Seq.{take-append_seam}
 
@@ -127,41 +127,41 @@ said-same {s} {t} {m} {j} {k} p q = ap (λ x. record { text = x; machine = m; st
 max_assoc : (i j k : ℕ) → max (max i j) k ≡ max i (max j k)
 max_assoc i j k = omega arith
 
-Runs-snoc : (lines : List (List ℕ)) (machine : Machine) (whole : Said) (line : List ℕ) (said : Said)
-    → Runs machine lines whole → Says whole.machine line said → Runs machine (lines ++ line ∷ []) (followed whole said)
-Runs-snoc [] machine whole line said p q = (
+Runs-snoc : (gives : Gives) (lines : List (List ℕ)) (machine : Machine) (whole : Said) (line : List ℕ) (said : Said)
+    → Runs gives machine lines whole → Says gives whole.machine line said → Runs gives machine (lines ++ line ∷ []) (followed whole said)
+Runs-snoc gives [] machine whole line said p q = (
   said,
   silent said.machine,
-  subst (λ (x : Said). Says x.machine line said) p q,
+  subst (λ (x : Said). Says gives x.machine line said) p q,
   refl,
   ap (λ (x : Said). followed x said) p ∙ said-same {m = said.machine} (sym (append-nil said.text)) (zero-max said.status ∙ sym (max-zero said.status)),
 )
-Runs-snoc (x ∷ xs) machine whole line said p q = (
+Runs-snoc gives (x ∷ xs) machine whole line said p q = (
   p.0,
   followed p.1 said,
   p.2,
-  Runs-snoc xs p.0.machine p.1 line said p.3 (subst (λ (y : Said). Says y.machine line said) p.4 q),
+  Runs-snoc gives xs p.0.machine p.1 line said p.3 (subst (λ (y : Said). Says gives y.machine line said) p.4 q),
   ap (λ (y : Said). followed y said) p.4
       ∙ said-same {m = said.machine} (append_assoc p.0.text p.1.text said.text) (max_assoc p.0.status p.1.status said.status),
 )
 
 -- a run so far: each line that was read was answered
-pub record SoFar (input now old new : Option (List ℕ)) (before after : Machine) (status count : ℕ) : Type 0 where
+pub record SoFar (gives : Gives) (input now old new : Option (List ℕ)) (before after : Machine) (status count : ℕ) : Type 0 where
   pub lines : List (List ℕ)
   pub text : List ℕ
   pub are : AreLines lines
   pub counted : length lines ≡ count
   pub taken : Consumes input now (fed lines)
-  pub runs : Runs before lines (record { text = text; machine = after; status = status })
+  pub runs : Runs gives before lines (record { text = text; machine = after; status = status })
   pub written : Appends old new text
-  pub small : status < 3
+  pub small : status ≤ 3
 
 Consumes-same : (a : Option (List ℕ)) → Consumes a a []
 Consumes-same None = tt
 Consumes-same (Some x) = refl
 
-pub so_far-start : (input old : Option (List ℕ)) (machine : Machine) → SoFar input input old old machine machine 0 0
-so_far-start input old machine = record {
+pub so_far-start : (gives : Gives) (input old : Option (List ℕ)) (machine : Machine) → SoFar gives input input old old machine machine 0 0
+so_far-start gives input old machine = record {
   lines = [];
   text = [];
   are = tt;
@@ -169,24 +169,24 @@ so_far-start input old machine = record {
   taken = Consumes-same input;
   runs = refl;
   written = Appends-same old;
-  small = lit< tt;
+  small = omega arith;
 }
 
-module _ {input now old new : Option (List ℕ)} {before after : Machine} {status count : ℕ} (far : SoFar input now old new before after status count) where
+module _ {gives : Gives} {input now old new : Option (List ℕ)} {before after : Machine} {status count : ℕ} (far : SoFar gives input now old new before after status count) where
   after_line : (line : List ℕ) (left : Option (List ℕ)) → Consumes now left (line ++ 10 ∷ []) → Consumes input left (fed (far.lines ++ line ∷ []))
   after_line line left p =
       subst (Consumes input left) (sym (fed-snoc far.lines line)) (Consumes-then input now left (fed far.lines) (line ++ 10 ∷ []) far.taken p)
 
   pub so_far-line : (line : List ℕ) (left written : Option (List ℕ)) (next : Machine) (more : ℕ)
-      → GivesFed line now left → Answers line after next new written more
-      → SoFar input left old written before next (max status more) (count + 1)
+      → GivesFed line now left → Answers gives line after next new written more
+      → SoFar gives input left old written before next (max status more) (count + 1)
   so_far-line line left written next more g a = record {
     lines = far.lines ++ line ∷ [];
     text = far.text ++ a.0;
     are = AreLines-snoc far.lines line far.are g.1 g.0;
     counted = omega (arith, length-append far.lines (line ∷ []), far.counted);
     taken = after_line line left g.2;
-    runs = Runs-snoc far.lines before _ line _ far.runs a.2;
+    runs = Runs-snoc gives far.lines before _ line _ far.runs a.2;
     written = Appends-then old new written far.text a.0 far.written a.3;
     small = omega (arith, far.small, a.1);
   }
@@ -210,17 +210,17 @@ nothing_or_long left rest line e (inl h) = inl (subst IsAtEnd e h)
 nothing_or_long left rest line e (inr h) = inr h
 
 -- the lines of an input whose last line was read, in so far as it is not too long
-last_lines : (lines : List (List ℕ)) (line rest : List ℕ) → AreLines lines → HasNoFeed line → (rest ≡ []) ⊎ (is_long line ≡ true)
+last_lines : (gives : Gives) (lines : List (List ℕ)) (line rest : List ℕ) → AreLines lines → HasNoFeed line → (rest ≡ []) ⊎ (is_long line ≡ true)
     → (last : List ℕ) × (lines_of (fed lines ++ (line ++ rest)) ≡ lines ++ last ∷ [])
-    × ((machine : Machine) (said : Said) → Says machine line said → Says machine last said)
-last_lines lines line rest a h (inl e) = (
+    × ((machine : Machine) (said : Said) → Says gives machine line said → Says gives machine last said)
+last_lines gives lines line rest a h (inl e) = (
   line,
   ap (λ l. lines_of (fed lines ++ l)) (ap (λ r. line ++ r) e ∙ append-nil line) ∙ lines_of-last lines line a h,
   λ _ _ q. q,
 )
-last_lines lines line rest a h (inr k) =
+last_lines gives lines line rest a h (inr k) =
     let long = lines_of-long lines line rest a h k in
-    (long.0, long.2, λ machine said q. Says-long machine line long.0 said k long.1 q)
+    (long.0, long.2, λ machine said q. Says-long gives machine line long.0 said k long.1 q)
 
 or-true : (b : Bool) → (b || true) ≡ true
 or-true true = refl
@@ -230,18 +230,18 @@ list_any-last : (lines : List (List ℕ)) (line : List ℕ) → is_long line ≡
 list_any-last [] line h = ap (λ b. b || false) h
 list_any-last (x ∷ xs) line h = ap (λ b. is_long x || b) (list_any-last xs line h) ∙ or-true (is_long x)
 
-module _ {input now old new : Option (List ℕ)} {before after : Machine} {status count : ℕ} (far : SoFar input now old new before after status count) where
+module _ {gives : Gives} {input now old new : Option (List ℕ)} {before after : Machine} {status count : ℕ} (far : SoFar gives input now old new before after status count) where
   -- the last line was answered
   pub ends-line : (line : List ℕ) (left written : Option (List ℕ)) (next : Machine) (more : ℕ)
-      → GivesLast line now left → Answers line after next new written more
-      → IfSome input (λ bytes. RunEnds bytes old written before next (max status more) × (length (lines_of bytes) ≤ count + 1))
+      → GivesLast line now left → Answers gives line after next new written more
+      → IfSome input (λ bytes. RunEnds gives bytes old written before next (max status more) × (length (lines_of bytes) ≤ count + 1))
   ends-line line left written next more g a = if_some input _ _ (λ bytes k.
-      let last = last_lines far.lines line k.0 far.are g.0 (nothing_or_long left k.0 line k.2 g.2) in
+      let last = last_lines gives far.lines line k.0 far.are g.0 (nothing_or_long left k.0 line k.2 g.2) in
       let same : lines_of bytes ≡ far.lines ++ last.0 ∷ [] = ap lines_of k.1 ∙ last.1 in (
         (
           far.text ++ a.0,
-          subst (λ l. Runs before l (record { text = far.text ++ a.0; machine = next; status = max status more })) (sym same)
-              (Runs-snoc far.lines before _ last.0 _ far.runs (last.2 _ _ a.2)),
+          subst (λ l. Runs gives before l (record { text = far.text ++ a.0; machine = next; status = max status more })) (sym same)
+              (Runs-snoc gives far.lines before _ last.0 _ far.runs (last.2 _ _ a.2)),
           Appends-then old new written far.text a.0 far.written a.3,
         ),
         omega (arith, ap length same, length-append far.lines (last.0 ∷ []), far.counted),
@@ -250,25 +250,25 @@ module _ {input now old new : Option (List ℕ)} {before after : Machine} {statu
 
   -- nothing follows
   pub ends-nothing : (left : Option (List ℕ)) → Consumes now left [] → IsAtEnd left
-      → IfSome input (λ bytes. RunEnds bytes old new before after status × (length (lines_of bytes) ≤ count + 1))
+      → IfSome input (λ bytes. RunEnds gives bytes old new before after status × (length (lines_of bytes) ≤ count + 1))
   ends-nothing left p e =
-      subst (λ n. IfSome input (λ bytes. RunEnds bytes old new before after n × (length (lines_of bytes) ≤ count + 1))) (max-zero status)
-      (ends-line [] left new after 0 (refl, p, inl e) (answers-blank after [] new refl refl))
+      subst (λ n. IfSome input (λ bytes. RunEnds gives bytes old new before after n × (length (lines_of bytes) ≤ count + 1))) (max-zero status)
+      (ends-line [] left new after 0 (refl, p, inl e) (answers-blank gives after [] new refl refl))
 
   -- ---- how a run stops
 
   -- the reader failed within a line
-  pub stops-between : (line : List ℕ) (left : Option (List ℕ)) → HasNoFeed line → Consumes now left line → RunStops input left old new before after
+  pub stops-between : (line : List ℕ) (left : Option (List ℕ)) → HasNoFeed line → Consumes now left line → RunStops gives input left old new before after
   stops-between line left h p = (
     fed far.lines ++ line,
     far.text,
     Consumes-then input now left (fed far.lines) line far.taken p,
     far.written,
-    inl (status, subst (λ l. Runs before l (record { text = far.text; machine = after; status = status })) (sym (ended_in-fed far.lines line far.are h)) far.runs),
+    inl (status, subst (λ l. Runs gives before l (record { text = far.text; machine = after; status = status })) (sym (ended_in-fed far.lines line far.are h)) far.runs),
   )
 
-  within : (line : List ℕ) (written : Option (List ℕ)) (next : Machine) → (a : AnswersInPart line after next new written)
-      → StopsWithin (far.lines ++ line ∷ []) before (far.text ++ take a.3.0 a.0.text) next
+  within : (line : List ℕ) (written : Option (List ℕ)) (next : Machine) → (a : AnswersInPart gives line after next new written)
+      → StopsWithin gives (far.lines ++ line ∷ []) before (far.text ++ take a.3.0 a.0.text) next
   within line written next a = record {
     earlier = far.lines;
     last = line;
@@ -285,7 +285,7 @@ module _ {input now old new : Option (List ℕ)} {before after : Machine} {statu
 
   -- the answer to a line was not written whole
   pub stops-fed : (line : List ℕ) (left written : Option (List ℕ)) (next : Machine)
-      → GivesFed line now left → AnswersInPart line after next new written → RunStops input left old written before next
+      → GivesFed line now left → AnswersInPart gives line after next new written → RunStops gives input left old written before next
   stops-fed line left written next g a =
       let all = far.lines ++ line ∷ [] in
       let are = AreLines-snoc far.lines line far.are g.1 g.0 in (
@@ -302,7 +302,7 @@ module _ {input now old new : Option (List ℕ)} {before after : Machine} {statu
 
   -- the answer to the last line was not written whole
   pub stops-last : (line : List ℕ) (left written : Option (List ℕ)) (next : Machine)
-      → GivesLast line now left → AnswersInPart line after next new written → RunStops input left old written before next
+      → GivesLast line now left → AnswersInPart gives line after next new written → RunStops gives input left old written before next
   stops-last line left written next g a =
       let all = far.lines ++ line ∷ [] in (
         fed far.lines ++ line,
@@ -313,49 +313,49 @@ module _ {input now old new : Option (List ℕ)} {before after : Machine} {statu
       )
 
   -- a turn stopped
-  pub stops-turn : (left written : Option (List ℕ)) (next : Machine) → Turns Stop after next now left new written → RunStops input left old written before next
+  pub stops-turn : (left written : Option (List ℕ)) (next : Machine) → Turns gives Stop after next now left new written → RunStops gives input left old written before next
   stops-turn left written next t = elim t.1 [
-    | inl p ↦ subst (λ w. RunStops input left old w before next) (sym p.3)
-        (subst (λ m. RunStops input left old new before m) (sym p.2) (stops-between t.0 left p.0 p.1))
+    | inl p ↦ subst (λ w. RunStops gives input left old w before next) (sym p.3)
+        (subst (λ m. RunStops gives input left old new before m) (sym p.2) (stops-between t.0 left p.0 p.1))
     | inr q ↦ elim q [ inl p ↦ stops-fed t.0 left written next p.0 p.1 | inr p ↦ stops-last t.0 left written next p.0 p.1 ]
   ]
 
-byte_more : {input now old new : Option (List ℕ)} {before after : Machine} {status count : ℕ} (far : SoFar input now old new before after status count)
-    (byte : ℕ) (left : Option (List ℕ)) (b : Bool) → is_feed byte ≡ b → Consumes now left (byte ∷ []) → RunStops input left old new before after
-byte_more {now} {new} {after} far byte left true h p =
-    let line = so_far-line far [] left new after 0 (refl, refl, subst (λ n. Consumes now left (n ∷ [])) (eqb-true byte 10 h) p) (answers-blank after [] new refl refl) in
+byte_more : {gives : Gives} {input now old new : Option (List ℕ)} {before after : Machine} {status count : ℕ} (far : SoFar gives input now old new before after status count)
+    (byte : ℕ) (left : Option (List ℕ)) (b : Bool) → is_feed byte ≡ b → Consumes now left (byte ∷ []) → RunStops gives input left old new before after
+byte_more {gives} {now} {new} {after} far byte left true h p =
+    let line = so_far-line far [] left new after 0 (refl, refl, subst (λ n. Consumes now left (n ∷ [])) (eqb-true byte 10 h) p) (answers-blank gives after [] new refl refl) in
     stops-between line [] left refl (Consumes-same left)
 byte_more far byte left false h p = stops-between far (byte ∷ []) left (ap (λ b. b || false) h) p
 
 -- a byte follows the last line that a run may have
-pub stops-byte : {input now old new : Option (List ℕ)} {before after : Machine} {status count : ℕ} (far : SoFar input now old new before after status count)
-    (byte : ℕ) (left : Option (List ℕ)) → Consumes now left (byte ∷ []) → RunStops input left old new before after
+pub stops-byte : {gives : Gives} {input now old new : Option (List ℕ)} {before after : Machine} {status count : ℕ} (far : SoFar gives input now old new before after status count)
+    (byte : ℕ) (left : Option (List ℕ)) → Consumes now left (byte ∷ []) → RunStops gives input left old new before after
 stops-byte far byte left p = byte_more far byte left (is_feed byte) refl p
 
 -- what is left after the last line that a run may have
-pub stops-read : {input now old new : Option (List ℕ)} {before after : Machine} {status count : ℕ} (far : SoFar input now old new before after status count)
-    (came : ByteRead) (left : Option (List ℕ)) → Consumes now left (bytes_of came) → RunStops input left old new before after
+pub stops-read : {gives : Gives} {input now old new : Option (List ℕ)} {before after : Machine} {status count : ℕ} (far : SoFar gives input now old new before after status count)
+    (came : ByteRead) (left : Option (List ℕ)) → Consumes now left (bytes_of came) → RunStops gives input left old new before after
 stops-read far (byte.Byte c) left p = stops-byte far c left p
 stops-read far byte.End left p = stops-between far [] left refl p
 stops-read far byte.Fault left p = stops-between far [] left refl p
 
 -- a run that could not begin
-pub stops-at_once : (input old : Option (List ℕ)) (machine : Machine) → RunStops input input old old machine machine
-stops-at_once input old machine = stops-between (so_far-start input old machine) [] input refl (Consumes-same input)
+pub stops-at_once : (gives : Gives) (input old : Option (List ℕ)) (machine : Machine) → RunStops gives input input old old machine machine
+stops-at_once gives input old machine = stops-between (so_far-start gives input old machine) [] input refl (Consumes-same input)
 
 -- the run goes on, or ends, with the greater of two statuses
-pub so_far-next : {input now old new : Option (List ℕ)} {before after : Machine} {status count : ℕ} (far : SoFar input now old new before after status count)
+pub so_far-next : {gives : Gives} {input now old new : Option (List ℕ)} {before after : Machine} {status count : ℕ} (far : SoFar gives input now old new before after status count)
     (line : List ℕ) (left written : Option (List ℕ)) (next : Machine) (more greatest : ℕ)
-    → GivesFed line now left → Answers line after next new written more → greatest ≡ max status more
-    → SoFar input left old written before next greatest (count + 1)
-so_far-next {input} {old} {before} {count} far line left written next more greatest g a e =
-    subst (λ n. SoFar input left old written before next n (count + 1)) (sym e) (so_far-line far line left written next more g a)
+    → GivesFed line now left → Answers gives line after next new written more → greatest ≡ max status more
+    → SoFar gives input left old written before next greatest (count + 1)
+so_far-next {gives} {input} {old} {before} {count} far line left written next more greatest g a e =
+    subst (λ n. SoFar gives input left old written before next n (count + 1)) (sym e) (so_far-line far line left written next more g a)
 
-pub within_limit : (input old new : Option (List ℕ)) (before after : Machine) (status greatest count : ℕ) → count ≤ max_lines → greatest ≡ status
-    → IfSome input (λ bytes. RunEnds bytes old new before after status × (length (lines_of bytes) ≤ count + 1))
-    → IfSome input (λ bytes. RunEnds bytes old new before after greatest × (length (lines_of bytes) ≤ max_lines + 1))
-within_limit input old new before after status greatest count h e k =
-    if_some input _ _ (λ bytes p. (subst (λ n. RunEnds bytes old new before after n) (sym e) p.0, omega (arith, p.1, h))) k
+pub within_limit : (gives : Gives) (input old new : Option (List ℕ)) (before after : Machine) (status greatest count : ℕ) → count ≤ max_lines → greatest ≡ status
+    → IfSome input (λ bytes. RunEnds gives bytes old new before after status × (length (lines_of bytes) ≤ count + 1))
+    → IfSome input (λ bytes. RunEnds gives bytes old new before after greatest × (length (lines_of bytes) ≤ max_lines + 1))
+within_limit gives input old new before after status greatest count h e k =
+    if_some input _ _ (λ bytes p. (subst (λ n. RunEnds gives bytes old new before after n) (sym e) p.0, omega (arith, p.1, h))) k
 
 pub short_line : (room : List ℕ) (len : ℕ) → len ≤ max_line → is_long (take len room) ≡ false
 short_line room len h = grind (arith, nat_tests, length-take len room)

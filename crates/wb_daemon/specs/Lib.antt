@@ -1,3 +1,4 @@
 pub mod Line
+pub mod Lists
 pub mod Run
 pub mod Turn

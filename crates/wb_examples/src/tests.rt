@@ -1,4 +1,6 @@
 mod failing;
+mod lists;
+mod moves;
 mod names;
 mod queue;
 mod run;

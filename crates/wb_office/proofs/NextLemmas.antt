@@ -1,68 +1,143 @@
 -- What a builder's command for the head of a queue answers.
-use Rattle.std.proofs.Common.{◌≡◌, ◌≢◌, ℕ, ◌+◌, ◌<◌, Bool, true, false, ◌||◌, Option, Some, None, Ok, Err, refl, sym, ap, ◌∙◌, List, option_map, is_none, nat_le, IsOk, subst}
-use Rattle.std.proofs.lemmas.Bool.{lt-leb}
-use Rattle.deb_version.specs.declared.fault.VersionFault.{VersionFault}
-use Rattle.deb_version.specs.declared.fault.VersionFault.TheVariants.{Empty, EpochEmpty, EpochNotNumber, EpochTooLarge, UpstreamEmpty, UpstreamBad, RevisionEmpty, RevisionBad, TooLong, Memory as NoMemory}
-use Rattle.deb_version.specs.Syntax.{fault_of, reading_of, parts_of, outcome}
+use Rattle.std.proofs.Common.{◌≡◌, ℕ, ◌+◌, ◌||◌, ◌&&◌, Bool, true, false, not, List, [], ◌∷◌, Option, Some, None, Result, Ok, Err, refl, sym, ap, ◌∙◌, nat_le, is_none, option_and_then, option_map}
+use Rattle.std.specs.FinMap as map
 use Rattle.wb_states.specs.declared.command.Command.{Command}
 use Rattle.wb_states.specs.declared.command.Command.TheVariants.{Next}
-use Rattle.std.specs.FinMap as map
-use Rattle.wb_states.specs.declared.counts.Counts.{Counts}
-use Rattle.wb_states.specs.declared.reply.Assignment.{Assignment}
-use Rattle.wb_states.specs.declared.reply.Reply.TheVariants.{Job}
-use Rattle.wb_states.specs.Moves.{taken_by}
-use Rattle.wb_states.specs.declared.record.Record.{Record}
 use Rattle.wb_states.specs.declared.refusal.Refusal.{Refusal}
-use Rattle.wb_states.specs.declared.refusal.Refusal.TheVariants.{QueueEmpty, Spent, Memory, BadVersion, BadName, UnknownArch, UnknownBuilder, WrongArch}
+use Rattle.wb_states.specs.declared.refusal.Refusal.TheVariants.{AfterAhead, BadName, QueueEmpty, Spent, UnknownArch, UnknownBuilder, WrongArch}
+use Rattle.wb_states.specs.declared.reply.Reply.TheVariants.{Again}
+use Rattle.wb_states.specs.declared.moves.Move.{Move}
+use Rattle.wb_states.specs.declared.record.Record.{Record}
+use Rattle.wb_states.specs.declared.reply.Assignment.{Assignment}
+use Rattle.wb_states.specs.declared.state.State.{State}
+use Rattle.wb_states.specs.declared.state.State.TheVariants.{NeedsBuild}
 use Rattle.wb_states.specs.Limits.{count_limit}
 use Rattle.wb_states.specs.Machine.{Machine}
+use Rattle.wb_states.specs.Moves.{move_refusal, may_go}
 use Rattle.wb_states.specs.Queue.{Entry, head_of}
 use Rattle.wb_states.proofs.QueueLemmas.{head_of-waits}
 use Rattle.wb_store.specs.Lookups.{named}
-use Rattle.wb_office.specs.Checks.{first_refusal, or_refusal, when, MayAsk, refusal_of_fault, has_bad_name, lacks_arch, lacks_builder, is_for_other_archs}
-use Rattle.wb_office.specs.Step.{Outcome, step, hand_out, unless_refused, accept, assignment_of}
+use Rattle.wb_office.specs.Checks.{first_some, or_refusal, when, has_bad_name, is_ahead, is_for_other_archs, lacks_arch, lacks_builder, text_refusal, state_refusal, first_refusal, refused_move}
+use Rattle.wb_office.specs.Found.{unless_refused, builder_refusal, head_at, head_step, job_step, take_move, told_of}
+use Rattle.wb_office.specs.Moving.{again_of, moving}
+use Rattle.wb_office.specs.Step.{Outcome, outcome, step, reply_to, change, counted, after_take, job_of}
+use Rattle.wb_office.proofs.StepLemmas.{step-refused, outcome-None, three-None, three-Some}
 
--- the checks that are left once a builder may ask
-left_of : Machine → List ℕ → Bool → Option Refusal
-left_of machine builder empty = or_refusal (when empty QueueEmpty) (or_refusal (when (nat_le count_limit machine.accepted || nat_le count_limit machine.handed) Spent) None)
+-- the checks of the builder before others
+builder_first : Machine → List ℕ → List ℕ → Option ℕ → Option Refusal → Option Refusal
+builder_first machine arch builder after rest =
+    or_refusal (when (lacks_arch machine (Next arch builder after)) UnknownArch)
+    (or_refusal (when (lacks_builder machine (Next arch builder after)) UnknownBuilder)
+    (or_refusal (when (is_for_other_archs machine (Next arch builder after)) WrongArch) rest))
 
-first_refusal-next : (machine : Machine) (arch builder : List ℕ) → MayAsk machine arch builder → first_refusal machine (Next arch builder) ≡ left_of machine builder (is_none (head_of machine arch))
-unfolding first_refusal left_of
-first_refusal-next machine arch builder may =
-    let names : has_bad_name (Next arch builder) ≡ false = may.names in
-    let known : lacks_arch machine (Next arch builder) ≡ false = may.known in
-    let added : lacks_builder machine (Next arch builder) ≡ false = may.added in
-    let allowed : is_for_other_archs machine (Next arch builder) ≡ false = may.allowed in
-    λ i. or_refusal (when (names i) BadName) (or_refusal (when (known i) UnknownArch) (or_refusal (when (added i) UnknownBuilder)
-    (or_refusal (when (allowed i) WrongArch) (left_of machine builder (is_none (head_of machine arch))))))
+builder_first-None : (machine : Machine) (arch builder : List ℕ) (after : Option ℕ) (rest : Option Refusal)
+    → builder_refusal machine arch builder ≡ None → builder_first machine arch builder after rest ≡ rest
+unfolding builder_first builder_refusal
+builder_first-None machine arch builder after rest is = three-None
+    (when (lacks_arch machine (Next arch builder after)) UnknownArch)
+    (when (lacks_builder machine (Next arch builder after)) UnknownBuilder)
+    (when (is_for_other_archs machine (Next arch builder after)) WrongArch) rest is
 
-step-refused : (machine : Machine) (command : Command) (refusal : Refusal) → first_refusal machine command ≡ Some refusal → step machine command ≡ (Err refusal, machine)
+builder_first-Some : (machine : Machine) (arch builder : List ℕ) (after : Option ℕ) (rest : Option Refusal) (refusal : Refusal)
+    → builder_refusal machine arch builder ≡ Some refusal → builder_first machine arch builder after rest ≡ Some refusal
+unfolding builder_first builder_refusal
+builder_first-Some machine arch builder after rest refusal is = three-Some
+    (when (lacks_arch machine (Next arch builder after)) UnknownArch)
+    (when (lacks_builder machine (Next arch builder after)) UnknownBuilder)
+    (when (is_for_other_archs machine (Next arch builder after)) WrongArch) rest refusal is
+
+-- the checks of the queue: none where the builder is told again
+queue_checks : Machine → List ℕ → Bool → Option Entry → Option Refusal
+queue_checks machine builder is_new head =
+    or_refusal (option_and_then (λ (asked : Entry × Move). move_refusal asked.1 asked.0.1)
+    (option_and_then (λ (entry : Entry). Some (entry, take_move machine builder)) head))
+    (or_refusal (when (is_new && is_none head) QueueEmpty)
+    (or_refusal (when (is_new && (nat_le count_limit machine.accepted || nat_le count_limit machine.handed)) Spent) None))
+
+next-checks : (machine : Machine) (arch builder : List ℕ) (after : Option ℕ) (is_bad is_later : Bool) (again : Option Entry)
+    → has_bad_name (Next arch builder after) ≡ is_bad → is_ahead machine (Next arch builder after) ≡ is_later
+    → again_of machine (Next arch builder after) ≡ again
+    → first_refusal machine (Next arch builder after) ≡ or_refusal (first_some (when is_bad BadName ∷ [])) (builder_first machine arch builder after
+    (or_refusal (when is_later (AfterAhead machine.handed)) (queue_checks machine builder (is_none again) (head_of machine arch))))
+unfolding first_refusal text_refusal state_refusal moving builder_first queue_checks
+next-checks machine arch builder after is_bad is_later again bad later told =
+    λ i. or_refusal (first_some (when (bad i) BadName ∷ [])) (builder_first machine arch builder after
+    (or_refusal (when (later i) (AfterAhead machine.handed)) (queue_checks machine builder (is_none (told i)) (head_of machine arch))))
+
+pub next-BadName : (machine : Machine) (arch builder : List ℕ) (after : Option ℕ) → has_bad_name (Next arch builder after) ≡ true
+    → step machine (Next arch builder after) ≡ (Err BadName, machine)
+next-BadName machine arch builder after bad =
+    step-refused machine (Next arch builder after) BadName (next-checks machine arch builder after true _ _ bad refl refl)
+
+pub next-builder : (machine : Machine) (arch builder : List ℕ) (after : Option ℕ) (refusal : Refusal) → has_bad_name (Next arch builder after) ≡ false
+    → builder_refusal machine arch builder ≡ Some refusal
+    → step machine (Next arch builder after) ≡ (Err refusal, machine)
+next-builder machine arch builder after refusal bad is =
+    step-refused machine (Next arch builder after) refusal
+    (next-checks machine arch builder after false _ _ bad refl refl ∙ builder_first-Some machine arch builder after _ refusal is)
+
+pub next-AfterAhead : (machine : Machine) (arch builder : List ℕ) (after : Option ℕ) → has_bad_name (Next arch builder after) ≡ false
+    → builder_refusal machine arch builder ≡ None → is_ahead machine (Next arch builder after) ≡ true
+    → step machine (Next arch builder after) ≡ (Err (AfterAhead machine.handed), machine)
+next-AfterAhead machine arch builder after bad is later =
+    step-refused machine (Next arch builder after) (AfterAhead machine.handed)
+    (next-checks machine arch builder after false true _ bad later refl ∙ builder_first-None machine arch builder after _ is)
+
+-- the head of a queue can be taken
+head-taken : (machine : Machine) (arch builder : List ℕ) (entry : Entry) → head_of machine arch ≡ Some entry
+    → move_refusal (take_move machine builder) entry.1 ≡ None
+unfolding move_refusal may_go
+head-taken machine arch builder entry is =
+    let waits : entry.1.state ≡ NeedsBuild = (head_of-waits machine arch entry is).2 in
+    rw waits refl
+
+queue_checks-again : (machine : Machine) (arch builder : List ℕ) → queue_checks machine builder false (head_of machine arch) ≡ None
+unfolding queue_checks
+queue_checks-again machine arch builder =
+    elim (head_of machine arch) as (λ head. head_of machine arch ≡ head → queue_checks machine builder false head ≡ None) [
+      | None ↦ λ at. refl
+      | Some entry ↦ λ at. ap (λ first. or_refusal first None) (head-taken machine arch builder entry at)
+    ] refl
+
+pub next-Again : (machine : Machine) (arch builder : List ℕ) (after : Option ℕ) (entry : Entry) → has_bad_name (Next arch builder after) ≡ false
+    → builder_refusal machine arch builder ≡ None → is_ahead machine (Next arch builder after) ≡ false
+    → again_of machine (Next arch builder after) ≡ Some entry
+    → step machine (Next arch builder after) ≡ (Ok (Again machine.accepted (told_of entry)), machine)
 unfolding step
-step-refused machine command refusal is = ap (λ r. unless_refused r machine (accept machine command)) is
+next-Again machine arch builder after entry bad is later told =
+    let first : first_refusal machine (Next arch builder after) ≡ None =
+    next-checks machine arch builder after false false (Some entry) bad later told ∙ builder_first-None machine arch builder after _ is
+    ∙ queue_checks-again machine arch builder in
+    λ i. outcome (first i) (told i) machine (Next arch builder after)
 
-step-accepted : (machine : Machine) (command : Command) → first_refusal machine command ≡ None → step machine command ≡ accept machine command
-unfolding step
-step-accepted machine command is = ap (λ r. unless_refused r machine (accept machine command)) is
+-- what is answered and done with what stands at the head of a queue
+head-answer : (machine : Machine) (arch builder : List ℕ) (after : Option ℕ)
+    → unless_refused (queue_checks machine builder true (head_of machine arch)) machine
+    (Ok (reply_to machine (Next arch builder after)), counted machine (change machine (Next arch builder after)))
+    ≡ head_at machine builder (head_of machine arch)
+unfolding queue_checks job_step moving
+head-answer machine arch builder after = found (head_of machine arch) where
+  found : (head : Option Entry)
+      → unless_refused (or_refusal (option_and_then (λ (asked : Entry × Move). move_refusal asked.1 asked.0.1)
+      (option_and_then (λ (entry : Entry). Some (entry, take_move machine builder)) head))
+      (or_refusal (when (is_none head) QueueEmpty)
+      (or_refusal (when (nat_le count_limit machine.accepted || nat_le count_limit machine.handed) Spent) None))) machine
+      (Ok (job_of machine head), counted machine (after_take machine (option_and_then (λ (entry : Entry). Some (entry, take_move machine builder)) head)))
+      ≡ head_at machine builder head
+  found None = refl
+  found (Some entry) = refl
 
-pub next-QueueEmpty : (machine : Machine) (arch builder : List ℕ) → MayAsk machine arch builder → head_of machine arch ≡ None → step machine (Next arch builder) ≡ (Err QueueEmpty, machine)
-unfolding left_of
-next-QueueEmpty machine arch builder may none =
-    step-refused machine (Next arch builder) QueueEmpty (first_refusal-next machine arch builder may ∙ ap (λ (h : Option Entry). left_of machine builder (is_none h)) none)
-
-pub next-Spent : (machine : Machine) (arch builder : List ℕ) (entry : Entry) → MayAsk machine arch builder → head_of machine arch ≡ Some entry
-    → (nat_le count_limit machine.accepted || nat_le count_limit machine.handed) ≡ true → step machine (Next arch builder) ≡ (Err Spent, machine)
-unfolding left_of
-next-Spent machine arch builder entry may some spent =
-    step-refused machine (Next arch builder) Spent (first_refusal-next machine arch builder may ∙ ap (λ (h : Option Entry). left_of machine builder (is_none h)) some
-    ∙ ap (λ b. or_refusal (when b Spent) None) spent)
-
-pub next-accepted : (machine : Machine) (arch builder : List ℕ) (entry : Entry) → MayAsk machine arch builder → head_of machine arch ≡ Some entry
-    → (nat_le count_limit machine.accepted || nat_le count_limit machine.handed) ≡ false → step machine (Next arch builder) ≡ hand_out machine builder (Some entry)
-unfolding left_of
-next-accepted machine arch builder entry may some room =
-    step-accepted machine (Next arch builder) (first_refusal-next machine arch builder may ∙ ap (λ (h : Option Entry). left_of machine builder (is_none h)) some
-    ∙ ap (λ b. or_refusal (when b Spent) None) room)
-    ∙ ap (hand_out machine builder) some
+pub next-head : (machine : Machine) (arch builder : List ℕ) (after : Option ℕ) → has_bad_name (Next arch builder after) ≡ false
+    → builder_refusal machine arch builder ≡ None → is_ahead machine (Next arch builder after) ≡ false
+    → again_of machine (Next arch builder after) ≡ None
+    → step machine (Next arch builder after) ≡ head_step machine arch builder
+unfolding step head_step
+next-head machine arch builder after bad is later told =
+    let first : first_refusal machine (Next arch builder after) ≡ queue_checks machine builder true (head_of machine arch) =
+    next-checks machine arch builder after false false None bad later told ∙ builder_first-None machine arch builder after _ is in
+    (λ i. outcome (first i) (told i) machine (Next arch builder after))
+    ∙ outcome-None (queue_checks machine builder true (head_of machine arch)) machine (Next arch builder after)
+    ∙ head-answer machine arch builder after
 
 -- the head of the queue, by the name and the record that the store gives for it
 pub head-named : (machine : Machine) (arch source : List ℕ) (current : Record) → Some (source, current) ≡ option_map named (head_of machine arch)
@@ -79,73 +154,44 @@ head-named machine arch source current is = found (head_of machine arch) refl is
       only : (x y : List ℕ × Record) → Some x ≡ Some y → x ≡ y
       only x y e = cc
 
-pub head-none : (machine : Machine) (arch : List ℕ) → None ≡ option_map named (head_of machine arch) → head_of machine arch ≡ None
+head-none : (machine : Machine) (arch : List ℕ) → None ≡ option_map named (head_of machine arch) → head_of machine arch ≡ None
 head-none machine arch is = found (head_of machine arch) is where
   found : (head : Option Entry) → None ≡ option_map named head → head ≡ None
   found None e = refl
   found (Some entry) e = cc
 
-fault_of-refused : (text : List ℕ) (fault : VersionFault) → reading_of text ≡ Err fault → fault_of text ≡ Some fault
-unfolding reading_of
-fault_of-refused text fault = found (fault_of text) where
-  found : (first : Option VersionFault) → outcome first (parts_of text) ≡ Err fault → first ≡ Some fault
-  found None is = cc
-  found (Some other) is = cc
+pub head_step-QueueEmpty : (machine : Machine) (arch builder : List ℕ) → None ≡ option_map named (head_of machine arch)
+    → head_step machine arch builder ≡ (Err QueueEmpty, machine)
+unfolding head_step
+head_step-QueueEmpty machine arch builder is = ap (head_at machine builder) (head-none machine arch is)
 
-pub fault_of-read : (text : List ℕ) → IsOk (reading_of text) → fault_of text ≡ None
-unfolding reading_of
-fault_of-read text = found (fault_of text) where
-  found : (first : Option VersionFault) → IsOk (outcome first (parts_of text)) → first ≡ None
-  found None is = refl
-  found (Some other) is = cc
+pub head_step-job : (machine : Machine) (arch builder source : List ℕ) (current : Record) → Some (source, current) ≡ option_map named (head_of machine arch)
+    → head_step machine arch builder ≡ job_step machine builder ((arch, source), current)
+unfolding head_step
+head_step-job machine arch builder source current is = ap (head_at machine builder) (head-named machine arch source current is)
 
--- the refusal of a text that is no version is that of its fault
-pub read-refused : (text : List ℕ) (fault : VersionFault) → (fault ≢ NoMemory → reading_of text ≡ Err fault) → refusal_of_fault fault ≢ Memory
-    → option_map BadVersion (fault_of text) ≡ Some (refusal_of_fault fault)
-read-refused text Empty reads differs = ap (option_map BadVersion) (fault_of-refused text Empty (reads (λ e. cc)))
-read-refused text EpochEmpty reads differs = ap (option_map BadVersion) (fault_of-refused text EpochEmpty (reads (λ e. cc)))
-read-refused text EpochNotNumber reads differs = ap (option_map BadVersion) (fault_of-refused text EpochNotNumber (reads (λ e. cc)))
-read-refused text EpochTooLarge reads differs = ap (option_map BadVersion) (fault_of-refused text EpochTooLarge (reads (λ e. cc)))
-read-refused text UpstreamEmpty reads differs = ap (option_map BadVersion) (fault_of-refused text UpstreamEmpty (reads (λ e. cc)))
-read-refused text (UpstreamBad place) reads differs = ap (option_map BadVersion) (fault_of-refused text (UpstreamBad place) (reads (λ e. cc)))
-read-refused text RevisionEmpty reads differs = ap (option_map BadVersion) (fault_of-refused text RevisionEmpty (reads (λ e. cc)))
-read-refused text (RevisionBad place) reads differs = ap (option_map BadVersion) (fault_of-refused text (RevisionBad place) (reads (λ e. cc)))
-read-refused text TooLong reads differs = ap (option_map BadVersion) (fault_of-refused text TooLong (reads (λ e. cc)))
-read-refused text NoMemory reads differs = absurd (differs refl)
+none-told : (entry : Option Entry) → None ≡ option_map told_of entry → entry ≡ None
+none-told None is = refl
+none-told (Some entry) is = cc
 
--- what the calls on the store leave is what the definition of handing out says
-pub hand_out-is : (machine put new : Machine) (counts : Counts) (arch source builder own_arch own_source : List ℕ) (current held : Record) (assignment : Assignment)
-    → counts ≡ record { handed = machine.handed; accepted = machine.accepted }
-    → assignment ≡ assignment_of arch source (counts.handed + 1) current
-    → held ≡ taken_by builder (counts.handed + 1) current
-    → own_arch ≡ arch → own_source ≡ source
-    → put ≡ record machine { records = map.insert machine.records (own_arch, own_source) held }
-    → new ≡ record put { handed = counts.handed + 1; accepted = counts.accepted + 1 }
-    → hand_out machine builder (Some ((arch, source), current)) ≡ (Ok (Job (counts.accepted + 1) assignment), new)
-hand_out-is machine put new counts arch source builder own_arch own_source current held assignment of_counts of_assignment of_held of_arch of_source of_put of_new =
-    let told : assignment ≡ assignment_of arch source (machine.handed + 1) current =
-    of_assignment ∙ ap (λ (k : Counts). assignment_of arch source (k.handed + 1) current) of_counts in
-    let kept : held ≡ taken_by builder (machine.handed + 1) current = of_held ∙ ap (λ (k : Counts). taken_by builder (k.handed + 1) current) of_counts in
-    let moved : put ≡ record machine { records = map.insert machine.records (arch, source) (taken_by builder (machine.handed + 1) current) } =
-    of_put ∙ (λ i. record machine { records = map.insert machine.records (of_arch i, of_source i) (kept i) }) in
-    let left : new ≡ record machine {
-      records = map.insert machine.records (arch, source) (taken_by builder (machine.handed + 1) current);
-      handed = machine.handed + 1;
-      accepted = machine.accepted + 1;
-    } = of_new ∙ (λ i. record (moved i) { handed = (of_counts i).handed + 1; accepted = (of_counts i).accepted + 1 }) in
-    sym (pair (ap (λ (k : Counts). k.accepted + 1) of_counts) told left)
-  where
-    pair : {n m : ℕ} {a b : Assignment} {s t : Machine} → n ≡ m → a ≡ b → s ≡ t → (let left : Outcome = (Ok (Job n a), s) in left) ≡ (Ok (Job m b), t)
-    pair e f g i = (Ok (Job (e i) (f i)), g i)
+pub next-new : (machine : Machine) (arch builder : List ℕ) (after : Option ℕ) → has_bad_name (Next arch builder after) ≡ false
+    → builder_refusal machine arch builder ≡ None → is_ahead machine (Next arch builder after) ≡ false
+    → None ≡ option_map told_of (again_of machine (Next arch builder after))
+    → step machine (Next arch builder after) ≡ head_step machine arch builder
+next-new machine arch builder after bad is later told =
+    next-head machine arch builder after bad is later (none-told (again_of machine (Next arch builder after)) told)
 
--- counts below the limit leave room for one more
-pub room-is : (machine : Machine) (counts : Counts) → counts ≡ record { handed = machine.handed; accepted = machine.accepted }
-    → (counts.accepted < count_limit) × (counts.handed < count_limit) → (nat_le count_limit machine.accepted || nat_le count_limit machine.handed) ≡ false
-room-is machine counts is room =
-    let accepted : machine.accepted < count_limit = subst (λ (k : Counts). k.accepted < count_limit) is room.0 in
-    let handed : machine.handed < count_limit = subst (λ (k : Counts). k.handed < count_limit) is room.1 in
-    neither _ _ (lt-leb count_limit machine.accepted accepted) (lt-leb count_limit machine.handed handed)
-  where
-    neither : (a b : Bool) → a ≡ false → b ≡ false → (a || b) ≡ false
-    neither true b p q = p
-    neither false b p q = q
+pub next-told : (machine : Machine) (arch builder : List ℕ) (after : Option ℕ) (assignment : Assignment) → has_bad_name (Next arch builder after) ≡ false
+    → builder_refusal machine arch builder ≡ None → is_ahead machine (Next arch builder after) ≡ false
+    → Some assignment ≡ option_map told_of (again_of machine (Next arch builder after))
+    → step machine (Next arch builder after) ≡ (Ok (Again machine.accepted assignment), machine)
+next-told machine arch builder after assignment bad is later told = found (again_of machine (Next arch builder after)) refl told where
+  found : (entry : Option Entry) → again_of machine (Next arch builder after) ≡ entry → Some assignment ≡ option_map told_of entry
+      → step machine (Next arch builder after) ≡ (Ok (Again machine.accepted assignment), machine)
+  found None at e = cc
+  found (Some entry) at e =
+      let same : assignment ≡ told_of entry = only assignment (told_of entry) e in
+      next-Again machine arch builder after entry bad is later at ∙ (λ i. (Ok (Again machine.accepted (sym same i)), machine))
+    where
+      only : (x y : Assignment) → Some x ≡ Some y → x ≡ y
+      only x y e = cc

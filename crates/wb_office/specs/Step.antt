@@ -3,22 +3,27 @@ use Rattle.std.specs.Prelude.{ℕ, ◌+◌, false, List, [], Option, Some, None,
 use Rattle.std.specs.FinMap as map
 use Rattle.std.specs.FinSet as set
 use Rattle.wb_states.specs.declared.command.Command.{Command}
-use Rattle.wb_states.specs.declared.command.Command.TheVariants.{AddArch, AddBuilder, Enter, Next}
+use Rattle.wb_states.specs.declared.command.Command.TheVariants.{AddArch, AddBuilder, Enter, Next, Take, Merge}
+use Rattle.wb_states.specs.declared.moves.Move.{Move}
 use Rattle.wb_states.specs.declared.record.Record.{Record}
 use Rattle.wb_states.specs.declared.reply.Assignment.{Assignment}
 use Rattle.wb_states.specs.declared.reply.Reply.{Reply}
-use Rattle.wb_states.specs.declared.reply.Reply.TheVariants.{Done, Job}
+use Rattle.wb_states.specs.declared.reply.Reply.TheVariants.{Done, Job, Again, Merged}
 use Rattle.wb_states.specs.declared.refusal.Refusal.{Refusal}
-use Rattle.wb_states.specs.declared.refusal.Refusal.TheVariants.{QueueEmpty}
 use Rattle.wb_states.specs.declared.state.State.TheVariants.{NeedsBuild}
+use Rattle.wb_states.specs.Holds.{take_of}
 use Rattle.wb_states.specs.Machine.{Machine}
-use Rattle.wb_states.specs.Moves.{build_text_of, taken_by}
-use Rattle.wb_states.specs.Queue.{Entry, head_of}
+use Rattle.wb_states.specs.Moves.{build_text_of, moved}
+use Rattle.wb_states.specs.Queue.{Entry}
 use Rattle.wb_office.specs.Checks.{first_refusal}
+use Rattle.wb_office.specs.Moving.{again_of, moving, target_of}
+use Rattle.wb_office.specs.Parts.{part_replies, records_after}
 
 -- the answer to a command, and the state after it
 abbrev pub Outcome : Type 0
 Outcome = Result Reply Refusal × Machine
+
+-- ---- the state after a command that is accepted, but for the count of these
 
 -- the record of a source package that is entered: it waits for its first build
 abbrev pub entered : List ℕ → List ℕ → List ℕ → Record
@@ -37,48 +42,68 @@ entered version priority section = record {
   message = [];
 }
 
--- what a builder is handed with a record
-abbrev pub assignment_of : List ℕ → List ℕ → ℕ → Record → Assignment
-assignment_of arch source take_number current = record {
-  arch = arch;
-  source = source;
-  version = current.version;
-  build = build_text_of current;
-  number = current.number;
-  message = current.message;
+-- a record is moved
+abbrev pub after_move : Machine → Option (Entry × Move) → Machine
+after_move machine None = machine
+after_move machine (Some asked) =
+    record machine { records = map.insert machine.records asked.0.0 (moved asked.1 asked.0.1) }
+
+-- a record is moved under a new take number
+abbrev pub after_take : Machine → Option (Entry × Move) → Machine
+after_take machine asked = record (after_move machine asked) { handed = machine.handed + 1 }
+
+-- the state after a command
+abbrev pub change : Machine → Command → Machine
+change machine (AddArch name os cpu) =
+    record machine { archs = map.insert machine.archs name (record { os = os; cpu = cpu }) }
+change machine (AddBuilder name arch) = record machine { builders = set.insert machine.builders (name, arch) }
+change machine (Enter arch source version priority section) =
+    record machine { records = map.insert machine.records (arch, source) (entered version priority section) }
+change machine (Next arch builder after) = after_take machine (moving machine (Next arch builder after))
+change machine (Take arch builder source version) = after_take machine (moving machine (Take arch builder source version))
+change machine (Merge sources parts) =
+    record machine { records = records_after machine sources parts machine.records }
+change machine command = after_move machine (moving machine command)
+
+-- ---- the reply to a command that is accepted
+
+-- what a builder is handed with a record, under this take number
+abbrev pub assignment_of : Entry → ℕ → Assignment
+assignment_of entry take_number = record {
+  arch = entry.0.0;
+  source = entry.0.1;
+  version = entry.1.version;
+  build = build_text_of entry.1;
+  number = entry.1.number;
+  message = entry.1.message;
   take = take_number;
 }
 
--- it is done, and one more command is accepted
-abbrev pub done : Machine → Outcome
-done machine = (Ok (Done (machine.accepted + 1)), record machine { accepted = machine.accepted + 1 })
+-- the reply with what a builder is handed
+abbrev pub job_of : Machine → Option Entry → Reply
+job_of machine None = Done (machine.accepted + 1)
+job_of machine (Some entry) = Job (machine.accepted + 1) (assignment_of entry (machine.handed + 1))
 
--- the builder is handed this record, under the take number after the last that was given
-abbrev pub hand_out : Machine → List ℕ → Option Entry → Outcome
-hand_out machine builder None = (Err QueueEmpty, machine)
-hand_out machine builder (Some entry) = (
-  Ok (Job (machine.accepted + 1) (assignment_of entry.0.0 entry.0.1 (machine.handed + 1) entry.1)),
-  record machine {
-    records = map.insert machine.records entry.0 (taken_by builder (machine.handed + 1) entry.1);
-    handed = machine.handed + 1;
-    accepted = machine.accepted + 1;
-  },
-)
+-- the reply to a command
+abbrev pub reply_to : Machine → Command → Reply
+reply_to machine (Next arch builder after) = job_of machine (target_of machine (Next arch builder after))
+reply_to machine (Take arch builder source version) = job_of machine (target_of machine (Take arch builder source version))
+reply_to machine (Merge sources parts) =
+    Merged (machine.accepted + 1) (part_replies machine sources parts machine.records)
+reply_to machine command = Done (machine.accepted + 1)
 
--- what a command does that is not refused
-abbrev pub accept : Machine → Command → Outcome
-accept machine (AddArch name os cpu) =
-    done (record machine { archs = map.insert machine.archs name (record { os = os; cpu = cpu }) })
-accept machine (AddBuilder name arch) = done (record machine { builders = set.insert machine.builders (name, arch) })
-accept machine (Enter arch source version priority section) =
-    done (record machine { records = map.insert machine.records (arch, source) (entered version priority section) })
-accept machine (Next arch builder) = hand_out machine builder (head_of machine arch)
+-- ---- the step
 
--- a refusal leaves the state as it was
-abbrev pub unless_refused : Option Refusal → Machine → Outcome → Outcome
-unless_refused (Some refusal) machine outcome = (Err refusal, machine)
-unless_refused None machine outcome = outcome
+-- the state with one more accepted command
+abbrev pub counted : Machine → Machine → Machine
+counted machine after = record after { accepted = machine.accepted + 1 }
 
--- the answer to a command and the state after it: the first refusal in the one order, or what the command does
+-- what is answered and done: a refusal leaves the state as it was, and so does what a builder is told again
+abbrev pub outcome : Option Refusal → Option Entry → Machine → Command → Outcome
+outcome (Some refusal) again machine command = (Err refusal, machine)
+outcome None (Some entry) machine command = (Ok (Again machine.accepted (assignment_of entry (take_of entry))), machine)
+outcome None None machine command = (Ok (reply_to machine command), counted machine (change machine command))
+
+-- the answer to a command and the state after it
 unfoldable pub step : Machine → Command → Outcome
-step machine command = unless_refused (first_refusal machine command) machine (accept machine command)
+step machine command = outcome (first_refusal machine command) (again_of machine command) machine command

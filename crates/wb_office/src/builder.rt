@@ -1,60 +1,45 @@
-//! The commands of builders.
-ghost use Rattle.std.specs.Prelude.{◌≡◌, ◌≢◌, IfOk, IfErr, OnErr};
-ghost use Rattle.wb_states.specs.declared.command.Command.TheVariants.{Next};
+//! The commands by which builders take source packages.
+ghost use Rattle.std.specs.Prelude.{◌≡◌, ◌≢◌, ◌+◌, ◌||◌, None, Some, false, nat_le, Ok, Err, OnOk, IfOk, IfErr, OnErr};
+ghost use Rattle.std.specs.FinMap as map;
+ghost use Rattle.wb_states.specs.declared.command.Command.TheVariants.{Next, Take};
+ghost use Rattle.wb_states.specs.declared.moves.Move.TheVariants as to;
 ghost use Rattle.wb_states.specs.declared.refusal.Refusal.TheVariants.{Memory};
-ghost use Rattle.wb_states.specs.declared.state.State.TheVariants.{NeedsBuild};
-ghost use Rattle.wb_states.specs.Moves.{taken_by};
+ghost use Rattle.wb_states.specs.declared.reply.Reply.TheVariants.{Job};
+ghost use Rattle.wb_states.specs.Limits.{count_limit};
+ghost use Rattle.wb_states.specs.Moves.{move_refusal, moved};
+ghost use Rattle.wb_office.specs.Found.{builder_refusal, head_step, job_step, take_move, take_step};
 ghost use Rattle.wb_office.specs.Step.{step, assignment_of};
 
-use crate::checks;
+use crate::again::told_again;
+use crate::checks::{
+    find_source, is_ahead, is_for_others, is_job_spent, lacks_arch, lacks_builder,
+};
+use crate::forms::{is_bad_asker, is_bad_taker};
+use crate::moved::{Moved, move_checked};
+use crate::texts::read_version;
+use deb_relations::Text;
+use deb_version::Version;
 use std::alloc::Global;
-use wb_states::{Assignment, Counts, Move, Record, Refusal, Reply, Text, build_text, move_record};
+use wb_states::{Assignment, COUNT_LIMIT, Counts, Move, Record, Refusal, Reply, build_text};
 use wb_store::Store;
 
-/// Hands the head of the architecture's queue to the builder, under the take number after the last.
-#[tactic(auto, unfolding(crate::specs::Step::step))]
-pub(crate) fn next(
-    alloc: Global,
-    store: &mut Store,
-    arch: &Text,
-    builder: &Text,
-) -> Result<Reply, Refusal>
-    ensures reply { IfOk result (λ reply. step store.old (Next arch.now builder.now) ≡ (Ok reply, store.new)) }
-    ensures refused { IfErr result (λ refusal. refusal ≢ Memory
-        → step store.old (Next arch.now builder.now) ≡ (Err refusal, store.old)) }
-    ensures unchanged { OnErr result (store.new ≡ store.old) }
-{
-    checks::check_next(store, arch, builder)?;
-    let Some((source, current)) = store.head(arch) else {
-        return Err(Refusal::QueueEmpty);
-    };
-    let counts = store.office_row();
-    checks::check_take(counts)?;
-    let take = counts.handed + 1;
-    let accepted = counts.accepted + 1;
-    let assignment = assignment(alloc, arch, source, current, take)?;
-    let held = held_record(alloc, current, builder, take)?;
-    let source = source.clone()?;
-    store.put(arch.clone()?, source, held)?;
-    store.set_counts(Counts {
-        handed: take,
-        accepted,
-    });
-    Ok(Reply::Job {
-        accepted,
-        assignment,
-    })
+/// A record after a builder took it, and what the builder is told.
+#[derive(Drop)]
+pub(crate) struct Handed {
+    pub(crate) made: Moved,
+    pub(crate) assignment: Assignment,
 }
 
-/// What the builder is told of the record that it is handed.
-fn assignment(
+/// What the builder is told of a record that it has.
+pub(crate) fn assignment(
     alloc: Global,
     arch: &Text,
     source: &Text,
     current: &Record,
     take_number: u64,
 ) -> Result<Assignment, Refusal>
-    ensures value { IfOk result (λ made. made ≡ assignment_of arch.now source.now take_number current.now) }
+    ensures value { IfOk result (λ made. made
+        ≡ assignment_of ((arch.now, source.now), current.now) take_number) }
     ensures refused { IfErr result (λ refusal. refusal ≡ Memory) }
 {
     Ok(Assignment {
@@ -68,23 +53,210 @@ fn assignment(
     })
 }
 
-/// The record after a builder took it.
-fn held_record(
+/// The take number after the last, where one can be given.
+fn next_take(store: &Store) -> u64
+    ensures value { nat_le count_limit store.now.handed ≡ false → result ≡ store.now.handed + 1 }
+{
+    let handed = store.office_row().handed;
+    if handed < COUNT_LIMIT {
+        handed + 1
+    } else {
+        handed
+    }
+}
+
+/// The record after the builder took it under this take number.
+fn take_checked(
     alloc: Global,
     current: &Record,
     builder: &Text,
     take_number: u64,
 ) -> Result<Record, Refusal>
-    requires { current.now.state ≡ NeedsBuild }
-    ensures value { IfOk result (λ held. held ≡ taken_by builder.now take_number current.now) }
-    ensures refused { IfErr result (λ refusal. refusal ≡ Memory) }
+    ensures value { IfOk result (λ after. after ≡ moved (to.Take builder.now take_number) current.now) }
+    ensures ok { OnOk result (move_refusal (to.Take builder.now take_number) current.now ≡ None) }
+    ensures refused { IfErr result (λ refusal. refusal ≢ Memory
+        → move_refusal (to.Take builder.now take_number) current.now ≡ Some refusal) }
 {
     let change = Move::Take {
         holder: builder.clone()?,
         take_number,
     };
-    match move_record(alloc, current, &change) {
-        Ok(held) => Ok(held),
-        Err(_) => Err(Refusal::Memory),
+    move_checked(alloc, current, &change)
+}
+
+/// The record after the builder took it, and what the builder is told, where both counts have room.
+/// Nothing is written.
+pub(crate) fn prepare_job(
+    alloc: Global,
+    store: &Store,
+    arch: &Text,
+    source: &Text,
+    current: &Record,
+    builder: &Text,
+) -> Result<Handed, Refusal>
+    ensures key { IfOk result (λ job. (job.made.arch ≡ arch.now) × (job.made.source ≡ source.now)) }
+    ensures value { IfOk result (λ job. job.made.after ≡ moved (take_move store.now builder.now) current.now) }
+    ensures told { IfOk result (λ job. job.assignment
+        ≡ assignment_of ((arch.now, source.now), current.now) (store.now.handed + 1)) }
+    ensures ok { OnOk result (move_refusal (take_move store.now builder.now) current.now ≡ None) }
+    ensures room { OnOk result ((nat_le count_limit store.now.accepted || nat_le count_limit store.now.handed) ≡ false) }
+    ensures refused { IfErr result (λ refusal. refusal ≢ Memory
+        → job_step store.now builder.now ((arch.now, source.now), current.now) ≡ (Err refusal, store.now)) }
+{
+    let take_number = next_take(store);
+    let after = take_checked(alloc, current, builder, take_number)?;
+    if is_job_spent(store) {
+        return Err(Refusal::Spent);
     }
+    let assignment = assignment(alloc, arch, source, current, take_number)?;
+    Ok(Handed {
+        made: Moved {
+            arch: arch.clone()?,
+            source: source.clone()?,
+            after,
+        },
+        assignment,
+    })
+}
+
+/// Writes the record that a builder took, and counts the take number and the command.
+pub(crate) fn keep_job(store: &mut Store, job: Handed) -> Result<Reply, Refusal>
+    requires { (nat_le count_limit store.old.accepted || nat_le count_limit store.old.handed) ≡ false }
+    ensures reply { IfOk result (λ reply. reply ≡ Job (store.old.accepted + 1) job.assignment) }
+    ensures ok { OnOk result (store.new ≡ record store.old {
+      records = map.insert store.old.records (job.made.arch, job.made.source) job.made.after;
+      handed = store.old.handed + 1;
+      accepted = store.old.accepted + 1;
+    }) }
+    ensures refused { IfErr result (λ refusal. refusal ≡ Memory) }
+    ensures unchanged { OnErr result (store.new ≡ store.old) }
+{
+    let counts = store.office_row();
+    let handed = counts.handed + 1;
+    let accepted = counts.accepted + 1;
+    store.put(job.made.arch, job.made.source, job.made.after)?;
+    store.set_counts(Counts { handed, accepted });
+    Ok(Reply::Job {
+        accepted,
+        assignment: job.assignment,
+    })
+}
+
+/// Whether the builder may build for the architecture.
+pub(crate) fn check_builds(store: &Store, arch: &Text, builder: &Text) -> Result<(), Refusal>
+    ensures ok { OnOk result (builder_refusal store.now arch.now builder.now ≡ None) }
+    ensures refused { IfErr result (λ refusal. refusal ≢ Memory
+        → builder_refusal store.now arch.now builder.now ≡ Some refusal) }
+{
+    if lacks_arch(store, arch) {
+        return Err(Refusal::UnknownArch);
+    }
+    let is_unknown = lacks_builder(store, builder)?;
+    if is_unknown {
+        return Err(Refusal::UnknownBuilder);
+    }
+    let is_other = is_for_others(store, arch, builder)?;
+    if is_other {
+        return Err(Refusal::WrongArch);
+    }
+    Ok(())
+}
+
+/// Hands the head of the architecture's queue to the builder, under the take number after the last.
+fn next_head(
+    alloc: Global,
+    store: &mut Store,
+    arch: &Text,
+    builder: &Text,
+) -> Result<Reply, Refusal>
+    ensures reply { IfOk result (λ reply. head_step store.old arch.now builder.now ≡ (Ok reply, store.new)) }
+    ensures refused { IfErr result (λ refusal. refusal ≢ Memory
+        → head_step store.old arch.now builder.now ≡ (Err refusal, store.old)) }
+    ensures unchanged { OnErr result (store.new ≡ store.old) }
+{
+    let Some((source, current)) = store.head(arch) else {
+        return Err(Refusal::QueueEmpty);
+    };
+    let job = prepare_job(alloc, store, arch, source, current, builder)?;
+    Ok(keep_job(store, job)?)
+}
+
+/// Hands the head of the architecture's queue to the builder, or tells it again what it builds there
+/// under the least take number after the one that it knows of.
+pub(crate) fn next(
+    alloc: Global,
+    store: &mut Store,
+    arch: &Text,
+    builder: &Text,
+    after: Option<u64>,
+) -> Result<Reply, Refusal>
+    ensures reply { IfOk result (λ reply. step store.old (Next arch.now builder.now after) ≡ (Ok reply, store.new)) }
+    ensures refused { IfErr result (λ refusal. refusal ≢ Memory
+        → step store.old (Next arch.now builder.now after) ≡ (Err refusal, store.old)) }
+    ensures unchanged { OnErr result (store.new ≡ store.old) }
+{
+    if is_bad_asker(arch, builder) {
+        return Err(Refusal::BadName);
+    }
+    check_builds(store, arch, builder)?;
+    if is_ahead(store, after) {
+        let counts = store.office_row();
+        return Err(Refusal::AfterAhead {
+            handed: counts.handed,
+        });
+    }
+    let told = told_again(alloc, store, arch, builder, after)?;
+    match told {
+        None => Ok(next_head(alloc, store, arch, builder)?),
+        Some(assignment) => {
+            let row = store.office_row();
+            Ok(Reply::Again {
+                accepted: row.accepted,
+                assignment,
+            })
+        }
+    }
+}
+
+/// Hands the source package to the builder, if it is of the version and waits in the queue.
+fn take_named(
+    alloc: Global,
+    store: &mut Store,
+    arch: &Text,
+    builder: &Text,
+    source: &Text,
+    version: &Version,
+) -> Result<Reply, Refusal>
+    ensures reply { IfOk result (λ reply.
+        take_step store.old arch.now builder.now source.now version.now ≡ (Ok reply, store.new)) }
+    ensures refused { IfErr result (λ refusal. refusal ≢ Memory
+        → take_step store.old arch.now builder.now source.now version.now ≡ (Err refusal, store.old)) }
+    ensures unchanged { OnErr result (store.new ≡ store.old) }
+{
+    check_builds(store, arch, builder)?;
+    let current = find_source(alloc, store, arch, source, version)?;
+    let job = prepare_job(alloc, store, arch, source, current, builder)?;
+    Ok(keep_job(store, job)?)
+}
+
+/// Hands the source package that the builder names to it, under the take number after the last.
+pub(crate) fn take(
+    alloc: Global,
+    store: &mut Store,
+    arch: &Text,
+    builder: &Text,
+    source: &Text,
+    version: &Text,
+) -> Result<Reply, Refusal>
+    ensures reply { IfOk result (λ reply.
+        step store.old (Take arch.now builder.now source.now version.now) ≡ (Ok reply, store.new)) }
+    ensures refused { IfErr result (λ refusal. refusal ≢ Memory
+        → step store.old (Take arch.now builder.now source.now version.now) ≡ (Err refusal, store.old)) }
+    ensures unchanged { OnErr result (store.new ≡ store.old) }
+{
+    if is_bad_taker(arch, builder, source) {
+        return Err(Refusal::BadName);
+    }
+    let read = read_version(alloc, version)?;
+    Ok(take_named(alloc, store, arch, builder, source, &read)?)
 }

@@ -1,160 +1,122 @@
-//! The checks of commands, in the one order.
-ghost use Rattle.std.specs.Prelude.{◌≡◌, ◌≢◌, ◌<◌, ◌≤◌, ◌||◌, nat_le, None, Some, true, OnOk, IfOk, IfErr};
-ghost use Rattle.std.specs.Option.{option_map};
-ghost use Rattle.deb_version.specs.Syntax.{fault_of};
-ghost use Rattle.wb_states.specs.declared.command.Command.TheVariants.{AddArch, AddBuilder, Enter, Next};
-ghost use Rattle.wb_states.specs.declared.refusal.Refusal.TheVariants.{Memory, BadVersion};
+//! The checks of commands by what the office has.
+ghost use Rattle.std.specs.Prelude.{◌≡◌, ◌≢◌, [], None, Some, not, nat_le, ◌||◌, IfOk, IfErr};
+ghost use Rattle.std.specs.FinMap as map;
+ghost use Rattle.std.specs.FinSet as set;
+ghost use Rattle.wb_states.specs.declared.command.Command.TheVariants.{Next};
 ghost use Rattle.wb_states.specs.Limits.{count_limit};
-ghost use Rattle.wb_office.specs.Checks.{first_refusal, MayAsk, refusal_of_fault};
+ghost use Rattle.wb_states.specs.declared.refusal.Refusal.TheVariants.{Memory};
+ghost use Rattle.wb_states.specs.Machine.{archs_of, arch_words};
+ghost use Rattle.wb_office.specs.Checks.{differing, is_ahead, is_empty_list};
+ghost use Rattle.wb_office.specs.Found.{found_refusal};
 
-use deb_version::{Version, VersionFault};
-use std::alloc::Global;
-use wb_states::{
-    COUNT_LIMIT, Counts, Refusal, Text, is_arch, is_builder, is_label, is_os_cpu, is_source,
-};
+use deb_relations::{ArchWords, Text};
+use deb_version::{Version, compare};
+use std::alloc::{AllocError, Global};
+use wb_states::{COUNT_LIMIT, Record, Refusal};
 use wb_store::Store;
 
-/// The checks of a command that adds an architecture.
-#[tactic(auto, unfolding(crate::specs::Checks::first_refusal))]
-pub(crate) fn check_add_arch(
-    store: &Store,
-    name: &Text,
-    os: &Text,
-    cpu: &Text,
-) -> Result<(), Refusal>
-    ensures ok { OnOk result (first_refusal store.now (AddArch name.now os.now cpu.now) ≡ None) }
-    ensures refused { IfErr result (λ refusal. first_refusal store.now (AddArch name.now os.now cpu.now) ≡ Some refusal) }
-    ensures room { OnOk result (store.now.accepted < count_limit) }
+/// Whether the architecture was never added.
+pub(crate) fn lacks_arch(store: &Store, arch: &Text) -> bool
+    ensures value { result ≡ not (map.contains_key store.now.archs arch.now) }
 {
-    if !(is_arch(name.as_str()) && is_os_cpu(os.as_str()) && is_os_cpu(cpu.as_str())) {
-        return Err(Refusal::BadName);
-    }
-    if store.arch(name).is_some() {
-        return Err(Refusal::AlreadyThere);
-    }
-    check_room(store.office_row())
+    store.arch(arch).is_none()
 }
 
-/// The last check of every command but those that hand out.
-fn check_room(counts: Counts) -> Result<(), Refusal>
-    ensures ok { OnOk result (counts.accepted < count_limit) }
-    ensures refused { IfErr result (λ refusal. (refusal ≡ Refusal.Spent) × (count_limit ≤ counts.accepted)) }
+/// Whether the architecture was added.
+pub(crate) fn has_arch(store: &Store, arch: &Text) -> bool
+    ensures value { result ≡ map.contains_key store.now.archs arch.now }
 {
-    if counts.accepted >= COUNT_LIMIT {
-        return Err(Refusal::Spent);
-    }
-    Ok(())
+    store.arch(arch).is_some()
 }
 
-/// The checks of a command that lets a builder build for an architecture.
-#[tactic(auto, unfolding(crate::specs::Checks::first_refusal))]
-pub(crate) fn check_add_builder(store: &Store, name: &Text, arch: &Text) -> Result<(), Refusal>
-    ensures ok { OnOk result (first_refusal store.now (AddBuilder name.now arch.now) ≡ None) }
-    ensures refused { IfErr result (λ refusal. refusal ≢ Memory
-        → first_refusal store.now (AddBuilder name.now arch.now) ≡ Some refusal) }
-    ensures room { OnOk result (store.now.accepted < count_limit) }
+/// Whether the source package has a record on the architecture.
+pub(crate) fn has_record(store: &Store, arch: &Text, source: &Text) -> Result<bool, AllocError>
+    ensures value { IfOk result (λ has. has ≡ map.contains_key store.now.records (arch.now, source.now)) }
 {
-    if !(is_builder(name.as_str()) && is_arch(arch.as_str())) {
-        return Err(Refusal::BadName);
-    }
-    if store.arch(arch).is_none() {
-        return Err(Refusal::UnknownArch);
-    }
-    if store.has_builder(name, arch)? {
-        return Err(Refusal::AlreadyThere);
-    }
-    check_room(store.office_row())
+    Ok(store.get(arch, source)?.is_some())
 }
 
-/// The checks of a command that enters a source package, and its version as it is read.
-#[tactic(auto, unfolding(crate::specs::Checks::first_refusal))]
-pub(crate) fn check_enter(
+/// Whether the builder was added for no architecture.
+pub(crate) fn lacks_builder(store: &Store, builder: &Text) -> Result<bool, AllocError>
+    ensures value { IfOk result (λ lacks. lacks ≡ is_empty_list (archs_of store.now builder.now)) }
+{
+    Ok(store.archs_of(builder)?.is_empty())
+}
+
+/// Whether the builder was not added for the architecture.
+pub(crate) fn is_for_others(store: &Store, arch: &Text, builder: &Text) -> Result<bool, AllocError>
+    ensures value { IfOk result (λ is_other. is_other
+        ≡ not (set.contains store.now.builders (builder.now, arch.now))) }
+{
+    Ok(!store.has_builder(builder, arch)?)
+}
+
+/// Whether the take number after which a builder asks was not given yet.
+pub(crate) fn is_ahead(store: &Store, after: Option<u64>) -> bool
+    ensures value { result ≡ is_ahead store.now (Next [] [] after) }
+{
+    match after {
+        None => false,
+        Some(after) => store.office_row().handed < after,
+    }
+}
+
+/// Whether no more command can be counted.
+pub(crate) fn is_spent(store: &Store) -> bool
+    ensures value { result ≡ nat_le count_limit store.now.accepted }
+{
+    COUNT_LIMIT <= store.office_row().accepted
+}
+
+/// Whether no more assignment can be counted.
+pub(crate) fn is_job_spent(store: &Store) -> bool
+    ensures value { result ≡ (nat_le count_limit store.now.accepted || nat_le count_limit store.now.handed) }
+{
+    let counts = store.office_row();
+    COUNT_LIMIT <= counts.accepted || COUNT_LIMIT <= counts.handed
+}
+
+/// The architecture with its words, which are empty where it was never added.
+#[tactic(auto, unfolding(wb_states::specs::Machine::arch_words))]
+pub(crate) fn words_of(alloc: Global, store: &Store, arch: &Text) -> Result<ArchWords, Refusal>
+    ensures value { IfOk result (λ words. words ≡ arch_words store.now arch.now) }
+    ensures refused { IfErr result (λ refusal. refusal ≡ Memory) }
+{
+    match store.arch(arch) {
+        None => Ok(ArchWords {
+            name: arch.clone()?,
+            os: Text::new(alloc),
+            cpu: Text::new(alloc),
+        }),
+        Some(words) => Ok(ArchWords {
+            name: arch.clone()?,
+            os: words.os.clone()?,
+            cpu: words.cpu.clone()?,
+        }),
+    }
+}
+
+/// The record of the source package, if it is of the version.
+pub(crate) fn find_source<'a>(
     alloc: Global,
-    store: &Store,
+    store: &'a Store,
     arch: &Text,
     source: &Text,
-    version: &Text,
-    priority: &Text,
-    section: &Text,
-) -> Result<Version, Refusal>
-    ensures value { IfOk result (λ read. read ≡ version.now) }
-    ensures ok { OnOk result
-        (first_refusal store.now (Enter arch.now source.now version.now priority.now section.now) ≡ None) }
+    version: &Version,
+) -> Result<&'a Record, Refusal>
+    ensures value { IfOk result (λ current.
+        map.get store.now.records (arch.now, source.now) ≡ Some current.now) }
+    ensures ok { IfOk result (λ current. differing version.now current.now ≡ None) }
     ensures refused { IfErr result (λ refusal. refusal ≢ Memory
-        → first_refusal store.now (Enter arch.now source.now version.now priority.now section.now) ≡ Some refusal) }
-    ensures room { OnOk result (store.now.accepted < count_limit) }
+        → found_refusal version.now (map.get store.now.records (arch.now, source.now)) ≡ Some refusal) }
 {
-    if !(is_arch(arch.as_str())
-        && is_source(source.as_str())
-        && is_label(priority.as_str())
-        && is_label(section.as_str()))
-    {
-        return Err(Refusal::BadName);
+    let Some(current) = store.get(arch, source)? else {
+        return Err(Refusal::UnknownSource);
+    };
+    if compare(version, &current.version).is_ne() {
+        return Err(Refusal::OtherVersion {
+            have: Text::copied(alloc, current.version.text())?,
+        });
     }
-    let read = read_version(alloc, version)?;
-    if store.arch(arch).is_none() {
-        return Err(Refusal::UnknownArch);
-    }
-    if store.get(arch, source)?.is_some() {
-        return Err(Refusal::AlreadyThere);
-    }
-    check_room(store.office_row())?;
-    Ok(read)
-}
-
-/// The version that a text is.
-fn read_version(alloc: Global, text: &Text) -> Result<Version, Refusal>
-    ensures value { IfOk result (λ read. read ≡ text.now) }
-    ensures ok { OnOk result (fault_of text.now ≡ None) }
-    ensures refused { IfErr result (λ refusal. refusal ≢ Memory
-        → option_map BadVersion (fault_of text.now) ≡ Some refusal) }
-{
-    match Version::parse(alloc, text.as_str()) {
-        Ok(read) => Ok(read),
-        Err(fault) => Err(refusal_of(fault)),
-    }
-}
-
-/// The refusal of a text that gave this fault.
-fn refusal_of(fault: VersionFault) -> Refusal
-    ensures value { result ≡ refusal_of_fault fault }
-{
-    match fault {
-        VersionFault::Memory => Refusal::Memory,
-        _ => Refusal::BadVersion { fault },
-    }
-}
-
-/// The checks of a builder's command for the head of the queue, up to the queue itself.
-#[tactic(auto, unfolding(crate::specs::Checks::first_refusal))]
-pub(crate) fn check_next(store: &Store, arch: &Text, builder: &Text) -> Result<(), Refusal>
-    ensures ok { OnOk result (MayAsk store.now arch.now builder.now) }
-    ensures refused { IfErr result (λ refusal. refusal ≢ Memory
-        → first_refusal store.now (Next arch.now builder.now) ≡ Some refusal) }
-{
-    if !(is_arch(arch.as_str()) && is_builder(builder.as_str())) {
-        return Err(Refusal::BadName);
-    }
-    if store.arch(arch).is_none() {
-        return Err(Refusal::UnknownArch);
-    }
-    if store.archs_of(builder)?.is_empty() {
-        return Err(Refusal::UnknownBuilder);
-    }
-    if !store.has_builder(builder, arch)? {
-        return Err(Refusal::WrongArch);
-    }
-    Ok(())
-}
-
-/// The last check of a command that hands out.
-pub(crate) fn check_take(counts: Counts) -> Result<(), Refusal>
-    ensures ok { OnOk result ((counts.accepted < count_limit) × (counts.handed < count_limit)) }
-    ensures refused { IfErr result (λ refusal. (refusal ≡ Refusal.Spent)
-        × ((nat_le count_limit counts.accepted || nat_le count_limit counts.handed) ≡ true)) }
-{
-    if counts.accepted >= COUNT_LIMIT || counts.handed >= COUNT_LIMIT {
-        return Err(Refusal::Spent);
-    }
-    Ok(())
+    Ok(current)
 }

@@ -1,17 +1,44 @@
 //! Laws of the definitions, each on a function that does nothing.
-ghost use Rattle.wb_states.specs.Machine.{IsConsistent, Machine};
+ghost use Rattle.std.specs.Prelude.{◌≡◌, List, ◌++◌, ◌∷◌, Some};
+ghost use Rattle.wb_states.specs.Machine.{IsConsistent, Machine, empty_office};
 ghost use Rattle.wb_states.specs.declared.command.Command.{Command};
-ghost use Rattle.wb_office.specs.Step.{step};
+ghost use Rattle.wb_office.specs.HandOuts.{HandOut, HasTakesByState, Ends, Rise, hand_out, hand_outs};
 ghost use Rattle.wb_office.specs.Replay.{replay};
-ghost use Rattle.std.specs.Prelude.{List};
-ghost use Rattle.wb_states.specs.Machine.{empty_office};
+ghost use Rattle.wb_office.specs.Step.{step};
+ghost use Rattle.wb_office.specs.Utf8.{HasUtf8Texts, HaveUtf8Texts};
 
 /// Every step keeps the invariant of the office, over every state and command, and so does every list of
 /// commands from the empty office on: a source package on an architecture has at most one holder, which
-/// was added for that architecture, and no take number is held twice.
+/// was added for that architecture, no take number is held twice, and all that is kept has its form.
+/// The free texts of a command are UTF-8, as each text of a program is.
 pub fn steps_keep_consistency()
     ensures empty { IsConsistent empty_office }
-    ensures step { (machine : Machine) (command : Command) → IsConsistent machine → IsConsistent (step machine command).1 }
-    ensures replay { (machine : Machine) (commands : List Command) → IsConsistent machine
-        → IsConsistent (replay machine commands) }
+    ensures step { (machine : Machine) (command : Command) → HasUtf8Texts command
+        → IsConsistent machine → IsConsistent (step machine command).1 }
+    ensures replay { (machine : Machine) (commands : List Command) → HaveUtf8Texts commands
+        → IsConsistent machine → IsConsistent (replay machine commands) }
+{}
+
+/// Every step keeps that a record has a take number exactly in the states in which a builder holds it,
+/// from the empty office on; and so it is in each office of which the invariant holds.
+pub fn takes_stand_by_state()
+    ensures empty { HasTakesByState empty_office }
+    ensures consistent { (machine : Machine) → IsConsistent machine → HasTakesByState machine }
+    ensures step { (machine : Machine) (command : Command)
+        → HasTakesByState machine → HasTakesByState (step machine command).1 }
+{}
+
+/// The take numbers of what is handed out rise strictly from above the last one that was given, so that
+/// none is given twice. Where one source package is handed out twice on an architecture, a command
+/// between the two was accepted and ended the first hold.
+pub fn takes_rise()
+    ensures rise { (machine : Machine) (commands : List Command)
+        → Rise machine.handed (hand_outs machine commands) }
+    ensures ends { (machine : Machine)
+        (before : List Command) (first : Command) (between : List Command) (second : Command)
+        (given later : HandOut)
+        → HasTakesByState machine
+        → hand_out (replay machine before) first ≡ Some given
+        → hand_out (replay machine (before ++ first ∷ between)) second ≡ Some later
+        → given.key ≡ later.key → Ends (step (replay machine before) first).1 between given }
 {}

@@ -2,10 +2,17 @@
 //! nothing is changed.
 #![tactic(auto)]
 
+mod again;
 mod builder;
 mod checks;
+mod forms;
+mod holder;
 pub mod laws;
+mod merge;
+mod moved;
+mod named;
 mod office;
 mod operator;
+mod texts;
 
 pub use office::Office;

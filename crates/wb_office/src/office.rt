@@ -4,7 +4,7 @@ ghost use Rattle.wb_states.specs.declared.refusal.Refusal.TheVariants.{Memory};
 ghost use Rattle.wb_states.specs.Machine.{empty_office};
 ghost use Rattle.wb_office.specs.Step.{step};
 
-use crate::{builder, operator};
+use crate::{builder, holder, merge, named, operator};
 use std::alloc::Global;
 use std::marker::Model;
 use wb_states::{Command, Refusal, Reply};
@@ -60,17 +60,12 @@ impl Office {
         ensures unchanged { OnErr result (self.new ≡ self.old) }
     {
         match command {
-            Command::AddArch { name, os, cpu } => operator::add_arch(
-                &mut self.store,
-                name,
-                os,
-                cpu,
-            ),
-            Command::AddBuilder { name, arch } => operator::add_builder(
-                &mut self.store,
-                name,
-                arch,
-            ),
+            Command::AddArch { name, os, cpu } => {
+                operator::add_arch(&mut self.store, name, os, cpu)
+            }
+            Command::AddBuilder { name, arch } => {
+                operator::add_builder(&mut self.store, name, arch)
+            }
             Command::Enter {
                 arch,
                 source,
@@ -86,8 +81,77 @@ impl Office {
                 priority,
                 section,
             ),
-            Command::Next { arch, builder } => {
-                builder::next(self.alloc, &mut self.store, arch, builder)
+            Command::Next {
+                arch,
+                builder,
+                after,
+            } => builder::next(self.alloc, &mut self.store, arch, builder, *after),
+            Command::Take {
+                arch,
+                builder,
+                source,
+                version,
+            } => builder::take(self.alloc, &mut self.store, arch, builder, source, version),
+            Command::Built { take_number } => {
+                holder::built(self.alloc, &mut self.store, *take_number)
+            }
+            Command::Uploaded { take_number } => {
+                holder::uploaded(self.alloc, &mut self.store, *take_number)
+            }
+            Command::Waits {
+                take_number,
+                relations,
+            } => holder::waits(self.alloc, &mut self.store, *take_number, relations),
+            Command::PutBack { take_number } => {
+                holder::put_back(self.alloc, &mut self.store, *take_number)
+            }
+            Command::GiveBack {
+                arch,
+                source,
+                version,
+            } => named::give_back(self.alloc, &mut self.store, arch, source, version),
+            Command::DepWait {
+                arch,
+                source,
+                version,
+                relations,
+            } => named::dep_wait(
+                self.alloc,
+                &mut self.store,
+                arch,
+                source,
+                version,
+                relations,
+            ),
+            Command::Fail {
+                arch,
+                source,
+                version,
+                note,
+            } => named::fail(self.alloc, &mut self.store, arch, source, version, note),
+            Command::NotForUs {
+                arch,
+                source,
+                version,
+                note,
+            } => named::not_for_us(self.alloc, &mut self.store, arch, source, version, note),
+            Command::Rebuild {
+                arch,
+                source,
+                version,
+                number,
+                message,
+            } => named::rebuild(
+                self.alloc,
+                &mut self.store,
+                arch,
+                source,
+                version,
+                *number,
+                message,
+            ),
+            Command::Merge { sources, parts } => {
+                merge::merge(self.alloc, &mut self.store, sources, parts)
             }
         }
     }

@@ -1,16 +1,54 @@
-//! The commands of operators.
-ghost use Rattle.std.specs.Prelude.{◌≡◌, ◌≢◌, IfOk, IfErr, OnErr};
+//! The commands that add architectures, builders and source packages.
+ghost use Rattle.std.specs.Prelude.{◌≡◌, ◌≢◌, ◌+◌, None, Some, false, nat_le, OnOk, IfOk, IfErr, OnErr};
 ghost use Rattle.wb_states.specs.declared.command.Command.TheVariants.{AddArch, AddBuilder, Enter};
 ghost use Rattle.wb_states.specs.declared.refusal.Refusal.TheVariants.{Memory};
-ghost use Rattle.wb_office.specs.Step.{step, done, entered};
-ghost use Rattle.std.specs.Prelude.{◌<◌};
+ghost use Rattle.wb_states.specs.declared.reply.Reply.TheVariants.{Done};
 ghost use Rattle.wb_states.specs.Limits.{count_limit};
+ghost use Rattle.wb_office.specs.Checks.{first_refusal};
+ghost use Rattle.wb_office.specs.Step.{step, counted, entered};
 
-use crate::checks;
+use crate::checks::{has_arch, has_record, is_spent, lacks_arch};
+use crate::forms::{is_bad_arch, is_bad_builder, is_bad_entry};
+use crate::texts::read_version;
+use deb_relations::Text;
 use deb_version::Version;
 use std::alloc::Global;
-use wb_states::{Counts, OsCpu, Record, Refusal, Reply, State, Text};
+use wb_states::{Counts, OsCpu, Record, Refusal, Reply, State};
 use wb_store::Store;
+
+/// Counts one more accepted command.
+pub(crate) fn count_done(store: &mut Store) -> Reply
+    requires { nat_le count_limit store.old.accepted ≡ false }
+    ensures reply { result ≡ Done (store.old.accepted + 1) }
+    ensures ok { store.new ≡ counted store.old store.old }
+{
+    let counts = store.office_row();
+    let accepted = counts.accepted + 1;
+    store.set_counts(Counts {
+        handed: counts.handed,
+        accepted,
+    });
+    Reply::Done { accepted }
+}
+
+/// The checks of a command that adds an architecture.
+fn check_arch(store: &Store, name: &Text, os: &Text, cpu: &Text) -> Result<(), Refusal>
+    ensures ok { OnOk result (first_refusal store.now (AddArch name.now os.now cpu.now) ≡ None) }
+    ensures refused { IfErr result (λ refusal. refusal ≢ Memory
+        → first_refusal store.now (AddArch name.now os.now cpu.now) ≡ Some refusal) }
+    ensures room { OnOk result (nat_le count_limit store.now.accepted ≡ false) }
+{
+    if is_bad_arch(name, os, cpu) {
+        return Err(Refusal::BadName);
+    }
+    if has_arch(store, name) {
+        return Err(Refusal::AlreadyThere);
+    }
+    if is_spent(store) {
+        return Err(Refusal::Spent);
+    }
+    Ok(())
+}
 
 /// Adds an architecture.
 #[tactic(auto, unfolding(crate::specs::Step::step))]
@@ -25,7 +63,7 @@ pub(crate) fn add_arch(
         → step store.old (AddArch name.now os.now cpu.now) ≡ (Err refusal, store.old)) }
     ensures unchanged { OnErr result (store.new ≡ store.old) }
 {
-    checks::check_add_arch(store, name, os, cpu)?;
+    check_arch(store, name, os, cpu)?;
     let words = OsCpu {
         os: os.clone()?,
         cpu: cpu.clone()?,
@@ -34,18 +72,27 @@ pub(crate) fn add_arch(
     Ok(count_done(store))
 }
 
-/// Counts one more accepted command.
-pub(crate) fn count_done(store: &mut Store) -> Reply
-    requires { store.old.accepted < count_limit }
-    ensures { done store.old ≡ (Ok result, store.new) }
+/// The checks of a command that lets a builder build for an architecture.
+fn check_builder(store: &Store, name: &Text, arch: &Text) -> Result<(), Refusal>
+    ensures ok { OnOk result (first_refusal store.now (AddBuilder name.now arch.now) ≡ None) }
+    ensures refused { IfErr result (λ refusal. refusal ≢ Memory
+        → first_refusal store.now (AddBuilder name.now arch.now) ≡ Some refusal) }
+    ensures room { OnOk result (nat_le count_limit store.now.accepted ≡ false) }
 {
-    let counts = store.office_row();
-    let accepted = counts.accepted + 1;
-    store.set_counts(Counts {
-        handed: counts.handed,
-        accepted,
-    });
-    Reply::Done { accepted }
+    if is_bad_builder(name, arch) {
+        return Err(Refusal::BadName);
+    }
+    if lacks_arch(store, arch) {
+        return Err(Refusal::UnknownArch);
+    }
+    let is_there = store.has_builder(name, arch)?;
+    if is_there {
+        return Err(Refusal::AlreadyThere);
+    }
+    if is_spent(store) {
+        return Err(Refusal::Spent);
+    }
+    Ok(())
 }
 
 /// Lets a builder build for an architecture.
@@ -56,9 +103,43 @@ pub(crate) fn add_builder(store: &mut Store, name: &Text, arch: &Text) -> Result
         → step store.old (AddBuilder name.now arch.now) ≡ (Err refusal, store.old)) }
     ensures unchanged { OnErr result (store.new ≡ store.old) }
 {
-    checks::check_add_builder(store, name, arch)?;
+    check_builder(store, name, arch)?;
     store.add_builder(name.clone()?, arch.clone()?)?;
     Ok(count_done(store))
+}
+
+/// The checks of a command that enters a source package, and its version as it is read.
+fn check_entry(
+    alloc: Global,
+    store: &Store,
+    arch: &Text,
+    source: &Text,
+    version: &Text,
+    priority: &Text,
+    section: &Text,
+) -> Result<Version, Refusal>
+    ensures value { IfOk result (λ read. read ≡ version.now) }
+    ensures ok { OnOk result
+        (first_refusal store.now (Enter arch.now source.now version.now priority.now section.now) ≡ None) }
+    ensures refused { IfErr result (λ refusal. refusal ≢ Memory
+        → first_refusal store.now (Enter arch.now source.now version.now priority.now section.now) ≡ Some refusal) }
+    ensures room { OnOk result (nat_le count_limit store.now.accepted ≡ false) }
+{
+    if is_bad_entry(arch, source, priority, section) {
+        return Err(Refusal::BadName);
+    }
+    let read = read_version(alloc, version)?;
+    if lacks_arch(store, arch) {
+        return Err(Refusal::UnknownArch);
+    }
+    let is_there = has_record(store, arch, source)?;
+    if is_there {
+        return Err(Refusal::AlreadyThere);
+    }
+    if is_spent(store) {
+        return Err(Refusal::Spent);
+    }
+    Ok(read)
 }
 
 /// Puts a source package that has no record into the queue.
@@ -78,7 +159,7 @@ pub(crate) fn enter(
         → step store.old (Enter arch.now source.now version.now priority.now section.now) ≡ (Err refusal, store.old)) }
     ensures unchanged { OnErr result (store.new ≡ store.old) }
 {
-    let read = checks::check_enter(alloc, store, arch, source, version, priority, section)?;
+    let read = check_entry(alloc, store, arch, source, version, priority, section)?;
     let waiting = entered_record(alloc, read, priority, section)?;
     store.put(arch.clone()?, source.clone()?, waiting)?;
     Ok(count_done(store))

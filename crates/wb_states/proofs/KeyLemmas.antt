@@ -7,7 +7,7 @@ use Rattle.std.specs.Cmp.{IsTotalOrder, then_total, on_total, Equal-is}
 use Rattle.std.specs.Cmp.Lexicographic.{nat_list_cmp_total}
 use Rattle.std.specs.FinMap as map
 use Rattle.std.specs.FinMap.{IsAntisymmetric, slice_cmp-IsAntisymmetric, nat_cmp-IsAntisymmetric}
-use Rattle.wb_states.specs.Text.{text_cmp}
+use Rattle.deb_relations.specs.Text.{text_cmp}
 use Rattle.wb_states.specs.Machine.{pair_cmp}
 
 -- only a first and a second tie make a tie of two

@@ -15,7 +15,7 @@ use Rattle.wb_states.specs.declared.state.State.{State}
 use Rattle.wb_states.specs.declared.state.State.TheVariants.{NeedsBuild, Building, Built, Uploaded, Installed, DepWait, BdUninstallable, Failed, NotForUs}
 use Rattle.wb_states.specs.declared.record.Record.{Record}
 use Rattle.wb_states.specs.State.{is_needs_build}
-use Rattle.wb_states.specs.Text.{text_cmp}
+use Rattle.deb_relations.specs.Text.{text_cmp}
 use Rattle.wb_states.specs.Machine.{Machine, pair_cmp}
 use Rattle.wb_states.specs.Queue.{Place, Entry, entry_cmp, is_waiting, with_item, sorted_by, queue_of, head_of, first_of, IsIn, IsWaitingAt, place_of, place_cmp, place_cmp_total}
 use Rattle.wb_states.proofs.KeyLemmas.{pair_cmp_total, pair_cmp-same, text_cmp-same, then-Equal, eq_by_cmp-same}

@@ -1,4 +1,5 @@
 pub mod Commands
+pub mod Holds
 pub mod Limits
 pub mod Machine
 pub mod Moves
@@ -7,4 +8,3 @@ pub mod Queue
 pub mod Record
 pub mod Refusals
 pub mod State
-pub mod Text

@@ -1,12 +1,17 @@
 -- The state of the office, and its invariant (this project's own).
-use Rattle.std.specs.Prelude.{◌≡◌, ℕ, ◌≤◌, IsTrue, List, filter, IfSome, Some}
+use Rattle.std.specs.Prelude.{◌≡◌, ℕ, ◌≤◌, ◌⊎◌, IsTrue, List, [], filter, IfSome, Some, unwrap_or}
 use Rattle.std.specs.declared.cmp.Ordering.{Ordering}
 use Rattle.std.specs.Ordering.{on, then_cmp}
 use Rattle.std.specs.FinMap as map
 use Rattle.std.specs.FinSet as set
 use Rattle.wb_states.specs.declared.record.Record.{Record}
 use Rattle.wb_states.specs.declared.arch.OsCpu.{OsCpu}
-use Rattle.wb_states.specs.Text.{text_cmp}
+use Rattle.deb_relations.specs.declared.arch.ArchWords.{ArchWords}
+use Rattle.deb_relations.specs.declared.relations.Alternative.{Alternative}
+use Rattle.deb_relations.specs.Grammar.{Reads}
+use Rattle.deb_relations.specs.Printing.{printed}
+use Rattle.deb_relations.specs.Reduction.{reduced}
+use Rattle.deb_relations.specs.Text.{text_cmp}
 use Rattle.wb_states.specs.Names.{is_arch_name, is_os_cpu_word, is_builder_name, is_source_name}
 use Rattle.wb_states.specs.Limits.{count_limit}
 use Rattle.wb_states.specs.Record.{IsWellFormed}
@@ -37,6 +42,24 @@ empty_office = record {
 abbrev pub archs_of : Machine → List ℕ → List (List ℕ)
 archs_of machine builder = filter (λ arch. set.contains machine.builders (builder, arch)) (map.keys machine.archs)
 
+-- no words, for an architecture that was never added
+abbrev no_words : OsCpu
+no_words = record { os = []; cpu = [] }
+
+-- an architecture with the words by which relations and lists name it (Debian Policy 11.1.1)
+abbrev pub with_words : List ℕ → OsCpu → ArchWords
+with_words arch words = record { name = arch; os = words.os; cpu = words.cpu }
+
+-- an architecture with its words
+unfoldable pub arch_words : Machine → List ℕ → ArchWords
+arch_words machine arch = with_words arch (unwrap_or (map.get machine.archs arch) no_words)
+
+-- no waits, or relations that were read, reduced for the architecture, and printed
+abbrev pub AreWaits : ArchWords → List ℕ → Type 0
+AreWaits arch waits =
+    (waits ≡ [])
+    ⊎ ((text : List ℕ) × ((relations : List (List Alternative)) × (Reads text relations × (waits ≡ printed (reduced arch relations)))))
+
 -- an architecture and its words have their forms
 pub record IsArch (arch : List ℕ) (words : OsCpu) : Type 0 where
   pub name : IsTrue (is_arch_name arch)
@@ -48,12 +71,13 @@ pub record IsBuilder (machine : Machine) (builder arch : List ℕ) : Type 0 wher
   pub name : IsTrue (is_builder_name builder)
   pub known : IsTrue (map.contains_key machine.archs arch)
 
--- a record has its form, is of an architecture that is there, is held by a builder that was added for that architecture, and its take number was given
+-- a record has its form, is of an architecture that is there, is held by a builder that was added for that architecture, waits for relations that were reduced for it, and its take number was given
 pub record IsRecord (machine : Machine) (arch source : List ℕ) (current : Record) : Type 0 where
   pub name : IsTrue (is_source_name source)
   pub known : IsTrue (map.contains_key machine.archs arch)
   pub fields : IsWellFormed current
   pub holder : IfSome current.holder (λ builder. IsTrue (set.contains machine.builders (builder, arch)))
+  pub waits : AreWaits (arch_words machine arch) current.waits
   pub given : IfSome current.take (λ take_number. (1 ≤ take_number) × (take_number ≤ machine.handed))
 
 -- two records with one take number are one record

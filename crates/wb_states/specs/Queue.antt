@@ -9,7 +9,7 @@ use Rattle.wb_states.specs.declared.record.Record.{Record}
 use Rattle.std.specs.FinMap as map
 use Rattle.wb_states.specs.declared.state.State.TheVariants.{NeedsBuild}
 use Rattle.wb_states.specs.State.{is_needs_build}
-use Rattle.wb_states.specs.Text.{text_cmp}
+use Rattle.deb_relations.specs.Text.{text_cmp}
 use Rattle.wb_states.specs.Machine.{Machine}
 
 -- the place of a text in a list, from 0, or the list's length where it does not stand there

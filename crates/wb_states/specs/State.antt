@@ -62,3 +62,27 @@ is_dep_wait DepWait = true
 is_dep_wait BdUninstallable = false
 is_dep_wait Failed = false
 is_dep_wait NotForUs = false
+
+-- the state of what the archive has
+abbrev pub is_installed : State → Bool
+is_installed NeedsBuild = false
+is_installed Building = false
+is_installed Built = false
+is_installed Uploaded = false
+is_installed Installed = true
+is_installed DepWait = false
+is_installed BdUninstallable = false
+is_installed Failed = false
+is_installed NotForUs = false
+
+-- the state of what is not to be built on the architecture
+abbrev pub is_not_for_us : State → Bool
+is_not_for_us NeedsBuild = false
+is_not_for_us Building = false
+is_not_for_us Built = false
+is_not_for_us Uploaded = false
+is_not_for_us Installed = false
+is_not_for_us DepWait = false
+is_not_for_us BdUninstallable = false
+is_not_for_us Failed = false
+is_not_for_us NotForUs = true

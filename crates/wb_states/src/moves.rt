@@ -1,58 +1,230 @@
 //! The moves of a record from state to state.
-ghost use Rattle.std.specs.Prelude.{◌≡◌, ◌≢◌, ◌↔◌, IsOk, IfOk, IfErr};
-ghost use Rattle.wb_states.specs.declared.state.State.TheVariants.{NeedsBuild};
-ghost use Rattle.wb_states.specs.declared.refusal.Refusal.TheVariants.{WrongState, Memory};
-ghost use Rattle.wb_states.specs.Moves.{Moves, build_text_of};
+ghost use Rattle.std.specs.Prelude.{◌≡◌, ◌≢◌, None, Some, Ok, Err, IfOk, IfErr, OnOk, OnErr, if◌then◌else◌};
+ghost use Rattle.wb_states.specs.declared.refusal.Refusal.TheVariants.{Memory};
+ghost use Rattle.wb_states.specs.Moves.{may_go, goal_of, set_by, note_of, note_after, settled_in, waits_for, waits_refusal, value_refusal, move_refusal, moved, move_of, build_text_of};
 
-use crate::{Record, Refusal, State, Text};
+use crate::{Record, Refusal, State};
+use deb_relations::{ArchWords, RelationFault, Relations, Text};
 use std::alloc::{AllocError, Global};
 
-/// A move of a record, with what it brings.
-#[derive(Clone, Debug, Drop)]
+/// The greatest length of the waits of a record, in bytes (this project's own).
+const RELATIONS_LIMIT: usize = 65536;
+
+/// A move of a record, with what it brings. The names are those of the commands that ask for it.
+#[derive(Debug, Drop)]
 pub enum Move {
     /// A builder takes a source package that waits, under this take number.
-    Take { holder: Text, take_number: u64 },
+    Take {
+        holder: Text,
+        take_number: u64,
+    },
+    /// The holder built it.
+    Built,
+    /// The holder uploaded it.
+    Uploaded,
+    /// The holder found that it waits for these relations on the architecture.
+    Waits {
+        relations: Relations,
+        arch: ArchWords,
+    },
+    /// The holder puts it back into the queue.
+    PutBack,
+    /// An operator puts it back into the queue.
+    GiveBack,
+    /// It waits for these relations on the architecture.
+    DepWait {
+        relations: Relations,
+        arch: ArchWords,
+    },
+    /// Its build failed, as the note says.
+    Fail {
+        note: Text,
+    },
+    /// It is not to be built, as the note says.
+    NotForUs {
+        note: Text,
+    },
+    /// It is built once more, as the binary-only rebuild of this number.
+    Rebuild {
+        number: u16,
+        message: Text,
+    },
 }
 
-/// The record after the move. It is refused with `WrongState` where the record is in a state from which
-/// this move does not go, and with `Memory`. The table of moves is this project's own, in wanna-build's terms.
-pub fn move_record(alloc: Global, current: &Record, change: &Move) -> Result<Record, Refusal>
-    ensures value { IfOk result (λ moved. Moves current.now change.now moved) }
-    ensures refused { IfErr result (λ refusal. refusal ≢ Memory
-        → (refusal ≡ WrongState current.now.state) × (current.now.state ≢ NeedsBuild)) }
-{
-    match change {
-        Move::Take {
-            holder,
-            take_number,
-        } => start_build(alloc, current, holder, *take_number),
+impl Move {
+    #[tactic(auto, unfolding(crate::specs::Moves::may_go))]
+    fn may_go(&self, state: State) -> bool
+        ensures { result ≡ may_go self.now state }
+    {
+        match self {
+            Move::Take { .. } => matches!(state, State::NeedsBuild),
+            Move::Built | Move::Waits { .. } | Move::PutBack => matches!(state, State::Building),
+            Move::Uploaded => matches!(state, State::Building | State::Built),
+            Move::GiveBack => !matches!(state, State::NeedsBuild | State::Installed),
+            Move::DepWait { .. } => matches!(
+                state,
+                State::NeedsBuild | State::Building | State::BdUninstallable | State::Failed
+            ),
+            Move::Fail { .. } => matches!(
+                state,
+                State::NeedsBuild
+                    | State::Building
+                    | State::Built
+                    | State::DepWait
+                    | State::BdUninstallable
+            ),
+            Move::NotForUs { .. } => matches!(
+                state,
+                State::NeedsBuild
+                    | State::Building
+                    | State::DepWait
+                    | State::BdUninstallable
+                    | State::Failed
+            ),
+            Move::Rebuild { .. } => matches!(state, State::Installed),
+        }
+    }
+
+    fn goal(&self) -> State
+        ensures { result ≡ goal_of self.now }
+    {
+        match self {
+            Move::Take { .. } => State::Building,
+            Move::Built => State::Built,
+            Move::Uploaded => State::Uploaded,
+            Move::Waits { .. } | Move::DepWait { .. } => State::DepWait,
+            Move::PutBack | Move::GiveBack | Move::Rebuild { .. } => State::NeedsBuild,
+            Move::Fail { .. } => State::Failed,
+            Move::NotForUs { .. } => State::NotForUs,
+        }
+    }
+
+    /// Sets what the move brings, besides the state and the note.
+    fn set(&self, alloc: Global, current: &mut Record) -> Result<(), Refusal>
+        ensures ok { OnOk result (current.new ≡ set_by self.now current.old) }
+        ensures refused { IfErr result (λ refusal. refusal ≡ Memory) }
+    {
+        match self {
+            Move::Take {
+                holder,
+                take_number,
+            } => {
+                current.holder = Some(holder.clone()?);
+                current.take = Some(*take_number);
+            }
+            Move::Waits { relations, arch } | Move::DepWait { relations, arch } => {
+                current.waits = waits_for(alloc, relations, arch)?;
+            }
+            Move::Rebuild { number, message } => {
+                current.earlier = true;
+                current.number = *number;
+                current.message = message.clone()?;
+            }
+            _ => {}
+        }
+        Ok(())
+    }
+
+    /// Why the move is refused, where its state is not, for its relations or its number.
+    fn refuse_value(&self, alloc: Global, current: &Record) -> Result<(), Refusal>
+        ensures ok { OnOk result (value_refusal self.now current.now ≡ None) }
+        ensures refused { IfErr result (λ refusal. refusal ≢ Memory
+            → value_refusal self.now current.now ≡ Some refusal) }
+    {
+        match self {
+            Move::Waits { relations, arch } | Move::DepWait { relations, arch } => {
+                refuse_waits(&waits_for(alloc, relations, arch)?)
+            }
+            Move::Rebuild { number, .. } if *number <= current.number => Err(Refusal::BadNumber),
+            _ => Ok(()),
+        }
+    }
+
+    /// The note of the record in the state in which the move ends.
+    fn note(&self, alloc: Global, current: &Record) -> Result<Text, AllocError>
+        ensures { IfOk result (λ note. note ≡ note_after (note_of self.now) (goal_of self.now) current.now) }
+    {
+        match self {
+            Move::Fail { note } | Move::NotForUs { note } => note.clone(),
+            _ if self.goal() == current.state => current.note.clone(),
+            _ => Ok(Text::new(alloc)),
+        }
     }
 }
 
-fn start_build(
-    alloc: Global,
-    current: &Record,
-    holder: &Text,
-    take_number: u64,
-) -> Result<Record, Refusal>
-    ensures value { IfOk result (λ moved. Moves current.now (Move.Take holder.now take_number) moved) }
-    ensures refused { IfErr result (λ refusal. refusal ≢ Memory
-        → (refusal ≡ WrongState current.now.state) × (current.now.state ≢ NeedsBuild)) }
+/// The relations as they are waited for.
+fn waits_for(alloc: Global, relations: &Relations, arch: &ArchWords) -> Result<Text, AllocError>
+    ensures { IfOk result (λ text. text ≡ waits_for relations.now arch.now) }
 {
-    if current.state != State::NeedsBuild {
+    let left = relations.reduce(alloc, arch)?;
+    Ok(Text::from(left.print(alloc)?))
+}
+
+fn refuse_waits(waits: &Text) -> Result<(), Refusal>
+    ensures ok { OnOk result (waits_refusal waits.now ≡ None) }
+    ensures refused { IfErr result (λ refusal. waits_refusal waits.now ≡ Some refusal) }
+{
+    let text = waits.as_str();
+    if text.is_empty() {
+        return Err(Refusal::BadRelations { fault: None });
+    }
+    if text.len() > RELATIONS_LIMIT {
+        return Err(Refusal::BadRelations {
+            fault: Some(RelationFault::TooLong),
+        });
+    }
+    Ok(())
+}
+
+impl Record {
+    /// Brings the record into a state, and clears what that state does not have: the holder and the
+    /// take number where nobody holds it, and the waits where it does not wait. Takes no memory. The
+    /// states are wanna-build's.
+    pub fn settle(&mut self, alloc: Global, state: State)
+        ensures value { self.new ≡ settled_in state self.old }
+    {
+        self.state = state;
+        if !matches!(state, State::Building | State::Built | State::Uploaded) {
+            self.holder = None;
+            self.take = None;
+        }
+        if !matches!(state, State::DepWait) {
+            self.waits = Text::new(alloc);
+        }
+    }
+}
+
+/// The record after the move. It is refused with `WrongState` where the record is in a state from which
+/// this move does not go; then with `BadRelations` where nothing is left of its relations for the
+/// architecture, or more than 65536 bytes, and with `BadNumber` where its number is not above the
+/// record's; and with `Memory`, which may come at any point. The forms of notes and numbers are not
+/// looked at. The table of moves is this project's own, in wanna-build's terms.
+#[tactic(auto, unfolding(crate::specs::Moves::move_refusal, crate::specs::Moves::move_of))]
+pub fn move_record(alloc: Global, current: &Record, change: &Move) -> Result<Record, Refusal>
+    ensures value { IfOk result (λ moved. move_of change.now current.now ≡ Ok moved) }
+    ensures refused { IfErr result (λ refusal. refusal ≢ Memory
+        → move_of change.now current.now ≡ Err refusal) }
+{
+    if !change.may_go(current.state) {
         return Err(Refusal::WrongState {
             state: current.state,
         });
     }
-    let holder = holder.clone()?;
-    let record = current.clone()?;
-    Ok(Record {
-        state: State::Building,
-        holder: Some(holder),
-        take: Some(take_number),
-        note: Text::new(alloc),
-        ..record
-    })
+    change.refuse_value(alloc, current)?;
+    moved_record(alloc, current, change)
+}
+
+/// The record after a move that nothing refuses.
+#[tactic(auto, unfolding(crate::specs::Moves::moved))]
+fn moved_record(alloc: Global, current: &Record, change: &Move) -> Result<Record, Refusal>
+    ensures value { IfOk result (λ after. after ≡ moved change.now current.now) }
+    ensures refused { IfErr result (λ refusal. refusal ≡ Memory) }
+{
+    let mut after = current.clone()?;
+    change.set(alloc, &mut after)?;
+    after.settle(alloc, change.goal());
+    after.note = change.note(alloc, current)?;
+    Ok(after)
 }
 
 /// The version of the binaries that are built from the record's source: its version, followed by `+bN`

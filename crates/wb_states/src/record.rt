@@ -1,7 +1,8 @@
 //! What the office keeps of one source package on one architecture.
 ghost use Rattle.std.specs.Prelude.{◌≡◌};
 
-use crate::{State, Text};
+use crate::State;
+use deb_relations::Text;
 use deb_version::Version;
 
 /// The record of a source package on an architecture (this project's own).

@@ -1,39 +1,148 @@
 //! Why the office refuses a command.
 ghost use Rattle.std.specs.Prelude.{◌≡◌};
-ghost use Rattle.wb_states.specs.Refusals.{code_of_refusal, name_of_refusal};
+ghost use Rattle.wb_states.specs.Refusals.{code_of_refusal, name_of_refusal, name_of_list, name_of_field, name_of_listing_fault};
 
 use crate::State;
+use deb_control::ControlFaultKind;
+use deb_relations::{RelationFault, Text};
 use deb_version::VersionFault;
 use std::alloc::{AllocError, AllocFailed};
 use std::error::Error;
 use std::fmt;
 
+/// Which of the archive's lists a fault is in.
+#[derive(Clone, Copy, Debug, PartialEq, Eq)]
+pub enum ListKind {
+    /// The list of source packages.
+    Sources,
+    /// The list of the binary packages of one architecture.
+    Packages,
+}
+
+impl ListKind {
+    /// The list's name in the archive. Takes no memory.
+    pub fn name(self) -> &'static str
+        ensures value { result.now ≡ name_of_list self }
+    {
+        match self {
+            ListKind::Sources => "Sources",
+            ListKind::Packages => "Packages",
+        }
+    }
+}
+
+/// A field of a list that a merge reads (Debian Policy 5.6).
+#[derive(Clone, Copy, Debug, PartialEq, Eq)]
+pub enum ListField {
+    Package,
+    Version,
+    Architecture,
+    Priority,
+    Section,
+    Source,
+}
+
+impl ListField {
+    /// The field's name as a list writes it. Takes no memory.
+    pub fn name(self) -> &'static str
+        ensures value { result.now ≡ name_of_field self }
+    {
+        match self {
+            ListField::Package => "Package",
+            ListField::Version => "Version",
+            ListField::Architecture => "Architecture",
+            ListField::Priority => "Priority",
+            ListField::Section => "Section",
+            ListField::Source => "Source",
+        }
+    }
+}
+
+/// What is wrong with a paragraph of a list.
+#[derive(Clone, Copy, Debug, PartialEq, Eq)]
+pub enum ListingFault {
+    /// The paragraph is no control data (Debian Policy 5.1).
+    Control { kind: ControlFaultKind },
+    /// The paragraph lacks this field.
+    Missing { field: ListField },
+    /// The field has not its form.
+    BadValue { field: ListField },
+}
+
+impl ListingFault {
+    /// The fault's name: that of the control data's fault, `Missing` or `BadValue`. Takes no memory.
+    pub fn name(self) -> &'static str
+        ensures value { result.now ≡ name_of_listing_fault self }
+    {
+        match self {
+            ListingFault::Control { kind } => kind.name(),
+            ListingFault::Missing { .. } => "Missing",
+            ListingFault::BadValue { .. } => "BadValue",
+        }
+    }
+}
+
 /// Why a command was refused. After a refusal the office is as it was.
 ///
-/// Where several are true of a command, the first is answered, in this order: the forms of its texts
-/// (`BadName`, `BadVersion`), and then `UnknownArch`, `UnknownBuilder`, `WrongArch`, `WrongState`,
-/// `QueueEmpty`, `AlreadyThere`, `Spent`. `Memory` may come at any point. The order, the numbers and the
-/// names are this project's own.
-#[derive(Clone, Copy, Debug, PartialEq, Eq)]
+/// Where several are true of a command, the first is answered, in this order. The forms of its texts:
+/// `BadName`, `BadVersion`, `BadRelations` for relations that cannot be read, `BadNumber` for a number
+/// that no rebuild has, `TextTooLong`, `RepeatedArch`. Then what the office has: `UnknownArch`,
+/// `BadListing`, `UnknownBuilder`, `WrongArch`, `AfterAhead`, `NotHeld`, `UnknownSource`,
+/// `OtherVersion`, `WrongState`, `QueueEmpty`, `AlreadyThere`, `BadRelations` for waits that reduce to
+/// nothing or to too much, `BadNumber` for a number that is not above the record's, `Spent`. `Memory`
+/// may come at any point. The order, the numbers and the names are this project's own.
+#[derive(Debug, Drop)]
 pub enum Refusal {
-    /// The architecture was never added.
+    /// The architecture was never added, or a merge has no part.
     UnknownArch,
     /// The builder was added for no architecture.
     UnknownBuilder,
     /// The builder was added for other architectures alone.
     WrongArch,
+    /// The source package has no record on the architecture.
+    UnknownSource,
+    /// The record is of this version, which is not the command's in the order of versions.
+    OtherVersion {
+        have: Text,
+    },
     /// The record is in this state, from which the command does not move it.
-    WrongState { state: State },
+    WrongState {
+        state: State,
+    },
     /// No source package of the architecture waits for a builder.
     QueueEmpty,
+    /// No record is held under the take number: the hold ended, or there never was one.
+    NotHeld,
+    /// The take number after which the builder asks was not given yet: the last was `handed`.
+    AfterAhead {
+        handed: u64,
+    },
     /// The architecture, the builder on the architecture, or the record is there already.
     AlreadyThere,
     /// A name, a priority or a section has not its form.
     BadName,
     /// The version has this fault.
-    BadVersion { fault: VersionFault },
+    BadVersion {
+        fault: VersionFault,
+    },
+    /// The relations have this fault, or, where there is none, nothing of them is left for the architecture.
+    BadRelations {
+        fault: Option<RelationFault>,
+    },
+    /// The number of the rebuild is 0, above 999, or not above the record's.
+    BadNumber,
+    /// A list has this fault in the paragraph of this number, counted from 1.
+    BadListing {
+        which: ListKind,
+        paragraph: u64,
+        fault: ListingFault,
+    },
+    /// A note or a message has more than 1000 bytes.
+    TextTooLong,
     /// There is no count left: a count of the office is at its limit of 10^12.
     Spent,
+    /// Two parts of the merge are for one architecture.
+    RepeatedArch,
     /// There is no memory for it now.
     Memory,
 }
@@ -47,13 +156,22 @@ impl Refusal {
             Refusal::UnknownArch => 1,
             Refusal::UnknownBuilder => 2,
             Refusal::WrongArch => 3,
+            Refusal::UnknownSource => 4,
+            Refusal::OtherVersion { .. } => 5,
             Refusal::WrongState { .. } => 6,
             Refusal::QueueEmpty => 7,
+            Refusal::NotHeld => 8,
+            Refusal::AfterAhead { .. } => 9,
             Refusal::AlreadyThere => 10,
             Refusal::BadName => 11,
             Refusal::BadVersion { .. } => 12,
+            Refusal::BadRelations { .. } => 13,
+            Refusal::BadNumber => 14,
+            Refusal::BadListing { .. } => 15,
+            Refusal::TextTooLong => 17,
             Refusal::Spent => 18,
             Refusal::Memory => 20,
+            Refusal::RepeatedArch => 22,
         }
     }
 
@@ -65,13 +183,22 @@ impl Refusal {
             Refusal::UnknownArch => "UnknownArch",
             Refusal::UnknownBuilder => "UnknownBuilder",
             Refusal::WrongArch => "WrongArch",
+            Refusal::UnknownSource => "UnknownSource",
+            Refusal::OtherVersion { .. } => "OtherVersion",
             Refusal::WrongState { .. } => "WrongState",
             Refusal::QueueEmpty => "QueueEmpty",
+            Refusal::NotHeld => "NotHeld",
+            Refusal::AfterAhead { .. } => "AfterAhead",
             Refusal::AlreadyThere => "AlreadyThere",
             Refusal::BadName => "BadName",
             Refusal::BadVersion { .. } => "BadVersion",
+            Refusal::BadRelations { .. } => "BadRelations",
+            Refusal::BadNumber => "BadNumber",
+            Refusal::BadListing { .. } => "BadListing",
+            Refusal::TextTooLong => "TextTooLong",
             Refusal::Spent => "Spent",
             Refusal::Memory => "Memory",
+            Refusal::RepeatedArch => "RepeatedArch",
         }
     }
 }
@@ -82,16 +209,39 @@ impl fmt::Display for Refusal {
             Refusal::UnknownArch => f.write_str("the architecture was never added"),
             Refusal::UnknownBuilder => f.write_str("the builder was never added"),
             Refusal::WrongArch => f.write_str("the builder was added for other architectures"),
+            Refusal::UnknownSource => f.write_str("the source package has no record"),
+            Refusal::OtherVersion { have } => write!(f, "the record is of version {have}"),
             Refusal::WrongState { state } => {
                 let name = state.name();
                 write!(f, "the source package is in the state {name}")
             }
             Refusal::QueueEmpty => f.write_str("no source package waits for a builder"),
+            Refusal::NotHeld => f.write_str("nothing is held under the take number"),
+            Refusal::AfterAhead { handed } => write!(f, "the last take number is {handed}"),
             Refusal::AlreadyThere => f.write_str("it is there already"),
             Refusal::BadName => f.write_str("a name, a priority or a section has not its form"),
-            Refusal::BadVersion { fault: _ } => f.write_str("the version has not its form"),
+            Refusal::BadVersion { fault } => write!(f, "the version has not its form: {fault}"),
+            Refusal::BadRelations { fault: Some(fault) } => write!(
+                f,
+                "the relations are refused: {fault}"
+            ),
+            Refusal::BadRelations { fault: None } => {
+                f.write_str("nothing of the relations is left for the architecture")
+            }
+            Refusal::BadNumber => f.write_str("the number of the rebuild is not to be had"),
+            Refusal::BadListing {
+                which,
+                paragraph,
+                fault,
+            } => {
+                let list = which.name();
+                let name = fault.name();
+                write!(f, "paragraph {paragraph} of {list} is refused: {name}")
+            }
+            Refusal::TextTooLong => f.write_str("a note or a message has more than 1000 bytes"),
             Refusal::Spent => f.write_str("a count of the office is at its limit"),
             Refusal::Memory => f.write_str("there is no memory for it now"),
+            Refusal::RepeatedArch => f.write_str("two parts are for one architecture"),
         }
     }
 }

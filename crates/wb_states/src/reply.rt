@@ -1,8 +1,9 @@
 //! What the office answers to a command that it accepts.
-use crate::Text;
+use crate::Refusal;
+use deb_relations::{Items, Text};
 
 /// What a builder is handed: one source package on one architecture, which it holds until the hold ends.
-#[derive(Clone, Debug, Drop)]
+#[derive(Debug, Drop)]
 pub struct Assignment {
     /// The architecture to build for.
     pub arch: Text,
@@ -20,8 +21,38 @@ pub struct Assignment {
     pub take: u64,
 }
 
+/// What a merge did to the records of an architecture (this project's own).
+#[derive(Clone, Copy, Debug, PartialEq, Eq)]
+pub struct MergeCounts {
+    /// How many source packages have a record that had none.
+    pub added: u64,
+    /// How many records differ in some field from what they were.
+    pub changed: u64,
+    /// How many records are as they were.
+    pub kept: u64,
+    /// How many source packages have no record any more.
+    pub removed: u64,
+}
+
+/// The end of a part of a merge.
+#[derive(Debug, Drop)]
+pub enum PartEnd {
+    /// The part is merged.
+    Merged { counts: MergeCounts },
+    /// The part is refused, and changed nothing.
+    Refused { refusal: Refusal },
+}
+
+/// What became of a part of a merge.
+#[derive(Debug, Drop)]
+pub struct PartReply {
+    /// The architecture of the part.
+    pub arch: Text,
+    pub end: PartEnd,
+}
+
 /// The answer to an accepted command. `accepted` counts the accepted commands, this one included.
-#[derive(Clone, Debug, Drop)]
+#[derive(Debug, Drop)]
 pub enum Reply {
     /// It is done.
     Done {
@@ -31,5 +62,16 @@ pub enum Reply {
     Job {
         accepted: u64,
         assignment: Assignment,
+    },
+    /// The builder has this assignment already. Nothing changed: the command does not count, and
+    /// `accepted` is as it was.
+    Again {
+        accepted: u64,
+        assignment: Assignment,
+    },
+    /// At least one part is merged; this is the end of each, in their order.
+    Merged {
+        accepted: u64,
+        parts: Items<PartReply>,
     },
 }

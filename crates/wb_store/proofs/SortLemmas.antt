@@ -9,7 +9,8 @@ use Rattle.std.specs.Option.{unwrap_or}
 use Rattle.std.specs.FinMap as finite
 use Rattle.wb_states.specs.Machine.{Machine}
 use Rattle.wb_states.specs.Queue.{with_item, sorted_by}
-use Rattle.wb_store.specs.Lookups.{Row, entry_of, is_held_by, held_of, take_cmp}
+use Rattle.wb_states.specs.Holds.{is_held_by, held_of, take_cmp}
+use Rattle.wb_store.specs.Lookups.{Row, entry_of}
 
 ties_at : (m n : ℕ) → (ties (λ x y. is_lt (nat_cmp x y)) m n ≡ true → m ≡ n) × (m ≡ n → ties (λ x y. is_lt (nat_cmp x y)) m n ≡ true)
 ties_at m n = (λ h. grind (arith, nat_tests), λ h. grind (arith, nat_tests))

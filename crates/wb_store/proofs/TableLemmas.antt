@@ -15,11 +15,12 @@ use Rattle.std.specs.FinMap.Entries.{below_all, is_sorted}
 use Rattle.std.specs.FinSet as set
 use Rattle.wb_store.specs.declared.store.Store.TheInside.{Inside}
 use Rattle.wb_store.specs.contracts.store.Store.{the_view}
-use Rattle.wb_states.specs.Text.{text_cmp}
+use Rattle.deb_relations.specs.Text.{text_cmp}
 use Rattle.wb_states.specs.declared.record.Record.{Record}
 use Rattle.wb_states.specs.declared.arch.OsCpu.{OsCpu}
 use Rattle.wb_states.specs.Machine.{Machine, pair_cmp}
 use Rattle.wb_states.proofs.KeyLemmas.{pair_cmp_total, pair_cmp-same}
+use Rattle.wb_states.proofs.MapLemmas.{entries-kept}
 
 -- the state with other records
 abbrev pub with_records : Machine → finite.FinMap pair_cmp Record → Machine
@@ -32,53 +33,6 @@ with_archs machine archs = record machine { archs = archs }
 -- the state with other builders
 abbrev pub with_builders : Machine → set.FinSet pair_cmp → Machine
 with_builders machine builders = record machine { builders = builders }
-
-module _ {K X : Type 0} {R : K → K → Ordering} (o : IsTotalOrder R) where
-  find-lookup : (es : List (K × X)) (q : K) → finite.find R q es ≡ lookup (is_at (R q)) es
-  find-lookup [] q = refl
-  find-lookup (e ∷ es) q = ap (cond (is_eq (R q e.0)) (Some e.1)) (find-lookup es q)
-
-  -- what the map that the entries make has at a key
-  pub get-lookup : (es : List (K × X)) (q : K) → finite.get (finite.from_entries {R = R} es) q ≡ lookup (is_at (R q)) es
-  get-lookup es q = finite.get-from_entries o es q ∙ find-lookup es q
-
-module _ {K X : Type 0} {R : K → K → Ordering} (o : IsTotalOrder R) (same : finite.IsAntisymmetric R) where
-  -- entries that differ at one key alone make maps that differ there alone
-  pub one-inserted : (es fs : List (K × X)) (k : K) (v : X)
-      → ((q : K) → lookup (is_at (R q)) fs ≡ cond (is_at (R k) q) (Some v) (lookup (is_at (R q)) es))
-      → finite.from_entries {R = R} fs ≡ finite.insert (finite.from_entries es) k v
-  one-inserted es fs k v h = finite.same_map o same _ _ (λ q.
-      get-lookup o fs q ∙ h q ∙ ap (λ b. cond b (Some v) (lookup (is_at (R q)) es)) ((eq_by_cmp_equiv o).symm k q)
-      ∙ sym (finite.get-insert o (finite.from_entries es) k v q ∙ ap (cond (is_at (R q) k) (Some v)) (get-lookup o es q)))
-
-  pub one-removed : (es fs : List (K × X)) (k : K)
-      → ((q : K) → lookup (is_at (R q)) fs ≡ cond (is_at (R k) q) None (lookup (is_at (R q)) es))
-      → finite.from_entries {R = R} fs ≡ finite.remove (finite.from_entries es) k
-  one-removed es fs k h = finite.same_map o same _ _ (λ q.
-      get-lookup o fs q ∙ h q ∙ ap (λ b. cond b None (lookup (is_at (R q)) es)) ((eq_by_cmp_equiv o).symm k q)
-      ∙ sym (finite.get-remove o (finite.from_entries es) k q ∙ ap (cond (is_at (R q) k) None) (get-lookup o es q)))
-
-both : (a b : Bool) → T a → T b → T (a && b)
-both true b p q = q
-both false b p q = p
-
-module _ {K X : Type 0} (R : K → K → Ordering) where
-  below-is : (k : K) (es : List (K × X)) → AllByRecursion (λ x. R k x ≡ Less) (map (λ e. e.0) es) → T (below_all R k es)
-  below-is k [] h = tt
-  below-is k (e ∷ es) h = both _ _ (subst (λ r. T (is_lt r)) (sym h.0) tt) (below-is k es h.1)
-
-  sorted-is : (es : List (K × X)) → IsStrictlySortedBy R (map (λ e. e.0) es) → T (is_sorted R es)
-  unfolding IsStrictlySortedBy
-  sorted-is [] h = tt
-  sorted-is (e ∷ es) h = both _ _ (below-is e.0 es h.0) (sorted-is es h.1)
-
-module _ {K X : Type 0} {R : K → K → Ordering} (o : IsTotalOrder R) (same : finite.IsAntisymmetric R) where
-  -- entries in the order of their keys are those of the map that they make
-  pub entries-kept : (es : List (K × X)) → IsStrictlySortedBy R (map (λ e. e.0) es) → finite.entries (finite.from_entries {R = R} es) ≡ es
-  entries-kept es h =
-      let sorted : T (is_sorted R es) = sorted-is R es h in
-      ap finite.entries (finite.same_map o same _ _ (λ q. finite.get-from_entries o es q ∙ sym (finite.get-from_sorted R es q sorted)))
-      ∙ finite.entries-from_sorted R es sorted
 
 or-cond : (a b : Bool) → cond a true b ≡ (a || b)
 or-cond true b = refl

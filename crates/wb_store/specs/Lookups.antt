@@ -25,36 +25,9 @@ Row = Bor (List ℕ) × Bor (List ℕ) × Bor Record
 abbrev pub entry_of : Row → Entry
 entry_of row = ((row.0.now, row.1.now), row.2.now)
 
--- whether a value is there and passes the test
-abbrev pub has_value : {X : Type 0} → (X → Bool) → Option X → Bool
-has_value test None = false
-has_value test (Some x) = test x
-
 -- a record of the architecture
 abbrev pub is_of : List ℕ → Entry → Bool
 is_of arch entry = bytes_eq entry.0.0 arch
-
--- a record that is held under the take number
-abbrev pub is_taken_as : ℕ → Entry → Bool
-is_taken_as take_number entry = has_value (nat_eq take_number) entry.1.take
-
--- a record that the builder holds
-abbrev pub is_held_by : List ℕ → Entry → Bool
-is_held_by builder entry = has_value (bytes_eq builder) entry.1.holder
-
--- the order of two records by their take numbers, where none counts as 0
-abbrev pub take_cmp : Entry → Entry → Ordering
-take_cmp = on (λ entry. unwrap_or entry.1.take 0) nat_cmp
-
--- the first record, by architecture and source package, that is held under the take number
-unfoldable pub taken_as : Machine → ℕ → Option Entry
-taken_as machine take_number =
-    first_of (filter (is_taken_as take_number) (finite.entries machine.records))
-
--- the records that the builder holds, by take number
-unfoldable pub held_of : Machine → List ℕ → List Entry
-held_of machine builder =
-    sorted_by take_cmp (filter (is_held_by builder) (finite.entries machine.records))
 
 -- the records of the architecture, by the names of their source packages
 unfoldable pub rows_of : Machine → List ℕ → List (List ℕ × Record)

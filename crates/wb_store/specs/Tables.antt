@@ -7,7 +7,7 @@ use Rattle.wb_states.specs.declared.record.Record.{Record}
 use Rattle.wb_states.specs.declared.arch.OsCpu.{OsCpu}
 use Rattle.wb_states.specs.contracts.record.Record as row
 use Rattle.wb_states.specs.contracts.arch.OsCpu as words
-use Rattle.wb_states.specs.Text.{text_cmp}
+use Rattle.deb_relations.specs.Text.{text_cmp}
 use Rattle.wb_states.specs.Machine.{Machine, pair_cmp}
 
 -- the code of a text

@@ -1,11 +1,13 @@
 //! The changes of the tables: each changes the row of its key and no other.
-ghost use Rattle.std.specs.Prelude.{◌≡◌, OnOk, OnErr};
+ghost use Rattle.std.specs.Prelude.{◌≡◌, IfOk, OnOk, OnErr};
 ghost use Rattle.std.specs.FinMap as map;
 ghost use Rattle.std.specs.FinSet as set;
 
 use crate::Store;
+use deb_relations::Text;
 use std::alloc::AllocError;
-use wb_states::{OsCpu, Record, Text};
+use std::collections::BTreeMap;
+use wb_states::{OsCpu, Record};
 
 impl Store {
     /// Gives the source package `source` on the architecture `arch` the record `current`, in the
@@ -54,5 +56,21 @@ impl Store {
     {
         self.builders.insert((builder, arch))?;
         Ok(())
+    }
+
+    /// A copy of all records, for a change that is made whole or not at all. The only error is that there is
+    /// no memory for it (this project's own).
+    pub fn copy_records(&self) -> Result<BTreeMap<(Text, Text), Record>, AllocError>
+        ensures value { IfOk result (λ records. map.from_entries records.entries ≡ self.now.records) }
+    {
+        self.records.clone()
+    }
+
+    /// Puts these records in the place of all that there were; all else stays. It cannot fail and takes no
+    /// memory (this project's own).
+    pub fn replace_records(&mut self, records: BTreeMap<(Text, Text), Record>)
+        ensures ok { self.new ≡ record self.old { records = map.from_entries records.entries } }
+    {
+        self.records = records;
     }
 }

@@ -3,7 +3,8 @@ ghost use Rattle.std.specs.Prelude.{◌≡◌};
 ghost use Rattle.wb_store.specs.Lookups.{counts_of, number_in};
 
 use crate::Store;
-use wb_states::{State, Text};
+use deb_relations::Text;
+use wb_states::State;
 
 /// How many records of an architecture are in each state (this project's own).
 #[derive(Clone, Copy, Debug, PartialEq, Eq)]

@@ -1,17 +1,19 @@
 //! The records that builders hold.
 ghost use Rattle.std.specs.Prelude.{◌≡◌, IfOk, bytes_eq, map as each};
 ghost use Rattle.std.specs.Option.{option_map};
-ghost use Rattle.wb_store.specs.Lookups.{entry_of, taken_as, held_of, has_value};
+ghost use Rattle.wb_states.specs.Holds.{taken_as, held_of, has_value};
+ghost use Rattle.wb_store.specs.Lookups.{entry_of};
 
 use crate::Store;
+use deb_relations::Text;
 use std::alloc::AllocError;
-use wb_states::{Record, Text};
+use wb_states::Record;
 
 impl Store {
     /// The architecture, the source package and the record that is held under the take number, or
     /// none where no record is: the first by architecture and source package. Takes no memory (this
     /// project's own).
-    #[tactic(auto, unfolding(crate::specs::Lookups::taken_as))]
+    #[tactic(auto, unfolding(wb_states::specs::Holds::taken_as))]
     pub fn by_take(&self, take_number: u64) -> Option<(&Text, &Text, &Record)>
         ensures value { option_map entry_of result ≡ taken_as self.now take_number }
     {

@@ -8,8 +8,9 @@ ghost use Rattle.wb_states.specs.Machine.{archs_of};
 ghost use Rattle.wb_store.specs.Lookups.{rows_of};
 
 use crate::Store;
+use deb_relations::Text;
 use std::alloc::AllocError;
-use wb_states::{OsCpu, Record, Text};
+use wb_states::{OsCpu, Record};
 
 impl Store {
     /// The words of the architecture, or none where it was never added. Takes no memory (this

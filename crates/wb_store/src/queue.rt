@@ -8,7 +8,8 @@ ghost use Rattle.wb_states.specs.Queue.{head_of};
 ghost use Rattle.wb_store.specs.Lookups.{named};
 
 use crate::Store;
-use wb_states::{QueueKey, Record, State, Text};
+use deb_relations::Text;
+use wb_states::{QueueKey, Record, State};
 
 impl Store {
     /// The head of the architecture's queue: the name of the source package that is built next, and

@@ -2,10 +2,11 @@
 ghost use Rattle.std.specs.Prelude.{◌≡◌};
 ghost use Rattle.wb_states.specs.Machine.{empty_office};
 
+use deb_relations::Text;
 use std::alloc::Global;
 use std::collections::{BTreeMap, BTreeSet};
 use std::marker::Model;
-use wb_states::{Counts, OsCpu, Record, Text};
+use wb_states::{Counts, OsCpu, Record};
 
 /// The tables of the office: the records, by architecture and source package, the words of the
 /// architectures, the pairs of a builder and an architecture for which it builds, and the two

@@ -1,3 +1,6 @@
+pub mod ArgumentLemmas
+pub mod AskedLemmas
+pub mod OnLiterals
 pub mod RowLemmas
 pub mod TreeLemmas
 pub mod UsageLemmas

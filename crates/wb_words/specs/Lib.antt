@@ -1,2 +1,4 @@
+pub mod Arguments
 pub mod Start
+pub mod Usages
 pub mod Words

@@ -1,80 +1,19 @@
 -- What the words of a line ask of the office, where `clap` reads them (this project's own).
-use Rattle.std.specs.Prelude.{List, [], ◌∷◌, Option, Some, None, true, codes, if◌then◌else◌}
-use Rattle.std.specs.Prelude.{map, option_and_then, option_map}
-use Rattle.std.specs.Borrow.{Bor}
+use Rattle.std.specs.Prelude.{◌==◌, List, [], ◌∷◌, Option, Some, None, codes, if◌then◌else◌}
+use Rattle.std.specs.Prelude.{option_and_then, option_map}
+use Rattle.std.specs.List.{slice_split}
 use Rattle.std.specs.Str.{bytes_eq}
-use Rattle.clap.specs.Words.{App, Kinds, Row, Rule, Shape, Text, fault_of, first_of, new_app}
-use Rattle.clap.specs.Words.{new_rule, subcommand_of, with_rule, with_subcommand}
-use Rattle.clap.specs.declared.builder.action.ArgAction.TheVariants.{Set}
+use Rattle.clap.specs.Words.{Kinds, Row, Text, fault_of, subcommand_of}
 use Rattle.wb_states.specs.declared.command.Command.{Command}
-use Rattle.wb_states.specs.declared.command.Command.TheVariants.{AddArch, AddBuilder, Enter, Next}
+use Rattle.wb_states.specs.declared.command.Command.TheVariants.{AddArch, AddBuilder, Built, DepWait}
+use Rattle.wb_states.specs.declared.command.Command.TheVariants.{Enter, Fail, GiveBack, Next, NotForUs}
+use Rattle.wb_states.specs.declared.command.Command.TheVariants.{PutBack, Rebuild, Take, Uploaded, Waits}
+use Rattle.wb_words.specs.Arguments.{number_of, optional_number_of, parts_of, subject_of, word_of, words_of}
+use Rattle.wb_words.specs.Usages.{wb_app}
+use Rattle.wb_words.specs.declared.words.Asked.{Asked}
+use Rattle.wb_words.specs.declared.words.Asked.TheVariants as asked
 
--- ---- the subcommands, and the arguments of each
-
--- a subcommand is its name and the names of its arguments, in their order
-abbrev pub Usage : Type 0
-Usage = Text × List Text
-
--- the usages that a table of references holds
-abbrev pub usages_in : List (Bor Text × Bor (List (Bor Text))) → List Usage
-usages_in = map (λ usage. (usage.0.now, map (λ id. id.now) usage.1.now))
-
--- the subcommands of operators
-abbrev pub operator_usages : List Usage
-operator_usages = (codes "add-arch", codes "name" ∷ codes "os" ∷ codes "cpu" ∷ [])
-    ∷ (codes "add-builder", codes "name" ∷ codes "arch" ∷ [])
-    ∷ (
-      codes "enter",
-      codes "arch" ∷ codes "source" ∷ codes "version" ∷ codes "priority"
-          ∷ codes "section" ∷ [],
-    )
-    ∷ []
-
--- the subcommands of builders
-abbrev pub builder_usages : List Usage
-builder_usages = (codes "next", codes "arch" ∷ codes "builder" ∷ []) ∷ []
-
--- ---- the command line, as `clap` knows it
-
--- an argument of one word that has to be there
-abbrev pub wanted : Text → Rule
-wanted id = record (new_rule id) { required = true; action = Some Set }
-
--- a command with further arguments of one word each
-abbrev pub with_wanted : App → List Text → App
-with_wanted app [] = app
-with_wanted app (id ∷ ids) = with_wanted (with_rule app (wanted id)) ids
-
--- the subcommand of a usage
-abbrev pub subcommand_shape : Usage → Shape
-subcommand_shape usage = (with_wanted (new_app usage.0) usage.1).top
-
--- a command with further subcommands
-abbrev pub with_usages : App → List Usage → App
-with_usages app [] = app
-with_usages app (usage ∷ usages) =
-    with_usages (with_subcommand app (subcommand_shape usage)) usages
-
--- a command whose first word is a subcommand, and which gives no help
-abbrev pub bare_app : App
-bare_app = record (new_app (codes "wb")) {
-  top = record ((new_app (codes "wb")).top) {
-    no_binary_name = true;
-    disable_help_flag = true;
-    disable_help_subcommand = true;
-    subcommand_required = true;
-  };
-}
-
--- the command of a line, with all its subcommands
-unfoldable pub wb_app : App
-wb_app = with_usages (with_usages bare_app operator_usages) builder_usages
-
--- ---- the command of a line
-
--- the word that was given for an argument
-unfoldable pub word_of : Text → List Row → Option Text
-word_of id rows = first_of id rows
+-- ---- the commands of operators
 
 -- to add an architecture
 unfoldable pub add_arch_of : List Row → Option Command
@@ -89,27 +28,100 @@ add_builder_of rows = option_and_then (λ name. option_map (λ arch. AddBuilder 
 
 -- to enter a source package
 unfoldable pub enter_of : List Row → Option Command
-enter_of rows = option_and_then (λ arch. option_and_then (λ source. option_and_then (λ version.
-    option_and_then (λ priority. option_map (λ section.
-    Enter arch source version priority section)
-    (word_of (codes "section") rows)) (word_of (codes "priority") rows))
-    (word_of (codes "version") rows)) (word_of (codes "source") rows))
-    (word_of (codes "arch") rows)
+enter_of rows = option_and_then (λ subject. option_and_then (λ priority. option_map (λ section.
+    Enter subject.arch subject.source subject.version priority section)
+    (word_of (codes "section") rows)) (word_of (codes "priority") rows)) (subject_of rows)
 
--- to ask for the next source package to build
-unfoldable pub next_of : List Row → Option Command
-next_of rows = option_and_then (λ arch. option_map (λ builder. Next arch builder)
-    (word_of (codes "builder") rows)) (word_of (codes "arch") rows)
+-- to put a source package back
+unfoldable pub give_back_of : List Row → Option Command
+give_back_of rows = option_map (λ subject.
+    GiveBack subject.arch subject.source subject.version) (subject_of rows)
+
+-- to let a source package wait
+unfoldable pub dep_wait_of : List Row → Option Command
+dep_wait_of rows = option_map (λ subject. DepWait subject.arch subject.source subject.version
+    (words_of (codes "relations") rows)) (subject_of rows)
+
+-- to say that a build failed
+unfoldable pub fail_of : List Row → Option Command
+fail_of rows = option_map (λ subject. Fail subject.arch subject.source subject.version
+    (words_of (codes "note") rows)) (subject_of rows)
+
+-- to say that a source package is not to be built
+unfoldable pub not_for_us_of : List Row → Option Command
+not_for_us_of rows = option_map (λ subject. NotForUs subject.arch subject.source subject.version
+    (words_of (codes "note") rows)) (subject_of rows)
+
+-- to build once more
+unfoldable pub rebuild_of : List Row → Option Command
+rebuild_of rows = option_and_then (λ subject. option_map (λ number.
+    Rebuild subject.arch subject.source subject.version number
+    (words_of (codes "message") rows)) (number_of (codes "number") rows)) (subject_of rows)
 
 -- the operator's command of this name with these arguments
 unfoldable pub operator_command : Text → List Row → Option Command
 operator_command name rows = if bytes_eq name (codes "add-arch") then add_arch_of rows
     else (if bytes_eq name (codes "add-builder") then add_builder_of rows
-    else (if bytes_eq name (codes "enter") then enter_of rows else None))
+    else (if bytes_eq name (codes "enter") then enter_of rows
+    else (if bytes_eq name (codes "give-back") then give_back_of rows
+    else (if bytes_eq name (codes "dep-wait") then dep_wait_of rows
+    else (if bytes_eq name (codes "fail") then fail_of rows
+    else (if bytes_eq name (codes "not-for-us") then not_for_us_of rows
+    else (if bytes_eq name (codes "rebuild") then rebuild_of rows else None)))))))
+
+-- ---- the commands of builders
+
+-- to ask for the next source package to build
+unfoldable pub next_of : List Row → Option Command
+next_of rows = option_and_then (λ arch. option_and_then (λ builder. option_map (λ after.
+    Next arch builder after)
+    (optional_number_of (codes "after") rows)) (word_of (codes "builder") rows))
+    (word_of (codes "arch") rows)
+
+-- to take a source package of the queue
+unfoldable pub take_of : List Row → Option Command
+take_of rows = option_and_then (λ subject. option_map (λ builder.
+    Take subject.arch builder subject.source subject.version)
+    (word_of (codes "builder") rows)) (subject_of rows)
+
+-- to say that it was built
+unfoldable pub built_of : List Row → Option Command
+built_of rows = option_map (λ take_number. Built take_number) (number_of (codes "take") rows)
+
+-- to say that it was uploaded
+unfoldable pub uploaded_of : List Row → Option Command
+uploaded_of rows = option_map (λ take_number. Uploaded take_number) (number_of (codes "take") rows)
+
+-- to put what was taken back
+unfoldable pub put_back_of : List Row → Option Command
+put_back_of rows = option_map (λ take_number. PutBack take_number) (number_of (codes "take") rows)
+
+-- to say what it waits for
+unfoldable pub waits_of : List Row → Option Command
+waits_of rows = option_map (λ take_number. Waits take_number (words_of (codes "relations") rows))
+    (number_of (codes "take") rows)
 
 -- the builder's command of this name with these arguments
 unfoldable pub builder_command : Text → List Row → Option Command
-builder_command name rows = if bytes_eq name (codes "next") then next_of rows else None
+builder_command name rows = if bytes_eq name (codes "next") then next_of rows
+    else (if bytes_eq name (codes "take") then take_of rows
+    else (if bytes_eq name (codes "built") then built_of rows
+    else (if bytes_eq name (codes "uploaded") then uploaded_of rows
+    else (if bytes_eq name (codes "put-back") then put_back_of rows
+    else (if bytes_eq name (codes "waits") then waits_of rows else None)))))
+
+-- ---- what reads lists
+
+-- to merge the lists that stand in files
+unfoldable pub merge_of : List Row → Option Asked
+merge_of rows = option_and_then (λ sources. option_map (λ parts. asked.Merge sources parts)
+    (parts_of (codes "parts") rows)) (word_of (codes "sources") rows)
+
+-- what the subcommand of this name, one that reads lists, asks for with these arguments
+unfoldable pub list_asked : Text → List Row → Option Asked
+list_asked name rows = if bytes_eq name (codes "merge") then merge_of rows else None
+
+-- ---- what a line asks for
 
 -- the first, and where there is none the second
 abbrev pub or_command : Option Command → Option Command → Option Command
@@ -117,16 +129,28 @@ or_command (Some command) next = Some command
 or_command None next = next
 
 -- the command of this name with these arguments
-unfoldable pub command_named : Text × List Row → Option Command
-command_named named =
-    or_command (operator_command named.0 named.1) (builder_command named.0 named.1)
+unfoldable pub command_named : Text → List Row → Option Command
+command_named name rows = or_command (operator_command name rows) (builder_command name rows)
 
--- a command, where its words have no fault
-abbrev pub unless_faulty : Kinds → Option Command → Option Command
-unless_faulty [] command = command
-unless_faulty (kind ∷ kinds) command = None
+-- a command, and where there is none what is asked else
+abbrev pub or_asked : Option Command → Option Asked → Option Asked
+or_asked (Some command) next = Some (asked.Command command)
+or_asked None next = next
 
--- the command that the words of a line ask for
-unfoldable pub command_in : List Text → Option Command
-command_in words = unless_faulty (fault_of wb_app words)
-    (option_and_then command_named (subcommand_of wb_app words))
+-- what the subcommand of this name asks for with these arguments
+unfoldable pub asked_named : Text × List Row → Option Asked
+asked_named named = or_asked (command_named named.0 named.1) (list_asked named.0 named.1)
+
+-- what is asked, where the words have no fault
+abbrev pub unless_faulty : Kinds → Option Asked → Option Asked
+unless_faulty [] asked = asked
+unless_faulty (kind ∷ kinds) asked = None
+
+-- what the words of a line ask for
+unfoldable pub asked_in : List Text → Option Asked
+asked_in words = unless_faulty (fault_of wb_app words)
+    (option_and_then asked_named (subcommand_of wb_app words))
+
+-- what a text asks for whose words are parted by one space each
+abbrev pub asked_by : Text → Option Asked
+asked_by text = asked_in (slice_split (λ c. c == 32) text)

@@ -32,11 +32,36 @@ one line of JSON. The commands are:
           Lets a builder build for an architecture
   enter ARCH SOURCE VERSION PRIORITY SECTION
           Puts a source package into the queue of an architecture
-  next ARCH BUILDER
-          Gives a builder the first source package of the queue
+  next ARCH BUILDER [--after N]
+          Gives a builder the first source package of the queue, or tells it
+          again of what it holds under the first take number after N
+  take ARCH BUILDER SOURCE VERSION
+          Gives a builder this source package of the queue
+  built TAKE
+          The builder built what it took
+  uploaded TAKE
+          The builder uploaded what it built
+  waits TAKE RELATIONS..
+          What was taken waits for these relations
+  put-back TAKE
+          Puts what was taken back into the queue
+  give-back ARCH SOURCE VERSION
+          Puts a source package back into the queue
+  dep-wait ARCH SOURCE VERSION RELATIONS..
+          Lets a source package wait for these relations
+  fail ARCH SOURCE VERSION [NOTE..]
+          The build failed
+  not-for-us ARCH SOURCE VERSION [NOTE..]
+          The source package is not to be built on the architecture
+  rebuild ARCH SOURCE VERSION NUMBER [MESSAGE..]
+          Builds an installed source package once more, under this number
+  merge SOURCESFILE PART..
+          Brings the records in line with the archive's lists; a part is
+          ARCH=PACKAGESFILE, for each architecture
 
-Words are parted by spaces and tabs. A word that begins with a hyphen is an
-option, unless the word -- comes before it.
+Words are parted by spaces and tabs. A word of two or more bytes that begins
+with a hyphen is an option, unless the word -- comes before it. A last
+argument that ends in .. takes several words.
 ";
 
 /// Whether the first word is `help`.

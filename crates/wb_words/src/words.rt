@@ -1,25 +1,50 @@
-//! The command that the words of a line ask for.
+//! What the words of a line ask for.
 ghost use Rattle.std.specs.Prelude.{◌≡◌, ◌≢◌, None, Some, map, IfErr, IfOk};
 ghost use Rattle.clap.specs.Words.{found_of, rows_of};
 ghost use Rattle.wb_words.specs.declared.fault.WordsFault.TheVariants.{Memory};
-ghost use Rattle.wb_words.specs.Words.{command_in, command_named};
+ghost use Rattle.wb_words.specs.Words.{asked_in, asked_named, command_named};
 
 use crate::tree::command_line;
-use crate::{WordsFault, builder, operator};
+use crate::{WordsFault, builder, lists, operator};
 use clap::ArgMatches;
+use deb_relations::{Items, Text};
 use std::alloc::{AllocError, Global};
 use wb_states::Command;
 
-/// The command `name` with these arguments; `None` where `name` is no subcommand or an argument is
-/// missing. The only error is that there is no memory for its texts.
+/// A part of a merge as a line names it.
+#[derive(Debug, Drop)]
+pub struct PartNames {
+    /// The architecture.
+    pub arch: Text,
+    /// The file in which its Packages list stands.
+    pub packages: Text,
+}
+
+/// What the words of a line ask for.
+#[derive(Debug, Drop)]
+pub enum Asked {
+    /// A command that is whole.
+    Command {
+        command: Command,
+    },
+    /// A merge of the lists that stand in these files.
+    Merge {
+        sources: Text,
+        parts: Items<PartNames>,
+    },
+}
+
+/// The command `name` with these arguments; `None` where `name` is no subcommand of operators or
+/// builders, or an argument is missing or no number. The only error is that there is no memory for
+/// its texts.
 #[tactic(auto, unfolding(crate::specs::Words::command_named))]
-fn named(
+fn command(
     alloc: Global,
     name: &str,
     arguments: &ArgMatches<'_>,
 ) -> Result<Option<Command>, AllocError>
     ensures value { IfOk result (λ command.
-        command ≡ command_named (name.now, rows_of (found_of arguments.now))) }
+        command ≡ command_named name.now (rows_of (found_of arguments.now))) }
 {
     match operator::command_named(alloc, name, arguments)? {
         Some(command) => Ok(Some(command)),
@@ -27,25 +52,41 @@ fn named(
     }
 }
 
+/// What the subcommand `name` asks for with these arguments; `None` where `name` is no subcommand,
+/// or an argument is missing or of another form. The only error is that there is no memory for its
+/// texts.
+#[tactic(auto, unfolding(crate::specs::Words::asked_named))]
+fn named(alloc: Global, name: &str, arguments: &ArgMatches<'_>) -> Result<Option<Asked>, AllocError>
+    ensures value { IfOk result (λ asked.
+        asked ≡ asked_named (name.now, rows_of (found_of arguments.now))) }
+{
+    match command(alloc, name, arguments)? {
+        Some(command) => Ok(Some(Asked::Command { command })),
+        None => lists::asked_named(alloc, name, arguments),
+    }
+}
+
 /// Reads the words of one line, of which the first is the subcommand.
 ///
-/// Each word is one argument, whatever bytes it has; a word of two or more bytes that begins with a
-/// hyphen is an option, unless the word `--` came before it. No subcommand has an option, and none
-/// gives help here. The errors are `NoCommand` where the words are no command, and `Memory`, which
+/// Each word is one argument, whatever bytes it has; several words of a last argument are joined by
+/// one space, but each part of a merge is one of its own. A word of two or more bytes that begins
+/// with a hyphen is an option, unless the word `--` came before it; the only option that there is is
+/// `--after` of `next`. Numbers are whole, from 0 to 2^64 - 1, in decimal digits; one plus sign may
+/// stand before them. The errors are `NoCommand` where the words are no command, and `Memory`, which
 /// may come at any words. The grammar is this project's own.
-#[tactic(auto, using(crate::proofs::TreeLemmas::tree_laws), unfolding(crate::specs::Words::command_in))]
-pub fn command_of<'a>(alloc: Global, words: &'a [&'a str]) -> Result<Command, WordsFault>
-    ensures value { IfOk result (λ command.
-        command_in (map (λ word. word.now) words.entry.now) ≡ Some command) }
+#[tactic(auto, using(crate::proofs::TreeLemmas::tree_laws), unfolding(crate::specs::Words::asked_in))]
+pub fn asked_of<'a>(alloc: Global, words: &'a [&'a str]) -> Result<Asked, WordsFault>
+    ensures value { IfOk result (λ asked.
+        asked_in (map (λ word. word.now) words.entry.now) ≡ Some asked) }
     ensures refused { IfErr result (λ fault. fault ≢ Memory
-        → command_in (map (λ word. word.now) words.entry.now) ≡ None) }
+        → asked_in (map (λ word. word.now) words.entry.now) ≡ None) }
 {
     let matches = command_line(alloc)?.try_get_matches_from(words)?;
     let Some((name, arguments)) = matches.subcommand() else {
         return Err(WordsFault::NoCommand);
     };
     match named(alloc, name, arguments)? {
-        Some(command) => Ok(command),
+        Some(asked) => Ok(asked),
         None => Err(WordsFault::NoCommand),
     }
 }

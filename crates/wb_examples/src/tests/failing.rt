@@ -1,4 +1,5 @@
 //! A run whose reader or writer fails in the middle.
+use super::lists::MemoryLists;
 use std::io::{self, ErrorKind, Read, Write};
 use std::test::Fail;
 use wb_daemon::run_lines;
@@ -60,7 +61,14 @@ fn each_read_fails_in_turn(rt: HostRuntime) -> Result<(), Fail> {
             reads,
         };
         let mut writer: Vec<u8> = Vec::new(rt.alloc());
-        let status = run_lines(rt.alloc(), &mut office, &mut reader, &mut writer);
+        let mut lists = MemoryLists { rows: &[] };
+        let status = run_lines(
+            rt.alloc(),
+            &mut office,
+            &mut reader,
+            &mut writer,
+            &mut lists,
+        );
         let ended = LINES.as_bytes()[..reads.min(LINES.len())]
             .iter()
             .filter(|byte| **byte == b'\n')
@@ -86,7 +94,14 @@ fn each_write_fails_in_turn(rt: HostRuntime) -> Result<(), Fail> {
             taken: Vec::new(rt.alloc()),
             room,
         };
-        let status = run_lines(rt.alloc(), &mut office, &mut reader, &mut writer);
+        let mut lists = MemoryLists { rows: &[] };
+        let status = run_lines(
+            rt.alloc(),
+            &mut office,
+            &mut reader,
+            &mut writer,
+            &mut lists,
+        );
         let whole = room == REPLIES.len();
         assert_eq!(rt; status, if whole { 1 } else { 3 }, "with room for {room}");
         assert_eq!(rt; writer.taken.as_slice(), &REPLIES.as_bytes()[..room]);

@@ -1,8 +1,9 @@
 //! The queue of records that are set by hand.
+use deb_relations::Text;
 use deb_version::Version;
 use std::alloc::Global;
 use std::test::Fail;
-use wb_states::{Move, Record, Refusal, State, Text, build_text, move_record};
+use wb_states::{Move, Record, Refusal, State, build_text, move_record};
 use wb_store::Store;
 
 fn waiting(alloc: Global, earlier: bool, priority: &str, section: &str) -> Result<Record, Fail> {
@@ -77,12 +78,9 @@ fn only_what_waits_is_taken(rt: HostRuntime) -> Result<(), Fail> {
         holder: Text::copied(alloc, "b1")?,
         take_number: 1,
     };
-    let refusal = move_record(alloc, &record, &change).err();
-    assert_eq!(rt;
-        refusal,
-        Some(Refusal::WrongState {
-            state: State::Built
-        })
-    );
+    match move_record(alloc, &record, &change) {
+        Err(Refusal::WrongState { state }) => assert_eq!(rt; state, State::Built),
+        _ => return Err("not refused")?,
+    }
     Ok(())
 }

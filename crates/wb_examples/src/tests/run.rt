@@ -1,4 +1,5 @@
 //! What a run prints and how it ends.
+use super::lists::MemoryLists;
 use std::alloc::Global;
 use std::process::Abort;
 use std::test::Fail;
@@ -8,7 +9,8 @@ use wb_office::Office;
 fn printed(alloc: Global, office: &mut Office, input: &str) -> Result<(String, u8), Fail> {
     let mut reader = input.as_bytes();
     let mut writer: Vec<u8> = Vec::new(alloc);
-    let status = run_lines(alloc, office, &mut reader, &mut writer);
+    let mut lists = MemoryLists { rows: &[] };
+    let status = run_lines(alloc, office, &mut reader, &mut writer, &mut lists);
     Ok((String::from_utf8(writer)?, status))
 }
 
@@ -109,7 +111,7 @@ static REFUSALS: [(&str, &str, u8); 15] = [
 ];
 
 /// Runs of one office each: the input, what is printed, and the status.
-static INPUTS: [(&str, &str, u8); 10] = [
+static INPUTS: [(&str, &str, u8); 11] = [
     ("", "", 0),
     ("\n \t\n\n", "", 0),
     (
@@ -131,7 +133,16 @@ static INPUTS: [(&str, &str, u8); 10] = [
         "{\"code\":11,\"refused\":\"BadName\"}\n",
         1,
     ),
-    ("take amd64 b1 hello 1.0\n", "{\"fault\":\"line\"}\n", 2),
+    (
+        "take amd64 b1 hello 1.0\n",
+        "{\"code\":1,\"refused\":\"UnknownArch\"}\n",
+        1,
+    ),
+    (
+        "merge Sources amd64=Packages\nhelp\n",
+        "{\"fault\":\"file\"}\n{\"fault\":\"line\"}\n",
+        3,
+    ),
 ];
 
 fn in_a_row(rt: &(impl Abort + AllocGlobal), cases: &[(&str, &str, u8)]) -> Result<(), Fail> {

@@ -1,8 +1,9 @@
 //! The calls of the store, each once.
+use deb_relations::Text;
 use deb_version::Version;
 use std::alloc::Global;
 use std::test::Fail;
-use wb_states::{OsCpu, Record, State, Text};
+use wb_states::{OsCpu, Record, State};
 use wb_store::Store;
 
 fn held(alloc: Global, take_number: u64) -> Result<Record, Fail> {

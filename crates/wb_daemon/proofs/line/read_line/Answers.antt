@@ -1,5 +1,5 @@
 -- A full room and one byte more are a line that is too long.
-use Rattle.std.proofs.Common.{◌≡◌, take, arith, length, length-take, min}
+use Rattle.std.proofs.Common.{take, arith, length-take}
 use Rattle.wb_daemon.proofs.LineLemmas.{over_long}
 use Rattle.wb_daemon.proofs.line.read_line.Goals as goal
 

@@ -1,5 +1,4 @@
 -- What `from_utf8` tells, as a test.
-use Rattle.std.proofs.Common.{◌≡◌}
 use Rattle.std.proofs.lemmas.Str.{is_utf8-from_IsUtf8}
 use Rattle.wb_daemon.proofs.LineLemmas.{is_utf8-false}
 use Rattle.wb_daemon.proofs.line.text_of.Goals as goal

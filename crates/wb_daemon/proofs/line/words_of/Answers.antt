@@ -1,5 +1,5 @@
 -- The chain gives the parts between tabs of the parts between spaces.
-use Rattle.std.proofs.Common.{◌≡◌, ℕ, List, map, filter, rules, tests, lit<, eqb, not, length, ap, ◌∙◌, IfOk, sym}
+use Rattle.std.proofs.Common.{◌≡◌, map, filter, rules, tests, lit<, eqb, not, length, ap, ◌∙◌, IfOk}
 use Rattle.std.specs.List.{slice_split, flat_map}
 use Rattle.std.proofs.lemmas.Iterator.Splits.{YieldsList-from_str_split}
 use Rattle.std.proofs.lemmas.Iterator.Adapters.{YieldsList-from_flat_map}

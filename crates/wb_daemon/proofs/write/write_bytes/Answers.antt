@@ -1,5 +1,5 @@
 -- A write appends a front of what is left.
-use Rattle.std.proofs.Common.{◌≡◌, drop, arith}
+use Rattle.std.proofs.Common.{arith}
 use Rattle.wb_daemon.proofs.LineLemmas.{Appends-take}
 use Rattle.wb_daemon.proofs.write.write_bytes.Goals as goal
 

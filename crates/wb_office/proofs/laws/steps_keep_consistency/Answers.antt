@@ -1,5 +1,5 @@
 use Rattle.wb_office.proofs.ConsistencyLemmas.{IsConsistent-empty_office}
-use Rattle.wb_office.proofs.StepLemmas.{step-keeps, replay-keeps}
+use Rattle.wb_office.proofs.InvariantLemmas.{step-keeps, replay-keeps}
 use Rattle.wb_office.proofs.laws.steps_keep_consistency.Goals as goal
 
 pub returns-clause-empty : goal.returns-clause-empty

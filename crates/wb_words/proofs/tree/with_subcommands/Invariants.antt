@@ -1,7 +1,7 @@
 use Rattle.std.proofs.Common.{◌≡◌, false, drop}
 use Rattle.clap.specs.Words.{app_of}
 use Rattle.clap.specs.declared.builder.command.Command.TheViews.{out-Command}
-use Rattle.wb_words.specs.Words.{usages_in, with_usages}
+use Rattle.wb_words.specs.Usages.{usages_in, with_usages}
 use Rattle.wb_words.proofs.tree.with_subcommands.Given as goal
 
 abbrev pub invariant-loop-usage : goal.invariant-loop-usage

@@ -2,7 +2,8 @@ use Rattle.std.proofs.Common.{◌≡◌, ◌∙◌, ◌++◌, sym, ap, filter, m
 use Rattle.std.proofs.lemmas.List.Sorted.{IsNonDecreasingBy-from_sort_by_key, answers_always}
 use Rattle.std.proofs.lemmas.List.{append-nil}
 use Rattle.std.specs.FinMap as finite
-use Rattle.wb_store.specs.Lookups.{entry_of, is_held_by}
+use Rattle.wb_states.specs.Holds.{is_held_by}
+use Rattle.wb_store.specs.Lookups.{entry_of}
 use Rattle.wb_store.proofs.SortLemmas.{number_of, held-sorted}
 use Rattle.wb_store.proofs.TableLemmas.{records-iterated}
 use Rattle.wb_store.proofs.store.Store.held_by.Goals as goal

@@ -1,6 +1,7 @@
 use Rattle.std.proofs.Common.{◌≡◌, ◌++◌, filter, map}
 use Rattle.std.specs.FinMap as finite
-use Rattle.wb_store.specs.Lookups.{entry_of, is_held_by}
+use Rattle.wb_states.specs.Holds.{is_held_by}
+use Rattle.wb_store.specs.Lookups.{entry_of}
 use Rattle.wb_store.proofs.store.Store.held_by.Given as goal
 
 abbrev pub invariant-loop-key : goal.invariant-loop-key

@@ -1,7 +1,8 @@
 use Rattle.std.proofs.Common.{ap, ◌∙◌}
 use Rattle.std.specs.FinMap as map
 use Rattle.wb_store.specs.contracts.store.Store.{the_view}
-use Rattle.wb_store.proofs.TableLemmas.{one-inserted, with_records}
+use Rattle.wb_states.proofs.MapLemmas.{one-inserted}
+use Rattle.wb_store.proofs.TableLemmas.{with_records}
 use Rattle.wb_states.proofs.KeyLemmas.{pair_cmp_total, pair_cmp-same}
 use Rattle.wb_store.proofs.store.Store.put.Goals as goal
 

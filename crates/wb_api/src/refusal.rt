@@ -1,0 +1,111 @@
+//! The refusals of the office as compact JSON, with the keys of each object in byte order.
+ghost use Rattle.std.specs.Prelude.{◌≡◌, ◌⊎◌, IfOk};
+ghost use Rattle.std.specs.String.{string_bytes};
+ghost use Rattle.std.specs.Cow.{cow_str_bytes};
+ghost use Rattle.serde_json.specs.View.{view};
+ghost use Rattle.wb_states.specs.declared.refusal.Refusal.TheVariants.{Memory};
+ghost use Rattle.wb_api.specs.Encoding.{name_of_relations, refusal_text, IsMemoryText};
+ghost use Rattle.wb_api.specs.Values.{value_of_listing, value_of_refusal};
+
+use deb_relations::RelationFault;
+use serde_json::{Value, json};
+use std::alloc::{AllocError, Global};
+use std::borrow::CowStr;
+use wb_states::{ListKind, ListingFault, Refusal};
+
+/// The refusal for want of memory, whose text must not need any.
+const MEMORY: &str = "{\"code\":20,\"refused\":\"Memory\"}";
+
+/// A refusal as one JSON object (RFC 8259), with no space and no line feed: its number, its name and what
+/// it tells further, in all as the keys of this project have it.
+///
+/// There is no error: where there is no memory for the text, the refusal for want of memory stands in its
+/// place, which is a constant. The text of that refusal itself never takes memory.
+pub fn refusal_json(alloc: Global, refusal: &Refusal) -> CowStr<'static>
+    ensures value { (cow_str_bytes result ≡ refusal_text refusal.now) ⊎ IsMemoryText result }
+    ensures memory { refusal.now ≡ Memory → IsMemoryText result }
+{
+    if let Refusal::Memory = refusal {
+        return CowStr::Borrowed(MEMORY);
+    }
+    match text_of_refusal(alloc, refusal) {
+        Ok(text) => CowStr::Owned(text),
+        Err(_) => CowStr::Borrowed(MEMORY),
+    }
+}
+
+#[tactic(auto, using(crate::proofs::EncodingLemmas::printing))]
+fn text_of_refusal(alloc: Global, refusal: &Refusal) -> Result<String, AllocError>
+    ensures { IfOk result (λ text. string_bytes text ≡ refusal_text refusal.now) }
+{
+    let value = value_of_refusal(alloc, refusal)?;
+    value.to_string(alloc)
+}
+
+/// The name of what is wrong with relations: `Nothing` where there is no fault, but nothing of them is left.
+fn name_of_relations(fault: &Option<RelationFault>) -> &'static str
+    ensures { result.now ≡ name_of_relations fault.now }
+{
+    match fault {
+        Some(fault) => fault.name(),
+        None => "Nothing",
+    }
+}
+
+pub(crate) fn value_of_refusal(alloc: Global, refusal: &Refusal) -> Result<Value, AllocError>
+    ensures { IfOk result (λ value. view value ≡ value_of_refusal refusal.now) }
+{
+    let code = refusal.code();
+    let name = refusal.name();
+    match refusal {
+        Refusal::OtherVersion { have } => {
+            json!(in alloc; {"code": code, "have": have.as_str(), "refused": name})
+        }
+        Refusal::WrongState { state } => {
+            json!(in alloc; {"code": code, "refused": name, "state": state.name()})
+        }
+        Refusal::AfterAhead { handed } => {
+            json!(in alloc; {"code": code, "handed": *handed, "refused": name})
+        }
+        Refusal::BadVersion { fault } => {
+            json!(in alloc; {"code": code, "fault": fault.name(), "refused": name})
+        }
+        Refusal::BadRelations { fault } => {
+            json!(in alloc; {"code": code, "fault": name_of_relations(fault), "refused": name})
+        }
+        Refusal::BadListing {
+            which,
+            paragraph,
+            fault,
+        } => value_of_listing(alloc, *which, *paragraph, *fault),
+        _ => json!(in alloc; {"code": code, "refused": name}),
+    }
+}
+
+/// The object of a fault in a paragraph of a list. It tells the field where one lacks or has not its form.
+fn value_of_listing(
+    alloc: Global,
+    which: ListKind,
+    paragraph: u64,
+    fault: ListingFault,
+) -> Result<Value, AllocError>
+    ensures { IfOk result (λ value. view value ≡ value_of_listing which paragraph fault) }
+{
+    match fault {
+        ListingFault::Control { .. } => json!(in alloc; {
+            "code": 15u8,
+            "fault": fault.name(),
+            "paragraph": paragraph,
+            "refused": "BadListing",
+            "which": which.name()
+        }),
+        ListingFault::Missing { field } | ListingFault::BadValue { field } => json!(in alloc; {
+            "code": 15u8,
+            "fault": fault.name(),
+            "field": field.name(),
+            "paragraph": paragraph,
+            "refused": "BadListing",
+            "which": which.name()
+        }),
+    }
+}

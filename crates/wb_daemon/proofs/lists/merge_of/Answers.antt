@@ -1,0 +1,18 @@
+-- The merge of what the lists gave.
+use Rattle.std.proofs.Common.{refl, subst, IfSome}
+use Rattle.wb_daemon.specs.Lists.{GivesList, GivesParts}
+use Rattle.wb_daemon.proofs.ListLemmas.{GivesParts-more}
+use Rattle.wb_daemon.proofs.lists.merge_of.Goals as goal
+
+pub returns-clause-value : goal.returns-clause-value
+returns-clause-value g c =
+    let before = g.L.Lists.gives c.args.lists.now in
+    let now = g.L.Lists.gives c.list_of.new.lists in
+    let sources = subst (λ found. IfSome found (λ bytes. GivesList before c.args.sources.now bytes)) c.in-Some.is c.in_ok-sources.ensures.value in
+    let parts = subst (λ found. IfSome found (λ parts. GivesParts now c.args.parts.now parts)) c.in-Some-2.is c.in_ok-parts.ensures.value in (
+      c.in-Some.sources,
+      c.in-Some-2.parts,
+      sources,
+      GivesParts-more before now c.list_of.ensures.kept c.args.parts.now c.in-Some-2.parts parts,
+      refl,
+    )

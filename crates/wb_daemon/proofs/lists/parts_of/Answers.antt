@@ -1,0 +1,28 @@
+-- One part more.
+use Rattle.std.proofs.Common.{◌≡◌, suc, ◌+◌, ◌++◌, ◌∷◌, [], take, rules, subst, sym, ap, ◌∙◌, arith, IfSome}
+use Rattle.std.proofs.Math.Seq.{take-suc}
+use Rattle.wb_daemon.specs.Lists.{GivesList, GivesParts}
+use Rattle.wb_daemon.proofs.ListLemmas.{GivesNoMore-then, GivesParts-snoc}
+use Rattle.wb_daemon.proofs.lists.parts_of.Goals as goal
+
+pub loop-part_names-preserved : goal.loop-part_names-preserved
+loop-part_names-preserved g c =
+    let before = g.L.Lists.gives c.args.lists.now in
+    let now = g.L.Lists.gives c.loop-part_names.lists in
+    let name = c.part_names-item.result in
+    let given = subst (λ found. IfSome found (λ part. (part.arch ≡ name.arch) × GivesList now name.packages part.packages))
+    c.in-Some.is c.in_ok-part.ensures.value in
+    let counted : c.loop-part_names.part_names-index + 1 ≡ suc c.loop-part_names.part_names-index = omega arith in
+    let taken : take (c.loop-part_names.part_names-index + 1) c.args.names.now
+    ≡ take c.loop-part_names.part_names-index c.args.names.now ++ name ∷ [] =
+    ap (λ count. take count c.args.names.now) counted
+    ∙ take-suc c.args.names.now c.loop-part_names.part_names-index _ (omega (arith, c.loop-part_names-test.true))
+    ∙ ap (λ item. take c.loop-part_names.part_names-index c.args.names.now ++ item ∷ []) (sym c.part_names-item.is) in
+    let pushed : c.push.new.self ≡ c.loop-part_names.parts ++ c.in-Some.part ∷ [] = search rules in
+    record {
+      kept = GivesNoMore-then before now (g.L.Lists.gives c.part_of.new.lists) c.loop-part_names.invariant.kept c.part_of.ensures.kept;
+      given = subst (λ names. GivesParts before names c.push.new.self) (sym taken)
+          (subst (λ parts. GivesParts before (take c.loop-part_names.part_names-index c.args.names.now ++ name ∷ []) parts) (sym pushed)
+          (GivesParts-snoc before _ c.loop-part_names.parts name c.in-Some.part c.loop-part_names.invariant.given given.0
+          (c.loop-part_names.invariant.kept name.packages c.in-Some.part.packages given.1.0, given.1.1)));
+    }

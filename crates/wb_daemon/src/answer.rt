@@ -1,0 +1,154 @@
+//! The answer to one line.
+ghost use Rattle.std.specs.Prelude.{◌≡◌, ◌≢◌, ◌<◌, ◌≤◌, IfOk, IfErr, IfSome, IsTrue, Some, None, Err, length, false};
+ghost use Rattle.std.specs.Str.{is_utf8};
+ghost use Rattle.wb_words.specs.declared.fault.WordsFault.TheVariants.{Memory};
+ghost use Rattle.wb_daemon.specs.Line.{is_blank_line, is_long};
+ghost use Rattle.wb_daemon.specs.Lists.{GivesNoMore};
+ghost use Rattle.wb_daemon.specs.Run.{asked_of_line, file_said, memory_said, Said, Says};
+ghost use Rattle.wb_states.specs.Machine.{Machine};
+ghost use Rattle.wb_daemon.specs.Turn.{said_by, AnswersAsked, AnswersCommand};
+
+use crate::line::{text_of, words_of};
+use crate::lists::{Lists, merge_of};
+use std::alloc::Global;
+use std::borrow::CowStr;
+use wb_api::{file_fault_json, line_fault_json, refusal_json, reply_json};
+use wb_office::Office;
+use wb_states::{Command, Refusal};
+use wb_words::{Asked, WordsFault, asked_of};
+
+/// The status of a line that the office accepted, or that is blank.
+pub(crate) const ACCEPTED: u8 = 0;
+
+/// The status of a line that the office refused.
+const REFUSED: u8 = 1;
+
+/// The status of a line that asks for nothing that there is.
+pub(crate) const LINE_FAULT: u8 = 2;
+
+/// The status of a line that names a list which cannot be read.
+const FILE_FAULT: u8 = 3;
+
+/// What is written to a line, without its line feed, and the status of the line.
+#[derive(Drop)]
+pub(crate) struct Answer {
+    pub(crate) text: CowStr<'static>,
+    pub(crate) status: u8,
+}
+
+/// What the words of a line ask for. The errors are `NoCommand` where the line is not UTF-8 or its words
+/// ask for nothing that there is, and `Memory`, which may come at any line that is UTF-8.
+#[tactic(auto, unfolding(crate::specs::Run::asked_of_line))]
+fn asked_of_line(alloc: Global, line: &[u8]) -> Result<Asked, WordsFault>
+    ensures value { IfOk result (λ asked. asked_of_line line.now ≡ Some asked) }
+    ensures refused { IfErr result (λ fault. fault ≢ Memory → asked_of_line line.now ≡ None) }
+    ensures memory { result ≡ Err Memory → IsTrue (is_utf8 line.now) }
+{
+    let Some(text) = text_of(line) else {
+        return Err(WordsFault::NoCommand);
+    };
+    let Ok(words) = words_of(alloc, text) else {
+        return Err(WordsFault::Memory);
+    };
+    asked_of(alloc, &words)
+}
+
+/// The reply or the refusal of the office to a command, with its status. It is `None` where the command
+/// was accepted and there is no memory for the reply.
+fn answer_to(alloc: Global, office: &mut Office, command: &Command) -> Option<Answer>
+    ensures value { IfSome result (λ answer. (answer.status ≤ 3)
+        × AnswersCommand office.old command.now (said_by answer office.new)) }
+    ensures memory { result ≡ None → (said : Said) × AnswersCommand office.old command.now said
+        × (office.new ≡ said.machine) × (0 < length said.text) }
+{
+    match office.apply(command) {
+        Ok(reply) => match reply_json(alloc, command.name(), &reply) {
+            Ok(text) => Some(Answer {
+                text: CowStr::Owned(text),
+                status: ACCEPTED,
+            }),
+            Err(_) => None,
+        },
+        Err(refusal) => Some(Answer {
+            text: refusal_json(alloc, &refusal),
+            status: REFUSED,
+        }),
+    }
+}
+
+/// The answer for want of memory, which takes none.
+fn memory_answer(alloc: Global) -> Answer
+    ensures value { (machine : Machine) → said_by result machine ≡ memory_said machine }
+    ensures status { result.status ≤ 3 }
+{
+    Answer {
+        text: refusal_json(alloc, &Refusal::Memory),
+        status: REFUSED,
+    }
+}
+
+/// The answer where a list cannot be read.
+fn file_answer() -> Answer
+    ensures value { (machine : Machine) → said_by result machine ≡ file_said machine }
+    ensures status { result.status ≤ 3 }
+{
+    Answer {
+        text: CowStr::Borrowed(file_fault_json()),
+        status: FILE_FAULT,
+    }
+}
+
+/// The answer to what a line asks for. The lists of a merge are read first, and nothing is asked of the
+/// office where one of them is at fault. It is `None` where the command was accepted and there is no memory
+/// for the reply.
+fn answer_asked<L: Lists>(
+    alloc: Global,
+    office: &mut Office,
+    lists: &mut L,
+    asked: &Asked,
+) -> Option<Answer>
+    ensures value { IfSome result (λ answer. (answer.status ≤ 3)
+        × AnswersAsked (L.gives lists.old) office.old asked.now (said_by answer office.new)) }
+    ensures memory { result ≡ None → (said : Said)
+        × AnswersAsked (L.gives lists.old) office.old asked.now said
+        × (office.new ≡ said.machine) × (0 < length said.text) }
+    ensures kept { GivesNoMore (L.gives lists.old) (L.gives lists.new) }
+{
+    match asked {
+        Asked::Command { command } => answer_to(alloc, office, command),
+        Asked::Merge { sources, parts } => {
+            match merge_of(alloc, lists, sources, parts.as_slice()) {
+                Ok(Some(command)) => answer_to(alloc, office, &command),
+                Ok(None) => Some(file_answer()),
+                Err(_) => Some(memory_answer(alloc)),
+            }
+        }
+    }
+}
+
+/// The answer to a line that is neither blank nor too long, with its status. It is `None` where the
+/// command of the line was accepted and there is no memory for the reply.
+pub(crate) fn answer_of<L: Lists>(
+    alloc: Global,
+    office: &mut Office,
+    lists: &mut L,
+    line: &[u8],
+) -> Option<Answer>
+    requires short { is_long line.now ≡ false }
+    requires words { is_blank_line line.now ≡ false }
+    ensures value { IfSome result (λ answer. (answer.status ≤ 3)
+        × Says (L.gives lists.old) office.old line.now (said_by answer office.new)) }
+    ensures memory { result ≡ None → (said : Said)
+        × Says (L.gives lists.old) office.old line.now said
+        × (office.new ≡ said.machine) × (0 < length said.text) }
+    ensures kept { GivesNoMore (L.gives lists.old) (L.gives lists.new) }
+{
+    match asked_of_line(alloc, line) {
+        Ok(asked) => answer_asked(alloc, office, lists, &asked),
+        Err(WordsFault::NoCommand) => Some(Answer {
+            text: CowStr::Borrowed(line_fault_json()),
+            status: LINE_FAULT,
+        }),
+        Err(WordsFault::Memory) => Some(memory_answer(alloc)),
+    }
+}

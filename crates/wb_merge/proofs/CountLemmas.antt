@@ -1,0 +1,186 @@
+-- What a merge counts, name by name, is what the records before and after it say.
+use Rattle.std.proofs.Common.{◌≡◌, ℕ, ◌+◌, suc, ◌≤◌, ◌<◌, get_or, drop, drop-cons, subst, Bool, true, false, cond, not, List, [], ◌∷◌, length, filter, refl, sym, ◌∙◌, Option, Some, None, arith, bytes_eq}
+use Rattle.std.proofs.lemmas.List.{drop_all}
+use Rattle.std.specs.FinMap as finite
+use Rattle.wb_states.specs.declared.record.Record.{Record}
+use Rattle.wb_states.specs.declared.reply.MergeCounts.{MergeCounts}
+use Rattle.wb_merge.specs.Listing.{Lists}
+use Rattle.wb_merge.specs.Merged.{Records, after_at, merged, names_of, is_added, is_changed, is_kept, is_removed, is_same_record, counts_over, merge_counts}
+use Rattle.wb_merge.specs.declared.merge.Change.{Change}
+use Rattle.wb_merge.specs.declared.merge.Change.TheVariants.{Absent, Added, Changed, Kept, Removed}
+use Rattle.wb_merge.specs.Steps.{Key, record_at, IsSetAt, AreWithin, after_named, change_of, counted, no_counts}
+use Rattle.wb_merge.proofs.NameLemmas.{IsApart}
+use Rattle.wb_merge.proofs.MergeLemmas.{half_merged, names-apart, half-start, half-here, named-here, half-next, half-end}
+
+-- ---- counts
+
+-- the sums of two counts
+abbrev pub plus : MergeCounts → MergeCounts → MergeCounts
+plus one other = record {
+  added = one.added + other.added;
+  changed = one.changed + other.changed;
+  kept = one.kept + other.kept;
+  removed = one.removed + other.removed;
+}
+
+-- one more where the test passes
+abbrev more : Bool → ℕ → ℕ
+more true n = suc n
+more false n = n
+
+length-more : (b : Bool) (name : List ℕ) (names : List (List ℕ)) → length (cond b (name ∷ names) names) ≡ more b (length names)
+length-more true name names = refl
+length-more false name names = refl
+
+abbrev with_change : Option Record → Option Record → ℕ → ℕ → ℕ → ℕ → MergeCounts
+with_change old new added changed kept removed = record {
+  added = more (is_added old new) added;
+  changed = more (is_changed old new) changed;
+  kept = more (is_kept old new) kept;
+  removed = more (is_removed old new) removed;
+}
+
+abbrev counts_as : ℕ → ℕ → ℕ → ℕ → MergeCounts
+counts_as added changed kept removed = record { added = added; changed = changed; kept = kept; removed = removed }
+
+one_more : (m n : ℕ) → m + suc n ≡ (m + 1) + n
+one_more m n = omega arith
+
+counted-next : (counts : MergeCounts) (old new : Option Record) (added changed kept removed : ℕ)
+    → plus counts (with_change old new added changed kept removed) ≡ plus (counted counts (change_of old new)) (counts_as added changed kept removed)
+counted-next counts None None added changed kept removed = refl
+counted-next counts None (Some new) added changed kept removed = λ i. record {
+  added = one_more counts.added added i;
+  changed = counts.changed + changed;
+  kept = counts.kept + kept;
+  removed = counts.removed + removed;
+}
+counted-next counts (Some old) None added changed kept removed = λ i. record {
+  added = counts.added + added;
+  changed = counts.changed + changed;
+  kept = counts.kept + kept;
+  removed = one_more counts.removed removed i;
+}
+counted-next counts (Some old) (Some new) added changed kept removed =
+    elim (is_same_record old new) as (λ b. plus counts (record { added = added; changed = more (not b) changed; kept = more b kept; removed = removed })
+    ≡ plus (counted counts (cond b Kept Changed)) (counts_as added changed kept removed)) [
+      | true ↦ λ i. record {
+        added = counts.added + added;
+        changed = counts.changed + changed;
+        kept = one_more counts.kept kept i;
+        removed = counts.removed + removed;
+      }
+      | false ↦ λ i. record {
+        added = counts.added + added;
+        changed = one_more counts.changed changed i;
+        kept = counts.kept + kept;
+        removed = counts.removed + removed;
+      }
+    ]
+
+abbrev number : (Option Record → Option Record → Bool) → Records → List ℕ → Lists → List (List ℕ) → ℕ
+number test old arch lists names = length (filter (λ name. test (finite.get old (arch, name)) (after_at old arch lists (arch, name))) names)
+
+counts-next : (counts : MergeCounts) (old : Records) (arch : List ℕ) (lists : Lists) (name : List ℕ) (names : List (List ℕ))
+    → plus counts (counts_over old arch lists (name ∷ names))
+    ≡ plus (counted counts (change_of (finite.get old (arch, name)) (after_at old arch lists (arch, name)))) (counts_over old arch lists names)
+unfolding counts_over
+counts-next counts old arch lists name names =
+    let before = finite.get old (arch, name) in
+    let new = after_at old arch lists (arch, name) in
+    (λ i. plus counts (record {
+      added = length-more (is_added before new) name (filter (λ name. is_added (finite.get old (arch, name)) (after_at old arch lists (arch, name))) names) i;
+      changed = length-more (is_changed before new) name (filter (λ name. is_changed (finite.get old (arch, name)) (after_at old arch lists (arch, name))) names) i;
+      kept = length-more (is_kept before new) name (filter (λ name. is_kept (finite.get old (arch, name)) (after_at old arch lists (arch, name))) names) i;
+      removed = length-more (is_removed before new) name (filter (λ name. is_removed (finite.get old (arch, name)) (after_at old arch lists (arch, name))) names) i;
+    }))
+    ∙ counted-next counts before new (number is_added old arch lists names) (number is_changed old arch lists names) (number is_kept old arch lists names) (number is_removed old arch lists names)
+
+none-plus : (n : ℕ) → 0 + n ≡ n
+none-plus n = omega arith
+
+plus-none : (n : ℕ) → n + 0 ≡ n
+plus-none n = omega arith
+
+plus-no_counts : (counts : MergeCounts) → plus no_counts counts ≡ counts
+plus-no_counts counts = λ i. record {
+  added = none-plus counts.added i;
+  changed = none-plus counts.changed i;
+  kept = none-plus counts.kept i;
+  removed = none-plus counts.removed i;
+}
+
+counts-end : (counts : MergeCounts) (old : Records) (arch : List ℕ) (lists : Lists) → plus counts (counts_over old arch lists []) ≡ counts
+unfolding counts_over
+counts-end counts old arch lists = λ i. record {
+  added = plus-none counts.added i;
+  changed = plus-none counts.changed i;
+  kept = plus-none counts.kept i;
+  removed = plus-none counts.removed i;
+}
+
+-- one change more raises no count by more than one
+pub within-next : (limit : ℕ) (counts : MergeCounts) (change : Change) → AreWithin limit counts → AreWithin (limit + 1) (counted counts change)
+within-next limit counts Absent h = record { added = omega arith; changed = omega arith; kept = omega arith; removed = omega arith }
+within-next limit counts Added h = record { added = omega arith; changed = omega arith; kept = omega arith; removed = omega arith }
+within-next limit counts Changed h = record { added = omega arith; changed = omega arith; kept = omega arith; removed = omega arith }
+within-next limit counts Kept h = record { added = omega arith; changed = omega arith; kept = omega arith; removed = omega arith }
+within-next limit counts Removed h = record { added = omega arith; changed = omega arith; kept = omega arith; removed = omega arith }
+
+pub within-more : (limit more : ℕ) (counts : MergeCounts) → limit ≤ more → AreWithin limit counts → AreWithin more counts
+within-more limit more counts le h = record { added = omega arith; changed = omega arith; kept = omega arith; removed = omega arith }
+
+-- ---- the loop over the names
+
+-- the records and the counts while these names are left
+pub record IsHalfMerged (old records : Records) (arch : List ℕ) (lists : Lists) (counts : MergeCounts) (left : List (List ℕ)) : Type 0 where
+  pub apart : IsApart bytes_eq left
+  pub half : (key : Key) → finite.get records key ≡ half_merged old arch lists left key
+  pub so_far : plus counts (counts_over old arch lists left) ≡ merge_counts old arch lists
+
+pub half_merged-start : (old : Records) (arch : List ℕ) (lists : Lists) → IsHalfMerged old old arch lists no_counts (names_of old arch lists)
+unfolding merge_counts
+half_merged-start old arch lists = record {
+  apart = names-apart old arch lists;
+  half = half-start old arch lists;
+  so_far = plus-no_counts (counts_over old arch lists (names_of old arch lists));
+}
+
+pub half_merged-next : (old records new : Records) (arch : List ℕ) (lists : Lists) (counts : MergeCounts) (name : List ℕ) (left : List (List ℕ))
+    → IsHalfMerged old records arch lists counts (name ∷ left)
+    → IsSetAt records (arch, name) (after_named records arch lists name) new
+    → IsHalfMerged old new arch lists (counted counts (change_of (record_at records (arch, name)) (after_named records arch lists name))) left
+half_merged-next old records new arch lists counts name left h step = record {
+  apart = h.apart.1;
+  half = half-next old records new arch lists name left h.apart.0 h.half step;
+  so_far = (λ i. plus (counted counts (change_of (half-here old records arch lists name left h.half i) (named-here old records arch lists name left h.half i))) (counts_over old arch lists left))
+      ∙ sym (counts-next counts old arch lists name left)
+      ∙ h.so_far;
+}
+
+-- the same at a place among the names
+pub half_merged-step : (old records new : Records) (arch : List ℕ) (lists : Lists) (counts : MergeCounts) (names : List (List ℕ)) (at : ℕ) (name : List ℕ)
+    → at < length names → name ≡ get_or names at name
+    → IsHalfMerged old records arch lists counts (drop at names)
+    → IsSetAt records (arch, name) (after_named records arch lists name) new
+    → (made : Change) → made ≡ change_of (record_at records (arch, name)) (after_named records arch lists name)
+    → IsHalfMerged old new arch lists (counted counts made) (drop (at + 1) names)
+half_merged-step old records new arch lists counts names at name lt is h step made e =
+    let left : drop at names ≡ name ∷ drop (at + 1) names =
+    drop-cons names at name lt ∙ (λ i. sym is i ∷ drop (one_after at i) names) in
+    let next = half_merged-next old records new arch lists counts name (drop (at + 1) names) (subst (IsHalfMerged old records arch lists counts) left h) step in
+    subst (λ (c : Change). IsHalfMerged old new arch lists (counted counts c) (drop (at + 1) names)) (sym e) next
+  where
+    one_after : (n : ℕ) → suc n ≡ n + 1
+    one_after n = omega arith
+
+pub half_merged-end : (old records : Records) (arch : List ℕ) (lists : Lists) (counts : MergeCounts)
+    → IsHalfMerged old records arch lists counts [] → (records ≡ merged old arch lists) × (counts ≡ merge_counts old arch lists)
+half_merged-end old records arch lists counts h =
+    (half-end old records arch lists h.half, sym (counts-end counts old arch lists) ∙ h.so_far)
+
+-- the same behind the last of the names
+pub half_merged-done : (old records : Records) (arch : List ℕ) (lists : Lists) (counts : MergeCounts) (names : List (List ℕ)) (at : ℕ)
+    → length names ≤ at → IsHalfMerged old records arch lists counts (drop at names) → (records ≡ merged old arch lists) × (counts ≡ merge_counts old arch lists)
+half_merged-done old records arch lists counts names at le h =
+    half_merged-end old records arch lists counts (subst (IsHalfMerged old records arch lists counts) (drop_all at names le) h)

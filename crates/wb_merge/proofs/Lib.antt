@@ -1,0 +1,13 @@
+pub mod CountLemmas
+pub mod FoldLemmas
+pub mod GreatestLemmas
+pub mod ListingLemmas
+pub mod MergeLemmas
+pub mod NameLemmas
+pub mod OfferLemmas
+pub mod ReadCountLemmas
+pub mod RecordLemmas
+pub mod SourceLemmas
+pub mod TwiceLemmas
+pub mod WholeLemmas
+pub mod WordLemmas

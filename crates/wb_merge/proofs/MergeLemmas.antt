@@ -1,0 +1,222 @@
+-- The names of a merge stand once each, and what a merge does name by name is what it does at each key.
+use Rattle.std.proofs.Common.{◌≡◌, ℕ, Bool, true, false, cond, not, ◌&&◌, ◌||◌, List, [], ◌∷◌, map, filter, bytes_eq, refl, sym, ap, ◌∙◌, Option, None}
+use Rattle.std.specs.List.{list_any}
+use Rattle.std.specs.Ordering.{eq_by_cmp}
+use Rattle.std.proofs.lemmas.List.Folds.{list_any-append}
+use Rattle.std.specs.FinMap as finite
+use Rattle.deb_relations.specs.Text.{text_cmp}
+use Rattle.wb_states.specs.Machine.{pair_cmp}
+use Rattle.wb_states.specs.declared.record.Record.{Record}
+use Rattle.wb_states.proofs.KeyLemmas.{pair_cmp_total, pair_cmp-same}
+use Rattle.wb_merge.specs.Listing.{Lists}
+use Rattle.wb_merge.specs.Merge.{after}
+use Rattle.wb_merge.specs.Merged.{Records, after_at, merge_keys, merged, names_of}
+use Rattle.wb_merge.specs.Steps.{Key, IsSetAt, after_named, recorded_names}
+use Rattle.wb_merge.proofs.ListingLemmas.{map_at-get}
+use Rattle.wb_merge.proofs.NameLemmas.{none-is, text_eq, bytes_eq-flip, bytes_eq-itself, bytes_eq-is, pair-eq, pair-is, IsApart, keys-apart, text_keys-apart, append-apart, filter-apart, filter-any, and-false}
+
+-- ---- the names
+
+-- a key of the architecture is found where its name is found among the names
+recorded-any : (arch name : List ℕ) (keys : List Key)
+    → list_any (bytes_eq name) (map (λ key. key.1) (filter (λ key. bytes_eq key.0 arch) keys)) ≡ list_any (eq_by_cmp pair_cmp (arch, name)) keys
+recorded-any arch name [] = refl
+recorded-any arch name (key ∷ keys) =
+    let rest = recorded-any arch name keys in
+    let others = filter (λ (key : Key). bytes_eq key.0 arch) keys in
+    elim (bytes_eq key.0 arch) as (λ b. bytes_eq key.0 arch ≡ b → list_any (bytes_eq name) (map (λ (key : Key). key.1) (cond b (key ∷ others) others)) ≡ (eq_by_cmp pair_cmp (arch, name) key || list_any (eq_by_cmp pair_cmp (arch, name)) keys)) [
+      | true ↦ λ e. let here : eq_by_cmp pair_cmp (arch, name) key ≡ bytes_eq name key.1 = pair-eq (arch, name) key ∙ ap (λ b. b && bytes_eq name key.1) (bytes_eq-flip arch key.0 ∙ e) in
+          λ i. sym here i || rest i
+      | false ↦ λ e. let here : eq_by_cmp pair_cmp (arch, name) key ≡ false = pair-eq (arch, name) key ∙ ap (λ b. b && bytes_eq name key.1) (bytes_eq-flip arch key.0 ∙ e) in
+          rest ∙ (λ i. sym here i || list_any (eq_by_cmp pair_cmp (arch, name)) keys)
+    ] refl
+
+recorded-apart : (arch : List ℕ) (keys : List Key) → IsApart (eq_by_cmp pair_cmp) keys → IsApart bytes_eq (map (λ key. key.1) (filter (λ key. bytes_eq key.0 arch) keys))
+recorded-apart arch [] h = tt
+recorded-apart arch (key ∷ keys) h =
+    let rest = recorded-apart arch keys h.1 in
+    let others = filter (λ (key : Key). bytes_eq key.0 arch) keys in
+    elim (bytes_eq key.0 arch) as (λ b. bytes_eq key.0 arch ≡ b → IsApart bytes_eq (map (λ (key : Key). key.1) (cond b (key ∷ others) others))) [
+      | true ↦ λ e. (recorded-any arch key.1 keys ∙ ap (λ a. list_any (eq_by_cmp pair_cmp (a, key.1)) keys) (sym (bytes_eq-is key.0 arch e)) ∙ h.0, rest)
+      | false ↦ λ e. rest
+    ] refl
+
+-- the names of those that have a record
+recorded-names-any : (old : Records) (arch name : List ℕ) → list_any (bytes_eq name) (recorded_names old arch) ≡ finite.contains_key old (arch, name)
+recorded-names-any old arch name = recorded-any arch name (finite.keys old) ∙ sym (finite.contains_key-keys old (arch, name))
+
+listed-any : {X : Type 0} (listed : finite.FinMap text_cmp X) (name : List ℕ) → list_any (bytes_eq name) (finite.keys listed) ≡ finite.contains_key listed name
+listed-any listed name =
+    ap (λ (eq : List ℕ → Bool). list_any eq (finite.keys listed)) (λ i other. sym (text_eq name other) i) ∙ sym (finite.contains_key-keys listed name)
+
+-- whether a source package is named
+names-any : (old : Records) (arch : List ℕ) (lists : Lists) (name : List ℕ)
+    → list_any (bytes_eq name) (names_of old arch lists) ≡ (finite.contains_key old (arch, name) || (not (finite.contains_key old (arch, name)) && finite.contains_key lists.listed name))
+unfolding names_of
+names-any old arch lists name =
+    list_any-append (bytes_eq name) (recorded_names old arch) _
+    ∙ (λ i. recorded-names-any old arch name i || filter-any (λ name. not (finite.contains_key old (arch, name))) name (finite.keys lists.listed) i)
+    ∙ (λ i. finite.contains_key old (arch, name) || (not (finite.contains_key old (arch, name)) && listed-any lists.listed name i))
+
+-- no name stands twice
+pub names-apart : (old : Records) (arch : List ℕ) (lists : Lists) → IsApart bytes_eq (names_of old arch lists)
+unfolding names_of
+names-apart old arch lists =
+    append-apart bytes_eq (recorded_names old arch) _
+    (recorded-apart arch (finite.keys old) (keys-apart old))
+    (filter-apart (λ name. not (finite.contains_key old (arch, name))) (finite.keys lists.listed) (text_keys-apart lists.listed))
+    (λ name there again. never (finite.contains_key old (arch, name)) _
+    (sym (recorded-names-any old arch name) ∙ there)
+    (sym (filter-any (λ name. not (finite.contains_key old (arch, name))) name (finite.keys lists.listed)) ∙ again))
+    bytes_eq-itself
+  where
+    never : (a b : Bool) → a ≡ true → (not a && b) ≡ true → ⊥
+    never true b e f = cc
+    never false b e f = cc
+
+-- ---- at each key
+
+split-or : (a b : Bool) → (a || (not a && b)) ≡ false → (a ≡ false) × (b ≡ false)
+split-or true b e = absurd cc
+split-or false b e = (refl, e)
+
+-- a source package of the architecture that is not named has no record, before or after
+unnamed : (old : Records) (arch : List ℕ) (lists : Lists) (name : List ℕ) → list_any (bytes_eq name) (names_of old arch lists) ≡ false
+    → (finite.get old (arch, name) ≡ None) × (finite.get lists.listed name ≡ None)
+unnamed old arch lists name e =
+    let both = split-or (finite.contains_key old (arch, name)) (finite.contains_key lists.listed name) (sym (names-any old arch lists name) ∙ e) in
+    (none-is _ both.0, none-is _ both.1)
+
+-- the record at a key while names are left: those that are left have what they had
+abbrev pub half_merged : Records → List ℕ → Lists → List (List ℕ) → Key → Option Record
+half_merged old arch lists names key =
+    cond (bytes_eq key.0 arch && list_any (bytes_eq key.1) names) (finite.get old key) (after_at old arch lists key)
+
+none-after : (old : Option Record) (lists : Lists) (name : List ℕ) → old ≡ None → finite.get lists.listed name ≡ None
+    → after old (finite.get lists.listed name) (finite.get lists.built name) lists.available ≡ old
+none-after old lists name e f =
+    (λ i. after (e i) (f i) (finite.get lists.built name) lists.available) ∙ sym e
+
+-- at a key of the architecture that is not named nothing changes
+kept-unnamed : (old : Records) (arch : List ℕ) (lists : Lists) (key : Key) → bytes_eq key.0 arch ≡ true
+    → list_any (bytes_eq key.1) (names_of old arch lists) ≡ false → after_at old arch lists key ≡ finite.get old key
+unfolding after_at
+kept-unnamed old arch lists key e f =
+    let nothing = unnamed old arch lists key.1 f in
+    let same : key ≡ (arch, key.1) = λ i. (bytes_eq-is key.0 arch e i, key.1) in
+    ap (λ b. cond b (after (finite.get old key) (finite.get lists.listed key.1) (finite.get lists.built key.1) lists.available) (finite.get old key)) e
+    ∙ none-after (finite.get old key) lists key.1 (ap (finite.get old) same ∙ nothing.0) nothing.1
+
+-- at a key of another architecture nothing changes
+kept-elsewhere : (old : Records) (arch : List ℕ) (lists : Lists) (key : Key) → bytes_eq key.0 arch ≡ false → after_at old arch lists key ≡ finite.get old key
+unfolding after_at
+kept-elsewhere old arch lists key e =
+    ap (λ b. cond b (after (finite.get old key) (finite.get lists.listed key.1) (finite.get lists.built key.1) lists.available) (finite.get old key)) e
+
+-- before the first name every key has what it had
+pub half-start : (old : Records) (arch : List ℕ) (lists : Lists) (key : Key) → finite.get old key ≡ half_merged old arch lists (names_of old arch lists) key
+half-start old arch lists key =
+    let is_named = list_any (bytes_eq key.1) (names_of old arch lists) in
+    elim (bytes_eq key.0 arch) as (λ b. bytes_eq key.0 arch ≡ b → finite.get old key ≡ cond (b && is_named) (finite.get old key) (after_at old arch lists key)) [
+      | true ↦ λ e. elim is_named as (λ b. is_named ≡ b → finite.get old key ≡ cond b (finite.get old key) (after_at old arch lists key)) [
+        | true ↦ λ _. refl
+        | false ↦ λ f. sym (kept-unnamed old arch lists key e f)
+      ] refl
+      | false ↦ λ e. sym (kept-elsewhere old arch lists key e)
+    ] refl
+
+-- a name that is left has what it had
+pub half-here : (old records : Records) (arch : List ℕ) (lists : Lists) (name : List ℕ) (names : List (List ℕ))
+    → ((key : Key) → finite.get records key ≡ half_merged old arch lists (name ∷ names) key) → finite.get records (arch, name) ≡ finite.get old (arch, name)
+half-here old records arch lists name names half =
+    half (arch, name)
+    ∙ (λ i. cond (bytes_eq-itself arch i && (bytes_eq-itself name i || list_any (bytes_eq name) names)) (finite.get old (arch, name)) (after_at old arch lists (arch, name)))
+
+after-here : (old : Records) (arch : List ℕ) (lists : Lists) (name : List ℕ) → after_at old arch lists (arch, name) ≡ after_named old arch lists name
+unfolding after_at
+after-here old arch lists name =
+    ap (λ b. cond b (after_named old arch lists name) (finite.get old (arch, name))) (bytes_eq-itself arch)
+
+-- after a name no more name is left of it
+pub named-here : (old records : Records) (arch : List ℕ) (lists : Lists) (name : List ℕ) (names : List (List ℕ))
+    → ((key : Key) → finite.get records key ≡ half_merged old arch lists (name ∷ names) key) → after_named records arch lists name ≡ after_at old arch lists (arch, name)
+named-here old records arch lists name names half =
+    ap (λ current. after current (finite.get lists.listed name) (finite.get lists.built name) lists.available) (half-here old records arch lists name names half)
+    ∙ sym (after-here old arch lists name)
+
+-- another key has the same among the names with and without one
+half-other : (old : Records) (arch : List ℕ) (lists : Lists) (name : List ℕ) (names : List (List ℕ)) (key : Key)
+    → (bytes_eq arch key.0 && bytes_eq name key.1) ≡ false → half_merged old arch lists (name ∷ names) key ≡ half_merged old arch lists names key
+half-other old arch lists name names key =
+    elim (bytes_eq arch key.0) as (λ b. bytes_eq arch key.0 ≡ b → (b && bytes_eq name key.1) ≡ false → half_merged old arch lists (name ∷ names) key ≡ half_merged old arch lists names key) [
+      | true ↦ λ e f. λ i. cond (bytes_eq key.0 arch && ((bytes_eq-flip key.1 name ∙ f) i || list_any (bytes_eq key.1) names)) (finite.get old key) (after_at old arch lists key)
+      | false ↦ λ e f. let there : bytes_eq key.0 arch ≡ false = bytes_eq-flip key.0 arch ∙ e in
+          (λ i. cond (there i && (bytes_eq key.1 name || list_any (bytes_eq key.1) names)) (finite.get old key) (after_at old arch lists key))
+          ∙ (λ i. cond (sym there i && list_any (bytes_eq key.1) names) (finite.get old key) (after_at old arch lists key))
+    ] refl
+
+pub half-next : (old records new : Records) (arch : List ℕ) (lists : Lists) (name : List ℕ) (names : List (List ℕ))
+    → list_any (bytes_eq name) names ≡ false
+    → ((key : Key) → finite.get records key ≡ half_merged old arch lists (name ∷ names) key)
+    → IsSetAt records (arch, name) (after_named records arch lists name) new
+    → (key : Key) → finite.get new key ≡ half_merged old arch lists names key
+unfolding IsSetAt
+half-next old records new arch lists name names apart half step key =
+    step key
+    ∙ elim (eq_by_cmp pair_cmp (arch, name) key) as (λ b. eq_by_cmp pair_cmp (arch, name) key ≡ b → cond b (after_named records arch lists name) (finite.get records key) ≡ half_merged old arch lists names key) [
+      | true ↦ λ e. let same : (arch, name) ≡ key = pair-is (arch, name) key e in
+          named-here old records arch lists name names half
+          ∙ (λ i. cond (sym (and-false (bytes_eq arch arch)) i) (finite.get old (arch, name)) (after_at old arch lists (arch, name)))
+          ∙ (λ i. cond (bytes_eq arch arch && sym apart i) (finite.get old (arch, name)) (after_at old arch lists (arch, name)))
+          ∙ ap (half_merged old arch lists names) same
+      | false ↦ λ e. half key ∙ half-other old arch lists name names key (sym (pair-eq (arch, name) key) ∙ e)
+    ] refl
+
+-- ---- the records after the merge
+
+-- whether there may be a record at a key after the merge
+keys-any : (old : Records) (arch : List ℕ) (lists : Lists) (key : Key) → list_any (eq_by_cmp pair_cmp key) (merge_keys old arch lists) ≡ false
+    → (finite.get old key ≡ None) × (list_any (eq_by_cmp pair_cmp key) (map (λ name. (arch, name)) (finite.keys lists.listed)) ≡ false)
+keys-any old arch lists key e =
+    let parts = neither _ _ (sym (list_any-append (eq_by_cmp pair_cmp key) (finite.keys old) _) ∙ e) in
+    (none-is _ (finite.contains_key-keys old key ∙ parts.0), parts.1)
+  where
+    neither : (a b : Bool) → (a || b) ≡ false → (a ≡ false) × (b ≡ false)
+    neither true b e = absurd cc
+    neither false b e = (refl, e)
+
+listed-key-any : (arch : List ℕ) (names : List (List ℕ)) (key : Key) → bytes_eq key.0 arch ≡ true
+    → list_any (eq_by_cmp pair_cmp key) (map (λ name. (arch, name)) names) ≡ list_any (bytes_eq key.1) names
+listed-key-any arch [] key e = refl
+listed-key-any arch (name ∷ names) key e =
+    let rest = listed-key-any arch names key e in
+    let here : eq_by_cmp pair_cmp key (arch, name) ≡ bytes_eq key.1 name = pair-eq key (arch, name) ∙ ap (λ b. b && bytes_eq key.1 name) e in
+    λ i. here i || rest i
+
+nowhere : (old : Records) (arch : List ℕ) (lists : Lists) (key : Key) → list_any (eq_by_cmp pair_cmp key) (merge_keys old arch lists) ≡ false → after_at old arch lists key ≡ None
+unfolding after_at
+nowhere old arch lists key e =
+    let parts = keys-any old arch lists key e in
+    elim (bytes_eq key.0 arch) as (λ b. bytes_eq key.0 arch ≡ b
+    → cond b (after (finite.get old key) (finite.get lists.listed key.1) (finite.get lists.built key.1) lists.available) (finite.get old key) ≡ None) [
+      | true ↦ λ f. let unlisted : finite.get lists.listed key.1 ≡ None = none-is _ (sym (listed-any lists.listed key.1) ∙ sym (listed-key-any arch (finite.keys lists.listed) key f) ∙ parts.1) in
+          none-after (finite.get old key) lists key.1 parts.0 unlisted ∙ parts.0
+      | false ↦ λ f. parts.0
+    ] refl
+
+-- the record at each key after the merge
+pub merged-get : (old : Records) (arch : List ℕ) (lists : Lists) (key : Key) → finite.get (merged old arch lists) key ≡ after_at old arch lists key
+unfolding merged
+merged-get old arch lists key =
+    let is_there = list_any (eq_by_cmp pair_cmp key) (merge_keys old arch lists) in
+    map_at-get pair_cmp_total pair_cmp-same (after_at old arch lists) (merge_keys old arch lists) key
+    ∙ elim is_there as (λ b. is_there ≡ b → cond b (after_at old arch lists key) None ≡ after_at old arch lists key) [
+      | true ↦ λ _. refl
+      | false ↦ λ e. sym (nowhere old arch lists key e)
+    ] refl
+
+pub half-end : (old records : Records) (arch : List ℕ) (lists : Lists) → ((key : Key) → finite.get records key ≡ half_merged old arch lists [] key)
+    → records ≡ merged old arch lists
+half-end old records arch lists half =
+    finite.same_map pair_cmp_total pair_cmp-same _ _ (λ key.
+    half key ∙ (λ i. cond (and-false (bytes_eq key.0 arch) i) (finite.get old key) (after_at old arch lists key)) ∙ sym (merged-get old arch lists key))

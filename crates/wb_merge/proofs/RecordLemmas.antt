@@ -1,0 +1,211 @@
+-- Records that a test finds equal are equal, and one record more or less in a map.
+use Rattle.std.proofs.Common.{◌≡◌, ◌↔◌, ℕ, Bool, true, false, cond, ◌&&◌, List, refl, sym, ap, ◌∙◌, Option, Some, None, bytes_eq, nat_eq}
+use Rattle.std.proofs.lemmas.Bool.{eqb-true, eq-eqb}
+use Rattle.std.specs.Map.{lookup}
+use Rattle.std.specs.BTreeMap.{is_at}
+use Rattle.std.specs.Ordering.{eq_by_cmp}
+use Rattle.std.specs.FinMap as finite
+use Rattle.wb_states.specs.declared.record.Record.{Record}
+use Rattle.wb_states.specs.declared.state.State.{State}
+use Rattle.wb_states.specs.declared.state.State.TheVariants.{NeedsBuild, Building, Built, Uploaded, Installed, DepWait, BdUninstallable, Failed, NotForUs}
+use Rattle.wb_states.specs.State.{code_of}
+use Rattle.wb_states.specs.Machine.{pair_cmp}
+use Rattle.wb_states.proofs.MapLemmas.{get-lookup}
+use Rattle.wb_states.proofs.KeyLemmas.{pair_cmp_total}
+use Rattle.wb_merge.specs.Merged.{Records, is_same_option, is_same_flag, has_same_source, has_same_place, has_same_texts, is_same_record}
+use Rattle.wb_merge.specs.declared.merge.Change.TheVariants.{Kept, Changed}
+use Rattle.wb_merge.specs.Steps.{Key, IsSetAt, change_of}
+use Rattle.wb_merge.proofs.NameLemmas.{bytes_eq-is, bytes_eq-itself, pair-is}
+
+-- ---- one record more or less
+
+-- entries that differ at one key alone make records that differ there alone
+set-at : (es fs : List (Key × Record)) (key : Key) (value : Option Record)
+    → ((q : Key) → lookup (is_at (pair_cmp q)) fs ≡ cond (is_at (pair_cmp key) q) value (lookup (is_at (pair_cmp q)) es))
+    → IsSetAt (finite.from_entries es) key value (finite.from_entries fs)
+unfolding IsSetAt
+set-at es fs key value h other =
+    get-lookup pair_cmp_total fs other ∙ h other
+    ∙ ap (cond (is_at (pair_cmp key) other) value) (sym (get-lookup pair_cmp_total es other))
+
+pub set-removed : (es fs : List (Key × Record)) (key : Key)
+    → ((q : Key) → lookup (is_at (pair_cmp q)) fs ≡ cond (is_at (pair_cmp key) q) None (lookup (is_at (pair_cmp q)) es))
+    → IsSetAt (finite.from_entries es) key None (finite.from_entries fs)
+set-removed es fs key = set-at es fs key None
+
+pub set-inserted : (es fs : List (Key × Record)) (key : Key) (value : Record)
+    → ((q : Key) → lookup (is_at (pair_cmp q)) fs ≡ cond (is_at (pair_cmp key) q) (Some value) (lookup (is_at (pair_cmp q)) es))
+    → IsSetAt (finite.from_entries es) key (Some value) (finite.from_entries fs)
+set-inserted es fs key value = set-at es fs key (Some value)
+
+-- ---- records that are equal
+
+same-and : (a b : Bool) → (a && b) ≡ true → (a ≡ true) × (b ≡ true)
+same-and true b e = (refl, e)
+same-and false b e = absurd cc
+
+same-flag : (a b : Bool) → is_same_flag a b ≡ true → a ≡ b
+same-flag true b e = sym e
+same-flag false true e = absurd cc
+same-flag false false e = refl
+
+same-option : {X : Type 0} (test : X → X → Bool) → ((x y : X) → test x y ≡ true → x ≡ y) → (x y : Option X) → is_same_option test x y ≡ true → x ≡ y
+same-option test is None None e = refl
+same-option test is None (Some y) e = absurd cc
+same-option test is (Some x) None e = absurd cc
+same-option test is (Some x) (Some y) e = ap Some (is x y e)
+
+-- states of one number are equal
+same-state : (one other : State) → nat_eq (code_of one) (code_of other) ≡ true → one ≡ other
+same-state NeedsBuild NeedsBuild e = refl
+same-state NeedsBuild Building e = absurd cc
+same-state NeedsBuild Built e = absurd cc
+same-state NeedsBuild Uploaded e = absurd cc
+same-state NeedsBuild Installed e = absurd cc
+same-state NeedsBuild DepWait e = absurd cc
+same-state NeedsBuild BdUninstallable e = absurd cc
+same-state NeedsBuild Failed e = absurd cc
+same-state NeedsBuild NotForUs e = absurd cc
+same-state Building NeedsBuild e = absurd cc
+same-state Building Building e = refl
+same-state Building Built e = absurd cc
+same-state Building Uploaded e = absurd cc
+same-state Building Installed e = absurd cc
+same-state Building DepWait e = absurd cc
+same-state Building BdUninstallable e = absurd cc
+same-state Building Failed e = absurd cc
+same-state Building NotForUs e = absurd cc
+same-state Built NeedsBuild e = absurd cc
+same-state Built Building e = absurd cc
+same-state Built Built e = refl
+same-state Built Uploaded e = absurd cc
+same-state Built Installed e = absurd cc
+same-state Built DepWait e = absurd cc
+same-state Built BdUninstallable e = absurd cc
+same-state Built Failed e = absurd cc
+same-state Built NotForUs e = absurd cc
+same-state Uploaded NeedsBuild e = absurd cc
+same-state Uploaded Building e = absurd cc
+same-state Uploaded Built e = absurd cc
+same-state Uploaded Uploaded e = refl
+same-state Uploaded Installed e = absurd cc
+same-state Uploaded DepWait e = absurd cc
+same-state Uploaded BdUninstallable e = absurd cc
+same-state Uploaded Failed e = absurd cc
+same-state Uploaded NotForUs e = absurd cc
+same-state Installed NeedsBuild e = absurd cc
+same-state Installed Building e = absurd cc
+same-state Installed Built e = absurd cc
+same-state Installed Uploaded e = absurd cc
+same-state Installed Installed e = refl
+same-state Installed DepWait e = absurd cc
+same-state Installed BdUninstallable e = absurd cc
+same-state Installed Failed e = absurd cc
+same-state Installed NotForUs e = absurd cc
+same-state DepWait NeedsBuild e = absurd cc
+same-state DepWait Building e = absurd cc
+same-state DepWait Built e = absurd cc
+same-state DepWait Uploaded e = absurd cc
+same-state DepWait Installed e = absurd cc
+same-state DepWait DepWait e = refl
+same-state DepWait BdUninstallable e = absurd cc
+same-state DepWait Failed e = absurd cc
+same-state DepWait NotForUs e = absurd cc
+same-state BdUninstallable NeedsBuild e = absurd cc
+same-state BdUninstallable Building e = absurd cc
+same-state BdUninstallable Built e = absurd cc
+same-state BdUninstallable Uploaded e = absurd cc
+same-state BdUninstallable Installed e = absurd cc
+same-state BdUninstallable DepWait e = absurd cc
+same-state BdUninstallable BdUninstallable e = refl
+same-state BdUninstallable Failed e = absurd cc
+same-state BdUninstallable NotForUs e = absurd cc
+same-state Failed NeedsBuild e = absurd cc
+same-state Failed Building e = absurd cc
+same-state Failed Built e = absurd cc
+same-state Failed Uploaded e = absurd cc
+same-state Failed Installed e = absurd cc
+same-state Failed DepWait e = absurd cc
+same-state Failed BdUninstallable e = absurd cc
+same-state Failed Failed e = refl
+same-state Failed NotForUs e = absurd cc
+same-state NotForUs NeedsBuild e = absurd cc
+same-state NotForUs Building e = absurd cc
+same-state NotForUs Built e = absurd cc
+same-state NotForUs Uploaded e = absurd cc
+same-state NotForUs Installed e = absurd cc
+same-state NotForUs DepWait e = absurd cc
+same-state NotForUs BdUninstallable e = absurd cc
+same-state NotForUs Failed e = absurd cc
+same-state NotForUs NotForUs e = refl
+
+pub same-record : (one other : Record) → is_same_record one other ≡ true → one ≡ other
+unfolding is_same_record has_same_source has_same_place has_same_texts
+same-record one other e =
+    let groups = same-and _ _ e in
+    let source = same-and _ _ groups.0 in
+    let source_1 = same-and _ _ source.1 in
+    let source_2 = same-and _ _ source_1.1 in
+    let source_3 = same-and _ _ source_2.1 in
+    let others = same-and _ _ groups.1 in
+    let place = same-and _ _ others.0 in
+    let place_1 = same-and _ _ place.1 in
+    let texts = same-and _ _ others.1 in
+    let texts_1 = same-and _ _ texts.1 in
+    let texts_2 = same-and _ _ texts_1.1 in
+    λ i. record {
+      state = same-state one.state other.state place.0 i;
+      version = bytes_eq-is one.version other.version source.0 i;
+      priority = bytes_eq-is one.priority other.priority source_1.0 i;
+      section = bytes_eq-is one.section other.section source_2.0 i;
+      earlier = same-flag one.earlier other.earlier source_3.0 i;
+      number = eqb-true one.number other.number source_3.1 i;
+      holder = same-option bytes_eq bytes_eq-is one.holder other.holder place_1.0 i;
+      take = same-option nat_eq eqb-true one.take other.take place_1.1 i;
+      waits = bytes_eq-is one.waits other.waits texts.0 i;
+      depends = same-option bytes_eq bytes_eq-is one.depends other.depends texts_1.0 i;
+      note = bytes_eq-is one.note other.note texts_2.0 i;
+      message = bytes_eq-is one.message other.message texts_2.1 i;
+    }
+
+flag-itself : (flag : Bool) → is_same_flag flag flag ≡ true
+flag-itself true = refl
+flag-itself false = refl
+
+option-itself : {X : Type 0} (test : X → X → Bool) → ((x : X) → test x x ≡ true) → (o : Option X) → is_same_option test o o ≡ true
+option-itself test itself None = refl
+option-itself test itself (Some x) = itself x
+
+number-itself : (n : ℕ) → nat_eq n n ≡ true
+number-itself n = eq-eqb n n refl
+
+record-itself : (current : Record) → is_same_record current current ≡ true
+unfolding is_same_record has_same_source has_same_place has_same_texts
+record-itself current = λ i.
+    (bytes_eq-itself current.version i && (bytes_eq-itself current.priority i
+    && (bytes_eq-itself current.section i && (flag-itself current.earlier i && number-itself current.number i))))
+    && ((number-itself (code_of current.state) i && (option-itself bytes_eq bytes_eq-itself current.holder i
+    && option-itself nat_eq number-itself current.take i))
+    && (bytes_eq-itself current.waits i && (option-itself bytes_eq bytes_eq-itself current.depends i
+    && (bytes_eq-itself current.note i && bytes_eq-itself current.message i))))
+
+pub same-record-is : (one other : Record) → is_same_record one other ≡ true ↔ (one ≡ other)
+same-record-is one other =
+    (same-record one other, λ e. ap (is_same_record one) (sym e) ∙ record-itself one)
+
+-- a record that is kept is the one that was there
+pub kept-record : (old : Option Record) (new : Record) → change_of old (Some new) ≡ Kept → old ≡ Some new
+kept-record None new e = absurd cc
+kept-record (Some old) new e =
+    elim (is_same_record old new) as (λ b. is_same_record old new ≡ b → cond b Kept Changed ≡ Kept → Some old ≡ Some new) [
+      | true ↦ λ is _. ap Some (same-record old new is)
+      | false ↦ λ _ e. absurd cc
+    ] refl e
+
+pub set-kept : (records : Records) (key : Key) (new : Record) → change_of (finite.get records key) (Some new) ≡ Kept → IsSetAt records key (Some new) records
+unfolding IsSetAt
+set-kept records key new e other =
+    elim (eq_by_cmp pair_cmp key other) as (λ b. eq_by_cmp pair_cmp key other ≡ b → finite.get records other ≡ cond b (Some new) (finite.get records other)) [
+      | true ↦ λ t. ap (finite.get records) (sym (pair-is key other t)) ∙ kept-record (finite.get records key) new e
+      | false ↦ λ _. refl
+    ] refl

@@ -1,0 +1,170 @@
+-- What the archive lists for an architecture: each source package, what was built of it, and what is available (this project's own).
+use Rattle.std.specs.Prelude.{◌≡◌, ◌≢◌, ℕ, Bool, not, ◌&&◌, ◌||◌, nat_lt, List, [], ◌∷◌, ◌++◌, length, filter, map, codes, bytes_eq, Option, Some, None, Result, Ok, Err, if◌then◌else◌}
+use Rattle.std.specs.List.{list_any, fold, AllByRecursion}
+use Rattle.std.specs.declared.cmp.Ordering.{Ordering}
+use Rattle.std.specs.declared.cmp.Ordering.TheVariants.{Less, Greater}
+use Rattle.std.specs.Ordering.{nat_cmp, on, then_cmp, is_gt}
+use Rattle.std.specs.FinMap as finite
+use Rattle.deb_version.specs.Order.{version_cmp}
+use Rattle.deb_relations.specs.declared.arch.ArchWords.{ArchWords}
+use Rattle.deb_relations.specs.declared.fault.RelationFault.{RelationFault}
+use Rattle.deb_relations.specs.declared.relations.Alternative.{Alternative}
+use Rattle.deb_relations.specs.Text.{text_cmp}
+use Rattle.deb_relations.specs.Arch.{matches_arch}
+use Rattle.deb_relations.specs.Reading.{reading_of}
+use Rattle.deb_relations.specs.Satisfaction.{Pairs, no_pairs, with_pair}
+use Rattle.wb_states.specs.declared.refusal.Refusal.{Refusal}
+use Rattle.wb_states.specs.Limits.{relations_limit}
+use Rattle.wb_states.specs.Moves.{waits_for}
+use Rattle.wb_states.specs.Record.{is_empty_text}
+use Rattle.wb_merge.specs.declared.listing.Listed.{Listed}
+use Rattle.wb_merge.specs.declared.listing.Built.{Built}
+use Rattle.wb_merge.specs.Lists.{SourceRow, BinaryRow, source_rows, binary_rows}
+
+-- ---- the greatest of some, the first of equals
+
+-- an item of a list that is greater than all before it, and not less than any behind it
+pub record IsFirstGreatest {X : Type 0} (R : X → X → Ordering) (items : List X) (item : X) : Type 0 where
+  pub before : List X
+  pub behind : List X
+  pub stands : items ≡ before ++ item ∷ behind
+  pub greater : AllByRecursion (λ other. R other item ≡ Less) before
+  pub not_less : AllByRecursion (λ other. R other item ≢ Greater) behind
+
+-- the first greatest of a list, none where the list has no item
+abbrev pub IsGreatest : {X : Type 0} → (X → X → Ordering) → List X → Option X → Type 0
+IsGreatest R items None = items ≡ []
+IsGreatest R items (Some item) = IsFirstGreatest R items item
+
+-- the better of the best so far and the next: the next only where it is greater
+abbrev pub better : {X : Type 0} → (X → X → Ordering) → Option X → X → X
+better R None next = next
+better R (Some best) next = if is_gt (R next best) then next else best
+
+-- the best of those so far and of a list
+abbrev pub best_from : {X : Type 0} → (X → X → Ordering) → Option X → List X → Option X
+best_from R best [] = best
+best_from R best (item ∷ items) = best_from R (Some (better R best item)) items
+
+-- ---- source packages
+
+-- a text of two, with a comma between them where neither is empty
+abbrev pub joined : List ℕ → List ℕ → List ℕ
+joined first second =
+    if is_empty_text first then second else (if is_empty_text second then first else first ++ codes ", " ++ second)
+
+-- relations reduced for the architecture and printed, where the text has a reading
+abbrev printed_of : ArchWords → Result (List (List Alternative)) RelationFault → Option (List ℕ)
+printed_of arch (Err fault) = None
+printed_of arch (Ok relations) = Some (waits_for relations arch)
+
+unfoldable pub printed_for : ArchWords → List ℕ → Option (List ℕ)
+printed_for arch text = printed_of arch (reading_of text)
+
+-- a text within the limit of relations
+abbrev pub within_limit : List ℕ → Option (List ℕ)
+within_limit text = if nat_lt relations_limit (length text) then None else Some text
+
+abbrev pub both_joined : Option (List ℕ) → Option (List ℕ) → Option (List ℕ)
+both_joined None second = None
+both_joined (Some first) None = None
+both_joined (Some first) (Some second) = within_limit (joined first second)
+
+-- what a source package needs to be built on the architecture: Build-Depends and Build-Depends-Arch (Debian Policy 7.7), or none where that cannot be read
+unfoldable pub depends_of : ArchWords → SourceRow → Option (List ℕ)
+depends_of arch row = both_joined (printed_for arch row.depends) (printed_for arch row.depends_arch)
+
+-- what is listed of a source package
+abbrev pub listed_as : ArchWords → SourceRow → Listed
+listed_as arch row = record {
+  version = row.version;
+  priority = row.priority;
+  section = row.section;
+  depends = depends_of arch row;
+}
+
+-- whether a row lists the source package of this name for the architecture (Debian Policy 5.6.8)
+unfoldable pub is_candidate : ArchWords → List ℕ → SourceRow → Bool
+is_candidate arch name row =
+    bytes_eq name row.name && (list_any (λ word. matches_arch word arch) row.archs && not row.is_extra)
+
+-- the versions of what is listed are compared as versions are (Debian Policy 5.6.12)
+abbrev pub listed_cmp : Listed → Listed → Ordering
+listed_cmp = on (λ listed. listed.version) version_cmp
+
+-- what rows list of a source package, in their order
+unfoldable pub candidates : ArchWords → List SourceRow → List ℕ → List Listed
+candidates arch rows name = map (listed_as arch) (filter (is_candidate arch name) rows)
+
+-- what is listed of a source package: the greatest version, and of equal ones the first
+unfoldable pub listed_of : ArchWords → List SourceRow → List ℕ → Option Listed
+listed_of arch rows name = best_from listed_cmp None (candidates arch rows name)
+
+-- ---- binary packages
+
+-- whether a row is a package of this source that was built on the architecture
+unfoldable pub is_built_from : ArchWords → List ℕ → BinaryRow → Bool
+is_built_from arch name row = bytes_eq name row.source && bytes_eq arch.name row.arch
+
+-- what a row says was built: the source version, and the number of the binary-only rebuild
+abbrev pub built_as : BinaryRow → Built
+built_as row = record { version = row.source_version; number = row.number }
+
+-- builds are compared by their source versions, then by their numbers
+abbrev pub built_cmp : Built → Built → Ordering
+built_cmp = then_cmp (on (λ built. built.version) version_cmp) (on (λ built. built.number) nat_cmp)
+
+-- the builds of a source package, in their order
+unfoldable pub builds : ArchWords → List BinaryRow → List ℕ → List Built
+builds arch rows name = map built_as (filter (is_built_from arch name) rows)
+
+-- the latest build of a source package, and of equal ones the first
+unfoldable pub built_of : ArchWords → List BinaryRow → List ℕ → Option Built
+built_of arch rows name = best_from built_cmp None (builds arch rows name)
+
+-- whether a row is a package that can be installed on the architecture (Debian Policy 5.6.8)
+unfoldable pub is_installable_on : ArchWords → BinaryRow → Bool
+is_installable_on arch row = bytes_eq row.arch arch.name || bytes_eq row.arch (codes "all")
+
+-- every pair of a name and a version that can be installed on the architecture
+unfoldable pub available_of : ArchWords → List BinaryRow → Pairs
+available_of arch rows =
+    fold (λ pairs row. with_pair pairs row.name row.version) no_pairs (filter (is_installable_on arch) rows)
+
+-- ---- the listing
+
+-- what the archive lists for an architecture, by the names of source packages
+pub record Lists : Type 0 where
+  pub listed : finite.FinMap text_cmp Listed
+  pub built : finite.FinMap text_cmp Built
+  pub available : Pairs
+
+-- what a function gives for a key, where it gives something
+abbrev onto_entry : {K X : Type 0} → K → Option X → List (K × X) → List (K × X)
+onto_entry key None entries = entries
+onto_entry key (Some value) entries = (key, value) ∷ entries
+
+abbrev pub with_values : {K X : Type 0} → (K → Option X) → List K → List (K × X)
+with_values f [] = []
+with_values f (key ∷ keys) = onto_entry key (f key) (with_values f keys)
+
+-- the map that a function gives at these keys, and nothing elsewhere
+unfoldable pub map_at : {K X : Type 0} {R : K → K → Ordering} → (K → Option X) → List K → finite.FinMap R X
+map_at f keys = finite.from_entries (with_values f keys)
+
+-- the listing of rows
+unfoldable pub lists_of : ArchWords → List SourceRow → List BinaryRow → Lists
+lists_of arch sources packages = record {
+  listed = map_at (listed_of arch sources) (map (λ row. row.name) sources);
+  built = map_at (built_of arch packages) (map (λ row. row.source) packages);
+  available = available_of arch packages;
+}
+
+-- the listing of two lists, or the refusal for a fault of the Sources list, then of the Packages list
+abbrev pub lists_in : ArchWords → Result (List SourceRow) Refusal → Result (List BinaryRow) Refusal → Result Lists Refusal
+lists_in arch (Err refusal) packages = Err refusal
+lists_in arch (Ok sources) (Err refusal) = Err refusal
+lists_in arch (Ok sources) (Ok packages) = Ok (lists_of arch sources packages)
+
+unfoldable pub listing_of : List ℕ → List ℕ → ArchWords → Result Lists Refusal
+listing_of sources packages arch = lists_in arch (source_rows sources) (binary_rows packages)

@@ -1,0 +1,256 @@
+-- The rows that a merge reads from the archive's lists, and the faults of lists (Debian Policy 5.3 and 5.6; the forms are this project's own where a line says so).
+use Rattle.std.specs.Prelude.{ℕ, ◌+◌, Bool, true, false, not, ◌&&◌, ◌||◌, ◌==◌, nat_le, List, [], ◌∷◌, ◌++◌, length, filter, reverse, codes, bytes_eq, Option, Some, None, Result, Ok, Err, if◌then◌else◌}
+use Rattle.std.specs.Option.{option_map, unwrap_or}
+use Rattle.std.specs.List.{list_any, slice_split, before_first, after_first}
+use Rattle.std.specs.Char.{is_ascii_digit}
+use Rattle.deb_version.specs.Syntax.{fault_of, value_of}
+use Rattle.deb_control.specs.declared.fault.ControlFaultKind.{ControlFaultKind}
+use Rattle.deb_control.specs.Lines.{is_blank, lines_of, paragraphs_in}
+use Rattle.deb_control.specs.Fields.{Entry, field_named, folded_of, reading_of}
+use Rattle.wb_states.specs.declared.refusal.Refusal.{Refusal}
+use Rattle.wb_states.specs.declared.refusal.Refusal.TheVariants.{BadListing}
+use Rattle.wb_states.specs.declared.refusal.ListKind.{ListKind}
+use Rattle.wb_states.specs.declared.refusal.ListKind.TheVariants.{Sources, Packages}
+use Rattle.wb_states.specs.declared.refusal.ListField.{ListField}
+use Rattle.wb_states.specs.declared.refusal.ListField.TheVariants.{Package, Version, Architecture, Priority, Section, Source}
+use Rattle.wb_states.specs.declared.refusal.ListingFault.{ListingFault}
+use Rattle.wb_states.specs.declared.refusal.ListingFault.TheVariants.{Control, Missing, BadValue}
+use Rattle.wb_states.specs.Names.{is_source_name, is_label_text}
+use Rattle.wb_states.specs.Record.{is_empty_text}
+use Rattle.wb_states.specs.Refusals.{name_of_field}
+
+-- ---- the values of a paragraph
+
+-- the folded text of a field, where the paragraph has the field (Debian Policy 5.1)
+unfoldable pub value_named : List ℕ → List Entry → Option (List ℕ)
+value_named name fields = option_map folded_of (field_named name fields)
+
+-- the folded text of a field, empty where the paragraph lacks the field
+abbrev pub text_named : List ℕ → List Entry → List ℕ
+text_named name fields = unwrap_or (value_named name fields) []
+
+-- the words of a text, parted by spaces and tabs (Debian Policy 5.6.8)
+unfoldable pub words_in : List ℕ → List (List ℕ)
+words_in text = filter (λ word. not (is_empty_text word)) (slice_split is_blank text)
+
+-- whether a text is a version (Debian Policy 5.6.12)
+abbrev pub is_faultless : {F : Type 0} → Option F → Bool
+is_faultless None = true
+is_faultless (Some fault) = false
+
+unfoldable pub is_version_text : List ℕ → Bool
+is_version_text text = is_faultless (fault_of text)
+
+-- whether a text is a priority or a section, which a list may leave empty (Debian Policy 2.5 and 2.4)
+unfoldable pub is_label_or_empty : List ℕ → Bool
+is_label_or_empty text = is_empty_text text || is_label_text text
+
+-- ---- the source of a binary package: `name`, or `name (version)` (Debian Policy 5.6.1)
+
+abbrev pub is_space : ℕ → Bool
+is_space c = c == 32
+
+-- the name, which stands before the first space
+unfoldable pub source_name : List ℕ → List ℕ
+source_name text = before_first is_space text
+
+-- whether a version is written: whether there is a space
+unfoldable pub has_source_version : List ℕ → Bool
+has_source_version text = list_any is_space text
+
+-- a text without the bracket at its end, where it has both brackets round it
+abbrev unclosed : List ℕ → Option (List ℕ)
+unclosed [] = None
+unclosed (c ∷ cs) = if bytes_eq (c ∷ []) (codes ")") then Some (reverse cs) else None
+
+abbrev pub in_brackets : List ℕ → Option (List ℕ)
+in_brackets [] = None
+in_brackets (c ∷ cs) = if bytes_eq (c ∷ []) (codes "(") then unclosed (reverse cs) else None
+
+-- the version that is written behind the name and one space, in brackets
+unfoldable pub source_version : List ℕ → Option (List ℕ)
+source_version text = in_brackets (after_first is_space text)
+
+-- whether a text passes a test, where there is one
+abbrev pub passes : (List ℕ → Bool) → Option (List ℕ) → Bool
+passes test None = false
+passes test (Some text) = test text
+
+-- whether a text names a source: a name, and perhaps a version in brackets (Debian Policy 5.6.1; exactly one space parts them, this project's own)
+unfoldable pub is_source_text : List ℕ → Bool
+is_source_text text =
+    is_source_name (source_name text) && (not (has_source_version text) || passes is_version_text (source_version text))
+
+-- ---- the number of a binary-only rebuild: N where a version ends in `+bN` (Debian Policy 5.6.12.2)
+
+-- the digits at the end of a text
+abbrev pub leading : (ℕ → Bool) → List ℕ → List ℕ
+leading test [] = []
+leading test (c ∷ cs) = if test c then c ∷ leading test cs else []
+
+unfoldable pub last_digits : List ℕ → List ℕ
+last_digits text = reverse (leading is_ascii_digit (reverse text))
+
+-- whether a text ends in these bytes
+unfoldable pub ends_in : List ℕ → List ℕ → Bool
+ends_in end text = starts (reverse end) (reverse text) where
+  starts : List ℕ → List ℕ → Bool
+  starts [] ys = true
+  starts (x ∷ xs) [] = false
+  starts (x ∷ xs) (y ∷ ys) = bytes_eq (x ∷ []) (y ∷ []) && starts xs ys
+
+-- one to three digits behind `+b`, or 0 (three digits are this project's own limit)
+unfoldable pub rebuild_number : List ℕ → ℕ
+rebuild_number version =
+    let digits = last_digits version in
+    if nat_le 1 (length digits) && (nat_le (length digits) 3 && ends_in (codes "+b" ++ digits) version)
+    then value_of digits else 0
+
+-- ---- faults
+
+-- what is wrong with a field that has to be there
+abbrev form_fault : ListField → (List ℕ → Bool) → Option (List ℕ) → Option ListingFault
+form_fault field has_form None = Some (Missing field)
+form_fault field has_form (Some text) = if has_form text then None else Some (BadValue field)
+
+unfoldable pub wanted_fault : ListField → (List ℕ → Bool) → List Entry → Option ListingFault
+wanted_fault field has_form fields = form_fault field has_form (value_named (name_of_field field) fields)
+
+-- what is wrong with a field that may be missing
+abbrev spare_form_fault : ListField → (List ℕ → Bool) → Option (List ℕ) → Option ListingFault
+spare_form_fault field has_form None = None
+spare_form_fault field has_form (Some text) = if has_form text then None else Some (BadValue field)
+
+unfoldable pub spare_fault : ListField → (List ℕ → Bool) → List Entry → Option ListingFault
+spare_fault field has_form fields = spare_form_fault field has_form (value_named (name_of_field field) fields)
+
+-- the first fault of some
+abbrev pub or_fault : Option ListingFault → Option ListingFault → Option ListingFault
+or_fault (Some fault) later = Some fault
+or_fault None later = later
+
+abbrev pub first_fault : List (Option ListingFault) → Option ListingFault
+first_fault [] = None
+first_fault (fault ∷ later) = or_fault fault (first_fault later)
+
+-- what is wrong with a paragraph of a Sources list: its fields in their order (Debian Policy 5.3)
+unfoldable pub source_fault : List Entry → Option ListingFault
+source_fault fields = first_fault (
+    wanted_fault Package is_source_name fields
+    ∷ wanted_fault Version is_version_text fields
+    ∷ wanted_fault Architecture (λ text. not (is_empty_text text)) fields
+    ∷ spare_fault Priority is_label_or_empty fields
+    ∷ spare_fault Section is_label_or_empty fields
+    ∷ [])
+
+-- what is wrong with a paragraph of a Packages list: its fields in their order (Debian Policy 5.3)
+unfoldable pub binary_fault : List Entry → Option ListingFault
+binary_fault fields = first_fault (
+    wanted_fault Package is_source_name fields
+    ∷ wanted_fault Version is_version_text fields
+    ∷ wanted_fault Architecture (λ text. not (is_empty_text text)) fields
+    ∷ spare_fault Source is_source_text fields
+    ∷ [])
+
+-- ---- rows
+
+-- what a merge reads from a paragraph of a Sources list
+pub record SourceRow : Type 0 where
+  pub name : List ℕ
+  pub version : List ℕ
+  pub archs : List (List ℕ)
+  pub is_extra : Bool
+  pub priority : List ℕ
+  pub section : List ℕ
+  pub depends : List ℕ
+  pub depends_arch : List ℕ
+
+-- what a merge reads from a paragraph of a Packages list
+pub record BinaryRow : Type 0 where
+  pub name : List ℕ
+  pub version : List ℕ
+  pub arch : List ℕ
+  pub source : List ℕ
+  pub source_version : List ℕ
+  pub number : ℕ
+
+-- the row of a paragraph of a Sources list
+abbrev pub source_row : List Entry → SourceRow
+source_row fields = record {
+  name = text_named (codes "Package") fields;
+  version = text_named (codes "Version") fields;
+  archs = words_in (text_named (codes "Architecture") fields);
+  is_extra = bytes_eq (text_named (codes "Extra-Source-Only") fields) (codes "yes");
+  priority = text_named (codes "Priority") fields;
+  section = text_named (codes "Section") fields;
+  depends = text_named (codes "Build-Depends") fields;
+  depends_arch = text_named (codes "Build-Depends-Arch") fields;
+}
+
+-- the source that a paragraph of a Packages list names: the package's own name and version where it names none (Debian Policy 5.6.1)
+abbrev pub with_source : List ℕ → List ℕ → List ℕ → Option (List ℕ) → BinaryRow
+with_source name version arch None = record {
+  name = name;
+  version = version;
+  arch = arch;
+  source = name;
+  source_version = version;
+  number = 0;
+}
+with_source name version arch (Some text) = record {
+  name = name;
+  version = version;
+  arch = arch;
+  source = source_name text;
+  source_version = if has_source_version text then unwrap_or (source_version text) version else version;
+  number = if has_source_version text then rebuild_number version else 0;
+}
+
+-- the row of a paragraph of a Packages list
+abbrev pub binary_row : List Entry → BinaryRow
+binary_row fields =
+    with_source (text_named (codes "Package") fields) (text_named (codes "Version") fields)
+    (text_named (codes "Architecture") fields) (value_named (codes "Source") fields)
+
+-- a row, where its paragraph has no fault
+abbrev pub unless_faulty : {X : Type 0} → Option ListingFault → X → Result X ListingFault
+unless_faulty (Some fault) row = Err fault
+unless_faulty None row = Ok row
+
+unfoldable pub source_row_of : List Entry → Result SourceRow ListingFault
+source_row_of fields = unless_faulty (source_fault fields) (source_row fields)
+
+unfoldable pub binary_row_of : List Entry → Result BinaryRow ListingFault
+binary_row_of fields = unless_faulty (binary_fault fields) (binary_row fields)
+
+-- ---- lists
+
+-- the refusal of a list for a fault in the paragraph of this number, counted from 1
+abbrev told : {X : Type 0} → ListKind → ℕ → Result X ListingFault → Result X Refusal
+told which number (Ok row) = Ok row
+told which number (Err fault) = Err (BadListing which number fault)
+
+-- the row of a paragraph, or the refusal for its fault
+abbrev pub row_in : {X : Type 0} → (List Entry → Result X ListingFault) → ListKind → ℕ → Result (List Entry) ControlFaultKind → Result X Refusal
+row_in read which number (Ok fields) = told which number (read fields)
+row_in read which number (Err kind) = Err (BadListing which number (Control kind))
+
+-- a row before the rows behind it
+abbrev pub onto_rows : {X : Type 0} → Result X Refusal → Result (List X) Refusal → Result (List X) Refusal
+onto_rows (Err refusal) rows = Err refusal
+onto_rows (Ok row) (Err refusal) = Err refusal
+onto_rows (Ok row) (Ok rows) = Ok (row ∷ rows)
+
+-- the rows of paragraphs, of which so many went before, or the refusal for the first that has a fault
+abbrev pub rows_behind : {X : Type 0} → (List Entry → Result X ListingFault) → ListKind → ℕ → List (List (List ℕ)) → Result (List X) Refusal
+rows_behind read which passed [] = Ok []
+rows_behind read which passed (lines ∷ later) =
+    onto_rows (row_in read which (passed + 1) (reading_of lines)) (rows_behind read which (passed + 1) later)
+
+-- the rows of a Sources list, or the refusal for its first faulty paragraph
+unfoldable pub source_rows : List ℕ → Result (List SourceRow) Refusal
+source_rows text = rows_behind source_row_of Sources 0 (paragraphs_in (lines_of text))
+
+-- the rows of a Packages list, or the refusal for its first faulty paragraph
+unfoldable pub binary_rows : List ℕ → Result (List BinaryRow) Refusal
+binary_rows text = rows_behind binary_row_of Packages 0 (paragraphs_in (lines_of text))

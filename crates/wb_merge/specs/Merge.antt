@@ -1,0 +1,130 @@
+-- What a merge makes of the record of one source package, case by case (this project's own, in wanna-build's terms).
+use Rattle.std.specs.Prelude.{ℕ, Bool, true, false, ◌||◌, nat_le, List, [], Option, Some, None, Result, Ok, Err, is_some, if◌then◌else◌}
+use Rattle.std.specs.declared.cmp.Ordering.{Ordering}
+use Rattle.std.specs.declared.cmp.Ordering.TheVariants.{Less, Equal, Greater}
+use Rattle.deb_version.specs.Order.{version_cmp}
+use Rattle.deb_relations.specs.declared.fault.RelationFault.{RelationFault}
+use Rattle.deb_relations.specs.declared.relations.Alternative.{Alternative}
+use Rattle.deb_relations.specs.Reading.{reading_of}
+use Rattle.deb_relations.specs.Satisfaction.{Pairs, satisfied}
+use Rattle.wb_states.specs.declared.record.Record.{Record}
+use Rattle.wb_states.specs.declared.state.State.{State}
+use Rattle.wb_states.specs.declared.state.State.TheVariants.{NeedsBuild, Installed, NotForUs}
+use Rattle.wb_states.specs.Moves.{settled_in, note_after}
+use Rattle.wb_states.specs.State.{is_installed, is_dep_wait, is_not_for_us}
+use Rattle.wb_merge.specs.declared.listing.Listed.{Listed}
+use Rattle.wb_merge.specs.declared.listing.Built.{Built}
+
+-- one of three, by an order
+abbrev pub by_order : {X : Type 0} → Ordering → X → X → X → X
+by_order Less less equal greater = less
+by_order Equal less equal greater = equal
+by_order Greater less equal greater = greater
+
+-- whether what was built covers a version and a number: it is of a later version, or of an equal one with at least this number
+abbrev pub covers : Option Built → List ℕ → ℕ → Bool
+covers None version number = false
+covers (Some built) version number = by_order (version_cmp built.version version) false (nat_le number built.number) true
+
+-- the number of what was built, where it is of this version, else another
+abbrev pub built_number : Option Built → List ℕ → ℕ → ℕ
+built_number None version other = other
+built_number (Some built) version other = by_order (version_cmp built.version version) other built.number other
+
+-- whether waits are met by what is available (Debian Policy 7.1)
+abbrev pub is_reading_met : Pairs → Result (List (List Alternative)) RelationFault → Bool
+is_reading_met available (Err fault) = false
+is_reading_met available (Ok relations) = satisfied available relations
+
+unfoldable pub are_waits_met : Pairs → List ℕ → Bool
+are_waits_met available waits = is_reading_met available (reading_of waits)
+
+-- a record brought in line with its listing, in a state and with a number
+unfoldable pub relisted : State → ℕ → Listed → Option Built → Record → Record
+relisted state number listed built current = record (settled_in state current) {
+  number = number;
+  priority = listed.priority;
+  section = listed.section;
+  depends = listed.depends;
+  earlier = current.earlier || (is_some built || is_installed state);
+  note = note_after None state current;
+}
+
+-- ---- a source package that has no record
+
+-- a record of which nothing is known yet but its version
+abbrev pub blank_record : List ℕ → Record
+blank_record version = record {
+  state = NeedsBuild;
+  version = version;
+  priority = [];
+  section = [];
+  earlier = false;
+  number = 0;
+  holder = None;
+  take = None;
+  waits = [];
+  depends = None;
+  note = [];
+  message = [];
+}
+
+-- Installed where the version is built, else Needs-Build
+abbrev pub new_state : Listed → Option Built → State
+new_state listed built = if covers built listed.version 0 then Installed else NeedsBuild
+
+abbrev pub new_number : Listed → Option Built → ℕ
+new_number listed built = if covers built listed.version 0 then built_number built listed.version 0 else 0
+
+unfoldable pub new_record : Listed → Option Built → Record
+new_record listed built =
+    relisted (new_state listed built) (new_number listed built) listed built (blank_record listed.version)
+
+-- ---- a record of an earlier version than is listed
+
+-- Not-For-Us stays, all others are as new
+abbrev pub newer_state : Listed → Option Built → Record → State
+newer_state listed built current = if is_not_for_us current.state then NotForUs else new_state listed built
+
+abbrev pub newer_number : Listed → Option Built → Record → ℕ
+newer_number listed built current = if is_not_for_us current.state then 0 else new_number listed built
+
+unfoldable pub newer_record : Listed → Option Built → Record → Record
+newer_record listed built current =
+    relisted (newer_state listed built current) (newer_number listed built current) listed built
+    (record current { version = listed.version; message = []; holder = None; take = None })
+
+-- ---- a record of the version that is listed
+
+-- Not-For-Us stays; what is built is Installed; what was Installed and is built no more waits for a builder; so does what waited for relations that are met; all else stays
+abbrev pub same_state : Listed → Option Built → Pairs → Record → State
+same_state listed built available current =
+    if is_not_for_us current.state then NotForUs
+    else (if covers built listed.version current.number then Installed
+    else (if is_installed current.state then NeedsBuild
+    else (if is_dep_wait current.state then (if are_waits_met available current.waits then NeedsBuild else current.state)
+    else current.state)))
+
+abbrev pub same_number : Listed → Option Built → Record → ℕ
+same_number listed built current =
+    if is_not_for_us current.state then current.number
+    else (if covers built listed.version current.number then built_number built listed.version current.number
+    else current.number)
+
+unfoldable pub same_record : Listed → Option Built → Pairs → Record → Record
+same_record listed built available current =
+    relisted (same_state listed built available current) (same_number listed built current) listed built current
+
+-- ---- all cases
+
+-- what becomes of a record whose source package is listed: it is of an earlier version, of the same, or of a later one, which stays as it is
+unfoldable pub listed_record : Listed → Option Built → Pairs → Record → Record
+listed_record listed built available current =
+    by_order (version_cmp current.version listed.version) (newer_record listed built current)
+    (same_record listed built available current) current
+
+-- the record of a source package after a merge: none where it is not listed
+abbrev pub after : Option Record → Option Listed → Option Built → Pairs → Option Record
+after current None built available = None
+after None (Some listed) built available = Some (new_record listed built)
+after (Some current) (Some listed) built available = Some (listed_record listed built available current)

@@ -1,0 +1,107 @@
+-- The records after a merge of one architecture, at each key, and what it counts (this project's own).
+use Rattle.std.specs.Prelude.{ℕ, Bool, true, false, not, ◌&&◌, nat_eq, List, ◌++◌, length, filter, map, bytes_eq, Option, Some, None, if◌then◌else◌}
+use Rattle.std.specs.FinMap as finite
+use Rattle.wb_states.specs.declared.record.Record.{Record}
+use Rattle.wb_states.specs.declared.reply.MergeCounts.{MergeCounts}
+use Rattle.wb_states.specs.Machine.{pair_cmp}
+use Rattle.wb_states.specs.State.{code_of}
+use Rattle.wb_merge.specs.Listing.{Lists, map_at}
+use Rattle.wb_merge.specs.Merge.{after}
+
+-- the records of the office, by architecture and source package
+abbrev pub Records : Type 0
+Records = finite.FinMap pair_cmp Record
+
+-- the record at a key after the merge of an architecture: other architectures keep theirs
+unfoldable pub after_at : Records → List ℕ → Lists → List ℕ × List ℕ → Option Record
+after_at old arch lists key =
+    if bytes_eq key.0 arch
+    then after (finite.get old key) (finite.get lists.listed key.1) (finite.get lists.built key.1) lists.available
+    else finite.get old key
+
+-- the keys at which there may be a record after the merge
+abbrev pub merge_keys : Records → List ℕ → Lists → List (List ℕ × List ℕ)
+merge_keys old arch lists = finite.keys old ++ map (λ name. (arch, name)) (finite.keys lists.listed)
+
+-- the records after the merge
+unfoldable pub merged : Records → List ℕ → Lists → Records
+merged old arch lists = map_at (after_at old arch lists) (merge_keys old arch lists)
+
+-- ---- what is counted
+
+-- whether two texts that may be missing are equal
+abbrev pub is_same_option : {X : Type 0} → (X → X → Bool) → Option X → Option X → Bool
+is_same_option test None None = true
+is_same_option test None (Some y) = false
+is_same_option test (Some x) None = false
+is_same_option test (Some x) (Some y) = test x y
+
+abbrev pub is_same_flag : Bool → Bool → Bool
+is_same_flag true flag = flag
+is_same_flag false flag = not flag
+
+-- whether the fields of two records that say what is built are equal
+unfoldable pub has_same_source : Record → Record → Bool
+has_same_source one other =
+    bytes_eq one.version other.version && (bytes_eq one.priority other.priority
+    && (bytes_eq one.section other.section && (is_same_flag one.earlier other.earlier && nat_eq one.number other.number)))
+
+-- whether the fields that say where it stands are equal
+unfoldable pub has_same_place : Record → Record → Bool
+has_same_place one other =
+    nat_eq (code_of one.state) (code_of other.state) && (is_same_option bytes_eq one.holder other.holder
+    && is_same_option nat_eq one.take other.take)
+
+-- whether the texts of relations, notes and messages are equal
+unfoldable pub has_same_texts : Record → Record → Bool
+has_same_texts one other =
+    bytes_eq one.waits other.waits && (is_same_option bytes_eq one.depends other.depends
+    && (bytes_eq one.note other.note && bytes_eq one.message other.message))
+
+-- whether two records are equal in all fields
+unfoldable pub is_same_record : Record → Record → Bool
+is_same_record one other = has_same_source one other && (has_same_place one other && has_same_texts one other)
+
+-- a record where there was none
+abbrev pub is_added : Option Record → Option Record → Bool
+is_added None (Some new) = true
+is_added old new = false
+
+-- no record where there was one
+abbrev pub is_removed : Option Record → Option Record → Bool
+is_removed (Some old) None = true
+is_removed old new = false
+
+-- a record of which no field differs
+abbrev pub is_kept : Option Record → Option Record → Bool
+is_kept (Some old) (Some new) = is_same_record old new
+is_kept old new = false
+
+-- a record of which a field differs
+abbrev pub is_changed : Option Record → Option Record → Bool
+is_changed (Some old) (Some new) = not (is_same_record old new)
+is_changed old new = false
+
+-- the source packages of the architecture that have a record, and then those that are listed and have none
+unfoldable pub names_of : Records → List ℕ → Lists → List (List ℕ)
+names_of old arch lists =
+    map (λ key. key.1) (filter (λ key. bytes_eq key.0 arch) (finite.keys old))
+    ++ filter (λ name. not (finite.contains_key old (arch, name))) (finite.keys lists.listed)
+
+-- how many source packages pass a test of the record before and the record after
+abbrev pub number_where : (Option Record → Option Record → Bool) → Records → List ℕ → Lists → List (List ℕ) → ℕ
+number_where test old arch lists names =
+    length (filter (λ name. test (finite.get old (arch, name)) (after_at old arch lists (arch, name))) names)
+
+-- what a merge did, counted over these names
+unfoldable pub counts_over : Records → List ℕ → Lists → List (List ℕ) → MergeCounts
+counts_over old arch lists names = record {
+  added = number_where is_added old arch lists names;
+  changed = number_where is_changed old arch lists names;
+  kept = number_where is_kept old arch lists names;
+  removed = number_where is_removed old arch lists names;
+}
+
+-- what a merge of an architecture did
+unfoldable pub merge_counts : Records → List ℕ → Lists → MergeCounts
+merge_counts old arch lists = counts_over old arch lists (names_of old arch lists)

@@ -1,0 +1,88 @@
+-- What the rows of the archive's lists add to a listing, one after another (this project's own).
+use Rattle.std.specs.Prelude.{◌≡◌, ℕ, ◌+◌, ◌<◌, ◌^◌, Bool, true, not, ◌&&◌, List, [], length, bytes_eq, Option, Some, None, is_some, Result, Ok, Err, if◌then◌else◌}
+use Rattle.std.specs.List.{list_any, fold}
+use Rattle.std.specs.declared.cmp.Ordering.{Ordering}
+use Rattle.std.specs.Ordering.{is_gt}
+use Rattle.std.specs.FinMap as finite
+use Rattle.deb_control.specs.Fields.{Entry}
+use Rattle.deb_control.specs.Paragraphs.{Place}
+use Rattle.deb_relations.specs.declared.arch.ArchWords.{ArchWords}
+use Rattle.deb_relations.specs.Text.{text_cmp}
+use Rattle.deb_relations.specs.Arch.{matches_arch}
+use Rattle.deb_relations.specs.Satisfaction.{Pairs, with_pair}
+use Rattle.wb_states.specs.declared.refusal.Refusal.{Refusal}
+use Rattle.wb_states.specs.declared.refusal.ListKind.{ListKind}
+use Rattle.wb_states.specs.declared.refusal.ListingFault.{ListingFault}
+use Rattle.wb_merge.specs.declared.listing.Listed.{Listed}
+use Rattle.wb_merge.specs.declared.listing.Built.{Built}
+use Rattle.wb_merge.specs.Lists.{SourceRow, BinaryRow, rows_behind, onto_rows}
+use Rattle.wb_merge.specs.Listing.{listed_cmp, listed_as, built_cmp, built_as, is_installable_on}
+
+-- ---- what a row adds
+
+-- whether the next is better than the best so far: it is greater, or the first
+abbrev pub is_better : {X : Type 0} → (X → X → Ordering) → Option X → X → Bool
+is_better R None next = true
+is_better R (Some best) next = is_gt (R next best)
+
+-- the values at names, to which one more is offered: it is kept where it is better than what is there
+abbrev pub offered : {X : Type 0} → (X → X → Ordering) → finite.FinMap text_cmp X → List ℕ → X → finite.FinMap text_cmp X
+offered R best name next = if is_better R (finite.get best name) next then finite.insert best name next else best
+
+-- whether a row lists its source package for the architecture (Debian Policy 5.6.8)
+unfoldable pub is_listed : ArchWords → SourceRow → Bool
+is_listed arch row = list_any (λ word. matches_arch word arch) row.archs && not row.is_extra
+
+-- what is listed, with a row more
+unfoldable pub with_source : ArchWords → finite.FinMap text_cmp Listed → SourceRow → finite.FinMap text_cmp Listed
+with_source arch listed row = if is_listed arch row then offered listed_cmp listed row.name (listed_as arch row) else listed
+
+-- what is built, with a row more
+unfoldable pub with_build : ArchWords → finite.FinMap text_cmp Built → BinaryRow → finite.FinMap text_cmp Built
+with_build arch built row = if bytes_eq arch.name row.arch then offered built_cmp built row.source (built_as row) else built
+
+-- what is available, with a row more
+unfoldable pub with_package : ArchWords → Pairs → BinaryRow → Pairs
+with_package arch available row = if is_installable_on arch row then with_pair available row.name row.version else available
+
+-- what is built and what is available
+abbrev pub Found : Type 0
+Found = finite.FinMap text_cmp Built × Pairs
+
+-- both, with a row more
+abbrev pub with_binary : ArchWords → Found → BinaryRow → Found
+with_binary arch found row = (with_build arch found.0 row, with_package arch found.1 row)
+
+-- what rows add one after another, where there are rows
+abbrev pub after_rows : {S X : Type 0} → (S → X → S) → S → Result (List X) Refusal → Result S Refusal
+after_rows add start (Err refusal) = Err refusal
+after_rows add start (Ok rows) = Ok (fold add start rows)
+
+-- ---- where a reader stands
+
+-- the rows of the paragraphs ahead, of which so many went before
+abbrev pub rows_over : {X : Type 0} → (List Entry → Result X ListingFault) → ListKind → ℕ → Option (List (List (List ℕ))) → Result (List X) Refusal
+rows_over read which passed None = Ok []
+rows_over read which passed (Some paragraphs) = rows_behind read which passed paragraphs
+
+-- the rows that a reader of paragraphs has ahead, or the refusal for the first faulty paragraph
+abbrev pub rows_at : {X : Type 0} → (List Entry → Result X ListingFault) → ListKind → Place → Result (List X) Refusal
+rows_at read which place = rows_over read which place.passed place.ahead
+
+-- how many paragraphs are ahead
+abbrev pub number_of : Option (List (List (List ℕ))) → ℕ
+number_of None = 0
+number_of (Some paragraphs) = length paragraphs
+
+-- a reader that went through so many paragraphs, and can count those ahead
+pub record HasPassed (place : Place) (passed : ℕ) : Type 0 where
+  pub count : passed ≡ place.passed
+  pub goes_on : is_some place.ahead ≡ true
+  pub fits : passed + number_of place.ahead < 2 ^ 64
+
+-- a reader that went on by one paragraph, of which this is the row
+pub record GivesRow {X : Type 0} (read : List Entry → Result X ListingFault) (which : ListKind) (old : Place) (row : X) (new : Place) : Type 0 where
+  pub rows : rows_at read which old ≡ onto_rows (Ok row) (rows_at read which new)
+  pub count : new.passed ≡ old.passed + 1
+  pub fewer : number_of old.ahead ≡ number_of new.ahead + 1
+  pub goes_on : is_some new.ahead ≡ true

@@ -1,0 +1,163 @@
+//! The fields of a paragraph of the archive's lists.
+ghost use Rattle.std.specs.Prelude.{◌≡◌, ◌≢◌, Some, None, true, false, codes, IfOk, IfErr, OnOk, not};
+ghost use Rattle.deb_control.specs.declared.fault.ControlFaultKind.TheVariants.{Memory};
+ghost use Rattle.wb_states.specs.declared.refusal.ListingFault.TheVariants.{Control, Missing, BadValue};
+ghost use Rattle.wb_states.specs.declared.refusal.ListField.TheVariants.{Package, Version as VersionField, Architecture};
+ghost use Rattle.wb_states.specs.Names.{is_source_name};
+ghost use Rattle.wb_states.specs.Record.{is_empty_text};
+ghost use Rattle.wb_states.specs.Refusals.{name_of_field};
+ghost use Rattle.wb_merge.specs.Lists.{value_named, text_named, is_version_text, is_label_or_empty, wanted_fault, spare_fault};
+
+use deb_control::{ControlFaultKind, Paragraph};
+use deb_relations::Text;
+use deb_version::{Version, VersionFault};
+use std::alloc::Global;
+use wb_states::{ListField, ListingFault, is_label, is_source};
+
+/// Want of memory, told as control data tells it.
+pub(crate) const MEMORY: ListingFault = ListingFault::Control {
+    kind: ControlFaultKind::Memory,
+};
+
+/// The folded value of the field of this name, where the paragraph has it.
+#[tactic(auto, unfolding(crate::specs::Lists::value_named))]
+pub(crate) fn value(
+    alloc: Global,
+    paragraph: &Paragraph<'_>,
+    name: &str,
+) -> Result<Option<Text>, ListingFault>
+    ensures value { IfOk result (λ found. found ≡ value_named name.now paragraph.now) }
+    ensures refused { IfErr result (λ fault. fault ≡ Control Memory) }
+{
+    let Some(field) = paragraph.get(name) else {
+        return Ok(None);
+    };
+    match field.folded(alloc) {
+        Ok(text) => Ok(Some(Text::from(text))),
+        Err(_) => Err(MEMORY),
+    }
+}
+
+/// The folded value of the field of this name, empty where the paragraph lacks it.
+pub(crate) fn text(
+    alloc: Global,
+    paragraph: &Paragraph<'_>,
+    name: &str,
+) -> Result<Text, ListingFault>
+    ensures value { IfOk result (λ text. text ≡ text_named name.now paragraph.now) }
+    ensures refused { IfErr result (λ fault. fault ≡ Control Memory) }
+{
+    match value(alloc, paragraph, name)? {
+        Some(text) => Ok(text),
+        None => Ok(Text::new(alloc)),
+    }
+}
+
+/// The folded value of a field that has to be there.
+fn wanted(alloc: Global, paragraph: &Paragraph<'_>, field: ListField) -> Result<Text, ListingFault>
+    ensures value { IfOk result (λ text. value_named (name_of_field field) paragraph.now ≡ Some text) }
+    ensures missing { IfErr result (λ fault. fault ≢ Control Memory
+        → value_named (name_of_field field) paragraph.now ≡ None) }
+    ensures refused { IfErr result (λ fault. fault ≢ Control Memory → fault ≡ Missing field) }
+{
+    match value(alloc, paragraph, field.name())? {
+        Some(text) => Ok(text),
+        None => Err(ListingFault::Missing { field }),
+    }
+}
+
+/// The name of the package.
+#[tactic(auto, unfolding(crate::specs::Lists::wanted_fault))]
+pub(crate) fn package_name(alloc: Global, paragraph: &Paragraph<'_>) -> Result<Text, ListingFault>
+    ensures value { IfOk result (λ name. name ≡ text_named (codes "Package") paragraph.now) }
+    ensures ok { OnOk result (wanted_fault Package is_source_name paragraph.now ≡ None) }
+    ensures refused { IfErr result (λ fault. fault ≢ Control Memory
+        → wanted_fault Package is_source_name paragraph.now ≡ Some fault) }
+{
+    let field = ListField::Package;
+    let name = wanted(alloc, paragraph, field)?;
+    if !is_source(name.as_str()) {
+        return Err(ListingFault::BadValue { field });
+    }
+    Ok(name)
+}
+
+/// The version that a text of the field is.
+#[tactic(auto, unfolding(crate::specs::Lists::is_version_text, deb_version::specs::Syntax::reading_of))]
+pub(crate) fn parse_version(
+    alloc: Global,
+    text: &str,
+    field: ListField,
+) -> Result<Version, ListingFault>
+    ensures value { IfOk result (λ version. version ≡ text.now) }
+    ensures ok { OnOk result (is_version_text text.now ≡ true) }
+    ensures bad { IfErr result (λ fault. fault ≢ Control Memory → is_version_text text.now ≡ false) }
+    ensures refused { IfErr result (λ fault. fault ≢ Control Memory → fault ≡ BadValue field) }
+{
+    match Version::parse(alloc, text) {
+        Ok(version) => Ok(version),
+        Err(VersionFault::Memory) => Err(MEMORY),
+        Err(_) => Err(ListingFault::BadValue { field }),
+    }
+}
+
+/// The version of the package.
+#[tactic(auto, unfolding(crate::specs::Lists::wanted_fault))]
+pub(crate) fn package_version(
+    alloc: Global,
+    paragraph: &Paragraph<'_>,
+) -> Result<Version, ListingFault>
+    ensures value { IfOk result (λ version. version ≡ text_named (codes "Version") paragraph.now) }
+    ensures ok { OnOk result (wanted_fault VersionField is_version_text paragraph.now ≡ None) }
+    ensures refused { IfErr result (λ fault. fault ≢ Control Memory
+        → wanted_fault VersionField is_version_text paragraph.now ≡ Some fault) }
+{
+    let field = ListField::Version;
+    let text = wanted(alloc, paragraph, field)?;
+    parse_version(alloc, text.as_str(), field)
+}
+
+/// The architectures of the package, which are not empty.
+#[tactic(auto, unfolding(crate::specs::Lists::wanted_fault))]
+pub(crate) fn architectures(alloc: Global, paragraph: &Paragraph<'_>) -> Result<Text, ListingFault>
+    ensures value { IfOk result (λ archs. archs ≡ text_named (codes "Architecture") paragraph.now) }
+    ensures ok { OnOk result (
+        wanted_fault Architecture (λ text. not (is_empty_text text)) paragraph.now ≡ None) }
+    ensures refused { IfErr result (λ fault. fault ≢ Control Memory
+        → wanted_fault Architecture (λ text. not (is_empty_text text)) paragraph.now ≡ Some fault) }
+{
+    let field = ListField::Architecture;
+    let archs = wanted(alloc, paragraph, field)?;
+    if archs.as_str().is_empty() {
+        return Err(ListingFault::BadValue { field });
+    }
+    Ok(archs)
+}
+
+#[tactic(auto, unfolding(crate::specs::Lists::is_label_or_empty))]
+fn is_label_or_empty(text: &str) -> bool
+    ensures { result ≡ is_label_or_empty text.now }
+{
+    text.is_empty() || is_label(text)
+}
+
+/// The priority or the section, which may be missing or empty.
+#[tactic(auto, unfolding(crate::specs::Lists::spare_fault))]
+pub(crate) fn label(
+    alloc: Global,
+    paragraph: &Paragraph<'_>,
+    field: ListField,
+) -> Result<Text, ListingFault>
+    ensures value { IfOk result (λ text. text ≡ text_named (name_of_field field) paragraph.now) }
+    ensures ok { OnOk result (spare_fault field is_label_or_empty paragraph.now ≡ None) }
+    ensures refused { IfErr result (λ fault. fault ≢ Control Memory
+        → spare_fault field is_label_or_empty paragraph.now ≡ Some fault) }
+{
+    let Some(label) = value(alloc, paragraph, field.name())? else {
+        return Ok(Text::new(alloc));
+    };
+    if !is_label_or_empty(label.as_str()) {
+        return Err(ListingFault::BadValue { field });
+    }
+    Ok(label)
+}

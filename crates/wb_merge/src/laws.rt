@@ -1,0 +1,50 @@
+//! Laws of the listing and of the merge, each on a function that does nothing.
+ghost use Rattle.std.specs.Prelude.{◌≡◌, ℕ, List, Option, ◌↔◌, true};
+ghost use Rattle.std.specs.FinMap as map;
+ghost use Rattle.deb_relations.specs.declared.arch.ArchWords.{ArchWords};
+ghost use Rattle.wb_merge.specs.declared.listing.Listed.{Listed};
+ghost use Rattle.wb_merge.specs.declared.listing.Built.{Built};
+ghost use Rattle.wb_merge.specs.Lists.{SourceRow, BinaryRow};
+ghost use Rattle.wb_merge.specs.Listing.{IsGreatest, listed_cmp, candidates, built_cmp, builds, lists_of, Lists};
+ghost use Rattle.wb_states.specs.declared.record.Record.{Record};
+ghost use Rattle.wb_merge.specs.Merged.{Records, after_at, is_same_record, merged};
+ghost use Rattle.wb_merge.specs.Steps.{Key};
+
+/// What a listing has of a source package is the paragraph of its greatest version among those that list
+/// it, and of equal ones the first; nothing else is. Takes no memory (Debian Policy 5.6.12; that the first
+/// wins is this project's own).
+pub fn listed_is_greatest()
+    ensures is { (arch : ArchWords) (sources : List SourceRow) (packages : List BinaryRow) (name : List ℕ)
+        → IsGreatest listed_cmp (candidates arch sources name) (map.get (lists_of arch sources packages).listed name) }
+    ensures only { (arch : ArchWords) (sources : List SourceRow) (packages : List BinaryRow) (name : List ℕ) (found : Option Listed)
+        → IsGreatest listed_cmp (candidates arch sources name) found
+        → found ≡ map.get (lists_of arch sources packages).listed name }
+{}
+
+/// What a listing has of the builds of a source package is the greatest by source version and rebuild
+/// number among those of the architecture, and of equal ones the first; nothing else is. Takes no memory
+/// (Debian Policy 5.6.12; that the first wins is this project's own).
+pub fn built_is_greatest()
+    ensures is { (arch : ArchWords) (sources : List SourceRow) (packages : List BinaryRow) (name : List ℕ)
+        → IsGreatest built_cmp (builds arch packages name) (map.get (lists_of arch sources packages).built name) }
+    ensures only { (arch : ArchWords) (sources : List SourceRow) (packages : List BinaryRow) (name : List ℕ) (found : Option Built)
+        → IsGreatest built_cmp (builds arch packages name) found
+        → found ≡ map.get (lists_of arch sources packages).built name }
+{}
+
+/// At each key a merge makes of the record there what the cases say, whatever the other records are.
+pub fn merge_is_pointwise()
+    ensures at { (old : Records) (arch : List ℕ) (lists : Lists) (key : Key)
+        → map.get (merged old arch lists) key ≡ after_at old arch lists key }
+{}
+
+/// A merge of the listing that was merged just before changes nothing.
+pub fn merge_twice_changes_nothing()
+    ensures unchanged { (old : Records) (arch : List ℕ) (lists : Lists)
+        → merged (merged old arch lists) arch lists ≡ merged old arch lists }
+{}
+
+/// Records are found to be the same exactly where they are equal, so what is counted as kept is as it was.
+pub fn kept_records_are_equal()
+    ensures same { (one other : Record) → is_same_record one other ≡ true ↔ (one ≡ other) }
+{}

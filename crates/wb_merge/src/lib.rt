@@ -1,0 +1,16 @@
+//! What the archive lists for an architecture, and what a merge makes of the records by it.
+#![tactic(auto)]
+
+mod fields;
+pub mod laws;
+mod listing;
+mod merge;
+mod offers;
+mod reader;
+mod record;
+mod rows;
+mod source;
+
+pub use listing::{Built, Listed, Listing};
+pub use merge::merge_records;
+pub use record::after;

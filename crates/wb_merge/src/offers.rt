@@ -1,0 +1,165 @@
+//! What a row of the archive's lists adds to a listing.
+ghost use Rattle.std.specs.Prelude.{◌≡◌, IfOk, IfErr, OnOk};
+ghost use Rattle.std.specs.FinMap as map;
+ghost use Rattle.deb_relations.specs.declared.arch.ArchWords.{ArchWords as Arch};
+ghost use Rattle.deb_relations.specs.Text.{text_cmp};
+ghost use Rattle.wb_states.specs.declared.refusal.Refusal.TheVariants.{Memory};
+ghost use Rattle.wb_merge.specs.Listing.{printed_for, joined, depends_of, listed_as, listed_cmp, built_as, built_cmp};
+ghost use Rattle.wb_merge.specs.Offers.{is_better, with_source, with_build, with_package};
+
+use crate::rows::{BinaryRow, SourceRow};
+use crate::{Built, Listed};
+use deb_relations::{ArchWords, Available, RelationFault, Relations, Text};
+use deb_version::compare;
+use std::alloc::{AllocError, Global};
+use std::collections::BTreeMap;
+use wb_states::Refusal;
+
+/// The greatest length of what a source package needs to be built, in bytes (this project's own).
+const RELATIONS_LIMIT: usize = 65536;
+
+/// Relations reduced for the architecture and printed, where the text can be read.
+#[tactic(auto, unfolding(crate::specs::Listing::printed_for))]
+fn printed_for(alloc: Global, text: &Text, arch: &ArchWords) -> Result<Option<Text>, Refusal>
+    ensures value { IfOk result (λ printed. printed ≡ printed_for arch.now text.now) }
+    ensures refused { IfErr result (λ refusal. refusal ≡ Memory) }
+{
+    match Relations::parse(alloc, text.as_str()) {
+        Ok(relations) => {
+            let left = relations.reduce(alloc, arch)?;
+            Ok(Some(Text::from(left.print(alloc)?)))
+        }
+        Err(RelationFault::Memory) => Err(Refusal::Memory),
+        Err(_) => Ok(None),
+    }
+}
+
+/// Two texts, with a comma between them where neither is empty.
+fn joined(alloc: Global, first: Text, second: Text) -> Result<Text, AllocError>
+    ensures { IfOk result (λ text. text ≡ joined first second) }
+{
+    if first.as_str().is_empty() {
+        return Ok(second);
+    }
+    if second.as_str().is_empty() {
+        return Ok(first);
+    }
+    let mut text = String::from_str(alloc, first.as_str())?;
+    text.push_str(", ")?;
+    text.push_str(second.as_str())?;
+    Ok(Text::from(text))
+}
+
+/// What the source package needs to be built on the architecture, where that can be read.
+#[tactic(auto, unfolding(crate::specs::Listing::depends_of))]
+fn depends_of(alloc: Global, row: &SourceRow, arch: &ArchWords) -> Result<Option<Text>, Refusal>
+    ensures value { IfOk result (λ depends. depends ≡ depends_of arch.now row.now) }
+    ensures refused { IfErr result (λ refusal. refusal ≡ Memory) }
+{
+    let Some(first) = printed_for(alloc, &row.depends, arch)? else {
+        return Ok(None);
+    };
+    let Some(second) = printed_for(alloc, &row.depends_arch, arch)? else {
+        return Ok(None);
+    };
+    let text = joined(alloc, first, second)?;
+    if text.as_str().len() > RELATIONS_LIMIT {
+        return Ok(None);
+    }
+    Ok(Some(text))
+}
+
+/// Whether the row is of a later version than what is listed of its source package so far.
+fn is_later_source(listed: &BTreeMap<Text, Listed>, row: &SourceRow) -> bool
+    ensures { (arch : Arch) → result
+        ≡ is_better listed_cmp (map.get (map.from_entries {R = text_cmp} listed.now.entries) row.now.name) (listed_as arch row.now) }
+{
+    match listed.get(&row.name) {
+        Some(best) => compare(&row.version, &best.version).is_gt(),
+        None => true,
+    }
+}
+
+/// Offers a row of Sources to what is listed: of the versions of a source package the greatest is kept,
+/// and of equal ones the first.
+pub(crate) fn offer_source(
+    alloc: Global,
+    listed: &mut BTreeMap<Text, Listed>,
+    arch: &ArchWords,
+    row: SourceRow,
+) -> Result<(), Refusal>
+    ensures value { OnOk result (map.from_entries {R = text_cmp} listed.new.entries
+        ≡ with_source arch.now (map.from_entries {R = text_cmp} listed.old.entries) row) }
+    ensures refused { IfErr result (λ refusal. refusal ≡ Memory) }
+{
+    if !row.is_listed(arch) {
+        return Ok(());
+    }
+    if !is_later_source(listed, &row) {
+        return Ok(());
+    }
+    let depends = depends_of(alloc, &row, arch)?;
+    let found = Listed {
+        version: row.version,
+        priority: row.priority,
+        section: row.section,
+        depends,
+    };
+    listed.insert(row.name, found)?;
+    Ok(())
+}
+
+/// Whether the row is of a later build than what is built of its source package so far.
+fn is_later_build(built: &BTreeMap<Text, Built>, row: &BinaryRow) -> bool
+    ensures { result
+        ≡ is_better built_cmp (map.get (map.from_entries {R = text_cmp} built.now.entries) row.now.source) (built_as row.now) }
+{
+    match built.get(row.source()) {
+        Some(best) => compare(row.source_version(), &best.version)
+            .then(row.number.cmp(&best.number))
+            .is_gt(),
+        None => true,
+    }
+}
+
+/// Offers a row of Packages to what is built: of the builds of a source package the latest is kept, and of
+/// equal ones the first.
+pub(crate) fn offer_build(
+    built: &mut BTreeMap<Text, Built>,
+    arch: &ArchWords,
+    row: &BinaryRow,
+) -> Result<(), Refusal>
+    ensures value { OnOk result (map.from_entries {R = text_cmp} built.new.entries
+        ≡ with_build arch.now (map.from_entries {R = text_cmp} built.old.entries) row.now) }
+    ensures refused { IfErr result (λ refusal. refusal ≡ Memory) }
+{
+    if arch.name != row.arch {
+        return Ok(());
+    }
+    if !is_later_build(built, row) {
+        return Ok(());
+    }
+    let found = Built {
+        version: row.source_version().clone()?,
+        number: row.number,
+    };
+    built.insert(row.source().clone()?, found)?;
+    Ok(())
+}
+
+/// Offers a row of Packages to what is available.
+#[tactic(auto, unfolding(crate::specs::Offers::with_package, crate::specs::Listing::is_installable_on))]
+pub(crate) fn offer_package(
+    available: &mut Available,
+    arch: &ArchWords,
+    row: BinaryRow,
+) -> Result<(), Refusal>
+    ensures value { OnOk result (available.new ≡ with_package arch.now available.old row) }
+    ensures refused { IfErr result (λ refusal. refusal ≡ Memory) }
+{
+    if row.arch == arch.name || row.arch.as_str() == "all" {
+        let name = row.name;
+        available.add(name.as_str(), row.version)?;
+    }
+    Ok(())
+}

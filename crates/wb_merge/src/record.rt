@@ -1,0 +1,282 @@
+//! What a merge makes of the record of one source package.
+ghost use Rattle.std.specs.Prelude.{◌≡◌, IfOk, IfErr};
+ghost use Rattle.std.specs.Option.{option_map, option_copied};
+ghost use Rattle.std.specs.Map.Iter.{deref};
+ghost use Rattle.std.specs.FinMap as map;
+ghost use Rattle.wb_states.specs.declared.refusal.Refusal.TheVariants.{Memory};
+ghost use Rattle.wb_states.specs.Moves.{note_after};
+ghost use Rattle.wb_merge.specs.Merge.{after, covers, built_number, are_waits_met, relisted, blank_record, new_state, new_number, new_record, newer_state, newer_number, newer_record, same_state, same_number, same_record, listed_record};
+
+use crate::{Built, Listed, Listing};
+use deb_relations::{Available, RelationFault, Relations, Text};
+use deb_version::{Version, compare};
+use std::alloc::Global;
+use std::cmp::Ordering;
+use wb_states::{Record, Refusal, State};
+
+/// Whether what was built covers the version and the number.
+fn covers(built: Option<&Built>, version: &Version, number: u16) -> bool
+    ensures { result ≡ covers (option_copied built.entry) version.now number }
+{
+    let Some(built) = built else {
+        return false;
+    };
+    match compare(&built.version, version) {
+        Ordering::Less => false,
+        Ordering::Equal => number <= built.number,
+        Ordering::Greater => true,
+    }
+}
+
+/// The number of what was built, where it is of the version, else the other one.
+fn built_number(built: Option<&Built>, version: &Version, other: u16) -> u16
+    ensures { result ≡ built_number (option_copied built.entry) version.now other }
+{
+    match built {
+        Some(built) if compare(&built.version, version).is_eq() => built.number,
+        _ => other,
+    }
+}
+
+/// Whether all that a record waits for is available.
+#[tactic(auto, unfolding(crate::specs::Merge::are_waits_met))]
+fn are_waits_met(alloc: Global, available: &Available, waits: &Text) -> Result<bool, Refusal>
+    ensures value { IfOk result (λ is_met. is_met ≡ are_waits_met available.now waits.now) }
+    ensures refused { IfErr result (λ refusal. refusal ≡ Memory) }
+{
+    match Relations::parse(alloc, waits.as_str()) {
+        Ok(relations) => Ok(relations.satisfied(available)),
+        Err(RelationFault::Memory) => Err(Refusal::Memory),
+        Err(_) => Ok(false),
+    }
+}
+
+/// Empties the note where the state of the record is another one.
+fn settle_note(alloc: Global, current: &mut Record, state: State)
+    ensures { current.new ≡ record current.old { note = note_after None state current.old } }
+{
+    if current.state != state {
+        current.note = Text::new(alloc);
+    }
+}
+
+/// Brings the record in line with its listing, in the state and with the number.
+#[tactic(auto, unfolding(crate::specs::Merge::relisted))]
+fn relist(
+    alloc: Global,
+    mut current: Record,
+    state: State,
+    number: u16,
+    listed: &Listed,
+    built: Option<&Built>,
+) -> Result<Record, Refusal>
+    ensures value { IfOk result (λ after.
+        after ≡ relisted state number listed.now (option_copied built.entry) current) }
+    ensures refused { IfErr result (λ refusal. refusal ≡ Memory) }
+{
+    settle_note(alloc, &mut current, state);
+    current.settle(alloc, state);
+    current.number = number;
+    current.earlier = current.earlier || built.is_some() || matches!(state, State::Installed);
+    current.priority = listed.priority.clone()?;
+    current.section = listed.section.clone()?;
+    current.depends = listed.depends.clone()?;
+    Ok(current)
+}
+
+fn copied(current: &Record) -> Result<Record, Refusal>
+    ensures value { IfOk result (λ copy. copy ≡ current.now) }
+    ensures refused { IfErr result (λ refusal. refusal ≡ Memory) }
+{
+    Ok(current.clone()?)
+}
+
+/// A record of which nothing is known yet but its version.
+fn blank_record(alloc: Global, version: Version) -> Record
+    ensures { result ≡ blank_record version }
+{
+    Record {
+        state: State::NeedsBuild,
+        version,
+        priority: Text::new(alloc),
+        section: Text::new(alloc),
+        earlier: false,
+        number: 0,
+        holder: None,
+        take: None,
+        waits: Text::new(alloc),
+        depends: None,
+        note: Text::new(alloc),
+        message: Text::new(alloc),
+    }
+}
+
+fn new_state(listed: &Listed, built: Option<&Built>) -> State
+    ensures { result ≡ new_state listed.now (option_copied built.entry) }
+{
+    if covers(built, &listed.version, 0) {
+        State::Installed
+    } else {
+        State::NeedsBuild
+    }
+}
+
+fn new_number(listed: &Listed, built: Option<&Built>) -> u16
+    ensures { result ≡ new_number listed.now (option_copied built.entry) }
+{
+    if covers(built, &listed.version, 0) {
+        built_number(built, &listed.version, 0)
+    } else {
+        0
+    }
+}
+
+/// The record of a source package that had none.
+#[tactic(auto, unfolding(crate::specs::Merge::new_record))]
+fn new_record(alloc: Global, listed: &Listed, built: Option<&Built>) -> Result<Record, Refusal>
+    ensures value { IfOk result (λ new. new ≡ new_record listed.now (option_copied built.entry)) }
+    ensures refused { IfErr result (λ refusal. refusal ≡ Memory) }
+{
+    let blank = blank_record(alloc, listed.version.clone()?);
+    let state = new_state(listed, built);
+    relist(
+        alloc,
+        blank,
+        state,
+        new_number(listed, built),
+        listed,
+        built,
+    )
+}
+
+/// The record after a merge of a listing in an earlier version than the listed one.
+#[tactic(auto, unfolding(crate::specs::Merge::newer_record))]
+fn newer_record(
+    alloc: Global,
+    current: &Record,
+    listed: &Listed,
+    built: Option<&Built>,
+) -> Result<Record, Refusal>
+    ensures value { IfOk result (λ new.
+        new ≡ newer_record listed.now (option_copied built.entry) current.now) }
+    ensures refused { IfErr result (λ refusal. refusal ≡ Memory) }
+{
+    let mut newer = copied(current)?;
+    newer.version = listed.version.clone()?;
+    newer.message = Text::new(alloc);
+    newer.holder = None;
+    newer.take = None;
+    if matches!(current.state, State::NotForUs) {
+        return relist(alloc, newer, State::NotForUs, 0, listed, built);
+    }
+    let state = new_state(listed, built);
+    relist(
+        alloc,
+        newer,
+        state,
+        new_number(listed, built),
+        listed,
+        built,
+    )
+}
+
+/// The state of a record of the version that is listed.
+fn same_state(
+    alloc: Global,
+    current: &Record,
+    listed: &Listed,
+    built: Option<&Built>,
+    available: &Available,
+) -> Result<State, Refusal>
+    ensures value { IfOk result (λ state.
+        state ≡ same_state listed.now (option_copied built.entry) available.now current.now) }
+    ensures refused { IfErr result (λ refusal. refusal ≡ Memory) }
+{
+    if matches!(current.state, State::NotForUs) {
+        return Ok(State::NotForUs);
+    }
+    if covers(built, &listed.version, current.number) {
+        return Ok(State::Installed);
+    }
+    match current.state {
+        State::Installed => Ok(State::NeedsBuild),
+        State::DepWait if are_waits_met(alloc, available, &current.waits)? => Ok(State::NeedsBuild),
+        state => Ok(state),
+    }
+}
+
+fn same_number(current: &Record, listed: &Listed, built: Option<&Built>) -> u16
+    ensures { result ≡ same_number listed.now (option_copied built.entry) current.now }
+{
+    if !matches!(current.state, State::NotForUs) && covers(built, &listed.version, current.number) {
+        return built_number(built, &listed.version, current.number);
+    }
+    current.number
+}
+
+/// The record after a merge of one in the version that is listed.
+#[tactic(auto, unfolding(crate::specs::Merge::same_record))]
+fn same_record(
+    alloc: Global,
+    current: &Record,
+    listed: &Listed,
+    built: Option<&Built>,
+    available: &Available,
+) -> Result<Record, Refusal>
+    ensures value { IfOk result (λ new.
+        new ≡ same_record listed.now (option_copied built.entry) available.now current.now) }
+    ensures refused { IfErr result (λ refusal. refusal ≡ Memory) }
+{
+    let state = same_state(alloc, current, listed, built, available)?;
+    let number = same_number(current, listed, built);
+    relist(alloc, copied(current)?, state, number, listed, built)
+}
+
+/// The record after a merge of one whose source package is listed.
+#[tactic(auto, unfolding(crate::specs::Merge::listed_record))]
+fn listed_record(
+    alloc: Global,
+    current: &Record,
+    listed: &Listed,
+    built: Option<&Built>,
+    available: &Available,
+) -> Result<Record, Refusal>
+    ensures value { IfOk result (λ new.
+        new ≡ listed_record listed.now (option_copied built.entry) available.now current.now) }
+    ensures refused { IfErr result (λ refusal. refusal ≡ Memory) }
+{
+    match compare(&current.version, &listed.version) {
+        Ordering::Less => newer_record(alloc, current, listed, built),
+        Ordering::Equal => same_record(alloc, current, listed, built, available),
+        Ordering::Greater => copied(current),
+    }
+}
+
+/// The record of the source package `name` after a merge of the listing, given the one that it had, if any;
+/// none where the archive lists the source package no more. The only error is `Memory`.
+///
+/// A new source package is Installed where the archive has it built, else Needs-Build; so is one of a later
+/// version than the record's, but Not-For-Us stays. A record of a later version than is listed stays as it
+/// is. Of one of an equal version Not-For-Us stays; it is Installed where it is built with at least its
+/// number, Needs-Build where it was Installed and is built no more or where all that it waits for is
+/// available, and else stays in its state. The cases are this project's own, in wanna-build's terms.
+pub fn after(
+    alloc: Global,
+    current: Option<&Record>,
+    name: &Text,
+    listing: &Listing,
+) -> Result<Option<Record>, Refusal>
+    ensures value { IfOk result (λ new. new ≡ after (option_map deref current.entry)
+        (map.get listing.now.listed name.now) (map.get listing.now.built name.now) listing.now.available) }
+    ensures refused { IfErr result (λ refusal. refusal ≡ Memory) }
+{
+    let Some(listed) = listing.listed(name) else {
+        return Ok(None);
+    };
+    let built = listing.built(name);
+    let made = match current {
+        Some(current) => listed_record(alloc, current, listed, built, listing.available())?,
+        None => new_record(alloc, listed, built)?,
+    };
+    Ok(Some(made))
+}

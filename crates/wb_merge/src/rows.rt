@@ -1,0 +1,199 @@
+//! The rows that a merge reads from the archive's lists.
+ghost use Rattle.std.specs.Prelude.{◌≡◌, ◌≢◌, Ok, Err, Some, None, not, ◌&&◌, true, false, IfOk, IfErr, OnOk, codes};
+ghost use Rattle.std.specs.List.{list_any};
+ghost use Rattle.deb_control.specs.declared.fault.ControlFaultKind.TheVariants.{Memory};
+ghost use Rattle.deb_relations.specs.Arch.{matches_arch};
+ghost use Rattle.wb_states.specs.declared.refusal.ListingFault.TheVariants.{Control, BadValue};
+ghost use Rattle.wb_states.specs.declared.refusal.ListField.TheVariants.{Source};
+ghost use Rattle.wb_states.specs.Record.{is_empty_text};
+ghost use Rattle.wb_merge.specs.Offers.{is_listed};
+ghost use Rattle.wb_merge.specs.Lists.{value_named, words_in, is_source_text, spare_fault, source_row_of, binary_row_of, with_source};
+
+use crate::fields::{architectures, label, package_name, package_version, text, value};
+use crate::source::{parse_source, rebuild_number};
+use deb_control::Paragraph;
+use deb_relations::{ArchWords, Text, arch_matches};
+use deb_version::Version;
+use std::alloc::Global;
+use std::marker::Model;
+use wb_states::{ListField, ListingFault};
+
+/// Whether a part of a text is a word that matches the architecture.
+fn is_match(part: &str, arch: &ArchWords) -> bool
+    ensures { result ≡ (not (is_empty_text part.now) && matches_arch part.now arch.now) }
+{
+    !part.is_empty() && arch_matches(part, arch)
+}
+
+/// Whether one of the words matches the architecture.
+fn has_match(words: &str, arch: &ArchWords) -> bool
+    ensures { result ≡ list_any (λ word. matches_arch word arch.now) (words_in words.now) }
+{
+    words
+        .split(' ')
+        .flat_map(|part| part.split('\t'))
+        .any(|part| is_match(part, arch))
+}
+
+/// What a merge reads from a paragraph of a Sources list (Debian Policy 5.3).
+#[derive(Drop)]
+pub(crate) struct SourceRow {
+    pub(crate) name: Text,
+    pub(crate) version: Version,
+    archs: Text,
+    is_extra: bool,
+    pub(crate) priority: Text,
+    pub(crate) section: Text,
+    pub(crate) depends: Text,
+    pub(crate) depends_arch: Text,
+}
+
+impl Model for SourceRow {
+    ghost use Rattle.wb_merge.specs.Lists.{SourceRow, words_in};
+
+    ghost Value = { SourceRow };
+
+    ghost view = { λ row. record {
+      name = row.name;
+      version = row.version;
+      archs = words_in row.archs;
+      is_extra = row.is_extra;
+      priority = row.priority;
+      section = row.section;
+      depends = row.depends;
+      depends_arch = row.depends_arch;
+    } };
+}
+
+impl SourceRow {
+    /// Reads a paragraph of a Sources list.
+    #[tactic(auto, unfolding(crate::specs::Lists::source_row_of, crate::specs::Lists::source_fault))]
+    pub(crate) fn read(alloc: Global, paragraph: &Paragraph<'_>) -> Result<SourceRow, ListingFault>
+        ensures value { IfOk result (λ row. source_row_of paragraph.now ≡ Ok row) }
+        ensures refused { IfErr result (λ fault. fault ≢ Control Memory
+            → source_row_of paragraph.now ≡ Err fault) }
+    {
+        Ok(SourceRow {
+            name: package_name(alloc, paragraph)?,
+            version: package_version(alloc, paragraph)?,
+            archs: architectures(alloc, paragraph)?,
+            priority: label(alloc, paragraph, ListField::Priority)?,
+            section: label(alloc, paragraph, ListField::Section)?,
+            is_extra: text(alloc, paragraph, "Extra-Source-Only")?.as_str() == "yes",
+            depends: text(alloc, paragraph, "Build-Depends")?,
+            depends_arch: text(alloc, paragraph, "Build-Depends-Arch")?,
+        })
+    }
+}
+
+impl SourceRow {
+    /// Whether the row lists its source package for the architecture (Debian Policy 5.6.8).
+    #[tactic(auto, unfolding(crate::specs::Offers::is_listed))]
+    pub(crate) fn is_listed(&self, arch: &ArchWords) -> bool
+        ensures { result ≡ is_listed arch.now self.now }
+    {
+        has_match(self.archs.as_str(), arch) && !self.is_extra
+    }
+}
+
+/// What a merge reads from a paragraph of a Packages list (Debian Policy 5.3).
+#[derive(Drop)]
+pub(crate) struct BinaryRow {
+    pub(crate) name: Text,
+    pub(crate) version: Version,
+    pub(crate) arch: Text,
+    source: Option<Text>,
+    source_version: Option<Version>,
+    pub(crate) number: u16,
+}
+
+impl Model for BinaryRow {
+    ghost use Rattle.std.specs.Prelude.{unwrap_or};
+    ghost use Rattle.wb_merge.specs.Lists.{BinaryRow};
+
+    ghost Value = { BinaryRow };
+
+    ghost view = { λ row. record {
+      name = row.name;
+      version = row.version;
+      arch = row.arch;
+      source = unwrap_or row.source row.name;
+      source_version = unwrap_or row.source_version row.version;
+      number = row.number;
+    } };
+}
+
+/// The row of a package that this text says the source of.
+#[tactic(auto, unfolding(crate::specs::Lists::is_source_text))]
+fn with_source(
+    alloc: Global,
+    name: Text,
+    version: Version,
+    arch: Text,
+    source: &str,
+) -> Result<BinaryRow, ListingFault>
+    ensures value { IfOk result (λ row. row ≡ with_source name version arch (Some source.now)) }
+    ensures ok { OnOk result (is_source_text source.now ≡ true) }
+    ensures bad { IfErr result (λ fault. fault ≢ Control Memory → is_source_text source.now ≡ false) }
+    ensures refused { IfErr result (λ fault. fault ≢ Control Memory → fault ≡ BadValue Source) }
+{
+    let (source, source_version) = parse_source(alloc, source)?;
+    let number = if source_version.is_some() {
+        rebuild_number(version.text())
+    } else {
+        0
+    };
+    Ok(BinaryRow {
+        name,
+        version,
+        arch,
+        source: Some(source),
+        source_version,
+        number,
+    })
+}
+
+impl BinaryRow {
+    /// Reads a paragraph of a Packages list.
+    #[tactic(auto, unfolding(crate::specs::Lists::binary_row_of, crate::specs::Lists::binary_fault, crate::specs::Lists::spare_fault))]
+    pub(crate) fn read(alloc: Global, paragraph: &Paragraph<'_>) -> Result<BinaryRow, ListingFault>
+        ensures value { IfOk result (λ row. binary_row_of paragraph.now ≡ Ok row) }
+        ensures refused { IfErr result (λ fault. fault ≢ Control Memory
+            → binary_row_of paragraph.now ≡ Err fault) }
+    {
+        let name = package_name(alloc, paragraph)?;
+        let version = package_version(alloc, paragraph)?;
+        let arch = architectures(alloc, paragraph)?;
+        match value(alloc, paragraph, "Source")? {
+            Some(source) => with_source(alloc, name, version, arch, source.as_str()),
+            None => Ok(BinaryRow {
+                name,
+                version,
+                arch,
+                source: None,
+                source_version: None,
+                number: 0,
+            }),
+        }
+    }
+
+    /// The source package that it was built from.
+    pub(crate) fn source(&self) -> &Text
+        ensures { result.now ≡ self.now.source }
+    {
+        match &self.source {
+            Some(source) => source,
+            None => &self.name,
+        }
+    }
+
+    /// The version of the source package that it was built from.
+    pub(crate) fn source_version(&self) -> &Version
+        ensures { result.now ≡ self.now.source_version }
+    {
+        match &self.source_version {
+            Some(version) => version,
+            None => &self.version,
+        }
+    }
+}

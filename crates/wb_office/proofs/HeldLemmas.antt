@@ -1,0 +1,94 @@
+-- What the commands answer that move a record by its take number.
+use Rattle.std.proofs.Common.{◌≡◌, ℕ, ◌+◌, List, [], ◌∷◌, Option, Some, None, Ok, Err, refl, sym, ap, ◌∙◌, nat_le, is_none, option_and_then, option_map}
+use Rattle.deb_relations.specs.declared.arch.ArchWords.{ArchWords}
+use Rattle.deb_relations.specs.declared.relations.Alternative.{Alternative}
+use Rattle.deb_relations.specs.Reading.{reading_of}
+use Rattle.wb_states.specs.declared.command.Command.TheVariants.{Built, Uploaded, Waits, PutBack}
+use Rattle.wb_states.specs.declared.moves.Move.{Move}
+use Rattle.wb_states.specs.declared.moves.Move.TheVariants as to
+use Rattle.wb_states.specs.declared.refusal.Refusal.{Refusal}
+use Rattle.wb_states.specs.declared.refusal.Refusal.TheVariants.{BadRelations, NotHeld, Spent}
+use Rattle.wb_states.specs.declared.reply.Reply.TheVariants.{Done}
+use Rattle.wb_states.specs.Holds.{taken_as}
+use Rattle.wb_states.specs.Limits.{count_limit}
+use Rattle.wb_states.specs.Machine.{Machine, arch_words}
+use Rattle.wb_states.specs.Moves.{move_refusal}
+use Rattle.wb_states.specs.Queue.{Entry}
+use Rattle.wb_office.specs.Checks.{first_some, or_refusal, when, fault_in, text_refusal, state_refusal}
+use Rattle.wb_office.specs.Found.{unless_refused, move_step, relations_refusal, taken_at, taken_step}
+use Rattle.wb_office.specs.Moving.{groups_in, moving}
+use Rattle.wb_office.specs.Step.{step, counted, after_move}
+use Rattle.wb_office.proofs.StepLemmas.{step-state, step-text}
+
+taken-answer : (machine : Machine) (moves : Entry → Move) (found : Option Entry)
+    → unless_refused (first_some (
+    when (is_none found) NotHeld
+    ∷ option_and_then (λ (asked : Entry × Move). move_refusal asked.1 asked.0.1) (option_and_then (λ (entry : Entry). Some (entry, moves entry)) found)
+    ∷ when (nat_le count_limit machine.accepted) Spent
+    ∷ [])) machine
+    (Ok (Done (machine.accepted + 1)), counted machine (after_move machine (option_and_then (λ (entry : Entry). Some (entry, moves entry)) found)))
+    ≡ taken_at machine moves found
+unfolding move_step
+taken-answer machine moves None = refl
+taken-answer machine moves (Some entry) = refl
+
+pub step-Built : (machine : Machine) (take_number : ℕ) → step machine (Built take_number) ≡ taken_step machine take_number (λ _. to.Built)
+unfolding text_refusal state_refusal moving taken_step
+step-Built machine take_number =
+    step-state machine (Built take_number) refl refl ∙ taken-answer machine (λ _. to.Built) (taken_as machine take_number)
+
+pub step-Uploaded : (machine : Machine) (take_number : ℕ) → step machine (Uploaded take_number) ≡ taken_step machine take_number (λ _. to.Uploaded)
+unfolding text_refusal state_refusal moving taken_step
+step-Uploaded machine take_number =
+    step-state machine (Uploaded take_number) refl refl ∙ taken-answer machine (λ _. to.Uploaded) (taken_as machine take_number)
+
+pub step-PutBack : (machine : Machine) (take_number : ℕ) → step machine (PutBack take_number) ≡ taken_step machine take_number (λ _. to.PutBack)
+unfolding text_refusal state_refusal moving taken_step
+step-PutBack machine take_number =
+    step-state machine (PutBack take_number) refl refl ∙ taken-answer machine (λ _. to.PutBack) (taken_as machine take_number)
+
+waits_move : Machine → List ℕ → Entry → Move
+waits_move machine relations entry = to.Waits (groups_in (reading_of relations)) (arch_words machine entry.0.0)
+
+waits-text : (take_number : ℕ) (relations : List ℕ) (groups : List (List Alternative)) → reading_of relations ≡ Ok groups
+    → text_refusal (Waits take_number relations) ≡ None
+unfolding text_refusal
+waits-text take_number relations groups reads =
+    ap (λ reading. or_refusal (option_map (λ fault. BadRelations (Some fault)) (fault_in reading)) None) reads
+
+step-Waits : (machine : Machine) (take_number : ℕ) (relations : List ℕ) (groups : List (List Alternative)) → reading_of relations ≡ Ok groups
+    → step machine (Waits take_number relations) ≡ taken_step machine take_number (waits_move machine relations)
+unfolding state_refusal moving taken_step waits_move
+step-Waits machine take_number relations groups reads =
+    step-state machine (Waits take_number relations) (waits-text take_number relations groups reads) refl
+    ∙ taken-answer machine (λ entry. to.Waits (groups_in (reading_of relations)) (arch_words machine entry.0.0)) (taken_as machine take_number)
+
+pub waits-BadRelations : (machine : Machine) (take_number : ℕ) (relations : List ℕ) (refusal : Refusal) → relations_refusal relations ≡ Some refusal
+    → step machine (Waits take_number relations) ≡ (Err refusal, machine)
+unfolding text_refusal relations_refusal
+waits-BadRelations machine take_number relations refusal is =
+    step-text machine (Waits take_number relations) refusal (ap (λ first. or_refusal first None) is)
+
+pub waits-NotHeld : (machine : Machine) (take_number : ℕ) (relations : List ℕ) (groups : List (List Alternative)) → reading_of relations ≡ Ok groups
+    → taken_as machine take_number ≡ None → step machine (Waits take_number relations) ≡ (Err NotHeld, machine)
+unfolding taken_step
+waits-NotHeld machine take_number relations groups reads none =
+    step-Waits machine take_number relations groups reads ∙ ap (taken_at machine (waits_move machine relations)) none
+
+pub waits-moves : (machine : Machine) (take_number : ℕ) (relations : List ℕ) (groups : List (List Alternative)) (words : ArchWords) (entry : Entry)
+    → reading_of relations ≡ Ok groups → taken_as machine take_number ≡ Some entry → words ≡ arch_words machine entry.0.0
+    → step machine (Waits take_number relations) ≡ move_step machine entry (to.Waits groups words)
+unfolding taken_step waits_move
+waits-moves machine take_number relations groups words entry reads found named =
+    step-Waits machine take_number relations groups reads ∙ ap (taken_at machine (waits_move machine relations)) found
+    ∙ (λ i. move_step machine entry (to.Waits (groups_in (reads i)) (sym named i)))
+
+pub taken_step-NotHeld : (machine : Machine) (take_number : ℕ) (moves : Entry → Move) → taken_as machine take_number ≡ None
+    → taken_step machine take_number moves ≡ (Err NotHeld, machine)
+unfolding taken_step
+taken_step-NotHeld machine take_number moves none = ap (taken_at machine moves) none
+
+pub taken_step-moves : (machine : Machine) (take_number : ℕ) (moves : Entry → Move) (entry : Entry) → taken_as machine take_number ≡ Some entry
+    → taken_step machine take_number moves ≡ move_step machine entry (moves entry)
+unfolding taken_step
+taken_step-moves machine take_number moves entry found = ap (taken_at machine moves) found

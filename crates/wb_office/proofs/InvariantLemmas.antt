@@ -1,0 +1,168 @@
+-- Every step keeps the invariant of the office.
+use Rattle.std.proofs.Common.{◌≡◌, ℕ, ◌+◌, ◌<◌, ◌≤◌, Bool, true, false, ◌&&◌, ◌||◌, inl, inr, is_none, Option, Some, None, IsTrue, IfSome, refl, sym, ap, subst, ◌∙◌, List, [], ◌∷◌, nat_le, arith}
+use Rattle.std.proofs.lemmas.Bool.{leb-false}
+use Rattle.std.specs.FinMap as map
+use Rattle.deb_version.specs.Syntax.{fault_of}
+use Rattle.wb_states.specs.declared.command.Command.{Command}
+use Rattle.wb_states.specs.declared.command.Command.TheVariants as of
+use Rattle.wb_states.specs.declared.moves.Move.{Move}
+use Rattle.wb_states.specs.declared.record.Record.{Record}
+use Rattle.wb_states.specs.Limits.{count_limit, note_limit, relations_limit}
+use Rattle.wb_states.specs.Machine.{Machine, arch_words, IsRecord, IsConsistent}
+use Rattle.wb_states.specs.Moves.{moved, move_refusal}
+use Rattle.wb_states.specs.Names.{is_arch_name, is_os_cpu_word, is_builder_name, is_source_name, is_label_text}
+use Rattle.wb_states.specs.Queue.{Entry}
+use Rattle.wb_states.specs.Record.{IsWellFormed, is_empty_text}
+use Rattle.wb_office.specs.Moving.{again_of, moving}
+use Rattle.wb_office.specs.Replay.{replay}
+use Rattle.wb_office.specs.Step.{step, change, counted, entered, after_move, after_take}
+use Rattle.wb_office.specs.Utf8.{HasUtf8Texts, HaveUtf8Texts}
+use Rattle.wb_office.proofs.AskedLemmas.{HasHanded, asked-good}
+use Rattle.wb_office.proofs.ConsistencyLemmas.{IsFreshOrKept, with_arch, with_builder, with_record, with_counts}
+use Rattle.wb_office.proofs.ListedLemmas.{reading_of-faultless}
+use Rattle.wb_office.proofs.MergingLemmas.{merging-keeps}
+use Rattle.wb_office.proofs.MovedLemmas.{IsGoodMove, allowed-value, moved-well, moved-holder, moved-waits, moved-number}
+use Rattle.wb_office.proofs.MovingLemmas.{moving-may}
+use Rattle.wb_office.proofs.PassLemmas.{Passes, step-either, not-false, both-true, either-false}
+use Rattle.wb_office.proofs.SettledLemmas.{empty_within}
+use Rattle.wb_office.proofs.TakeStateLemmas.{allowed-from}
+
+-- ---- a source package that is entered
+
+-- a label is a label or empty
+labelled : (text : List ℕ) → IsTrue (is_label_text text) → IsTrue (is_empty_text text || is_label_text text)
+labelled text is = either (is_empty_text text) (is_label_text text) is where
+  either : (a b : Bool) → b ≡ true → (a || b) ≡ true
+  either true b h = refl
+  either false b h = h
+
+entered-well : (version priority section : List ℕ) → fault_of version ≡ None → IsTrue (is_label_text priority) → IsTrue (is_label_text section)
+    → IsWellFormed (entered version priority section)
+entered-well version priority section reads first second = record {
+  version = reading_of-faultless version reads;
+  priority = labelled priority first;
+  section = labelled section second;
+  number = omega arith;
+  held = refl;
+  taken = refl;
+  builder = tt;
+  waiting = refl;
+  waits = empty_within relations_limit;
+  depends = empty_within relations_limit;
+  note = empty_within note_limit;
+  message = empty_within note_limit;
+}
+
+-- ---- a record that is moved
+
+put-keeps : (machine : Machine) (handed : ℕ) (entry : Entry) (move : Move) → IsConsistent machine → map.get machine.records entry.0 ≡ Some entry.1
+    → move_refusal move entry.1 ≡ None → IsGoodMove machine handed entry.0.0 move → machine.handed ≤ handed → handed ≤ count_limit → machine.accepted < count_limit
+    → IsConsistent (record machine { records = map.insert machine.records entry.0 (moved move entry.1); handed = handed; accepted = machine.accepted + 1 })
+unfolding arch_words
+put-keeps machine handed entry move old stands allowed good up within room =
+    let arch : List ℕ = entry.0.0 in
+    let current : Record = entry.1 in
+    let from = allowed-from move current allowed in
+    let had : IfSome (Some current) (IsRecord machine arch entry.0.1) = subst (λ r. IfSome r (IsRecord machine arch entry.0.1)) stands (old.records arch entry.0.1) in
+    let is : IsRecord (record machine { handed = handed }) arch entry.0.1 (moved move current) = record {
+      name = had.name;
+      known = had.known;
+      fields = moved-well machine handed arch current had.fields move good from (allowed-value move current from allowed);
+      holder = moved-holder machine handed arch current move good had.holder;
+      waits = moved-waits machine handed arch current move good;
+      given = moved-number machine handed arch current (λ n. (1 ≤ n) × (n ≤ handed)) move good (λ e. (omega arith, omega arith)) (given current.take had.given);
+    } in
+    with_record machine entry.0 (moved move current) handed old is
+    (moved-number machine handed arch current (IsFreshOrKept machine entry.0) move good (λ e. inl (omega arith)) (kept current.take refl)) up within room
+  where
+    given : (taken : Option ℕ) → IfSome taken (λ n. (1 ≤ n) × (n ≤ machine.handed)) → IfSome taken (λ n. (1 ≤ n) × (n ≤ handed))
+    given None is = tt
+    given (Some n) is = (is.0, omega arith)
+
+    kept : (taken : Option ℕ) → entry.1.take ≡ taken → IfSome taken (IsFreshOrKept machine entry.0)
+    kept None is = tt
+    kept (Some n) is = inr (entry.1, (stands, is))
+
+-- a command that hands out
+taking-keeps : (machine : Machine) (command : Command) → IsConsistent machine → HasUtf8Texts command → HasHanded machine (machine.handed + 1) command → Passes machine command
+    → machine.handed < count_limit → machine.accepted < count_limit → IsConsistent (counted machine (after_take machine (moving machine command)))
+taking-keeps machine command old utf8 given pass last room =
+    (elim (moving machine command) as (λ asked. moving machine command ≡ asked → IsConsistent (counted machine (after_take machine asked))) [
+      | None ↦ λ _. with_counts machine (machine.handed + 1) old (omega arith) (omega arith) room
+      | Some asked ↦ λ is.
+          let may = moving-may machine command asked pass.move is in
+          let good = asked-good machine (machine.handed + 1) command asked.0 asked.1 utf8 given pass may.target may.asks in
+          put-keeps machine (machine.handed + 1) asked.0 asked.1 old may.stands may.allowed good (omega arith) (omega arith) room
+    ]) refl
+
+-- a command that moves a record under its number
+moving-keeps : (machine : Machine) (command : Command) → IsConsistent machine → HasUtf8Texts command → HasHanded machine machine.handed command → Passes machine command
+    → machine.accepted < count_limit → IsConsistent (counted machine (after_move machine (moving machine command)))
+moving-keeps machine command old utf8 given pass room =
+    (elim (moving machine command) as (λ asked. moving machine command ≡ asked → IsConsistent (counted machine (after_move machine asked))) [
+      | None ↦ λ _. let within = old.handed in with_counts machine machine.handed old (omega arith) within room
+      | Some asked ↦ λ is.
+          let may = moving-may machine command asked pass.move is in
+          let good = asked-good machine machine.handed command asked.0 asked.1 utf8 given pass may.target may.asks in
+          let within = old.handed in
+          put-keeps machine machine.handed asked.0 asked.1 old may.stands may.allowed good (omega arith) within room
+    ]) refl
+
+-- ---- all commands
+
+room-for : (machine : Machine) → nat_le count_limit machine.accepted ≡ false → machine.accepted < count_limit
+room-for machine is = leb-false count_limit machine.accepted is
+
+change-keeps : (machine : Machine) (command : Command) → IsConsistent machine → HasUtf8Texts command → Passes machine command → again_of machine command ≡ None
+    → IsConsistent (counted machine (change machine command))
+change-keeps machine (of.AddArch name os cpu) old utf8 pass again =
+    let names = both-true (is_arch_name name) (is_os_cpu_word os && is_os_cpu_word cpu) (not-false _ pass.names) in
+    let words = both-true (is_os_cpu_word os) (is_os_cpu_word cpu) names.1 in
+    with_arch machine name (record { os = os; cpu = cpu }) old (record { name = names.0; os = words.0; cpu = words.1 }) pass.there (room-for machine pass.room)
+change-keeps machine (of.AddBuilder name arch) old utf8 pass again =
+    let names = both-true (is_builder_name name) (is_arch_name arch) (not-false _ pass.names) in
+    with_builder machine name arch old (record { name = names.0; known = not-false _ pass.arch }) (room-for machine pass.room)
+change-keeps machine (of.Enter arch source version priority section) old utf8 pass again =
+    let names = both-true (is_arch_name arch) (is_source_name source && (is_label_text priority && is_label_text section)) (not-false _ pass.names) in
+    let later = both-true (is_source_name source) (is_label_text priority && is_label_text section) names.1 in
+    let labels = both-true (is_label_text priority) (is_label_text section) later.1 in
+    let is : IsRecord (record machine { handed = machine.handed }) arch source (entered version priority section) = record {
+      name = later.0;
+      known = not-false _ pass.arch;
+      fields = entered-well version priority section pass.version labels.0 labels.1;
+      holder = tt;
+      waits = inl refl;
+      given = tt;
+    } in
+    let given = old.handed in
+    with_record machine (arch, source) (entered version priority section) machine.handed old is tt (omega arith) given (room-for machine pass.room)
+change-keeps machine (of.Next arch builder after) old utf8 pass again =
+    let counts = nat_le count_limit machine.accepted || nat_le count_limit machine.handed in
+    let spent = either-false (nat_le count_limit machine.accepted) (nat_le count_limit machine.handed) (sym (ap (λ found. is_none found && counts) again) ∙ pass.room) in
+    taking-keeps machine (of.Next arch builder after) old utf8 refl pass (leb-false count_limit machine.handed spent.1) (room-for machine spent.0)
+change-keeps machine (of.Take arch builder source version) old utf8 pass again =
+    let spent = either-false (nat_le count_limit machine.accepted) (nat_le count_limit machine.handed) pass.room in
+    taking-keeps machine (of.Take arch builder source version) old utf8 refl pass (leb-false count_limit machine.handed spent.1) (room-for machine spent.0)
+change-keeps machine (of.Merge sources parts) old utf8 pass again = merging-keeps machine sources parts old (room-for machine pass.room)
+change-keeps machine (of.Built take_number) old utf8 pass again = moving-keeps machine (of.Built take_number) old utf8 tt pass (room-for machine pass.room)
+change-keeps machine (of.Uploaded take_number) old utf8 pass again = moving-keeps machine (of.Uploaded take_number) old utf8 tt pass (room-for machine pass.room)
+change-keeps machine (of.Waits take_number relations) old utf8 pass again =
+    moving-keeps machine (of.Waits take_number relations) old utf8 tt pass (room-for machine pass.room)
+change-keeps machine (of.PutBack take_number) old utf8 pass again = moving-keeps machine (of.PutBack take_number) old utf8 tt pass (room-for machine pass.room)
+change-keeps machine (of.GiveBack arch source version) old utf8 pass again =
+    moving-keeps machine (of.GiveBack arch source version) old utf8 tt pass (room-for machine pass.room)
+change-keeps machine (of.DepWait arch source version relations) old utf8 pass again =
+    moving-keeps machine (of.DepWait arch source version relations) old utf8 tt pass (room-for machine pass.room)
+change-keeps machine (of.Fail arch source version note) old utf8 pass again =
+    moving-keeps machine (of.Fail arch source version note) old utf8 tt pass (room-for machine pass.room)
+change-keeps machine (of.NotForUs arch source version note) old utf8 pass again =
+    moving-keeps machine (of.NotForUs arch source version note) old utf8 tt pass (room-for machine pass.room)
+change-keeps machine (of.Rebuild arch source version number message) old utf8 pass again =
+    moving-keeps machine (of.Rebuild arch source version number message) old utf8 tt pass (room-for machine pass.room)
+
+pub step-keeps : (machine : Machine) (command : Command) → HasUtf8Texts command → IsConsistent machine → IsConsistent (step machine command).1
+step-keeps machine command utf8 old = step-either IsConsistent machine command old (change-keeps machine command old utf8)
+
+pub replay-keeps : (machine : Machine) (commands : List Command) → HaveUtf8Texts commands → IsConsistent machine → IsConsistent (replay machine commands)
+replay-keeps machine [] utf8 old = old
+replay-keeps machine (command ∷ commands) utf8 old = replay-keeps (step machine command).1 commands utf8.1 (step-keeps machine command utf8.0 old)

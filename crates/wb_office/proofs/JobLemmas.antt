@@ -1,0 +1,81 @@
+-- A record that was found is handed to a builder, or the builder is refused.
+use Rattle.std.proofs.Common.{◌≡◌, ℕ, ◌+◌, ◌||◌, Bool, true, false, List, Option, Some, None, Result, Ok, Err, refl, sym, ap, ◌∙◌, nat_le}
+use Rattle.std.proofs.lemmas.Bool.{lt-leb}
+use Rattle.std.specs.FinMap as map
+use Rattle.wb_states.specs.declared.moves.Move.TheVariants as to
+use Rattle.wb_states.specs.declared.record.Record.{Record}
+use Rattle.wb_states.specs.declared.refusal.Refusal.{Refusal}
+use Rattle.wb_states.specs.declared.refusal.Refusal.TheVariants.{Spent}
+use Rattle.wb_states.specs.declared.reply.Assignment.{Assignment}
+use Rattle.wb_states.specs.declared.reply.Reply.{Reply}
+use Rattle.wb_states.specs.declared.reply.Reply.TheVariants.{Job}
+use Rattle.wb_states.specs.Limits.{count_limit}
+use Rattle.wb_states.specs.Machine.{Machine}
+use Rattle.wb_states.specs.Moves.{move_refusal, moved, may_go}
+use Rattle.wb_states.specs.Queue.{Entry}
+use Rattle.wb_office.specs.Checks.{first_some, or_refusal, when}
+use Rattle.wb_office.specs.Found.{unless_refused, job_step, take_move}
+use Rattle.wb_office.specs.Step.{Outcome, assignment_of, counted, after_take, job_of}
+
+-- whether a record can be taken does not depend on the take number
+pub take-any : (builder : List ℕ) (one other : ℕ) (current : Record)
+    → move_refusal (to.Take builder one) current ≡ move_refusal (to.Take builder other) current
+unfolding move_refusal may_go
+take-any builder one other current = refl
+
+pub job_step-refused : (machine : Machine) (builder : List ℕ) (entry : Entry) (refusal : Refusal)
+    → move_refusal (take_move machine builder) entry.1 ≡ Some refusal → job_step machine builder entry ≡ (Err refusal, machine)
+unfolding job_step
+job_step-refused machine builder entry refusal is =
+    λ i. unless_refused (or_refusal (is i) (or_refusal (when (nat_le count_limit machine.accepted || nat_le count_limit machine.handed) Spent) None)) machine
+    (Ok (job_of machine (Some entry)), counted machine (after_take machine (Some (entry, take_move machine builder))))
+
+pub job_step-Spent : (machine : Machine) (builder : List ℕ) (entry : Entry)
+    → move_refusal (take_move machine builder) entry.1 ≡ None → (nat_le count_limit machine.accepted || nat_le count_limit machine.handed) ≡ true
+    → job_step machine builder entry ≡ (Err Spent, machine)
+unfolding job_step
+job_step-Spent machine builder entry is full =
+    λ i. unless_refused (or_refusal (is i) (or_refusal (when (full i) Spent) None)) machine
+    (Ok (job_of machine (Some entry)), counted machine (after_take machine (Some (entry, take_move machine builder))))
+
+pub job_step-Ok : (machine new : Machine) (builder : List ℕ) (entry : Entry) (assignment : Assignment) (reply : Reply)
+    → move_refusal (take_move machine builder) entry.1 ≡ None → (nat_le count_limit machine.accepted || nat_le count_limit machine.handed) ≡ false
+    → assignment ≡ assignment_of entry (machine.handed + 1)
+    → reply ≡ Job (machine.accepted + 1) assignment
+    → new ≡ record machine {
+      records = map.insert machine.records entry.0 (moved (take_move machine builder) entry.1);
+      handed = machine.handed + 1;
+      accepted = machine.accepted + 1;
+    }
+    → job_step machine builder entry ≡ (Ok reply, new)
+unfolding job_step
+job_step-Ok machine new builder entry assignment reply is room told replied left =
+    (λ i. unless_refused (or_refusal (is i) (or_refusal (when (room i) Spent) None)) machine
+    (Ok (job_of machine (Some entry)), counted machine (after_take machine (Some (entry, take_move machine builder)))))
+    ∙ (λ i. (Ok (Job (machine.accepted + 1) (sym told i)), sym left i))
+    ∙ (λ i. (Ok (sym replied i), new))
+
+-- a test of two is false only where both are
+pub neither : (one other : Bool) → (one || other) ≡ false → (one ≡ false) × (other ≡ false)
+neither true other is = cc
+neither false other is = (refl, is)
+
+-- a record that was handed out is written, and both counts are raised
+pub job_step-kept : (machine new : Machine) (builder arch source own_arch own_source : List ℕ) (current after : Record) (assignment : Assignment) (reply : Reply)
+    → move_refusal (take_move machine builder) current ≡ None → (nat_le count_limit machine.accepted || nat_le count_limit machine.handed) ≡ false
+    → (own_arch ≡ arch) × (own_source ≡ source) → after ≡ moved (take_move machine builder) current
+    → assignment ≡ assignment_of ((arch, source), current) (machine.handed + 1)
+    → reply ≡ Job (machine.accepted + 1) assignment
+    → new ≡ record machine {
+      records = map.insert machine.records (own_arch, own_source) after;
+      handed = machine.handed + 1;
+      accepted = machine.accepted + 1;
+    }
+    → job_step machine builder ((arch, source), current) ≡ (Ok reply, new)
+job_step-kept machine new builder arch source own_arch own_source current after assignment reply is room key value told replied left =
+    job_step-Ok machine new builder ((arch, source), current) assignment reply is room told replied
+    (left ∙ (λ i. record machine {
+      records = map.insert machine.records (key.0 i, key.1 i) (value i);
+      handed = machine.handed + 1;
+      accepted = machine.accepted + 1;
+    }))

@@ -1,0 +1,66 @@
+-- What holds of each record, and of what a merge makes of a record, holds of each record after the parts of a merge.
+use Rattle.std.proofs.Common.{◌≡◌, ℕ, Bool, true, false, cond, List, [], ◌∷◌, Option, None, Result, Ok, Err, IfSome, refl, sym, subst, bytes_eq}
+use Rattle.std.proofs.lemmas.Slice.Eq.{bytes_eq-Decides}
+use Rattle.std.specs.List.{list_any}
+use Rattle.std.specs.Ordering.{eq_by_cmp}
+use Rattle.std.specs.FinMap as map
+use Rattle.wb_states.specs.declared.command.Part.{Part}
+use Rattle.wb_states.specs.declared.record.Record.{Record}
+use Rattle.wb_states.specs.declared.refusal.Refusal.{Refusal}
+use Rattle.wb_states.specs.Machine.{Machine, pair_cmp}
+use Rattle.wb_states.proofs.KeyLemmas.{pair_cmp_total, pair_cmp-same}
+use Rattle.wb_merge.specs.Listing.{Lists}
+use Rattle.wb_merge.specs.Merge.{after}
+use Rattle.wb_merge.specs.Merged.{Records, after_at, merge_keys, merged}
+use Rattle.wb_merge.proofs.ListingLemmas.{map_at-get}
+use Rattle.wb_office.specs.Parts.{part_listing, records_with, records_after}
+
+-- what a record at a key may be said of
+abbrev pub OfKeys : Type 1
+OfKeys = List ℕ × List ℕ → Record → Type 0
+
+-- a fact of each record
+abbrev pub OfAll : OfKeys → Records → Type 0
+OfAll P records = (key : List ℕ × List ℕ) → IfSome (map.get records key) (P key)
+
+-- what the merge of a listing makes of a record has what the record has
+abbrev pub IsKeptBy : OfKeys → List ℕ → Lists → Type 0
+IsKeptBy P arch lists = (source : List ℕ) (found : Option Record) → IfSome found (P (arch, source))
+    → IfSome (after found (map.get lists.listed source) (map.get lists.built source) lists.available) (P (arch, source))
+
+after_at-keeps : (P : OfKeys) (old : Records) (arch : List ℕ) (lists : Lists) → IsKeptBy P arch lists → OfAll P old
+    → (key : List ℕ × List ℕ) → IfSome (after_at old arch lists key) (P key)
+unfolding after_at
+after_at-keeps P old arch lists kept all key =
+    elim (bytes_eq key.0 arch) as (λ b. bytes_eq key.0 arch ≡ b
+    → IfSome (cond b (after (map.get old key) (map.get lists.listed key.1) (map.get lists.built key.1) lists.available) (map.get old key)) (P key)) [
+      | true ↦ λ is.
+          let here : key.0 ≡ arch = (bytes_eq-Decides key.0 arch).0 is in
+          let same : (arch, key.1) ≡ key = λ i. (sym here i, key.1) in
+          subst (λ (k : List ℕ × List ℕ). IfSome (map.get old k) (P k)
+          → IfSome (after (map.get old k) (map.get lists.listed k.1) (map.get lists.built k.1) lists.available) (P k)) same
+          (kept key.1 (map.get old (arch, key.1))) (all key)
+      | false ↦ λ _. all key
+    ] refl
+
+pub merged-keeps : (P : OfKeys) (old : Records) (arch : List ℕ) (lists : Lists) → IsKeptBy P arch lists → OfAll P old → OfAll P (merged old arch lists)
+unfolding merged
+merged-keeps P old arch lists kept all key =
+    rw (map_at-get pair_cmp_total pair_cmp-same (after_at old arch lists) (merge_keys old arch lists) key)
+    (at (list_any (eq_by_cmp pair_cmp key) (merge_keys old arch lists)) (after_at old arch lists key) (after_at-keeps P old arch lists kept all key))
+  where
+    at : (b : Bool) (found : Option Record) → IfSome found (P key) → IfSome (cond b found None) (P key)
+    at true found is = is
+    at false found is = tt
+
+-- the same for all parts, each of which may be refused
+pub records_after-keeps : (P : OfKeys) (machine : Machine) (sources : List ℕ) (parts : List Part)
+    → ((part : Part) (lists : Lists) → part_listing machine sources part ≡ Ok lists → IsKeptBy P part.arch lists)
+    → (records : Records) → OfAll P records → OfAll P (records_after machine sources parts records)
+records_after-keeps P machine sources [] kept records all = all
+records_after-keeps P machine sources (part ∷ parts) kept records all =
+    records_after-keeps P machine sources parts kept (records_with records part.arch (part_listing machine sources part))
+    ((elim (part_listing machine sources part) as (λ (read : Result Lists Refusal). part_listing machine sources part ≡ read → OfAll P (records_with records part.arch read)) [
+      | Ok lists ↦ λ is. merged-keeps P records part.arch lists (kept part lists is) all
+      | Err refusal ↦ λ _. all
+    ]) refl)

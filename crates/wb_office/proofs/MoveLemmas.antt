@@ -1,0 +1,71 @@
+-- A record that was found is moved, or the move is refused.
+use Rattle.std.proofs.Common.{◌≡◌, ℕ, ◌+◌, ◌||◌, Bool, true, false, List, Option, Some, None, Result, Ok, Err, refl, sym, ap, ◌∙◌, nat_le}
+use Rattle.std.specs.FinMap as map
+use Rattle.wb_states.specs.declared.moves.Move.{Move}
+use Rattle.wb_states.specs.declared.record.Record.{Record}
+use Rattle.wb_states.specs.declared.refusal.Refusal.{Refusal}
+use Rattle.wb_states.specs.declared.refusal.Refusal.TheVariants.{Spent}
+use Rattle.wb_states.specs.declared.reply.Reply.{Reply}
+use Rattle.wb_states.specs.declared.reply.Reply.TheVariants.{Done}
+use Rattle.wb_states.specs.Limits.{count_limit}
+use Rattle.wb_states.specs.Machine.{Machine}
+use Rattle.wb_states.specs.Moves.{move_refusal, move_of, moved, unless_refused as unless_move_refused}
+use Rattle.wb_states.specs.Queue.{Entry}
+use Rattle.wb_office.specs.declared.moved.Moved.{Moved}
+use Rattle.wb_office.specs.Checks.{first_some, or_refusal, when}
+use Rattle.wb_office.specs.Found.{unless_refused, move_step}
+use Rattle.wb_office.specs.Step.{Outcome, counted, after_move}
+
+pub move_of-Ok : (move : Move) (current after : Record) → move_of move current ≡ Ok after
+    → (move_refusal move current ≡ None) × (after ≡ moved move current)
+unfolding move_of
+move_of-Ok move current after = found (move_refusal move current) where
+  found : (first : Option Refusal) → unless_move_refused first (moved move current) ≡ Ok after → (first ≡ None) × (after ≡ moved move current)
+  found None is = (refl, only (moved move current) after is) where
+    only : (x y : Record) → (let left : Result Record Refusal = Ok x in left) ≡ Ok y → y ≡ x
+    only x y e = cc
+  found (Some refusal) is = cc
+
+pub move_of-Err : (move : Move) (current : Record) (refusal : Refusal) → move_of move current ≡ Err refusal
+    → move_refusal move current ≡ Some refusal
+unfolding move_of
+move_of-Err move current refusal = found (move_refusal move current) where
+  found : (first : Option Refusal) → unless_move_refused first (moved move current) ≡ Err refusal → first ≡ Some refusal
+  found None is = cc
+  found (Some other) is = cc
+
+pub move_step-refused : (machine : Machine) (entry : Entry) (move : Move) (refusal : Refusal)
+    → move_refusal move entry.1 ≡ Some refusal → move_step machine entry move ≡ (Err refusal, machine)
+unfolding move_step
+move_step-refused machine entry move refusal is =
+    λ i. unless_refused (or_refusal (is i) (or_refusal (when (nat_le count_limit machine.accepted) Spent) None)) machine
+    (Ok (Done (machine.accepted + 1)), counted machine (after_move machine (Some (entry, move))))
+
+pub move_step-Spent : (machine : Machine) (entry : Entry) (move : Move)
+    → move_refusal move entry.1 ≡ None → nat_le count_limit machine.accepted ≡ true → move_step machine entry move ≡ (Err Spent, machine)
+unfolding move_step
+move_step-Spent machine entry move is full =
+    λ i. unless_refused (or_refusal (is i) (or_refusal (when (full i) Spent) None)) machine
+    (Ok (Done (machine.accepted + 1)), counted machine (after_move machine (Some (entry, move))))
+
+pub move_step-Ok : (machine new : Machine) (entry : Entry) (move : Move) (reply : Reply)
+    → move_refusal move entry.1 ≡ None → nat_le count_limit machine.accepted ≡ false
+    → reply ≡ Done (machine.accepted + 1)
+    → new ≡ counted machine (record machine { records = map.insert machine.records entry.0 (moved move entry.1) })
+    → move_step machine entry move ≡ (Ok reply, new)
+unfolding move_step
+move_step-Ok machine new entry move reply is room replied left =
+    (λ i. unless_refused (or_refusal (is i) (or_refusal (when (room i) Spent) None)) machine
+    (Ok (Done (machine.accepted + 1)), counted machine (after_move machine (Some (entry, move)))))
+    ∙ (λ i. (Ok (sym replied i), sym left i))
+
+-- a record after a move is written, and the command is counted
+pub move_step-made : (machine new : Machine) (arch source : List ℕ) (current : Record) (move : Move) (made : Moved) (reply : Reply)
+    → move_refusal move current ≡ None → nat_le count_limit machine.accepted ≡ false
+    → made ≡ record { arch = arch; source = source; after = moved move current }
+    → reply ≡ Done (machine.accepted + 1)
+    → new ≡ counted machine (record machine { records = map.insert machine.records (made.arch, made.source) made.after })
+    → move_step machine ((arch, source), current) move ≡ (Ok reply, new)
+move_step-made machine new arch source current move made reply is room value replied left =
+    move_step-Ok machine new ((arch, source), current) move reply is room replied
+    (left ∙ (λ i. counted machine (record machine { records = map.insert machine.records ((value i).arch, (value i).source) (value i).after })))

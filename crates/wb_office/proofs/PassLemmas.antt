@@ -1,0 +1,111 @@
+-- What is known of a command that no check refuses, and what a step then does.
+use Rattle.std.proofs.Common.{◌≡◌, Bool, true, false, not, ◌&&◌, ◌||◌, List, [], ◌∷◌, Option, Some, None, IsTrue, refl, sym, option_map}
+use Rattle.std.specs.List.{AllByRecursion}
+use Rattle.wb_states.specs.declared.command.Command.{Command}
+use Rattle.wb_states.specs.declared.refusal.Refusal.{Refusal}
+use Rattle.wb_states.specs.declared.refusal.Refusal.TheVariants.{UnknownArch, UnknownBuilder, WrongArch, UnknownSource, QueueEmpty, NotHeld, AfterAhead, AlreadyThere, BadName, BadVersion, BadRelations, BadNumber, TextTooLong, Spent, RepeatedArch}
+use Rattle.wb_states.specs.Machine.{Machine}
+use Rattle.wb_office.specs.Checks.{when, or_refusal, first_some, text_refusal, state_refusal, first_refusal, has_bad_name, version_fault, relation_fault, has_bad_number, has_long_text, repeats_arch, lacks_arch, merge_refusal, lacks_builder, is_for_other_archs, is_ahead, is_not_held, lacks_source, other_version, refused_move, has_empty_queue, is_there_already, is_spent}
+use Rattle.wb_office.specs.Moving.{again_of}
+use Rattle.wb_office.specs.Step.{outcome, step, change, counted}
+
+-- where neither refuses, neither does alone
+pub or_refusal-None : (one other : Option Refusal) → or_refusal one other ≡ None → (one ≡ None) × (other ≡ None)
+or_refusal-None None other is = (refl, is)
+or_refusal-None (Some refusal) other is = cc
+
+-- where none refuses, each does not
+pub first_some-None : (checks : List (Option Refusal)) → first_some checks ≡ None → AllByRecursion (λ check. check ≡ None) checks
+first_some-None [] is = tt
+first_some-None (check ∷ checks) is =
+    let both = or_refusal-None check (first_some checks) is in (both.0, first_some-None checks both.1)
+
+pub when-None : (test : Bool) (refusal : Refusal) → when test refusal ≡ None → test ≡ false
+when-None true refusal is = cc
+when-None false refusal is = refl
+
+pub option_map-None : {X Y : Type 0} (f : X → Y) (found : Option X) → option_map f found ≡ None → found ≡ None
+option_map-None f None is = refl
+option_map-None f (Some x) is = cc
+
+pub not-false : (test : Bool) → not test ≡ false → IsTrue test
+not-false true is = refl
+not-false false is = sym is
+
+pub both-true : (one other : Bool) → IsTrue (one && other) → IsTrue one × IsTrue other
+both-true true other is = (refl, is)
+both-true false other is = (is, cc)
+
+pub either-false : (one other : Bool) → (one || other) ≡ false → (one ≡ false) × (other ≡ false)
+either-false true other is = cc
+either-false false other is = (refl, is)
+
+-- what is known of a command that no check refuses
+pub record Passes (machine : Machine) (command : Command) : Type 0 where
+  pub names : has_bad_name command ≡ false
+  pub version : version_fault command ≡ None
+  pub relations : relation_fault command ≡ None
+  pub number : has_bad_number command ≡ false
+  pub short : has_long_text command ≡ false
+  pub arch : lacks_arch machine command ≡ false
+  pub builder : lacks_builder machine command ≡ false
+  pub others : is_for_other_archs machine command ≡ false
+  pub source : lacks_source machine command ≡ false
+  pub move : refused_move machine command ≡ None
+  pub there : is_there_already machine command ≡ false
+  pub room : is_spent machine command ≡ false
+
+pub passes : (machine : Machine) (command : Command) → first_refusal machine command ≡ None → Passes machine command
+unfolding first_refusal text_refusal state_refusal
+passes machine command is =
+    let both = or_refusal-None (text_refusal command) (state_refusal machine command) is in
+    let texts = first_some-None (
+    when (has_bad_name command) BadName
+    ∷ option_map BadVersion (version_fault command)
+    ∷ option_map (λ fault. BadRelations (Some fault)) (relation_fault command)
+    ∷ when (has_bad_number command) BadNumber
+    ∷ when (has_long_text command) TextTooLong
+    ∷ when (repeats_arch command) RepeatedArch
+    ∷ []) both.0 in
+    let states = first_some-None (
+    when (lacks_arch machine command) UnknownArch
+    ∷ merge_refusal machine command
+    ∷ when (lacks_builder machine command) UnknownBuilder
+    ∷ when (is_for_other_archs machine command) WrongArch
+    ∷ when (is_ahead machine command) (AfterAhead machine.handed)
+    ∷ when (is_not_held machine command) NotHeld
+    ∷ when (lacks_source machine command) UnknownSource
+    ∷ other_version machine command
+    ∷ refused_move machine command
+    ∷ when (has_empty_queue machine command) QueueEmpty
+    ∷ when (is_there_already machine command) AlreadyThere
+    ∷ when (is_spent machine command) Spent
+    ∷ []) both.1 in
+    let later = states.1.1.1.1.1 in
+    record {
+      names = when-None _ _ texts.0;
+      version = option_map-None BadVersion _ texts.1.0;
+      relations = option_map-None (λ fault. BadRelations (Some fault)) _ texts.1.1.0;
+      number = when-None _ _ texts.1.1.1.0;
+      short = when-None _ _ texts.1.1.1.1.0;
+      arch = when-None _ _ states.0;
+      builder = when-None _ _ states.1.1.0;
+      others = when-None _ _ states.1.1.1.0;
+      source = when-None _ _ later.1.0;
+      move = later.1.1.1.0;
+      there = when-None _ _ later.1.1.1.1.1.0;
+      room = when-None _ _ later.1.1.1.1.1.1.0;
+    }
+
+-- what holds of the state, and of the state after a command that is accepted and done, holds of the state after a step
+pub step-either : (P : Machine → Type 0) (machine : Machine) (command : Command) → P machine
+    → (Passes machine command → again_of machine command ≡ None → P (counted machine (change machine command))) → P (step machine command).1
+unfolding step
+step-either P machine command old new =
+    (elim (first_refusal machine command) as (λ r. first_refusal machine command ≡ r → P (outcome r (again_of machine command) machine command).1) [
+      | Some refusal ↦ λ _. old
+      | None ↦ λ is. (elim (again_of machine command) as (λ again. again_of machine command ≡ again → P (outcome None again machine command).1) [
+        | Some entry ↦ λ _. old
+        | None ↦ λ none. new (passes machine command is) none
+      ]) refl
+    ]) refl

@@ -1,0 +1,227 @@
+-- The rows of the archive's lists have names, versions and labels of their forms, and small numbers.
+use Rattle.std.proofs.Common.{◌≡◌, ℕ, ◌+◌, ◌≤◌, Bool, true, false, cond, not, ◌&&◌, ◌||◌, nat_le, List, [], ◌∷◌, length, reverse, Option, Some, None, Result, Ok, Err, IsTrue, refl, subst, arith, unwrap_or}
+use Rattle.std.specs.Prelude.{codes}
+use Rattle.std.specs.List.{list_all, AllByRecursion}
+use Rattle.std.specs.Char.{is_ascii_digit}
+use Rattle.std.proofs.lemmas.Bool.Decides.{nat_tests}
+use Rattle.std.proofs.lemmas.List.{length-reverse}
+use Rattle.deb_control.specs.declared.fault.ControlFaultKind.{ControlFaultKind}
+use Rattle.deb_control.specs.Fields.{Entry}
+use Rattle.deb_version.specs.declared.fault.VersionFault.{VersionFault}
+use Rattle.deb_version.specs.Syntax.{fault_of, value_of, with_digit}
+use Rattle.wb_states.specs.declared.refusal.ListField.{ListField}
+use Rattle.wb_states.specs.declared.refusal.ListField.TheVariants.{Package, Version, Architecture, Priority, Section}
+use Rattle.wb_states.specs.declared.refusal.ListKind.{ListKind}
+use Rattle.wb_states.specs.declared.refusal.ListingFault.{ListingFault}
+use Rattle.wb_states.specs.declared.refusal.ListingFault.TheVariants.{Missing, BadValue}
+use Rattle.wb_states.specs.declared.refusal.Refusal.{Refusal}
+use Rattle.wb_states.specs.declared.refusal.Refusal.TheVariants.{BadListing}
+use Rattle.wb_states.specs.Names.{is_source_name, is_label_text}
+use Rattle.wb_states.specs.Record.{is_empty_text}
+use Rattle.wb_states.specs.Refusals.{name_of_field}
+use Rattle.wb_merge.specs.Lists.{SourceRow, BinaryRow, value_named, text_named, is_version_text, is_label_or_empty, is_faultless, has_source_version, last_digits, rebuild_number, wanted_fault, spare_fault, or_fault, first_fault, source_fault, source_row, with_source, binary_row, unless_faulty, source_row_of, binary_row_of, row_in, onto_rows, rows_behind, source_rows, binary_rows}
+use Rattle.wb_office.proofs.PassLemmas.{both-true}
+
+-- ---- rows that were read are those of paragraphs without a fault
+
+only-ok : {X E : Type 0} (x y : X) → ◌≡◌ {A = Result X E} (Ok x) (Ok y) → x ≡ y
+only-ok x y e = cc
+
+record IsOnto {X : Type 0} (first : Result X Refusal) (behind : Result (List X) Refusal) (rows : List X) : Type 0 where
+  row : X
+  later : List X
+  head : first ≡ Ok row
+  tail : behind ≡ Ok later
+  whole : row ∷ later ≡ rows
+
+onto-is : {X : Type 0} (first : Result X Refusal) (behind : Result (List X) Refusal) (rows : List X) → onto_rows first behind ≡ Ok rows → IsOnto first behind rows
+onto-is (Err refusal) behind rows is = cc
+onto-is (Ok row) (Err refusal) rows is = cc
+onto-is (Ok row) (Ok later) rows is = record { row = row; later = later; head = refl; tail = refl; whole = only-ok (row ∷ later) rows is }
+
+module _ {X : Type 0} (Q : X → Type 0) (read : List Entry → Result X ListingFault) (good : (fields : List Entry) (row : X) → read fields ≡ Ok row → Q row) (which : ListKind) where
+  row-good : (number : ℕ) (parsed : Result (List Entry) ControlFaultKind) (row : X) → row_in read which number parsed ≡ Ok row → Q row
+  row-good number (Err kind) row is = cc
+  row-good number (Ok fields) row is =
+      (elim (read fields) as (λ (made : Result X ListingFault). read fields ≡ made → row_in (λ _. made) which number (Ok fields) ≡ Ok row → Q row) [
+        | Ok one ↦ λ e same. subst Q (only-ok one row same) (good fields one e)
+        | Err fault ↦ λ _ none. absurd (nothing (BadListing which number fault) none)
+      ]) refl is
+    where
+      nothing : (refusal : Refusal) → ◌≡◌ {A = Result X Refusal} (Err refusal) (Ok row) → ⊥
+      nothing refusal e = cc
+
+  rows-good : (passed : ℕ) (paragraphs : List (List (List ℕ))) (rows : List X) → rows_behind read which passed paragraphs ≡ Ok rows → AllByRecursion Q rows
+  rows-good passed [] rows is = subst (AllByRecursion Q) (only-ok [] rows is) tt
+  rows-good passed (lines ∷ later) rows is =
+      let onto = onto-is _ (rows_behind read which (passed + 1) later) rows is in
+      subst (AllByRecursion Q) onto.whole (row-good (passed + 1) _ onto.row onto.head, rows-good (passed + 1) later onto.later onto.tail)
+
+-- ---- the faults of a paragraph
+
+or_fault-None : (one later : Option ListingFault) → or_fault one later ≡ None → (one ≡ None) × (later ≡ None)
+or_fault-None None later is = (refl, is)
+or_fault-None (Some fault) later is = cc
+
+first_fault-None : (faults : List (Option ListingFault)) → first_fault faults ≡ None → AllByRecursion (λ fault. fault ≡ None) faults
+first_fault-None [] is = tt
+first_fault-None (fault ∷ later) is = let both = or_fault-None fault (first_fault later) is in (both.0, first_fault-None later both.1)
+
+passed : (test : Bool) (fault : ListingFault) → cond test None (Some fault) ≡ None → IsTrue test
+passed true fault is = refl
+passed false fault is = cc
+
+wanted-is : (field : ListField) (test : List ℕ → Bool) (fields : List Entry) → wanted_fault field test fields ≡ None
+    → IsTrue (test (unwrap_or (value_named (name_of_field field) fields) []))
+unfolding wanted_fault
+wanted-is field test fields is = at (value_named (name_of_field field) fields) is where
+  fault_in : Option (List ℕ) → Option ListingFault
+  fault_in None = Some (Missing field)
+  fault_in (Some text) = cond (test text) None (Some (BadValue field))
+
+  at : (found : Option (List ℕ)) → fault_in found ≡ None → IsTrue (test (unwrap_or found []))
+  at None is = cc
+  at (Some text) is = passed (test text) (BadValue field) is
+
+spare-is : (field : ListField) (test : List ℕ → Bool) (fields : List Entry) → IsTrue (test []) → spare_fault field test fields ≡ None
+    → IsTrue (test (unwrap_or (value_named (name_of_field field) fields) []))
+unfolding spare_fault
+spare-is field test fields empty is = at (value_named (name_of_field field) fields) is where
+  fault_in : Option (List ℕ) → Option ListingFault
+  fault_in None = None
+  fault_in (Some text) = cond (test text) None (Some (BadValue field))
+
+  at : (found : Option (List ℕ)) → fault_in found ≡ None → IsTrue (test (unwrap_or found []))
+  at None is = empty
+  at (Some text) is = passed (test text) (BadValue field) is
+
+faultless : (fault : Option VersionFault) → IsTrue (is_faultless fault) → fault ≡ None
+faultless None is = refl
+faultless (Some fault) is = cc
+
+version-is : (text : List ℕ) → IsTrue (is_version_text text) → fault_of text ≡ None
+unfolding is_version_text
+version-is text is = faultless (fault_of text) is
+
+label-is : (text : List ℕ) → IsTrue (is_label_or_empty text) → IsTrue (is_empty_text text || is_label_text text)
+unfolding is_label_or_empty
+label-is text is = is
+
+-- ---- the rows of a Sources list
+
+pub record IsGoodSource (row : SourceRow) : Type 0 where
+  pub name : IsTrue (is_source_name row.name)
+  pub version : fault_of row.version ≡ None
+  pub priority : IsTrue (is_empty_text row.priority || is_label_text row.priority)
+  pub section : IsTrue (is_empty_text row.section || is_label_text row.section)
+
+faultless-row : {X : Type 0} (fault : Option ListingFault) (made row : X) → unless_faulty fault made ≡ Ok row → (fault ≡ None) × (made ≡ row)
+faultless-row None made row is = (refl, only-ok made row is)
+faultless-row (Some fault) made row is = cc
+
+empty-label : IsTrue (is_label_or_empty [])
+unfolding is_label_or_empty
+empty-label = refl
+
+source-good : (fields : List Entry) (row : SourceRow) → source_row_of fields ≡ Ok row → IsGoodSource row
+unfolding source_row_of source_fault
+source-good fields row is =
+    let made = faultless-row (source_fault fields) (source_row fields) row is in
+    let none = first_fault-None (
+    wanted_fault Package is_source_name fields
+    ∷ wanted_fault Version is_version_text fields
+    ∷ wanted_fault Architecture (λ text. not (is_empty_text text)) fields
+    ∷ spare_fault Priority is_label_or_empty fields
+    ∷ spare_fault Section is_label_or_empty fields
+    ∷ []) made.0 in
+    let good : IsGoodSource (source_row fields) = record {
+      name = wanted-is Package is_source_name fields none.0;
+      version = version-is (text_named (codes "Version") fields) (wanted-is Version is_version_text fields none.1.0);
+      priority = label-is (text_named (codes "Priority") fields) (spare-is Priority is_label_or_empty fields empty-label none.1.1.1.0);
+      section = label-is (text_named (codes "Section") fields) (spare-is Section is_label_or_empty fields empty-label none.1.1.1.1.0);
+    } in
+    subst IsGoodSource made.1 good
+
+pub source_rows-good : (text : List ℕ) (rows : List SourceRow) → source_rows text ≡ Ok rows → AllByRecursion IsGoodSource rows
+unfolding source_rows
+source_rows-good text rows is = rows-good IsGoodSource source_row_of source-good _ 0 _ rows is
+
+-- ---- the rows of a Packages list
+
+-- the first bytes that pass a test
+front : (ℕ → Bool) → List ℕ → List ℕ
+front test [] = []
+front test (c ∷ cs) = cond (test c) (c ∷ front test cs) []
+
+front-all : (text : List ℕ) → IsTrue (list_all is_ascii_digit (front is_ascii_digit text))
+unfolding front
+front-all [] = refl
+front-all (c ∷ cs) =
+    elim (is_ascii_digit c) as (λ v. is_ascii_digit c ≡ v → IsTrue (list_all is_ascii_digit (cond v (c ∷ front is_ascii_digit cs) []))) [
+      | true ↦ λ e. both (is_ascii_digit c) (list_all is_ascii_digit (front is_ascii_digit cs)) e (front-all cs)
+      | false ↦ λ _. refl
+    ] refl
+  where
+    both : (a b : Bool) → a ≡ true → b ≡ true → (a && b) ≡ true
+    both true b h k = k
+    both false b h k = h
+
+digit-small : (c : ℕ) → is_ascii_digit c ≡ true → c ≤ 57
+digit-small c h = grind (arith, nat_tests)
+
+value-small : (digits : List ℕ) → length digits ≤ 3 → IsTrue (list_all is_ascii_digit digits) → value_of (reverse digits) ≤ 999
+unfolding value_of with_digit
+value-small [] short all = omega arith
+value-small (a ∷ []) short all =
+    let first = digit-small a (both-true (is_ascii_digit a) true all).0 in omega arith
+value-small (a ∷ b ∷ []) short all =
+    let one = both-true (is_ascii_digit a) (is_ascii_digit b && true) all in
+    let first = digit-small a one.0 in
+    let second = digit-small b (both-true (is_ascii_digit b) true one.1).0 in omega arith
+value-small (a ∷ b ∷ c ∷ []) short all =
+    let one = both-true (is_ascii_digit a) (is_ascii_digit b && (is_ascii_digit c && true)) all in
+    let two = both-true (is_ascii_digit b) (is_ascii_digit c && true) one.1 in
+    let first = digit-small a one.0 in
+    let second = digit-small b two.0 in
+    let third = digit-small c (both-true (is_ascii_digit c) true two.1).0 in omega arith
+value-small (a ∷ b ∷ c ∷ d ∷ more) short all = absurd (omega arith)
+
+small-by : (digits : List ℕ) (ends : Bool) → IsTrue (list_all is_ascii_digit digits)
+    → cond (nat_le 1 (length (reverse digits)) && (nat_le (length (reverse digits)) 3 && ends)) (value_of (reverse digits)) 0 ≤ 999
+small-by digits ends all =
+    elim (nat_le 1 (length (reverse digits)) && (nat_le (length (reverse digits)) 3 && ends)) as
+    (λ v. (nat_le 1 (length (reverse digits)) && (nat_le (length (reverse digits)) 3 && ends)) ≡ v → cond v (value_of (reverse digits)) 0 ≤ 999) [
+      | true ↦ λ e.
+          let test : nat_le (length (reverse digits)) 3 ≡ true = (both-true _ ends (both-true (nat_le 1 (length (reverse digits))) _ e).1).0 in
+          let same : length (reverse digits) ≡ length digits = length-reverse digits in
+          let short : length (reverse digits) ≤ 3 = grind (arith, nat_tests) in
+          value-small digits (omega arith) all
+      | false ↦ λ _. omega arith
+    ] refl
+
+rebuild-small : (version : List ℕ) → rebuild_number version ≤ 999
+unfolding rebuild_number last_digits front
+rebuild-small version = small-by (front is_ascii_digit (reverse version)) _ (front-all (reverse version))
+
+-- the number of a row is that of a binary-only rebuild
+abbrev pub IsSmall : BinaryRow → Type 0
+IsSmall row = row.number ≤ 999
+
+chosen-small : (test : Bool) (number : ℕ) → number ≤ 999 → cond test number 0 ≤ 999
+chosen-small true number is = is
+chosen-small false number is = omega arith
+
+source-small : (name version arch : List ℕ) (text : Option (List ℕ)) → IsSmall (with_source name version arch text)
+source-small name version arch None = omega arith
+source-small name version arch (Some text) = chosen-small (has_source_version text) (rebuild_number version) (rebuild-small version)
+
+binary-small : (fields : List Entry) (row : BinaryRow) → binary_row_of fields ≡ Ok row → IsSmall row
+unfolding binary_row_of
+binary-small fields row is =
+    let made = faultless-row _ (binary_row fields) row is in
+    subst IsSmall made.1
+    (source-small (text_named (codes "Package") fields) (text_named (codes "Version") fields) (text_named (codes "Architecture") fields) (value_named (codes "Source") fields))
+
+pub binary_rows-small : (text : List ℕ) (rows : List BinaryRow) → binary_rows text ≡ Ok rows → AllByRecursion IsSmall rows
+unfolding binary_rows
+binary_rows-small text rows is = rows-good IsSmall binary_row_of binary-small _ 0 _ rows is

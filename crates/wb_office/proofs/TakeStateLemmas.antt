@@ -1,0 +1,174 @@
+-- Every step keeps that exactly the held records have a take number.
+use Rattle.std.proofs.Common.{◌≡◌, true, false, cond, List, [], ◌∷◌, Option, Some, None, IfSome, is_some, refl, sym, subst, ◌∙◌}
+use Rattle.std.specs.declared.cmp.Ordering.{Ordering}
+use Rattle.std.specs.declared.cmp.Ordering.TheVariants.{Less, Equal, Greater}
+use Rattle.std.specs.FinMap as map
+use Rattle.deb_version.specs.Order.{version_cmp}
+use Rattle.deb_relations.specs.Satisfaction.{Pairs}
+use Rattle.wb_states.specs.declared.command.Command.{Command}
+use Rattle.wb_states.specs.declared.command.Command.TheVariants as of
+use Rattle.wb_states.specs.declared.moves.Move.{Move}
+use Rattle.wb_states.specs.declared.moves.Move.TheVariants as to
+use Rattle.wb_states.specs.declared.record.Record.{Record}
+use Rattle.wb_states.specs.declared.refusal.Refusal.TheVariants.{WrongState}
+use Rattle.wb_states.specs.declared.state.State.{State}
+use Rattle.wb_states.specs.declared.state.State.TheVariants.{NeedsBuild, Building, Built, Installed, NotForUs}
+use Rattle.wb_states.specs.Machine.{IsConsistent, IsRecord, Machine, empty_office, pair_cmp}
+use Rattle.wb_states.specs.Moves.{moved, settled_in, may_go, move_refusal, value_refusal}
+use Rattle.wb_states.specs.State.{is_held}
+use Rattle.wb_states.proofs.KeyLemmas.{pair_cmp_total, pair_cmp-same, insert_all}
+use Rattle.wb_merge.specs.declared.listing.Listed.{Listed}
+use Rattle.wb_merge.specs.declared.listing.Built.{Built as WasBuilt}
+use Rattle.wb_merge.specs.Merge.{by_order, relisted, blank_record, new_state, new_record, newer_state, newer_record, same_state, same_record, listed_record, after}
+use Rattle.wb_office.specs.Checks.{refused_move}
+use Rattle.wb_office.specs.HandOuts.{HasTakeByState, HasTakesByState}
+use Rattle.wb_office.specs.Moving.{moving}
+use Rattle.wb_office.specs.Replay.{replay}
+use Rattle.wb_office.specs.Step.{step, change, entered, after_move}
+use Rattle.wb_office.proofs.ChosenLemmas.{new-chosen, newer-chosen, same-chosen}
+use Rattle.wb_office.proofs.MergedLemmas.{records_after-keeps}
+use Rattle.wb_office.proofs.MovingLemmas.{moving-may}
+use Rattle.wb_office.proofs.PassLemmas.{step-either}
+
+-- a move that is allowed may go from the record's state
+pub allowed-from : (move : Move) (current : Record) → move_refusal move current ≡ None → may_go move current.state ≡ true
+unfolding move_refusal
+allowed-from move current is =
+    (elim (may_go move current.state) as (λ b. cond b (value_refusal move current) (Some (WrongState current.state)) ≡ None → b ≡ true) [
+      | true ↦ λ _. refl
+      | false ↦ λ some. absurd (clash some)
+    ]) is
+  where
+    clash : Some (WrongState current.state) ≡ None → ⊥
+    clash e = cc
+
+-- what is built is held
+pub built-held : (state : State) → may_go to.Built state ≡ true → is_held state ≡ true
+unfolding may_go
+built-held Building is = refl
+built-held _ is = cc
+
+-- what is uploaded is held
+pub uploaded-held : (state : State) → may_go to.Uploaded state ≡ true → is_held state ≡ true
+unfolding may_go
+uploaded-held Building is = refl
+uploaded-held Built is = refl
+uploaded-held _ is = cc
+
+pub moved-take : (move : Move) (current : Record) → may_go move current.state ≡ true → HasTakeByState current → HasTakeByState (moved move current)
+unfolding moved
+moved-take (to.Take holder take_number) current from old = refl
+moved-take to.Built current from old = old ∙ built-held current.state from
+moved-take to.Uploaded current from old = old ∙ uploaded-held current.state from
+moved-take (to.Waits relations arch) current from old = refl
+moved-take to.PutBack current from old = refl
+moved-take to.GiveBack current from old = refl
+moved-take (to.DepWait relations arch) current from old = refl
+moved-take (to.Fail note) current from old = refl
+moved-take (to.NotForUs note) current from old = refl
+moved-take (to.Rebuild number message) current from old = refl
+
+-- a record without a hold, or with the one that it had
+settled-take : (state : State) (current : Record) → (is_held state ≡ true → is_some current.take ≡ is_held state) → HasTakeByState (settled_in state current)
+settled-take state current held =
+    (elim (is_held state) as (λ b. (b ≡ true → is_some current.take ≡ b) → is_some (cond b current.take None) ≡ b) [
+      | true ↦ λ held. held refl
+      | false ↦ λ _. refl
+    ]) held
+
+-- where a state is held, the record has a take number
+abbrev KeepsTake : Record → State → Type 0
+KeepsTake current state = is_held state ≡ true → is_some current.take ≡ is_held state
+
+-- a state in which nothing is held
+free : (current : Record) (state : State) → is_held state ≡ false → KeepsTake current state
+free current state not_held held = absurd (clash (sym held ∙ not_held)) where
+  clash : true ≡ false → ⊥
+  clash e = cc
+
+new-take : (listed : Listed) (built : Option WasBuilt) → HasTakeByState (new_record listed built)
+unfolding new_record relisted
+new-take listed built =
+    let blank : Record = blank_record listed.version in
+    settled-take (new_state listed built) blank (new-chosen (KeepsTake blank) listed built (free blank Installed refl) (free blank NeedsBuild refl))
+
+newer-take : (listed : Listed) (built : Option WasBuilt) (current : Record) → HasTakeByState (newer_record listed built current)
+unfolding newer_record relisted
+newer-take listed built current =
+    let bare : Record = record current { version = listed.version; message = []; holder = None; take = None } in
+    settled-take (newer_state listed built current) bare
+    (newer-chosen (KeepsTake bare) listed built current (free bare NotForUs refl) (free bare Installed refl) (free bare NeedsBuild refl))
+
+same-take : (listed : Listed) (built : Option WasBuilt) (available : Pairs) (current : Record) → HasTakeByState current
+    → HasTakeByState (same_record listed built available current)
+unfolding same_record relisted
+same-take listed built available current old =
+    settled-take (same_state listed built available current) current
+    (same-chosen (KeepsTake current) listed built available current (free current NotForUs refl) (free current Installed refl) (free current NeedsBuild refl) (λ _. old))
+
+listed-take : (listed : Listed) (built : Option WasBuilt) (available : Pairs) (current : Record) → HasTakeByState current
+    → HasTakeByState (listed_record listed built available current)
+unfolding listed_record
+listed-take listed built available current old =
+    by (version_cmp current.version listed.version) where
+      by : (order : Ordering) → HasTakeByState (by_order order (newer_record listed built current) (same_record listed built available current) current)
+      by Less = newer-take listed built current
+      by Equal = same-take listed built available current old
+      by Greater = old
+
+after-take : (found : Option Record) (listed : Option Listed) (built : Option WasBuilt) (available : Pairs) → IfSome found HasTakeByState
+    → IfSome (after found listed built available) HasTakeByState
+after-take found None built available old = tt
+after-take None (Some listed) built available old = new-take listed built
+after-take (Some current) (Some listed) built available old = listed-take listed built available current old
+
+-- a command keeps it that moves a record
+moving-takes : (machine : Machine) (command : Command) → HasTakesByState machine → refused_move machine command ≡ None
+    → HasTakesByState (after_move machine (moving machine command))
+moving-takes machine command old allowed =
+    (elim (moving machine command) as (λ asked. moving machine command ≡ asked → HasTakesByState (after_move machine asked)) [
+      | None ↦ λ _. old
+      | Some asked ↦ λ is.
+          let may = moving-may machine command asked allowed is in
+          let had : IfSome (Some asked.0.1) HasTakeByState = subst (λ r. IfSome r HasTakeByState) may.stands (old asked.0.0) in
+          insert_all pair_cmp_total pair_cmp-same (λ key. HasTakeByState) machine.records asked.0.0 (moved asked.1 asked.0.1)
+          (moved-take asked.1 asked.0.1 (allowed-from asked.1 asked.0.1 may.allowed) had) old
+    ]) refl
+
+change-takes : (machine : Machine) (command : Command) → HasTakesByState machine → refused_move machine command ≡ None → HasTakesByState (change machine command)
+change-takes machine (of.AddArch name os cpu) old allowed = old
+change-takes machine (of.AddBuilder name arch) old allowed = old
+change-takes machine (of.Enter arch source version priority section) old allowed =
+    insert_all pair_cmp_total pair_cmp-same (λ key. HasTakeByState) machine.records (arch, source) (entered version priority section) refl old
+change-takes machine (of.Merge sources parts) old allowed =
+    records_after-keeps (λ key. HasTakeByState) machine sources parts
+    (λ part lists is source found had. after-take found (map.get lists.listed source) (map.get lists.built source) lists.available had) machine.records old
+change-takes machine (of.Next arch builder after) old allowed = moving-takes machine (of.Next arch builder after) old allowed
+change-takes machine (of.Take arch builder source version) old allowed = moving-takes machine (of.Take arch builder source version) old allowed
+change-takes machine (of.Built take_number) old allowed = moving-takes machine (of.Built take_number) old allowed
+change-takes machine (of.Uploaded take_number) old allowed = moving-takes machine (of.Uploaded take_number) old allowed
+change-takes machine (of.Waits take_number relations) old allowed = moving-takes machine (of.Waits take_number relations) old allowed
+change-takes machine (of.PutBack take_number) old allowed = moving-takes machine (of.PutBack take_number) old allowed
+change-takes machine (of.GiveBack arch source version) old allowed = moving-takes machine (of.GiveBack arch source version) old allowed
+change-takes machine (of.DepWait arch source version relations) old allowed = moving-takes machine (of.DepWait arch source version relations) old allowed
+change-takes machine (of.Fail arch source version note) old allowed = moving-takes machine (of.Fail arch source version note) old allowed
+change-takes machine (of.NotForUs arch source version note) old allowed = moving-takes machine (of.NotForUs arch source version note) old allowed
+change-takes machine (of.Rebuild arch source version number message) old allowed =
+    moving-takes machine (of.Rebuild arch source version number message) old allowed
+
+pub empty-takes : HasTakesByState empty_office
+unfolding empty_office
+empty-takes key = rw (map.get-empty pair_cmp key) tt
+
+pub consistent-takes : (machine : Machine) → IsConsistent machine → HasTakesByState machine
+consistent-takes machine is key = at (map.get machine.records key) (is.records key.0 key.1) where
+  at : (found : Option Record) → IfSome found (IsRecord machine key.0 key.1) → IfSome found HasTakeByState
+  at None is = tt
+  at (Some current) is = is.fields.taken
+
+pub step-takes : (machine : Machine) (command : Command) → HasTakesByState machine → HasTakesByState (step machine command).1
+step-takes machine command old = step-either HasTakesByState machine command old (λ pass _. change-takes machine command old pass.move)
+
+pub replay-takes : (machine : Machine) (commands : List Command) → HasTakesByState machine → HasTakesByState (replay machine commands)
+replay-takes machine [] old = old
+replay-takes machine (command ∷ commands) old = replay-takes (step machine command).1 commands (step-takes machine command old)

@@ -1,0 +1,22 @@
+use Rattle.std.proofs.Common.{◌∙◌, sym}
+use Rattle.std.proofs.lemmas.Result.{err_from_is_err_and}
+use Rattle.wb_office.proofs.HeldLemmas.{taken_step-NotHeld, taken_step-moves}
+use Rattle.wb_office.proofs.MoveLemmas.{move_step-made}
+use Rattle.wb_office.proofs.holder.move_taken.Goals as goal
+
+pub returns-in_default-clause-refused : goal.returns-in_default-clause-refused
+returns-in_default-clause-refused c = λ _.
+    taken_step-NotHeld c.args.store.now c.args.take_number (λ _. c.args.change.now) (sym c.in_default.ensures.value)
+
+pub returns-in_err-made-clause-refused : goal.returns-in_err-made-clause-refused
+returns-in_err-made-clause-refused c =
+    let p = err_from_is_err_and c.from_residual.result c.from_residual.ensures.1 in
+    rw (p.1, p.2) (λ differs.
+    taken_step-moves c.args.store.now c.args.take_number (λ _. c.args.change.now) ((c.in-Some.arch.now, c.in-Some.source.now), c.in-Some.current.now) (sym c.in-Some.ensures.value)
+    ∙ c.in_err-made.ensures.refused differs)
+
+pub returns-clause-reply : goal.returns-clause-reply
+returns-clause-reply c =
+    taken_step-moves c.args.store.now c.args.take_number (λ _. c.args.change.now) ((c.in-Some.arch.now, c.in-Some.source.now), c.in-Some.current.now) (sym c.in-Some.ensures.value)
+    ∙ move_step-made c.args.store.now _ c.in-Some.arch.now c.in-Some.source.now c.in-Some.current.now c.args.change.now c.in_ok-made.made _
+    c.in_ok-made.ensures.ok c.in_ok-made.ensures.room c.in_ok-made.ensures.value c.in_ok-keep_move.ensures.reply c.in_ok-keep_move.ensures.ok

@@ -1,0 +1,26 @@
+use Rattle.std.proofs.Common.{◌∙◌, sym}
+use Rattle.std.proofs.lemmas.Result.{err_from_is_err_and}
+use Rattle.wb_states.specs.declared.moves.Move.TheVariants as to
+use Rattle.wb_office.specs.Found.{named_step}
+use Rattle.wb_office.proofs.KeyLemmas.{fail-refused, fail-long, fail-is}
+use Rattle.wb_office.proofs.named.fail.Goals as goal
+
+pub returns-in_err-read-clause-refused : goal.returns-in_err-read-clause-refused
+returns-in_err-read-clause-refused c =
+    let p = err_from_is_err_and c.from_residual.result c.from_residual.ensures.1 in
+    rw (p.1, p.2) (λ differs. fail-refused c.args.store.now c.args.arch.now c.args.source.now c.args.version.now c.args.note.now _ (c.in_err-read.ensures.refused differs))
+
+pub returns-then-is_long-clause-refused : goal.returns-then-is_long-clause-refused
+returns-then-is_long-clause-refused c = λ _.
+    fail-long c.args.store.now c.args.arch.now c.args.source.now c.args.version.now c.args.note.now c.in_ok-read.ensures.ok (sym c.is_long.ensures.value ∙ c.if-is_long.true)
+
+pub returns-in_err-move_named-clause-refused : goal.returns-in_err-move_named-clause-refused
+returns-in_err-move_named-clause-refused c =
+    let p = err_from_is_err_and c.from_residual-in_err-move_named.result c.from_residual-in_err-move_named.ensures.1 in
+    rw (p.1, p.2) (λ differs. fail-is c.args.store.now c.args.arch.now c.args.source.now c.args.version.now c.args.note.now _ c.in_ok-read.ensures.ok (sym c.is_long.ensures.value ∙ c.if-is_long.false) c.in_ok-clone.ensures.cases ∙ (λ i. named_step c.args.store.now c.args.arch.now c.args.source.now (sym c.in_ok-read.ensures.value i) (to.Fail c.in_ok-clone.field-0))
+    ∙ c.in_err-move_named.ensures.refused differs)
+
+pub returns-clause-reply : goal.returns-clause-reply
+returns-clause-reply c =
+    fail-is c.args.store.now c.args.arch.now c.args.source.now c.args.version.now c.args.note.now _ c.in_ok-read.ensures.ok (sym c.is_long.ensures.value ∙ c.if-is_long.false) c.in_ok-clone.ensures.cases ∙ (λ i. named_step c.args.store.now c.args.arch.now c.args.source.now (sym c.in_ok-read.ensures.value i) (to.Fail c.in_ok-clone.field-0))
+    ∙ c.in_ok-move_named.ensures.reply

@@ -1,0 +1,30 @@
+use Rattle.std.proofs.Common.{◌∙◌, sym}
+use Rattle.std.proofs.lemmas.Result.{err_from_is_err_and}
+use Rattle.wb_states.specs.declared.moves.Move.TheVariants as to
+use Rattle.wb_office.specs.Found.{named_step}
+use Rattle.wb_office.proofs.KeyLemmas.{rebuild-refused, rebuild-BadNumber, rebuild-long, rebuild-is, numbered}
+use Rattle.wb_office.proofs.named.rebuild.Goals as goal
+
+pub returns-in_err-read-clause-refused : goal.returns-in_err-read-clause-refused
+returns-in_err-read-clause-refused c =
+    let p = err_from_is_err_and c.from_residual.result c.from_residual.ensures.1 in
+    rw (p.1, p.2) (λ differs. rebuild-refused c.args.store.now c.args.arch.now c.args.source.now c.args.version.now c.args.number c.args.message.now _ (c.in_err-read.ensures.refused differs))
+
+pub returns-in_default-clause-refused : goal.returns-in_default-clause-refused
+returns-in_default-clause-refused c = λ _.
+    rebuild-BadNumber c.args.store.now c.args.arch.now c.args.source.now c.args.version.now c.args.number c.args.message.now c.in_ok-read.ensures.ok c.in_default.ensures.value
+
+pub returns-then-is_long-clause-refused : goal.returns-then-is_long-clause-refused
+returns-then-is_long-clause-refused c = λ _.
+    rebuild-long c.args.store.now c.args.arch.now c.args.source.now c.args.version.now c.args.number c.args.message.now c.in_ok-read.ensures.ok (numbered c.args.number c.in-Some.number _ c.in-Some.ensures.value).0 (sym c.is_long.ensures.value ∙ c.if-is_long.true)
+
+pub returns-in_err-move_named-clause-refused : goal.returns-in_err-move_named-clause-refused
+returns-in_err-move_named-clause-refused c =
+    let p = err_from_is_err_and c.from_residual-in_err-move_named.result c.from_residual-in_err-move_named.ensures.1 in
+    rw (p.1, p.2) (λ differs. rebuild-is c.args.store.now c.args.arch.now c.args.source.now c.args.version.now c.args.number c.args.message.now c.in-Some.number _ c.in_ok-read.ensures.ok (numbered c.args.number c.in-Some.number _ c.in-Some.ensures.value).0 (sym c.is_long.ensures.value ∙ c.if-is_long.false) (numbered c.args.number c.in-Some.number _ c.in-Some.ensures.value).1 c.in_ok-clone.ensures.cases ∙ (λ i. named_step c.args.store.now c.args.arch.now c.args.source.now (sym c.in_ok-read.ensures.value i) (to.Rebuild c.in-Some.number c.in_ok-clone.field-0))
+    ∙ c.in_err-move_named.ensures.refused differs)
+
+pub returns-clause-reply : goal.returns-clause-reply
+returns-clause-reply c =
+    rebuild-is c.args.store.now c.args.arch.now c.args.source.now c.args.version.now c.args.number c.args.message.now c.in-Some.number _ c.in_ok-read.ensures.ok (numbered c.args.number c.in-Some.number _ c.in-Some.ensures.value).0 (sym c.is_long.ensures.value ∙ c.if-is_long.false) (numbered c.args.number c.in-Some.number _ c.in-Some.ensures.value).1 c.in_ok-clone.ensures.cases ∙ (λ i. named_step c.args.store.now c.args.arch.now c.args.source.now (sym c.in_ok-read.ensures.value i) (to.Rebuild c.in-Some.number c.in_ok-clone.field-0))
+    ∙ c.in_ok-move_named.ensures.reply

@@ -1,0 +1,11 @@
+use Rattle.std.proofs.Common.{◌≡◌, ◌≢◌, Err, ap, sym, ◌∙◌}
+use Rattle.deb_version.specs.Syntax.{reading_of}
+use Rattle.deb_version.specs.declared.fault.VersionFault.TheVariants.{Memory}
+use Rattle.wb_office.proofs.TextLemmas.{read-refused}
+use Rattle.wb_office.proofs.texts.read_version.Goals as goal
+
+pub returns-in-Err-clause-refused : goal.returns-in-Err-clause-refused
+returns-in-Err-clause-refused c =
+    let reads : c.in-Err.fault ≢ Memory → reading_of c.args.text.now ≡ Err c.in-Err.fault =
+    λ differs. ap reading_of (sym c.as_str.ensures) ∙ c.in-Err.ensures.refused differs in
+    rw c.refusal_of.ensures.value (read-refused c.args.text.now c.in-Err.fault reads)

@@ -1,0 +1,82 @@
+//! What a builder is told again.
+ghost use Rattle.std.specs.Prelude.{◌≡◌, [], map as each, IfOk, IfErr};
+ghost use Rattle.std.specs.List.{find};
+ghost use Rattle.std.specs.Option.{option_map};
+ghost use Rattle.wb_states.specs.declared.command.Command.TheVariants.{Next};
+ghost use Rattle.wb_states.specs.declared.refusal.Refusal.TheVariants.{Memory};
+ghost use Rattle.wb_states.specs.Holds.{building_after, is_building_after};
+ghost use Rattle.wb_store.specs.Lookups.{entry_of};
+ghost use Rattle.wb_office.specs.Moving.{again_of};
+ghost use Rattle.wb_office.specs.Found.{told_of};
+
+use crate::builder::assignment;
+use deb_relations::Text;
+use std::alloc::Global;
+use wb_states::{Assignment, Record, Refusal, State};
+use wb_store::Store;
+
+/// Whether the record is being built on the architecture under a take number after this one.
+fn is_later(of: &Text, current: &Record, arch: &Text, after: u64) -> bool
+    ensures value { result ≡ is_building_after arch.now after ((of.now, []), current.now) }
+{
+    of.as_str() == arch.as_str()
+        && (matches!(current.state, State::Building) && after < current.take.unwrap_or(0))
+}
+
+/// The first of the rows that is being built on the architecture under a take number after this one.
+fn first_later<'a>(
+    rows: &[(&'a Text, &'a Text, &'a Record)],
+    arch: &Text,
+    after: u64,
+) -> Option<(&'a Text, &'a Text, &'a Record)>
+    ensures value { option_map entry_of result
+        ≡ find (is_building_after arch.now after) (each entry_of rows.now) }
+{
+    for row in rows {
+        if is_later(row.0, row.2, arch, after) {
+            return Some(*row);
+        }
+    }
+    None
+}
+
+/// What the builder builds on the architecture under the least take number after this one.
+fn told_after(
+    alloc: Global,
+    store: &Store,
+    arch: &Text,
+    builder: &Text,
+    after: u64,
+) -> Result<Option<Assignment>, Refusal>
+    ensures value { IfOk result (λ told. told
+        ≡ option_map told_of (building_after store.now arch.now builder.now after)) }
+    ensures refused { IfErr result (λ refusal. refusal ≡ Memory) }
+{
+    let held = store.held_by(builder)?;
+    match first_later(held.as_slice(), arch, after) {
+        None => Ok(None),
+        Some((of, source, current)) => {
+            let take_number = current.take.unwrap_or(0);
+            let made = assignment(alloc, of, source, current, take_number)?;
+            Ok(Some(made))
+        }
+    }
+}
+
+/// What the builder is told again, where it asks after a take number and builds under a later one.
+pub(crate) fn told_again(
+    alloc: Global,
+    store: &Store,
+    arch: &Text,
+    builder: &Text,
+    after: Option<u64>,
+) -> Result<Option<Assignment>, Refusal>
+    ensures value { IfOk result (λ told. told
+        ≡ option_map told_of (again_of store.now (Next arch.now builder.now after))) }
+    ensures refused { IfErr result (λ refusal. refusal ≡ Memory) }
+{
+    match after {
+        None => Ok(None),
+        Some(after) => told_after(alloc, store, arch, builder, after),
+    }
+}

@@ -1,0 +1,215 @@
+//! The merge of what the archive lists into the records of the office.
+ghost use Rattle.std.specs.Prelude.{◌≡◌, ◌≢◌, ◌+◌, not, None, Some, Ok, Err, false, nat_le, bytes_eq, OnOk, IfOk, IfErr, OnErr};
+ghost use Rattle.std.specs.FinMap as map;
+ghost use Rattle.std.specs.List.{list_any};
+ghost use Rattle.wb_states.specs.declared.command.Command.TheVariants.{Merge};
+ghost use Rattle.wb_states.specs.declared.refusal.Refusal.TheVariants.{Memory};
+ghost use Rattle.wb_states.specs.declared.reply.Reply.TheVariants.{Merged};
+ghost use Rattle.wb_states.specs.Limits.{count_limit};
+ghost use Rattle.wb_states.specs.Names.{is_arch_name};
+ghost use Rattle.wb_office.specs.Checks.{has_repeated_arch};
+ghost use Rattle.wb_office.specs.Found.{refused_merge};
+ghost use Rattle.wb_office.specs.Parts.{is_good, is_merged, part_listing, part_replies, parts_refusal, records_after, end_with, records_with};
+ghost use Rattle.wb_office.specs.Step.{step};
+
+use crate::checks::is_spent;
+use deb_relations::{ArchWords, Items, Text};
+use std::alloc::Global;
+use std::collections::BTreeMap;
+use wb_merge::{Listing, merge_records};
+use wb_states::{Counts, Part, PartEnd, PartReply, Record, Refusal, Reply, is_arch};
+use wb_store::Store;
+
+/// The records after the parts of a merge, and what became of each part.
+#[derive(Drop)]
+struct Parts {
+    records: BTreeMap<(Text, Text), Record>,
+    replies: Items<PartReply>,
+    is_any_good: bool,
+}
+
+/// Whether the name of a part's architecture has not its form.
+fn has_bad_arch(parts: &[Part]) -> bool
+    ensures { result ≡ list_any (λ part. not (is_arch_name part.arch)) parts.now }
+{
+    for part in parts {
+        if !is_arch(part.arch.as_str()) {
+            return true;
+        }
+    }
+    false
+}
+
+/// Whether one of the parts is for the architecture.
+fn is_part_for(parts: &[Part], arch: &Text) -> bool
+    ensures { result ≡ list_any (λ other. bytes_eq arch.now other.arch) parts.now }
+{
+    for part in parts {
+        if arch.as_str() == part.arch.as_str() {
+            return true;
+        }
+    }
+    false
+}
+
+/// Whether two parts are for one architecture.
+fn repeats_arch(parts: &[Part]) -> bool
+    ensures { result ≡ has_repeated_arch parts.now }
+{
+    for place in 0..parts.len() {
+        if is_part_for(&parts[place + 1..], &parts[place].arch) {
+            return true;
+        }
+    }
+    false
+}
+
+/// The listing of a part, or why the part is refused.
+#[tactic(auto, unfolding(crate::specs::Parts::part_listing))]
+fn listing_of(alloc: Global, store: &Store, sources: &[u8], part: &Part) -> Result<Listing, Refusal>
+    ensures value { IfOk result (λ listing. part_listing store.now sources.now part.now ≡ Ok listing) }
+    ensures refused { IfErr result (λ refusal. refusal ≢ Memory
+        → part_listing store.now sources.now part.now ≡ Err refusal) }
+{
+    let Some(words) = store.arch(&part.arch) else {
+        return Err(Refusal::UnknownArch);
+    };
+    let (name, os, cpu) = (part.arch.as_str(), words.os.as_str(), words.cpu.as_str());
+    let arch = ArchWords::new(alloc, name, os, cpu)?;
+    Listing::read(alloc, sources, part.packages.as_slice(), &arch)
+}
+
+/// Merges a part into the records: a part that is refused leaves them. The error is `Memory`, after which
+/// the records are of no use.
+fn merge_part(
+    alloc: Global,
+    store: &Store,
+    sources: &[u8],
+    part: &Part,
+    records: &mut BTreeMap<(Text, Text), Record>,
+) -> Result<PartEnd, Refusal>
+    ensures value { IfOk result (λ end. end ≡ end_with (map.from_entries records.old.entries) part.now.arch
+        (part_listing store.now sources.now part.now)) }
+    ensures records { OnOk result (map.from_entries records.new.entries
+        ≡ records_with (map.from_entries records.old.entries) part.now.arch
+        (part_listing store.now sources.now part.now)) }
+    ensures refused { IfErr result (λ refusal. refusal ≡ Memory) }
+{
+    match listing_of(alloc, store, sources, part) {
+        Ok(listing) => {
+            let counts = merge_records(alloc, records, &part.arch, &listing)?;
+            Ok(PartEnd::Merged { counts })
+        }
+        Err(Refusal::Memory) => Err(Refusal::Memory),
+        Err(refusal) => Ok(PartEnd::Refused { refusal }),
+    }
+}
+
+fn is_merged(end: &PartEnd) -> bool
+    ensures { result ≡ is_merged end.now }
+{
+    matches!(end, PartEnd::Merged { .. })
+}
+
+/// Merges the parts in their order into a copy of the records.
+fn merge_parts(
+    alloc: Global,
+    store: &Store,
+    sources: &[u8],
+    parts: &[Part],
+) -> Result<Parts, Refusal>
+    ensures records { IfOk result (λ made. map.from_entries made.records.entries
+        ≡ records_after store.now sources.now parts.now store.now.records) }
+    ensures replies { IfOk result (λ made. made.replies
+        ≡ part_replies store.now sources.now parts.now store.now.records) }
+    ensures good { IfOk result (λ made. made.is_any_good ≡ list_any (is_good store.now sources.now) parts.now) }
+    ensures refused { IfErr result (λ refusal. refusal ≡ Memory) }
+{
+    let mut records = store.copy_records()?;
+    let mut replies = Items::new(alloc);
+    let mut is_any_good = false;
+    for part in parts {
+        let end = merge_part(alloc, store, sources, part, &mut records)?;
+        is_any_good = is_any_good || is_merged(&end);
+        let arch = part.arch.clone()?;
+        replies.push(PartReply { arch, end })?;
+    }
+    Ok(Parts {
+        records,
+        replies,
+        is_any_good,
+    })
+}
+
+/// Why a merge is refused of which no part can be merged.
+fn refusal_of(alloc: Global, store: &Store, sources: &[u8], parts: &[Part]) -> Refusal
+    ensures { result ≢ Memory → list_any (is_good store.now sources.now) parts.now ≡ false
+        → parts_refusal store.now sources.now parts.now ≡ Some result }
+{
+    match parts {
+        [] => Refusal::UnknownArch,
+        [first, ..] => match listing_of(alloc, store, sources, first) {
+            Ok(_) => Refusal::Memory,
+            Err(refusal) => refusal,
+        },
+    }
+}
+
+/// The parts of a merge, merged into a copy of the records, where the merge is not refused.
+fn prepare_merge(
+    alloc: Global,
+    store: &Store,
+    sources: &[u8],
+    parts: &[Part],
+) -> Result<Parts, Refusal>
+    ensures records { IfOk result (λ made. map.from_entries made.records.entries
+        ≡ records_after store.now sources.now parts.now store.now.records) }
+    ensures replies { IfOk result (λ made. made.replies
+        ≡ part_replies store.now sources.now parts.now store.now.records) }
+    ensures ok { OnOk result (refused_merge store.now sources.now parts.now ≡ None) }
+    ensures room { OnOk result (nat_le count_limit store.now.accepted ≡ false) }
+    ensures refused { IfErr result (λ refusal. refusal ≢ Memory
+        → refused_merge store.now sources.now parts.now ≡ Some refusal) }
+{
+    if has_bad_arch(parts) {
+        return Err(Refusal::BadName);
+    }
+    if repeats_arch(parts) {
+        return Err(Refusal::RepeatedArch);
+    }
+    let made = merge_parts(alloc, store, sources, parts)?;
+    if !made.is_any_good {
+        return Err(refusal_of(alloc, store, sources, parts));
+    }
+    if is_spent(store) {
+        return Err(Refusal::Spent);
+    }
+    Ok(made)
+}
+
+/// Brings the records of each part's architecture in line with what the archive lists, all or none.
+#[tactic(auto, using(crate::proofs::PartLemmas::first_refusal_of_merge), unfolding(crate::specs::Step::step))]
+pub(crate) fn merge(
+    alloc: Global,
+    store: &mut Store,
+    sources: &Items<u8>,
+    parts: &Items<Part>,
+) -> Result<Reply, Refusal>
+    ensures reply { IfOk result (λ reply. step store.old (Merge sources.now parts.now) ≡ (Ok reply, store.new)) }
+    ensures refused { IfErr result (λ refusal. refusal ≢ Memory
+        → step store.old (Merge sources.now parts.now) ≡ (Err refusal, store.old)) }
+    ensures unchanged { OnErr result (store.new ≡ store.old) }
+{
+    let made = prepare_merge(alloc, store, sources.as_slice(), parts.as_slice())?;
+    let counts = store.office_row();
+    let accepted = counts.accepted + 1;
+    store.replace_records(made.records);
+    store.set_counts(Counts {
+        handed: counts.handed,
+        accepted,
+    });
+    Ok(Reply::Merged {
+        accepted,
+        parts: made.replies,
+    })
+}

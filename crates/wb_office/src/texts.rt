@@ -1,0 +1,104 @@
+//! The texts of commands, each read once.
+ghost use Rattle.std.specs.Prelude.{◌≡◌, ◌≢◌, ◌||◌, None, Some, Ok, nat_eq, nat_lt, length, OnOk, IfOk, IfErr, if◌then◌else◌};
+ghost use Rattle.std.specs.Option.{option_map};
+ghost use Rattle.deb_version.specs.Syntax.{fault_of};
+ghost use Rattle.deb_relations.specs.declared.fault.RelationFault.TheVariants.{Memory as NoMemory};
+ghost use Rattle.deb_relations.specs.Reading.{reading_of};
+ghost use Rattle.wb_states.specs.declared.refusal.Refusal.TheVariants.{Memory, BadVersion, BadRelations};
+ghost use Rattle.wb_states.specs.Limits.{note_limit, rebuild_limit};
+ghost use Rattle.wb_office.specs.Checks.{refusal_of_fault};
+ghost use Rattle.wb_office.specs.Found.{key_refusal, relations_refusal};
+
+use crate::forms::is_bad_key;
+use deb_relations::{RelationFault, Relations, Text};
+use deb_version::{Version, VersionFault};
+use std::alloc::Global;
+use wb_states::Refusal;
+
+/// The greatest length of a note or a message, in bytes (this project's own).
+const NOTE_LIMIT: usize = 1000;
+
+/// The greatest number of a binary-only rebuild (this project's own).
+const REBUILD_LIMIT: u64 = 999;
+
+/// The version that a text is.
+pub(crate) fn read_version(alloc: Global, text: &Text) -> Result<Version, Refusal>
+    ensures value { IfOk result (λ read. read ≡ text.now) }
+    ensures ok { OnOk result (fault_of text.now ≡ None) }
+    ensures refused { IfErr result (λ refusal. refusal ≢ Memory
+        → option_map BadVersion (fault_of text.now) ≡ Some refusal) }
+{
+    match Version::parse(alloc, text.as_str()) {
+        Ok(read) => Ok(read),
+        Err(fault) => Err(refusal_of(fault)),
+    }
+}
+
+/// The refusal of a text that gave this fault.
+fn refusal_of(fault: VersionFault) -> Refusal
+    ensures value { result ≡ refusal_of_fault fault }
+{
+    match fault {
+        VersionFault::Memory => Refusal::Memory,
+        _ => Refusal::BadVersion { fault },
+    }
+}
+
+/// The relations that a text is.
+pub(crate) fn read_relations(alloc: Global, text: &Text) -> Result<Relations, Refusal>
+    ensures value { IfOk result (λ read. reading_of text.now ≡ Ok read) }
+    ensures refused { IfErr result (λ refusal. refusal ≢ Memory
+        → relations_refusal text.now ≡ Some refusal) }
+{
+    match Relations::parse(alloc, text.as_str()) {
+        Ok(read) => Ok(read),
+        Err(fault) => Err(relations_refused(fault)),
+    }
+}
+
+/// The refusal of a text that gave this fault as relations.
+fn relations_refused(fault: RelationFault) -> Refusal
+    ensures memory { fault ≡ NoMemory → result ≡ Memory }
+    ensures others { fault ≢ NoMemory → result ≡ BadRelations (Some fault) }
+{
+    match fault {
+        RelationFault::Memory => Refusal::Memory,
+        _ => Refusal::BadRelations { fault: Some(fault) },
+    }
+}
+
+/// The version of a source package that a command names, where its names have their forms.
+pub(crate) fn read_key(
+    alloc: Global,
+    arch: &Text,
+    source: &Text,
+    version: &Text,
+) -> Result<Version, Refusal>
+    ensures value { IfOk result (λ read. read ≡ version.now) }
+    ensures ok { OnOk result (key_refusal arch.now source.now version.now ≡ None) }
+    ensures refused { IfErr result (λ refusal. refusal ≢ Memory
+        → key_refusal arch.now source.now version.now ≡ Some refusal) }
+{
+    if is_bad_key(arch, source) {
+        return Err(Refusal::BadName);
+    }
+    let read = read_version(alloc, version)?;
+    Ok(read)
+}
+
+/// Whether a note or a message has more than 1000 bytes.
+pub(crate) fn is_long(text: &Text) -> bool
+    ensures value { result ≡ nat_lt note_limit (length text.now) }
+{
+    NOTE_LIMIT < text.as_str().len()
+}
+
+/// The number of a rebuild as a record keeps it, or none where no rebuild has it.
+pub(crate) fn rebuild_number(number: u64) -> Option<u16>
+    ensures value { result ≡ (if nat_eq number 0 || nat_lt rebuild_limit number then None else Some number) }
+{
+    if number == 0 || number > REBUILD_LIMIT {
+        return None;
+    }
+    Some(number as u16)
+}

@@ -1,0 +1,47 @@
+-- Which records builders hold, and under which take numbers (this project's own).
+use Rattle.std.specs.Prelude.{ℕ, Bool, false, ◌&&◌, List, filter, nat_eq, nat_lt, bytes_eq, Option, Some, None, find, unwrap_or}
+use Rattle.std.specs.declared.cmp.Ordering.{Ordering}
+use Rattle.std.specs.Ordering.{nat_cmp, on}
+use Rattle.std.specs.FinMap as finite
+use Rattle.wb_states.specs.declared.state.State.TheVariants.{Building}
+use Rattle.wb_states.specs.State.{code_of}
+use Rattle.wb_states.specs.Machine.{Machine}
+use Rattle.wb_states.specs.Queue.{Entry, first_of, sorted_by}
+
+-- whether a value is there and passes the test
+abbrev pub has_value : {X : Type 0} → (X → Bool) → Option X → Bool
+has_value test None = false
+has_value test (Some x) = test x
+
+-- a record that is held under the take number
+abbrev pub is_taken_as : ℕ → Entry → Bool
+is_taken_as take_number entry = has_value (nat_eq take_number) entry.1.take
+
+-- the first record, by architecture and source package, that is held under the take number
+unfoldable pub taken_as : Machine → ℕ → Option Entry
+taken_as machine take_number = first_of (filter (is_taken_as take_number) (finite.entries machine.records))
+
+-- a record that the builder holds
+abbrev pub is_held_by : List ℕ → Entry → Bool
+is_held_by builder entry = has_value (bytes_eq builder) entry.1.holder
+
+-- the take number of a record, 0 where it has none
+abbrev pub take_of : Entry → ℕ
+take_of entry = unwrap_or entry.1.take 0
+
+-- the order of two records by their take numbers
+abbrev pub take_cmp : Entry → Entry → Ordering
+take_cmp = on take_of nat_cmp
+
+-- the records that the builder holds, by take number
+unfoldable pub held_of : Machine → List ℕ → List Entry
+held_of machine builder = sorted_by take_cmp (filter (is_held_by builder) (finite.entries machine.records))
+
+-- a record that is being built on the architecture under a take number after this one
+abbrev pub is_building_after : List ℕ → ℕ → Entry → Bool
+is_building_after arch after entry =
+    bytes_eq entry.0.0 arch && (nat_eq (code_of entry.1.state) (code_of Building) && nat_lt after (take_of entry))
+
+-- what the builder builds on the architecture under the least take number after this one
+unfoldable pub building_after : Machine → List ℕ → List ℕ → ℕ → Option Entry
+building_after machine arch builder after = find (is_building_after arch after) (held_of machine builder)

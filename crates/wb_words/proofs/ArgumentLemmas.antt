@@ -1,0 +1,45 @@
+-- The words and the numbers of arguments, as std's functions read them.
+use Rattle.std.proofs.Common.{◌≡◌, ◌++◌, ℕ, true, false, List, [], ◌∷◌, map, refl, ap, arith}
+use Rattle.std.specs.Prelude.{Result, Ok, Err, Some, None, codes, flat_map, if◌then◌else◌}
+use Rattle.std.specs.Result.{result_ok}
+use Rattle.std.specs.Borrow.{Bor}
+use Rattle.std.specs.List.{join_by}
+use Rattle.std.specs.Str.Parse.{ParsesUnsigned, digits_value, without_leading_plus}
+use Rattle.clap.specs.Words.{Accepts, Text}
+use Rattle.clap.specs.ValueTests.{is_unsigned_in}
+use Rattle.clap.specs.declared.builder.value_parser.ValueParser.TheVariants as vp
+use Rattle.clap.proofs.ValueTestLemmas.{Accepts-accepts, accepts-Accepts}
+use Rattle.wb_words.specs.Arguments.{greatest_number, joined, number_in}
+
+-- ---- words
+
+-- spaces before texts, whether they stand behind references or not
+later_words : (words : List (Bor Text)) → flat_map (λ (word : Bor Text). codes " " ++ word.now) words
+    ≡ flat_map (λ (word : Text). codes " " ++ word) (map (λ word. word.now) words)
+later_words [] = refl
+later_words (word ∷ words) = ap (λ (more : Text). (codes " " ++ word.now) ++ more) (later_words words)
+
+-- texts are joined alike, whether they stand behind references or not
+pub join_by-joined : (words : List (Bor Text)) → join_by (λ (word : Bor Text). word.now) (codes " ") words
+    ≡ joined (map (λ word. word.now) words)
+join_by-joined [] = refl
+join_by-joined (word ∷ words) = ap (λ (more : Text). word.now ++ more) (later_words words)
+
+pub ruleset argument_laws = (join_by-joined)
+
+-- ---- numbers
+
+-- a text is read as the number that it writes
+pub parsed-number_in : {E : Type 0} (text : Text) (r : Result ℕ E) → ParsesUnsigned 64 10 text r → result_ok r ≡ number_in text
+unfolding number_in
+parsed-number_in text (Ok x) h =
+    let passes : is_unsigned_in 0 greatest_number text ≡ true =
+    Accepts-accepts false (vp.Unsigned 0 greatest_number) text (h.0.0, h.0.1, omega arith, omega arith) in
+    rw (passes, h.1) refl
+parsed-number_in text (Err e) h =
+    elim (is_unsigned_in 0 greatest_number text) as (λ passes. is_unsigned_in 0 greatest_number text ≡ passes
+    → None ≡ (if passes then Some (digits_value 10 (without_leading_plus text)) else None)) [
+      | true ↦ λ e. let read : Accepts false (vp.Unsigned 0 greatest_number) text =
+          accepts-Accepts false (vp.Unsigned 0 greatest_number) text e in absurd (h (read.0, read.1))
+      | false ↦ λ e. refl
+    ] refl

@@ -1,0 +1,30 @@
+use Rattle.std.proofs.Common.{◌∷◌, [], refl}
+use Rattle.clap.proofs.OnLiterals.{clap_on_literals}
+use Rattle.wb_states.specs.declared.command.Command.TheVariants.{Built, PutBack, Rebuild, Uploaded, Waits}
+use Rattle.wb_words.specs.Arguments.{joined, number_in}
+use Rattle.wb_words.proofs.AskedLemmas.{operator-asked, builder-asked, next-asked}
+use Rattle.wb_words.proofs.OnLiterals.{words_on_literals}
+use Rattle.wb_words.proofs.laws.any_words_are_arguments.Goals as goal
+
+pub returns : goal.returns
+unfolding words_on_literals clap_on_literals
+returns c = record {
+  add_arch = λ name os cpu. refl;
+  add_builder = λ name arch. refl;
+  enter = λ arch source version priority section. refl;
+  give_back = λ arch source version. refl;
+  dep_wait = λ arch source version first second. refl;
+  fail = λ arch source version first second. refl;
+  not_for_us = λ arch source version first second. refl;
+  rebuild = λ arch source version number first second.
+      operator-asked (λ n. Rebuild arch source version n (joined (first ∷ second ∷ []))) (number_in number);
+  next = λ arch builder. refl;
+  after = λ arch builder after. next-asked arch builder (number_in (53 ∷ after));
+  take = λ arch builder source version. refl;
+  built = λ take_number. builder-asked (λ n. Built n) (number_in take_number);
+  uploaded = λ take_number. builder-asked (λ n. Uploaded n) (number_in take_number);
+  put_back = λ take_number. builder-asked (λ n. PutBack n) (number_in take_number);
+  waits = λ take_number first second.
+      builder-asked (λ n. Waits n (joined (first ∷ second ∷ []))) (number_in take_number);
+  merge = λ sources first second. refl;
+}

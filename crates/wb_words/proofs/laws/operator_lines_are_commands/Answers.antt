@@ -1,0 +1,18 @@
+use Rattle.std.proofs.Common.{refl}
+use Rattle.clap.proofs.OnLiterals.{clap_on_literals}
+use Rattle.wb_words.specs.Arguments.{number_in}
+use Rattle.wb_words.proofs.OnLiterals.{words_on_literals}
+use Rattle.wb_words.proofs.laws.operator_lines_are_commands.Goals as goal
+
+pub returns : goal.returns
+unfolding words_on_literals clap_on_literals number_in
+returns c = record {
+  add_arch = refl;
+  add_builder = refl;
+  enter = refl;
+  give_back = refl;
+  dep_wait = refl;
+  fail = refl;
+  not_for_us = refl;
+  rebuild = refl;
+}

@@ -1,0 +1,15 @@
+use Rattle.std.proofs.Common.{refl}
+use Rattle.clap.proofs.OnLiterals.{clap_on_literals}
+use Rattle.wb_words.specs.Arguments.{number_in}
+use Rattle.wb_words.proofs.OnLiterals.{words_on_literals}
+use Rattle.wb_words.proofs.laws.options_are_read.Goals as goal
+
+pub returns : goal.returns
+unfolding words_on_literals clap_on_literals number_in
+returns c = record {
+  last = refl;
+  first = refl;
+  equals = refl;
+  escaped = refl;
+  hyphen = refl;
+}

@@ -1,0 +1,112 @@
+-- The subcommands of the office with their arguments, as `clap` knows them (this project's own).
+use Rattle.std.specs.Prelude.{List, [], ◌∷◌, ◌++◌, Some, true, codes, map}
+use Rattle.std.specs.Borrow.{Bor}
+use Rattle.clap.specs.Lexer.{usize_max}
+use Rattle.clap.specs.Words.{App, Rule, Shape, Text, new_app, new_rule, with_rule, with_subcommand}
+use Rattle.clap.specs.declared.builder.action.ArgAction.TheVariants.{Append, Set}
+use Rattle.wb_words.specs.declared.usage.ArgumentKind.{ArgumentKind}
+use Rattle.wb_words.specs.declared.usage.ArgumentKind.TheVariants.{AnyWords, NamedWord, SomeWords, Word}
+
+-- ---- the subcommands, and the arguments of each
+
+-- an argument is its name and its kind
+abbrev pub Argument : Type 0
+Argument = Text × ArgumentKind
+
+-- a subcommand is its name and its arguments, in their order
+abbrev pub Usage : Type 0
+Usage = Text × List Argument
+
+-- the usages that a table of references holds
+abbrev pub usages_in : List (Bor Text × Bor (List (Bor Text × ArgumentKind))) → List Usage
+usages_in = map (λ usage. (
+  usage.0.now,
+  map (λ argument. (argument.0.now, argument.1)) usage.1.now,
+))
+
+-- the arguments that take one word each
+abbrev pub words : List Text → List Argument
+words = map (λ id. (id, Word))
+
+-- the arguments that name a source package
+abbrev pub subject : List Argument
+subject = words (codes "arch" ∷ codes "source" ∷ codes "version" ∷ [])
+
+-- the subcommands of operators
+abbrev pub operator_usages : List Usage
+operator_usages = (codes "add-arch", words (codes "name" ∷ codes "os" ∷ codes "cpu" ∷ []))
+    ∷ (codes "add-builder", words (codes "name" ∷ codes "arch" ∷ []))
+    ∷ (codes "enter", subject ++ words (codes "priority" ∷ codes "section" ∷ []))
+    ∷ (codes "give-back", subject)
+    ∷ (codes "dep-wait", subject ++ (codes "relations", SomeWords) ∷ [])
+    ∷ (codes "fail", subject ++ (codes "note", AnyWords) ∷ [])
+    ∷ (codes "not-for-us", subject ++ (codes "note", AnyWords) ∷ [])
+    ∷ (codes "rebuild", subject ++ (codes "number", Word) ∷ (codes "message", AnyWords) ∷ [])
+    ∷ []
+
+-- the subcommands of builders
+abbrev pub builder_usages : List Usage
+builder_usages = (
+  codes "next",
+  words (codes "arch" ∷ codes "builder" ∷ []) ++ (codes "after", NamedWord) ∷ [],
+)
+    ∷ (
+      codes "take",
+      words (codes "arch" ∷ codes "builder" ∷ codes "source" ∷ codes "version" ∷ []),
+    )
+    ∷ (codes "built", words (codes "take" ∷ []))
+    ∷ (codes "uploaded", words (codes "take" ∷ []))
+    ∷ (codes "put-back", words (codes "take" ∷ []))
+    ∷ (codes "waits", (codes "take", Word) ∷ (codes "relations", SomeWords) ∷ [])
+    ∷ []
+
+-- the subcommands that read lists of the archive
+abbrev pub list_usages : List Usage
+list_usages = (codes "merge", (codes "sources", Word) ∷ (codes "parts", SomeWords) ∷ []) ∷ []
+
+-- ---- the command line, as `clap` knows it
+
+-- the rule of an argument
+abbrev pub rule_for : Text → ArgumentKind → Rule
+rule_for id Word = record (new_rule id) { required = true; action = Some Set }
+rule_for id NamedWord = record (new_rule id) { long = Some id; action = Some Set }
+rule_for id SomeWords = record (new_rule id) {
+  required = true;
+  action = Some Append;
+  range = Some (record { start_inclusive = 1; end_inclusive = usize_max });
+}
+rule_for id AnyWords = record (new_rule id) {
+  action = Some Append;
+  range = Some (record { start_inclusive = 0; end_inclusive = usize_max });
+}
+
+-- a command with further arguments
+abbrev pub with_arguments : App → List Argument → App
+with_arguments app [] = app
+with_arguments app (argument ∷ arguments) =
+    with_arguments (with_rule app (rule_for argument.0 argument.1)) arguments
+
+-- the subcommand of a usage
+abbrev pub subcommand_shape : Usage → Shape
+subcommand_shape usage = (with_arguments (new_app usage.0) usage.1).top
+
+-- a command with further subcommands
+abbrev pub with_usages : App → List Usage → App
+with_usages app [] = app
+with_usages app (usage ∷ usages) =
+    with_usages (with_subcommand app (subcommand_shape usage)) usages
+
+-- a command whose first word is a subcommand, and which gives no help
+abbrev pub bare_app : App
+bare_app = record (new_app (codes "wb")) {
+  top = record ((new_app (codes "wb")).top) {
+    no_binary_name = true;
+    disable_help_flag = true;
+    disable_help_subcommand = true;
+    subcommand_required = true;
+  };
+}
+
+-- the command of a line, with all its subcommands
+unfoldable pub wb_app : App
+wb_app = with_usages (with_usages (with_usages bare_app operator_usages) builder_usages) list_usages
