@@ -23,8 +23,13 @@ fn text(alloc: Global, text: &str) -> Result<Text, Fail> {
     Ok(Text::copied(alloc, text)?)
 }
 
-fn record_in(alloc: Global, state: State) -> Result<Record, Fail> {
-    let is_held = matches!(state, State::Building | State::Built | State::Uploaded);
+fn record_of(
+    alloc: Global,
+    state: State,
+    holder: Option<Text>,
+    waits: &str,
+) -> Result<Record, Fail> {
+    let take = if holder.is_some() { Some(7) } else { None };
     Ok(Record {
         state,
         version: Version::parse(alloc, "1.0-1")?,
@@ -32,74 +37,126 @@ fn record_in(alloc: Global, state: State) -> Result<Record, Fail> {
         section: text(alloc, "devel")?,
         earlier: true,
         number: 1,
-        holder: if is_held {
-            Some(text(alloc, "b1")?)
-        } else {
-            None
-        },
-        take: if is_held { Some(7) } else { None },
-        waits: text(alloc, if state == State::DepWait { "bb" } else { "" })?,
+        holder,
+        take,
+        waits: text(alloc, waits)?,
         depends: None,
         note: text(alloc, "before")?,
-        message: text(alloc, "why")?,
+        message: Text::new(alloc),
     })
 }
 
-fn waits(alloc: Global) -> Result<(Relations, ArchWords), Fail> {
-    Ok((
-        Relations::parse(alloc, "aa (> 1) [any]")?,
-        ArchWords::new(alloc, "amd64", "linux", "amd64")?,
-    ))
+fn record_in(alloc: Global, state: State) -> Result<Record, Fail> {
+    match state {
+        State::Building | State::Built | State::Uploaded => {
+            let holder = text(alloc, "b1")?;
+            record_of(alloc, state, Some(holder), "")
+        }
+        State::DepWait => record_of(alloc, state, None, "bb"),
+        _ => record_of(alloc, state, None, ""),
+    }
+}
+
+fn relations(alloc: Global) -> Result<Relations, Fail> {
+    Ok(Relations::parse(alloc, "aa (> 1) [any]")?)
+}
+
+fn amd64(alloc: Global) -> Result<ArchWords, Fail> {
+    Ok(ArchWords::new(alloc, "amd64", "linux", "amd64")?)
+}
+
+fn take(alloc: Global) -> Result<Move, Fail> {
+    Ok(Move::Take {
+        holder: text(alloc, "b1")?,
+        take_number: 8,
+    })
+}
+
+fn waits(alloc: Global) -> Result<Move, Fail> {
+    Ok(Move::Waits {
+        relations: relations(alloc)?,
+        arch: amd64(alloc)?,
+    })
+}
+
+fn dep_wait(alloc: Global) -> Result<Move, Fail> {
+    Ok(Move::DepWait {
+        relations: relations(alloc)?,
+        arch: amd64(alloc)?,
+    })
+}
+
+fn fail(alloc: Global) -> Result<Move, Fail> {
+    Ok(Move::Fail {
+        note: text(alloc, "after")?,
+    })
+}
+
+fn not_for_us(alloc: Global) -> Result<Move, Fail> {
+    Ok(Move::NotForUs {
+        note: text(alloc, "after")?,
+    })
+}
+
+fn rebuild(alloc: Global) -> Result<Move, Fail> {
+    Ok(Move::Rebuild {
+        number: 2,
+        message: text(alloc, "after")?,
+    })
 }
 
 fn move_at(alloc: Global, place: usize) -> Result<Move, Fail> {
-    let (relations, arch) = waits(alloc)?;
-    let note = text(alloc, "after")?;
-    Ok(match place {
-        0 => Move::Take {
-            holder: note,
-            take_number: 8,
-        },
-        1 => Move::Built,
-        2 => Move::Uploaded,
-        3 => Move::Waits { relations, arch },
-        4 => Move::PutBack,
-        5 => Move::GiveBack,
-        6 => Move::DepWait { relations, arch },
-        7 => Move::Fail { note },
-        8 => Move::NotForUs { note },
-        _ => Move::Rebuild {
-            number: 2,
-            message: note,
-        },
-    })
+    match place {
+        0 => take(alloc),
+        1 => Ok(Move::Built),
+        2 => Ok(Move::Uploaded),
+        3 => waits(alloc),
+        4 => Ok(Move::PutBack),
+        5 => Ok(Move::GiveBack),
+        6 => dep_wait(alloc),
+        7 => fail(alloc),
+        8 => not_for_us(alloc),
+        _ => rebuild(alloc),
+    }
 }
 
-/// Whether the move of this place is done from the state of this code, as the table says, or else refused by the state.
-fn is_done(alloc: Global, place: usize, code: u8) -> Result<bool, Fail> {
+/// The state after the move, or the state that refused it.
+fn state_after(
+    alloc: Global,
+    current: &Record,
+    change: &Move,
+) -> Result<Result<State, State>, Fail> {
+    match move_record(alloc, current, change) {
+        Ok(moved) => Ok(Ok(moved.state)),
+        Err(Refusal::WrongState { state }) => Ok(Err(state)),
+        Err(_) => Err("another refusal")?,
+    }
+}
+
+/// Whether the move of this place is done from the state of this code and ends in the goal, or is refused by the state.
+fn is_done(alloc: Global, place: usize, goal: u8, code: u8) -> Result<bool, Fail> {
     let state = State::of_code(code).ok_or("no state")?;
+    let current = record_in(alloc, state)?;
     let change = move_at(alloc, place)?;
-    match move_record(alloc, &record_in(alloc, state)?, &change) {
-        Ok(moved) => Ok(moved.state.code() == TABLE[place].1),
-        Err(Refusal::WrongState { state: told }) if told == state => Ok(false),
-        Err(_) => Err(Fail::from("another refusal")),
+    match state_after(alloc, &current, &change)? {
+        Ok(after) if after.code() == goal => Ok(true),
+        Err(told) if told == state => Ok(false),
+        _ => Err("another answer")?,
     }
 }
 
 #[test]
 fn each_state_and_move(rt: HostRuntime) -> Result<(), Fail> {
-    let mut done = 0;
-    for place in 0..TABLE.len() {
+    let mut done: u64 = 0;
+    for (place, (codes, goal)) in TABLE.iter().enumerate() {
         for code in 0..9u8 {
-            let is_done = is_done(rt.alloc(), place, code)?;
+            let is_done = is_done(rt.alloc(), place, *goal, code)?;
             assert_eq!(rt;
                 is_done,
-                TABLE[place].0.contains(&code),
+                codes.contains(&code),
                 "at move {place} and state {code}"
             );
-            if is_done {
-                done += 1;
-            }
+            done = done.saturating_add(u64::from(is_done));
         }
     }
     assert_eq!(rt; done, 28);
