@@ -1,58 +1,7 @@
 //! What words ask for, and what is told of refusals.
 use std::test::Fail;
-use wb_states::{Command, Refusal, State};
-use wb_words::{Asked, Start, WordsFault, asked_of, start_of};
-
-#[test]
-fn commands(rt: HostRuntime) -> Result<(), Fail> {
-    let words = ["next", "amd64", "--after=+5", "--", "-b1"];
-    match asked_of(rt.alloc(), &words) {
-        Ok(
-            Asked::Command {
-                command: Command::Next {
-                    arch,
-                    builder,
-                    after,
-                },
-            },
-        ) => {
-            assert_eq!(rt; arch.as_str(), "amd64");
-            assert_eq!(rt; builder.as_str(), "-b1");
-            assert_eq!(rt; after, Some(5));
-        }
-        _ => return Err("no command")?,
-    }
-    for words in [["next", "amd64"], ["next", "--help"], ["help", "next"]] {
-        let fault = asked_of(rt.alloc(), &words).err();
-        assert_eq!(rt; fault, Some(WordsFault::NoCommand), "{words:?}");
-    }
-    Ok(())
-}
-
-#[test]
-fn several_words(rt: HostRuntime) -> Result<(), Fail> {
-    let words = ["fail", "amd64", "hello", "1.0", "a", "--", "-h", "--", "b"];
-    match asked_of(rt.alloc(), &words) {
-        Ok(
-            Asked::Command {
-                command: Command::Fail { note, .. },
-            },
-        ) => assert_eq!(rt; note.as_str(), "a -h -- b"),
-        _ => return Err("no command")?,
-    }
-    match asked_of(rt.alloc(), &["merge", "Sources", "a=b=c", "=d"]) {
-        Ok(Asked::Merge { sources, parts }) => {
-            assert_eq!(rt; sources.as_str(), "Sources");
-            for (part, (arch, packages)) in parts.as_slice().iter().zip([("a", "b=c"), ("", "d")]) {
-                assert_eq!(rt; part.arch.as_str(), arch);
-                assert_eq!(rt; part.packages.as_str(), packages);
-            }
-            assert_eq!(rt; parts.as_slice().len(), 2);
-        }
-        _ => return Err("no merge")?,
-    }
-    Ok(())
-}
+use wb_states::{Refusal, State};
+use wb_words::{Start, start_of};
 
 #[test]
 fn starts(rt: HostRuntime) {
