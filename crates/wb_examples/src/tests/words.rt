@@ -1,5 +1,4 @@
 //! What words ask for, and what is told of refusals.
-use std::test::Fail;
 use wb_states::{Refusal, State};
 use wb_words::{Start, start_of};
 
