@@ -1,4 +1,5 @@
 mod failing;
+mod kept;
 mod lists;
 mod moves;
 mod names;

@@ -41,6 +41,13 @@ impl Office {
         }
     }
 
+    /// The tables of the office, to look up what no reply shows. Takes no memory (this project's own).
+    pub fn store(&self) -> &Store
+        ensures value { result.now ≡ self.now }
+    {
+        &self.store
+    }
+
     /// How many commands were accepted. Takes no memory.
     pub fn accepted(&self) -> u64
         ensures value { result ≡ self.now.accepted }

@@ -1,0 +1,367 @@
+//! What is kept of a source package after lines in a row: the fields that no answer shows, too.
+use super::lists::MemoryLists;
+use deb_relations::Text;
+use std::alloc::Global;
+use std::process::Abort;
+use std::test::Fail;
+use wb_daemon::run_lines;
+use wb_office::Office;
+use wb_states::State;
+
+/// A record's fields, save the holder and the take number, which it has none of here.
+struct Kept<'a> {
+    state: State,
+    version: &'a str,
+    priority: &'a str,
+    section: &'a str,
+    earlier: bool,
+    number: u16,
+    waits: &'a str,
+    depends: Option<&'a str>,
+    note: &'a str,
+    message: &'a str,
+}
+
+/// The lists that the lines name.
+static LISTS: [(&str, &str); 7] = [
+    (
+        "sources",
+        "Package: ss\nVersion: 1.0\nArchitecture: any\nPriority: extra\nSection: net\nBuild-Depends: debhelper-compat (= 13), libx-dev (>= 2) [linux-any],\n libz-dev [arm64] | libz2-dev [arm64], gcc:native <!nocheck>, doxygen <doc>\nBuild-Depends-Arch: liby-dev\n",
+    ),
+    ("newer", "Package: ss\nVersion: 1.1\nArchitecture: any\n"),
+    (
+        "broken",
+        "Package: ss\nVersion: 1.2\nArchitecture: any\nBuild-Depends: aa (1)\n",
+    ),
+    (
+        "before",
+        "Package: libx-dev\nVersion: 2~rc1\nArchitecture: amd64\n",
+    ),
+    (
+        "packages",
+        "Package: libx-dev\nVersion: 2\nArchitecture: all\n",
+    ),
+    ("built", "Package: ss\nVersion: 1.0\nArchitecture: amd64\n"),
+    (
+        "rebuilt",
+        "Package: ss-bin\nSource: ss (1.0)\nVersion: 1.0+b3\nArchitecture: amd64\n",
+    ),
+];
+
+/// Lines in a row, and what is kept of `ss` after them.
+static WAITS: [(&str, Kept<'static>); 9] = [
+    (
+        "add-arch amd64 linux amd64\nadd-builder b1 amd64\nenter amd64 ss 1.0 optional devel\nnext amd64 b1\nwaits 1 libx-dev (>= 2) [any], libw-dev [i386]",
+        Kept {
+            state: State::DepWait,
+            version: "1.0",
+            priority: "optional",
+            section: "devel",
+            earlier: false,
+            number: 0,
+            waits: "libx-dev (>= 2)",
+            depends: Some(""),
+            note: "",
+            message: "",
+        },
+    ),
+    (
+        "merge sources amd64=before",
+        Kept {
+            state: State::DepWait,
+            version: "1.0",
+            priority: "extra",
+            section: "net",
+            earlier: false,
+            number: 0,
+            waits: "libx-dev (>= 2)",
+            depends: Some("debhelper-compat (= 13), libx-dev (>= 2), gcc:native, liby-dev"),
+            note: "",
+            message: "",
+        },
+    ),
+    (
+        "merge sources amd64=packages",
+        Kept {
+            state: State::NeedsBuild,
+            version: "1.0",
+            priority: "extra",
+            section: "net",
+            earlier: false,
+            number: 0,
+            waits: "",
+            depends: Some("debhelper-compat (= 13), libx-dev (>= 2), gcc:native, liby-dev"),
+            note: "",
+            message: "",
+        },
+    ),
+    (
+        "fail amd64 ss 1.0 no space",
+        Kept {
+            state: State::Failed,
+            version: "1.0",
+            priority: "extra",
+            section: "net",
+            earlier: false,
+            number: 0,
+            waits: "",
+            depends: Some("debhelper-compat (= 13), libx-dev (>= 2), gcc:native, liby-dev"),
+            note: "no space",
+            message: "",
+        },
+    ),
+    (
+        "merge sources amd64=packages",
+        Kept {
+            state: State::Failed,
+            version: "1.0",
+            priority: "extra",
+            section: "net",
+            earlier: false,
+            number: 0,
+            waits: "",
+            depends: Some("debhelper-compat (= 13), libx-dev (>= 2), gcc:native, liby-dev"),
+            note: "no space",
+            message: "",
+        },
+    ),
+    (
+        "dep-wait amd64 ss 1.0 libx-dev",
+        Kept {
+            state: State::DepWait,
+            version: "1.0",
+            priority: "extra",
+            section: "net",
+            earlier: false,
+            number: 0,
+            waits: "libx-dev",
+            depends: Some("debhelper-compat (= 13), libx-dev (>= 2), gcc:native, liby-dev"),
+            note: "",
+            message: "",
+        },
+    ),
+    (
+        "not-for-us amd64 ss 1.0 x86 only",
+        Kept {
+            state: State::NotForUs,
+            version: "1.0",
+            priority: "extra",
+            section: "net",
+            earlier: false,
+            number: 0,
+            waits: "",
+            depends: Some("debhelper-compat (= 13), libx-dev (>= 2), gcc:native, liby-dev"),
+            note: "x86 only",
+            message: "",
+        },
+    ),
+    (
+        "merge newer amd64=packages",
+        Kept {
+            state: State::NotForUs,
+            version: "1.1",
+            priority: "",
+            section: "",
+            earlier: false,
+            number: 0,
+            waits: "",
+            depends: Some(""),
+            note: "x86 only",
+            message: "",
+        },
+    ),
+    (
+        "give-back amd64 ss 1.1",
+        Kept {
+            state: State::NeedsBuild,
+            version: "1.1",
+            priority: "",
+            section: "",
+            earlier: false,
+            number: 0,
+            waits: "",
+            depends: Some(""),
+            note: "",
+            message: "",
+        },
+    ),
+];
+
+/// The same of a source package that is built, rebuilt and superseded.
+static REBUILD: [(&str, Kept<'static>); 8] = [
+    (
+        "add-arch amd64 linux amd64\nadd-builder b1 amd64\nmerge sources amd64=built",
+        Kept {
+            state: State::Installed,
+            version: "1.0",
+            priority: "extra",
+            section: "net",
+            earlier: true,
+            number: 0,
+            waits: "",
+            depends: Some("debhelper-compat (= 13), libx-dev (>= 2), gcc:native, liby-dev"),
+            note: "",
+            message: "",
+        },
+    ),
+    (
+        "rebuild amd64 ss 1.0 2 against the new libbar",
+        Kept {
+            state: State::NeedsBuild,
+            version: "1.0",
+            priority: "extra",
+            section: "net",
+            earlier: true,
+            number: 2,
+            waits: "",
+            depends: Some("debhelper-compat (= 13), libx-dev (>= 2), gcc:native, liby-dev"),
+            note: "",
+            message: "against the new libbar",
+        },
+    ),
+    (
+        "next amd64 b1\nput-back 1\nmerge sources amd64=built",
+        Kept {
+            state: State::NeedsBuild,
+            version: "1.0",
+            priority: "extra",
+            section: "net",
+            earlier: true,
+            number: 2,
+            waits: "",
+            depends: Some("debhelper-compat (= 13), libx-dev (>= 2), gcc:native, liby-dev"),
+            note: "",
+            message: "against the new libbar",
+        },
+    ),
+    (
+        "merge sources amd64=rebuilt",
+        Kept {
+            state: State::Installed,
+            version: "1.0",
+            priority: "extra",
+            section: "net",
+            earlier: true,
+            number: 3,
+            waits: "",
+            depends: Some("debhelper-compat (= 13), libx-dev (>= 2), gcc:native, liby-dev"),
+            note: "",
+            message: "against the new libbar",
+        },
+    ),
+    (
+        "merge sources amd64=before",
+        Kept {
+            state: State::NeedsBuild,
+            version: "1.0",
+            priority: "extra",
+            section: "net",
+            earlier: true,
+            number: 3,
+            waits: "",
+            depends: Some("debhelper-compat (= 13), libx-dev (>= 2), gcc:native, liby-dev"),
+            note: "",
+            message: "against the new libbar",
+        },
+    ),
+    (
+        "merge newer amd64=built",
+        Kept {
+            state: State::NeedsBuild,
+            version: "1.1",
+            priority: "",
+            section: "",
+            earlier: true,
+            number: 0,
+            waits: "",
+            depends: Some(""),
+            note: "",
+            message: "",
+        },
+    ),
+    (
+        "merge broken amd64=before",
+        Kept {
+            state: State::NeedsBuild,
+            version: "1.2",
+            priority: "",
+            section: "",
+            earlier: true,
+            number: 0,
+            waits: "",
+            depends: None,
+            note: "",
+            message: "",
+        },
+    ),
+    (
+        "merge sources amd64=before",
+        Kept {
+            state: State::NeedsBuild,
+            version: "1.2",
+            priority: "",
+            section: "",
+            earlier: true,
+            number: 0,
+            waits: "",
+            depends: None,
+            note: "",
+            message: "",
+        },
+    ),
+];
+
+fn run(alloc: Global, office: &mut Office, lines: &str) -> u8 {
+    let mut reader = lines.as_bytes();
+    let mut writer: Vec<u8> = Vec::new(alloc);
+    let mut lists = MemoryLists { rows: &LISTS };
+    run_lines(alloc, office, &mut reader, &mut writer, &mut lists)
+}
+
+fn assert_kept(
+    rt: &(impl Abort + AllocGlobal),
+    office: &Office,
+    lines: &str,
+    want: &Kept,
+) -> Result<(), Fail> {
+    let arch = Text::copied(rt.alloc(), "amd64")?;
+    let source = Text::copied(rt.alloc(), "ss")?;
+    let current = office.store().get(&arch, &source)?.ok_or("no record")?;
+    assert_eq!(rt; current.state, want.state, "{lines}");
+    assert_eq!(rt; current.version.text(), want.version, "{lines}");
+    assert_eq!(rt; current.priority.as_str(), want.priority, "{lines}");
+    assert_eq!(rt; current.section.as_str(), want.section, "{lines}");
+    assert_eq!(rt; current.earlier, want.earlier, "{lines}");
+    assert_eq!(rt; current.number, want.number, "{lines}");
+    assert_eq!(rt; current.waits.as_str(), want.waits, "{lines}");
+    assert_eq!(rt;
+        current.depends.as_ref().map(Text::as_str),
+        want.depends,
+        "{lines}"
+    );
+    assert_eq!(rt; current.note.as_str(), want.note, "{lines}");
+    assert_eq!(rt; current.message.as_str(), want.message, "{lines}");
+    assert!(rt; current.holder.is_none(), "{lines}");
+    assert!(rt; current.take.is_none(), "{lines}");
+    Ok(())
+}
+
+fn in_a_row(rt: &(impl Abort + AllocGlobal), cases: &[(&str, Kept)]) -> Result<(), Fail> {
+    let mut office = Office::new(rt.alloc());
+    for (lines, want) in cases {
+        let status = run(rt.alloc(), &mut office, lines);
+        assert_eq!(rt; status, 0, "{lines}");
+        assert_kept(rt, &office, lines, want)?;
+    }
+    Ok(())
+}
+
+#[test]
+fn after_waits_and_notes(rt: HostRuntime) -> Result<(), Fail> {
+    in_a_row(&rt, &WAITS)
+}
+
+#[test]
+fn after_rebuilds(rt: HostRuntime) -> Result<(), Fail> {
+    in_a_row(&rt, &REBUILD)
+}
