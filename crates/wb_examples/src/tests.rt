@@ -1,5 +1,6 @@
 mod failing;
 mod kept;
+mod limits;
 mod lists;
 mod moves;
 mod names;

@@ -41,6 +41,14 @@ impl Office {
         }
     }
 
+    /// The office over tables that are there already. Takes no memory; the allocator is kept for the calls
+    /// that follow (this project's own).
+    pub fn over(alloc: Global, store: Store) -> Office
+        ensures value { result ≡ store }
+    {
+        Office { alloc, store }
+    }
+
     /// The tables of the office, to look up what no reply shows. Takes no memory (this project's own).
     pub fn store(&self) -> &Store
         ensures value { result.now ≡ self.now }

@@ -111,7 +111,7 @@ static REFUSALS: [(&str, &str, u8); 15] = [
 ];
 
 /// Runs of one office each: the input, what is printed, and the status.
-static INPUTS: [(&str, &str, u8); 11] = [
+static INPUTS: [(&str, &str, u8); 13] = [
     ("", "", 0),
     ("\n \t\n\n", "", 0),
     (
@@ -128,6 +128,8 @@ static INPUTS: [(&str, &str, u8); 11] = [
     ("help\n", "{\"fault\":\"line\"}\n", 2),
     ("next amd64 b1 --help\n", "{\"fault\":\"line\"}\n", 2),
     ("next amd64\n", "{\"fault\":\"line\"}\n", 2),
+    ("built x\n", "{\"fault\":\"line\"}\n", 2),
+    ("merge Sources amd64\n", "{\"fault\":\"line\"}\n", 2),
     (
         "next amd64 -- -b1\n",
         "{\"code\":11,\"refused\":\"BadName\"}\n",
