@@ -33,7 +33,8 @@ impl<'a, F: Files> Lists for FileLists<'a, F> {
 /// Answers the lines of the input, or says how the program is used.
 ///
 /// Ends with 0 where all was accepted or help was asked for, with 1 after a refusal, with 2 where a line
-/// or the program's own words are no command, and with 3 where reading or writing failed.
+/// or the program's own words are no command, and with 3 where a list cannot be read, or where reading,
+/// writing or memory failed before the end of the input.
 fn main(rt: HostRuntime) -> ExitCode {
     let status = match start(&rt) {
         Some(Start::Run) => run(&rt),

@@ -9,8 +9,9 @@ use std::fmt;
 /// Why the words of a line gave no command.
 #[derive(Clone, Copy, Debug, PartialEq, Eq)]
 pub enum WordsFault {
-    /// The words are no command: the subcommand is missing or unknown, an argument is missing, or
-    /// there is a word too many or an option that is unknown.
+    /// The words are no command: the subcommand is missing or unknown, or is help; an argument is
+    /// missing, is no number where one is wanted, or no part; or there is a word too many, an unknown
+    /// option, or `--after` twice or without its number.
     NoCommand,
     /// There is no memory to read them now.
     Memory,

@@ -34,7 +34,7 @@ one line of JSON. The commands are:
           Puts a source package into the queue of an architecture
   next ARCH BUILDER [--after N]
           Gives a builder the first source package of the queue, or tells it
-          again of what it holds under the first take number after N
+          again of what it builds under the first take number after N
   take ARCH BUILDER SOURCE VERSION
           Gives a builder this source package of the queue
   built TAKE
