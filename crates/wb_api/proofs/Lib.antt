@@ -1,1 +1,3 @@
 mod EncodingLemmas
+mod OneLineLemmas
+mod PlainLemmas

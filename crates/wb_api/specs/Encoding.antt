@@ -1,8 +1,8 @@
 -- The JSON texts of what the office answers (RFC 8259), with their keys in byte order and no space; the keys are this project's own.
 -- A text is written here piece by piece, as it stands in the output: `decimal` gives a number's digits, `quoted` a text between
 -- quotation marks with JSON's shortest escapes, and `concat` the pieces one after the other.
-use Rattle.std.specs.Prelude.{◌≡◌, ℕ, List, [], ◌∷◌, ◌++◌, map, Option, None, Some, codes, decimal}
-use Rattle.std.specs.List.{concat, join_with_byte}
+use Rattle.std.specs.Prelude.{◌≡◌, ℕ, ◌==◌, Bool, true, false, List, [], ◌∷◌, ◌++◌, map, Option, None, Some, codes, decimal}
+use Rattle.std.specs.List.{concat, join_with_byte, list_any}
 use Rattle.std.specs.Cow.{cow_str_bytes, IsBorrowedStr}
 use Rattle.std.specs.declared.alloc.Global.{Global}
 use Rattle.std.specs.declared.borrow.CowStr.{CowStr}
@@ -106,6 +106,16 @@ reply_text name (Merged accepted parts) = concat
 abbrev pub memory_text : List ℕ
 memory_text = codes "{\"code\":20,\"refused\":\"Memory\"}"
 
+-- whether a refusal tells no more than its number and its name, so that its text is a constant (this project's own)
+abbrev pub is_plain : Refusal → Bool
+is_plain (OtherVersion have) = false
+is_plain (WrongState state) = false
+is_plain (AfterAhead handed) = false
+is_plain (BadVersion fault) = false
+is_plain (BadRelations fault) = false
+is_plain (BadListing which paragraph fault) = false
+is_plain refusal = true
+
 -- the text for want of memory as a borrowed constant, which takes none (this project's own)
 abbrev pub IsMemoryText : CowStr Global → Type 0
 IsMemoryText text = IsBorrowedStr text × (cow_str_bytes text ≡ memory_text)
@@ -117,3 +127,7 @@ line_fault_text = codes "{\"fault\":\"line\"}"
 -- the text in answer to a line that names a file which cannot be read (this project's own)
 abbrev pub file_fault_text : List ℕ
 file_fault_text = codes "{\"fault\":\"file\"}"
+
+-- a text without a line feed (this project's own)
+abbrev pub IsOneLine : List ℕ → Type 0
+IsOneLine text = list_any (λ c. c == 10) text ≡ false

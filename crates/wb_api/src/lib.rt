@@ -3,6 +3,7 @@
 
 mod encode;
 mod fault;
+pub mod laws;
 mod refusal;
 
 pub use encode::reply_json;

@@ -1,10 +1,10 @@
 //! The refusals of the office as compact JSON, with the keys of each object in byte order.
-ghost use Rattle.std.specs.Prelude.{◌≡◌, ◌⊎◌, IfOk};
+ghost use Rattle.std.specs.Prelude.{◌≡◌, ◌⊎◌, true, is_some, IfOk, IfSome};
 ghost use Rattle.std.specs.String.{string_bytes};
-ghost use Rattle.std.specs.Cow.{cow_str_bytes};
+ghost use Rattle.std.specs.Cow.{cow_str_bytes, IsBorrowedStr};
 ghost use Rattle.serde_json.specs.View.{view};
 ghost use Rattle.wb_states.specs.declared.refusal.Refusal.TheVariants.{Memory};
-ghost use Rattle.wb_api.specs.Encoding.{name_of_relations, refusal_text, IsMemoryText};
+ghost use Rattle.wb_api.specs.Encoding.{is_plain, name_of_relations, refusal_text, IsMemoryText};
 ghost use Rattle.wb_api.specs.Values.{value_of_listing, value_of_refusal};
 
 use deb_relations::RelationFault;
@@ -16,17 +16,47 @@ use wb_states::{ListKind, ListingFault, Refusal};
 /// The refusal for want of memory, whose text must not need any.
 const MEMORY: &str = "{\"code\":20,\"refused\":\"Memory\"}";
 
+/// The text of a refusal that tells no more than its number and its name, which is a constant.
+fn constant_text(refusal: &Refusal) -> Option<&'static str>
+    ensures value { IfSome result (λ text. text.now ≡ refusal_text refusal.now) }
+    ensures some { is_some result ≡ is_plain refusal.now }
+{
+    match refusal {
+        Refusal::UnknownArch => Some(r#"{"code":1,"refused":"UnknownArch"}"#),
+        Refusal::UnknownBuilder => Some(r#"{"code":2,"refused":"UnknownBuilder"}"#),
+        Refusal::WrongArch => Some(r#"{"code":3,"refused":"WrongArch"}"#),
+        Refusal::UnknownSource => Some(r#"{"code":4,"refused":"UnknownSource"}"#),
+        Refusal::QueueEmpty => Some(r#"{"code":7,"refused":"QueueEmpty"}"#),
+        Refusal::NotHeld => Some(r#"{"code":8,"refused":"NotHeld"}"#),
+        Refusal::AlreadyThere => Some(r#"{"code":10,"refused":"AlreadyThere"}"#),
+        Refusal::BadName => Some(r#"{"code":11,"refused":"BadName"}"#),
+        Refusal::BadNumber => Some(r#"{"code":14,"refused":"BadNumber"}"#),
+        Refusal::TextTooLong => Some(r#"{"code":17,"refused":"TextTooLong"}"#),
+        Refusal::Spent => Some(r#"{"code":18,"refused":"Spent"}"#),
+        Refusal::Memory => Some(r#"{"code":20,"refused":"Memory"}"#),
+        Refusal::RepeatedArch => Some(r#"{"code":22,"refused":"RepeatedArch"}"#),
+        Refusal::OtherVersion { .. }
+        | Refusal::WrongState { .. }
+        | Refusal::AfterAhead { .. }
+        | Refusal::BadVersion { .. }
+        | Refusal::BadRelations { .. }
+        | Refusal::BadListing { .. } => None,
+    }
+}
+
 /// A refusal as one JSON object (RFC 8259), with no space and no line feed: its number, its name and what
 /// it tells further, in all as the keys of this project have it.
 ///
-/// There is no error: where there is no memory for the text, the refusal for want of memory stands in its
-/// place, which is a constant. The text of that refusal itself never takes memory.
+/// There is no error. The text of a refusal that tells nothing further is a constant, which takes no
+/// memory; where there is no memory for that of another, the refusal for want of memory stands in its place.
 pub fn refusal_json(alloc: Global, refusal: &Refusal) -> CowStr<'static>
     ensures value { (cow_str_bytes result ≡ refusal_text refusal.now) ⊎ IsMemoryText result }
+    ensures plain { is_plain refusal.now ≡ true
+        → IsBorrowedStr result × (cow_str_bytes result ≡ refusal_text refusal.now) }
     ensures memory { refusal.now ≡ Memory → IsMemoryText result }
 {
-    if let Refusal::Memory = refusal {
-        return CowStr::Borrowed(MEMORY);
+    if let Some(text) = constant_text(refusal) {
+        return CowStr::Borrowed(text);
     }
     match text_of_refusal(alloc, refusal) {
         Ok(text) => CowStr::Owned(text),
