@@ -1,5 +1,6 @@
 -- The faults of relations: their names, and what they say of the text (this project's own).
-use Rattle.std.specs.Prelude.{ℕ, List, codes}
+use Rattle.std.specs.Prelude.{ℕ, List, ◌++◌, codes, decimal}
+use Rattle.deb_version.specs.Faults.{fault_text as version_fault_text}
 use Rattle.deb_version.specs.declared.fault.VersionFault.{VersionFault}
 use Rattle.deb_version.specs.declared.fault.VersionFault.TheVariants as version
 use Rattle.deb_relations.specs.declared.fault.RelationFault.{RelationFault}
@@ -21,3 +22,15 @@ name_of Memory = codes "Memory"
 abbrev pub told : VersionFault → RelationFault
 told version.Memory = Memory
 told fault = BadVersion fault
+
+-- what is printed of a fault, for a person to read (this project's own)
+abbrev pub fault_text : RelationFault → List ℕ
+fault_text BadName = codes "a name is missing or bad"
+fault_text BadOperator = codes "an operator is missing or bad"
+fault_text (BadVersion fault) = version_fault_text fault
+fault_text Mixed = codes "some architectures of a list are negated"
+fault_text Unclosed = codes "a bracket is not closed"
+fault_text EmptyAlternative = codes "an alternative is empty"
+fault_text (Stray place) = codes "byte " ++ (decimal place ++ codes " belongs to no alternative")
+fault_text TooLong = codes "the relations have more than 65536 bytes"
+fault_text Memory = codes "out of memory"

@@ -56,6 +56,11 @@ impl RelationFault {
 }
 
 impl fmt::Display for RelationFault {
+    ghost use Rattle.std.specs.Prelude.{Some};
+    ghost use Rattle.deb_relations.specs.Faults.{fault_text};
+
+    ghost output = { λ fault. Some (fault_text fault) };
+
     fn fmt<W: fmt::Write>(&self, f: &mut fmt::Formatter<W>) -> fmt::Result {
         match self {
             RelationFault::BadName => write!(f, "a name is missing or bad"),

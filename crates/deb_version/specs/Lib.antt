@@ -1,3 +1,4 @@
+pub mod Faults
 pub mod Operator
 pub mod Order
 pub mod OrderLaws

@@ -58,6 +58,11 @@ impl VersionFault {
 }
 
 impl fmt::Display for VersionFault {
+    ghost use Rattle.std.specs.Prelude.{Some};
+    ghost use Rattle.deb_version.specs.Faults.{fault_text};
+
+    ghost output = { λ fault. Some (fault_text fault) };
+
     fn fmt<W: fmt::Write>(&self, f: &mut fmt::Formatter<W>) -> fmt::Result {
         match self {
             VersionFault::Empty => write!(f, "the version is empty"),

@@ -1,4 +1,5 @@
 pub mod Arguments
+pub mod Faults
 pub mod Start
 pub mod Usages
 pub mod Words

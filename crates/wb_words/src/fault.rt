@@ -18,6 +18,11 @@ pub enum WordsFault {
 }
 
 impl fmt::Display for WordsFault {
+    ghost use Rattle.std.specs.Prelude.{Some};
+    ghost use Rattle.wb_words.specs.Faults.{fault_text};
+
+    ghost output = { λ fault. Some (fault_text fault) };
+
     fn fmt<W: fmt::Write>(&self, f: &mut fmt::Formatter<W>) -> fmt::Result {
         match self {
             WordsFault::NoCommand => f.write_str("the words are no command"),
