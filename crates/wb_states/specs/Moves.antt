@@ -1,6 +1,6 @@
 -- The moves of a record from state to state, and what each sets (this project's own, in wanna-build's terms).
 -- The table of moves is read here column by column: the states from which a move goes, the state in which it ends, and what it sets.
-use Rattle.std.specs.Prelude.{ℕ, Bool, true, not, nat_eq, nat_le, nat_lt, List, [], ◌∷◌, ◌++◌, length, codes, Option, Some, None, Result, Ok, Err, if◌then◌else◌}
+use Rattle.std.specs.Prelude.{ℕ, Bool, true, not, nat_eq, nat_le, nat_lt, IsTrue, List, [], ◌∷◌, ◌++◌, length, codes, Option, Some, None, Result, Ok, Err, if◌then◌else◌}
 use Rattle.std.specs.List.{list_any}
 use Rattle.std.specs.Fmt.{decimal}
 use Rattle.deb_relations.specs.declared.arch.ArchWords.{ArchWords}
@@ -103,6 +103,15 @@ value_refusal (Waits relations arch) current = waits_refusal (waits_for relation
 value_refusal (ToDepWait relations arch) current = waits_refusal (waits_for relations arch)
 value_refusal (Rebuild number message) current = if nat_le number current.number then Some BadNumber else None
 value_refusal _ current = None
+
+-- whether the number of a move, where it has one, is above the record's
+abbrev pub has_higher_number : Move → Record → Bool
+has_higher_number (Rebuild number message) current = nat_lt current.number number
+has_higher_number _ current = true
+
+-- what is known before a move takes memory: it goes from the record's state, and its number, where it has one, is above the record's
+abbrev pub MayWantMemory : Move → Record → Type 0
+MayWantMemory move current = IsTrue (may_go move current.state) × IsTrue (has_higher_number move current)
 
 -- why a move is refused: the state, then its relations or its number
 unfoldable pub move_refusal : Move → Record → Option Refusal

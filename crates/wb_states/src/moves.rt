@@ -1,7 +1,7 @@
 //! The moves of a record from state to state.
-ghost use Rattle.std.specs.Prelude.{◌≡◌, ◌≢◌, None, Some, Ok, Err, IfOk, IfErr, OnOk, OnErr, if◌then◌else◌};
+ghost use Rattle.std.specs.Prelude.{◌≡◌, ◌≢◌, None, Some, Ok, Err, IsTrue, IfOk, IfErr, OnOk, OnErr, if◌then◌else◌};
 ghost use Rattle.wb_states.specs.declared.refusal.Refusal.TheVariants.{Memory};
-ghost use Rattle.wb_states.specs.Moves.{may_go, goal_of, set_by, note_of, note_after, settled_in, waits_for, waits_refusal, value_refusal, move_refusal, moved, move_of, build_text_of};
+ghost use Rattle.wb_states.specs.Moves.{may_go, goal_of, set_by, note_of, note_after, settled_in, waits_for, waits_refusal, value_refusal, has_higher_number, MayWantMemory, move_refusal, moved, move_of, build_text_of};
 
 use crate::{Record, Refusal, State};
 use deb_relations::{ArchWords, RelationFault, Relations, Text};
@@ -128,8 +128,11 @@ impl Move {
     /// Why the move is refused, where its state is not, for its relations or its number.
     fn refuse_value(&self, alloc: Global, current: &Record) -> Result<(), Refusal>
         ensures ok { OnOk result (value_refusal self.now current.now ≡ None) }
+        ensures above { OnOk result (IsTrue (has_higher_number self.now current.now)) }
         ensures refused { IfErr result (λ refusal. refusal ≢ Memory
             → value_refusal self.now current.now ≡ Some refusal) }
+        ensures memory { IfErr result (λ refusal. refusal ≡ Memory
+            → IsTrue (has_higher_number self.now current.now)) }
     {
         match self {
             Move::Waits { relations, arch } | Move::DepWait { relations, arch } => {
@@ -197,13 +200,15 @@ impl Record {
 /// The record after the move. It is refused with `WrongState` where the record is in a state from which
 /// this move does not go; then with `BadRelations` where nothing is left of its relations for the
 /// architecture, or more than 65536 bytes, and with `BadNumber` where its number is not above the
-/// record's; and with `Memory`, which may come at any point. The forms of notes and numbers are not
-/// looked at. The table of moves is this project's own, in wanna-build's terms.
+/// record's; and with `Memory`, which comes only behind `WrongState` and `BadNumber`, since neither takes
+/// any. The forms of notes and numbers are not looked at. The table of moves is this project's own, in
+/// wanna-build's terms.
 #[tactic(auto, unfolding(crate::specs::Moves::move_refusal, crate::specs::Moves::move_of))]
 pub fn move_record(alloc: Global, current: &Record, change: &Move) -> Result<Record, Refusal>
     ensures value { IfOk result (λ moved. move_of change.now current.now ≡ Ok moved) }
     ensures refused { IfErr result (λ refusal. refusal ≢ Memory
         → move_of change.now current.now ≡ Err refusal) }
+    ensures memory { IfErr result (λ refusal. refusal ≡ Memory → MayWantMemory change.now current.now) }
 {
     if !change.may_go(current.state) {
         return Err(Refusal::WrongState {
