@@ -1,3 +1,4 @@
 pub mod KeyLemmas
 pub mod MapLemmas
+pub mod MoveRowLemmas
 pub mod QueueLemmas

@@ -8,3 +8,4 @@ pub mod Queue
 pub mod Record
 pub mod Refusals
 pub mod State
+pub mod Table

@@ -1,0 +1,8 @@
+use Rattle.wb_states.proofs.MoveRowLemmas.{move_of-done, move_of-row}
+use Rattle.wb_states.proofs.laws.moves_follow_the_table.Goals as goal
+
+pub returns-clause-from : goal.returns-clause-from
+returns-clause-from c move old new done = (move_of-done move old new done).0
+
+pub returns-clause-row : goal.returns-clause-row
+returns-clause-row c = move_of-row

@@ -1,0 +1,20 @@
+-- The table of moves, row by row: what each makes of a record, of which all that its row does not name stays as it was (this project's own, in wanna-build's terms).
+use Rattle.std.specs.Prelude.{true, [], Some, None}
+use Rattle.wb_states.specs.declared.record.Record.{Record}
+use Rattle.wb_states.specs.declared.state.State.TheVariants.{NeedsBuild, Building, Built, Uploaded, DepWait, Failed, NotForUs}
+use Rattle.wb_states.specs.declared.moves.Move.{Move}
+use Rattle.wb_states.specs.declared.moves.Move.TheVariants.{Take, Built as ToBuilt, Uploaded as ToUploaded, Waits, PutBack, GiveBack, DepWait as ToDepWait, Fail, NotForUs as ToNotForUs, Rebuild}
+use Rattle.wb_states.specs.Moves.{waits_for}
+
+-- the record after a move, as the move's row of the table has it
+abbrev pub row_of : Move → Record → Record
+row_of (Take holder take_number) old = record old { state = Building; holder = Some holder; take = Some take_number; note = [] }
+row_of ToBuilt old = record old { state = Built; note = [] }
+row_of ToUploaded old = record old { state = Uploaded; note = [] }
+row_of (Waits relations arch) old = record old { state = DepWait; holder = None; take = None; waits = waits_for relations arch; note = [] }
+row_of PutBack old = record old { state = NeedsBuild; holder = None; take = None; note = [] }
+row_of GiveBack old = record old { state = NeedsBuild; holder = None; take = None; waits = []; note = [] }
+row_of (ToDepWait relations arch) old = record old { state = DepWait; holder = None; take = None; waits = waits_for relations arch; note = [] }
+row_of (Fail note) old = record old { state = Failed; holder = None; take = None; waits = []; note = note }
+row_of (ToNotForUs note) old = record old { state = NotForUs; holder = None; take = None; waits = []; note = note }
+row_of (Rebuild number message) old = record old { state = NeedsBuild; earlier = true; number = number; message = message; note = [] }
