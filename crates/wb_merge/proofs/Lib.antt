@@ -1,5 +1,6 @@
 pub mod CountLemmas
 pub mod FoldLemmas
+pub mod ForwardLemmas
 pub mod GreatestLemmas
 pub mod ListingLemmas
 pub mod MergeLemmas

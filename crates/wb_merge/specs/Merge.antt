@@ -1,5 +1,5 @@
 -- What a merge makes of the record of one source package, case by case (this project's own, in wanna-build's terms).
-use Rattle.std.specs.Prelude.{ℕ, Bool, true, false, ◌||◌, nat_le, List, [], Option, Some, None, Result, Ok, Err, is_some, if◌then◌else◌}
+use Rattle.std.specs.Prelude.{◌≡◌, ℕ, Bool, true, false, ◌||◌, nat_le, List, [], Option, Some, None, Result, Ok, Err, is_some, if◌then◌else◌}
 use Rattle.std.specs.declared.cmp.Ordering.{Ordering}
 use Rattle.std.specs.declared.cmp.Ordering.TheVariants.{Less, Equal, Greater}
 use Rattle.deb_version.specs.Order.{version_cmp}
@@ -128,3 +128,16 @@ abbrev pub after : Option Record → Option Listed → Option Built → Pairs �
 after current None built available = None
 after None (Some listed) built available = Some (new_record listed built)
 after (Some current) (Some listed) built available = Some (listed_record listed built available current)
+
+-- ---- holds
+
+-- whether a listing ends a hold: it has a later version than the record's, or the same one, built with at least the record's number
+abbrev pub ends_hold : Listed → Option Built → Record → Bool
+ends_hold listed built current =
+    by_order (version_cmp current.version listed.version) true (covers built listed.version current.number) false
+
+-- a record that is held as the one before it was: by the same builder, under the same take number, in the same state
+pub record HasSameHold (current new : Record) : Type 0 where
+  pub state : new.state ≡ current.state
+  pub holder : new.holder ≡ current.holder
+  pub take : new.take ≡ current.take

@@ -1,5 +1,5 @@
 -- The records after a merge of one architecture, at each key, and what it counts (this project's own).
-use Rattle.std.specs.Prelude.{ℕ, Bool, true, false, not, ◌&&◌, nat_eq, List, ◌++◌, length, filter, map, bytes_eq, Option, Some, None, if◌then◌else◌}
+use Rattle.std.specs.Prelude.{◌≡◌, ℕ, Bool, true, false, not, ◌&&◌, nat_eq, List, ◌++◌, length, filter, map, bytes_eq, Option, Some, None, if◌then◌else◌}
 use Rattle.std.specs.FinMap as finite
 use Rattle.wb_states.specs.declared.record.Record.{Record}
 use Rattle.wb_states.specs.declared.reply.MergeCounts.{MergeCounts}
@@ -26,6 +26,11 @@ merge_keys old arch lists = finite.keys old ++ map (λ name. (arch, name)) (fini
 -- the records after the merge
 unfoldable pub merged : Records → List ℕ → Lists → Records
 merged old arch lists = map_at (after_at old arch lists) (merge_keys old arch lists)
+
+-- the record at a key before a merge of an architecture, and the one after it
+pub record BecomesAt (old : Records) (arch : List ℕ) (lists : Lists) (key : List ℕ × List ℕ) (current new : Record) : Type 0 where
+  pub was : finite.get old key ≡ Some current
+  pub is : finite.get (merged old arch lists) key ≡ Some new
 
 -- ---- what is counted
 

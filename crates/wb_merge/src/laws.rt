@@ -1,13 +1,18 @@
 //! Laws of the listing and of the merge, each on a function that does nothing.
-ghost use Rattle.std.specs.Prelude.{◌≡◌, ℕ, List, Option, ◌↔◌, true};
+ghost use Rattle.std.specs.Prelude.{◌≡◌, ◌≢◌, ℕ, ◌≤◌, List, Option, Some, ◌↔◌, true, false};
+ghost use Rattle.std.specs.declared.cmp.Ordering.TheVariants.{Less, Equal};
 ghost use Rattle.std.specs.FinMap as map;
+ghost use Rattle.deb_version.specs.Order.{version_cmp};
 ghost use Rattle.deb_relations.specs.declared.arch.ArchWords.{ArchWords};
 ghost use Rattle.wb_merge.specs.declared.listing.Listed.{Listed};
 ghost use Rattle.wb_merge.specs.declared.listing.Built.{Built};
 ghost use Rattle.wb_merge.specs.Lists.{SourceRow, BinaryRow};
 ghost use Rattle.wb_merge.specs.Listing.{IsGreatest, listed_cmp, candidates, built_cmp, builds, lists_of, Lists};
 ghost use Rattle.wb_states.specs.declared.record.Record.{Record};
-ghost use Rattle.wb_merge.specs.Merged.{Records, after_at, is_same_record, merged};
+ghost use Rattle.wb_states.specs.declared.state.State.TheVariants.{NotForUs};
+ghost use Rattle.wb_states.specs.State.{is_held};
+ghost use Rattle.wb_merge.specs.Merge.{ends_hold, HasSameHold};
+ghost use Rattle.wb_merge.specs.Merged.{Records, BecomesAt, after_at, is_same_record, merged};
 ghost use Rattle.wb_merge.specs.Steps.{Key};
 
 /// What a listing has of a source package is the paragraph of its greatest version among those that list
@@ -47,4 +52,27 @@ pub fn merge_twice_changes_nothing()
 /// Records are found to be the same exactly where they are equal, so what is counted as kept is as it was.
 pub fn kept_records_are_equal()
     ensures same { (one other : Record) → is_same_record one other ≡ true ↔ (one ≡ other) }
+{}
+
+/// A merge never brings a record back: its version does not become an earlier one, nor, where it stays
+/// equal, its number a lower one; what was built earlier stays so, and what is Not-For-Us stays that. A
+/// hold ends only where the listing has a later version, has the same one built with at least the
+/// record's number, or has the source package no more (this project's own).
+pub fn merges_never_go_back()
+    ensures version { (old : Records) (arch : List ℕ) (lists : Lists) (key : Key)
+        (current new : Record) → BecomesAt old arch lists key current new
+        → version_cmp new.version current.version ≢ Less }
+    ensures number { (old : Records) (arch : List ℕ) (lists : Lists) (key : Key)
+        (current new : Record) → BecomesAt old arch lists key current new
+        → version_cmp new.version current.version ≡ Equal → current.number ≤ new.number }
+    ensures earlier { (old : Records) (arch : List ℕ) (lists : Lists) (key : Key)
+        (current new : Record) → BecomesAt old arch lists key current new
+        → current.earlier ≡ true → new.earlier ≡ true }
+    ensures not_for_us { (old : Records) (arch : List ℕ) (lists : Lists) (key : Key)
+        (current new : Record) → BecomesAt old arch lists key current new
+        → current.state ≡ NotForUs → new.state ≡ NotForUs }
+    ensures hold { (old : Records) (arch : List ℕ) (lists : Lists) (key : Key)
+        (current new : Record) (listed : Listed) → BecomesAt old arch lists key current new
+        → is_held current.state ≡ true → map.get lists.listed key.1 ≡ Some listed
+        → ends_hold listed (map.get lists.built key.1) current ≡ false → HasSameHold current new }
 {}
