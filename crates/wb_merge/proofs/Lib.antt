@@ -7,6 +7,7 @@ pub mod MergeLemmas
 pub mod NameLemmas
 pub mod OfferLemmas
 pub mod ReadCountLemmas
+pub mod RebuildLemmas
 pub mod RecordLemmas
 pub mod SourceLemmas
 pub mod TwiceLemmas

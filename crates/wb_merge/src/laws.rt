@@ -1,15 +1,20 @@
 //! Laws of the listing and of the merge, each on a function that does nothing.
-ghost use Rattle.std.specs.Prelude.{◌≡◌, ◌≢◌, ℕ, ◌≤◌, List, Option, Some, ◌↔◌, true, false};
+ghost use Rattle.std.specs.Prelude.{◌≡◌, ◌≢◌, ℕ, ◌≤◌, List, ◌++◌, length, codes, Option, Some, ◌↔◌, IsTrue, true, false};
+ghost use Rattle.std.specs.List.{list_all};
+ghost use Rattle.std.specs.Char.{is_ascii_digit};
 ghost use Rattle.std.specs.declared.cmp.Ordering.TheVariants.{Less, Equal};
 ghost use Rattle.std.specs.FinMap as map;
 ghost use Rattle.deb_version.specs.Order.{version_cmp};
+ghost use Rattle.deb_version.specs.Syntax.{value_of};
 ghost use Rattle.deb_relations.specs.declared.arch.ArchWords.{ArchWords};
 ghost use Rattle.wb_merge.specs.declared.listing.Listed.{Listed};
 ghost use Rattle.wb_merge.specs.declared.listing.Built.{Built};
-ghost use Rattle.wb_merge.specs.Lists.{SourceRow, BinaryRow};
+ghost use Rattle.wb_merge.specs.Lists.{SourceRow, BinaryRow, rebuild_number};
 ghost use Rattle.wb_merge.specs.Listing.{IsGreatest, listed_cmp, candidates, built_cmp, builds, lists_of, Lists};
 ghost use Rattle.wb_states.specs.declared.record.Record.{Record};
 ghost use Rattle.wb_states.specs.declared.state.State.TheVariants.{NotForUs};
+ghost use Rattle.wb_states.specs.Limits.{rebuild_limit};
+ghost use Rattle.wb_states.specs.Moves.{build_text_of};
 ghost use Rattle.wb_states.specs.State.{is_held};
 ghost use Rattle.wb_merge.specs.Merge.{ends_hold, HasSameHold};
 ghost use Rattle.wb_merge.specs.Merged.{Records, BecomesAt, after_at, is_same_record, merged};
@@ -75,4 +80,15 @@ pub fn merges_never_go_back()
         (current new : Record) (listed : Listed) → BecomesAt old arch lists key current new
         → is_held current.state ≡ true → map.get lists.listed key.1 ≡ Some listed
         → ends_hold listed (map.get lists.built key.1) current ≡ false → HasSameHold current new }
+{}
+
+/// The number of a binary-only rebuild is read back from the version that its binaries are given, and so
+/// is each number that one to three digits behind `+b` write at the end of a version (Debian Policy
+/// 5.6.12.2; that there are at most three is this project's own).
+pub fn rebuild_numbers_read_back()
+    ensures built { (current : Record) → 1 ≤ current.number → current.number ≤ rebuild_limit
+        → rebuild_number (build_text_of current) ≡ current.number }
+    ensures ends { (front digits : List ℕ) → 1 ≤ length digits → length digits ≤ 3
+        → IsTrue (list_all is_ascii_digit digits)
+        → rebuild_number (front ++ codes "+b" ++ digits) ≡ value_of digits }
 {}
