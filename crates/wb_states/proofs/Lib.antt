@@ -1,3 +1,4 @@
+pub mod HoldLemmas
 pub mod KeyLemmas
 pub mod MapLemmas
 pub mod MoveRowLemmas

@@ -134,6 +134,13 @@ IsIn-find {K = K} {V = V} {R = R} total same e (y ∷ ys) h =
     pair : (p q : K × V) → p.0 ≡ q.0 → p.1 ≡ q.1 → p ≡ q
     pair p q f g i = (f i, g i)
 
+-- the entries of the office's records are the records at their keys
+pub IsIn-entries : (machine : Machine) (entry : Entry) → IsIn entry (map.entries machine.records) ↔ (map.get machine.records entry.0 ≡ Some entry.1)
+IsIn-entries machine entry =
+    let found = IsIn-find pair_cmp_total pair_cmp-same entry (map.entries machine.records) (map.entries_sorted machine.records) in
+    let at : map.get machine.records entry.0 ≡ find pair_cmp entry.0 (map.entries machine.records) = map.get-entries machine.records entry.0 in
+    (λ within. at ∙ found.0 within, λ is. found.1 (sym at ∙ is))
+
 pub is_needs_build-is : (state : State) → is_needs_build state ≡ true ↔ (state ≡ NeedsBuild)
 is_needs_build-is NeedsBuild = (λ _. refl, λ _. refl)
 is_needs_build-is Building = (λ h. cc, λ h. cc)
@@ -167,11 +174,10 @@ unfolding queue_of
 IsIn-queue_of machine arch entry =
     let sorted = IsIn-sorted_by entry_cmp entry (filter (is_waiting arch) (map.entries machine.records)) in
     let kept = IsIn-filter (is_waiting arch) entry (map.entries machine.records) in
-    let found = IsIn-find pair_cmp_total pair_cmp-same entry (map.entries machine.records) (map.entries_sorted machine.records) in
-    let waits = is_waiting-is arch entry in
-    let at : map.get machine.records entry.0 ≡ find pair_cmp entry.0 (map.entries machine.records) = map.get-entries machine.records entry.0 in (
-      λ h. let here = kept.0 (sorted.0 h) in let why = waits.0 here.1 in (at ∙ found.0 here.0, why.0, why.1),
-      λ h. sorted.1 (kept.1 (found.1 (sym at ∙ h.0), waits.1 (h.1, h.2))),
+    let found = IsIn-entries machine entry in
+    let waits = is_waiting-is arch entry in (
+      λ h. let here = kept.0 (sorted.0 h) in let why = waits.0 here.1 in (found.0 here.0, why.0, why.1),
+      λ h. sorted.1 (kept.1 (found.1 h.0, waits.1 (h.1, h.2))),
     )
 
 module _ {X : Type 0} (cmp : X → X → Ordering) (total : IsTotalOrder cmp) where
@@ -201,7 +207,7 @@ module _ {X : Type 0} (cmp : X → X → Ordering) (total : IsTotalOrder cmp) wh
       ] refl
 
 -- no two items of a list tie
-abbrev Apart : {X : Type 0} → (X → X → Ordering) → List X → Type 0
+abbrev pub Apart : {X : Type 0} → (X → X → Ordering) → List X → Type 0
 Apart cmp [] = Unit {0}
 Apart {X} cmp (x ∷ xs) = ((y : X) → IsIn y xs → cmp y x ≢ Equal) × Apart cmp xs
 
@@ -224,21 +230,20 @@ place_cmp-names one other name another tie =
     let last = (then-Equal by_priority (ordering_then by_section by_name) later).1 in
     text_cmp-same name another (then-Equal by_section by_name last).1
 
--- the records of one architecture have places that differ
-waiting_apart : (arch : List ℕ) (es : List Entry) → T (is_sorted pair_cmp es) → Apart entry_cmp (filter (is_waiting arch) es)
-waiting_apart arch [] h = tt
-waiting_apart arch (e ∷ es) h =
-    let parts = split (below_all pair_cmp e.0 es) (is_sorted pair_cmp es) h in
-    let rest = waiting_apart arch es parts.1 in
-    elim (is_waiting arch e) as (λ b. is_waiting arch e ≡ b → Apart entry_cmp (cond b (e ∷ filter (is_waiting arch) es) (filter (is_waiting arch) es))) [
-      | true ↦ λ waits. (
+-- entries that pass a test do not tie where a tie of two of them is one of their keys
+pub apart-filter : {K V : Type 0} {R : K → K → Ordering} → IsTotalOrder R → (cmp : K × V → K × V → Ordering) (p : K × V → Bool) (es : List (K × V)) → T (is_sorted R es)
+    → ((x y : K × V) → IsIn x es → IsIn y es → p x ≡ true → p y ≡ true → cmp y x ≡ Equal → y.0 ≡ x.0) → Apart cmp (filter p es)
+apart-filter total cmp p [] h keys = tt
+apart-filter {K = K} {V = V} {R = R} total cmp p (e ∷ es) h keys =
+    let parts = split (below_all R e.0 es) (is_sorted R es) h in
+    let rest = apart-filter total cmp p es parts.1 (λ x y in_x in_y. keys x y (inr in_x) (inr in_y)) in
+    elim (p e) as (λ b. p e ≡ b → Apart cmp (cond b (e ∷ filter p es) (filter p es))) [
+      | true ↦ λ passes. (
         λ y within tie.
-            let kept = (IsIn-filter (is_waiting arch) y es).0 within in
-            let less = all_below pair_cmp e.0 es parts.0 y kept.0 in
-            let name : y.0.1 ≡ e.0.1 = place_cmp-names y.1 e.1 y.0.1 e.0.1 tie in
-            let arch_is : y.0.0 ≡ e.0.0 = ((is_waiting-is arch y).0 kept.1).0 ∙ sym ((is_waiting-is arch e).0 waits).0 in
-            let key : y.0 ≡ e.0 = pair y.0 e.0 arch_is name in
-            differ (sym less ∙ ap (λ k. pair_cmp e.0 k) key ∙ tied_itself pair_cmp_total e.0),
+            let kept = (IsIn-filter p y es).0 within in
+            let less = all_below R e.0 es parts.0 y kept.0 in
+            let key : y.0 ≡ e.0 = keys e y (inl refl) (inr kept.0) passes kept.1 tie in
+            differ (sym less ∙ ap (λ k. R e.0 k) key ∙ tied_itself total e.0),
         rest,
       )
       | false ↦ λ _. rest
@@ -248,11 +253,16 @@ waiting_apart arch (e ∷ es) h =
     split true b h = (tt, h)
     split false b h = absurd h
 
-    pair : (p q : List ℕ × List ℕ) → p.0 ≡ q.0 → p.1 ≡ q.1 → p ≡ q
-    pair p q f g i = (f i, g i)
-
     differ : Less ≡ Equal → ⊥
     differ e = cc
+
+-- the records of one architecture have places that differ
+waiting_apart : (arch : List ℕ) (es : List Entry) → T (is_sorted pair_cmp es) → Apart entry_cmp (filter (is_waiting arch) es)
+waiting_apart arch es h =
+    apart-filter pair_cmp_total entry_cmp (is_waiting arch) es h (λ x y _ _ waits_x waits_y tie.
+    let name : y.0.1 ≡ x.0.1 = place_cmp-names y.1 x.1 y.0.1 x.0.1 tie in
+    let arch_is : y.0.0 ≡ x.0.0 = ((is_waiting-is arch y).0 waits_y).0 ∙ sym ((is_waiting-is arch x).0 waits_x).0 in
+    λ i. (arch_is i, name i))
 
 pub sorted-queue_of : (machine : Machine) (arch : List ℕ) → IsStrictlySortedBy entry_cmp (queue_of machine arch)
 unfolding queue_of

@@ -1,5 +1,5 @@
 -- Which records builders hold, and under which take numbers (this project's own).
-use Rattle.std.specs.Prelude.{ℕ, Bool, false, ◌&&◌, List, filter, nat_eq, nat_lt, bytes_eq, Option, Some, None, find, unwrap_or}
+use Rattle.std.specs.Prelude.{◌≡◌, ◌<◌, ℕ, Bool, false, ◌&&◌, List, filter, nat_eq, nat_lt, bytes_eq, Option, Some, None, find, unwrap_or}
 use Rattle.std.specs.declared.cmp.Ordering.{Ordering}
 use Rattle.std.specs.Ordering.{nat_cmp, on}
 use Rattle.std.specs.FinMap as finite
@@ -45,3 +45,11 @@ is_building_after arch after entry =
 -- what the builder builds on the architecture under the least take number after this one
 unfoldable pub building_after : Machine → List ℕ → List ℕ → ℕ → Option Entry
 building_after machine arch builder after = find (is_building_after arch after) (held_of machine builder)
+
+-- a record is kept at its key, and the builder builds it on the architecture under a take number after this one
+pub record IsBuildingAfter (machine : Machine) (arch builder : List ℕ) (after : ℕ) (entry : Entry) : Type 0 where
+  pub kept : finite.get machine.records entry.0 ≡ Some entry.1
+  pub on_arch : entry.0.0 ≡ arch
+  pub holder : entry.1.holder ≡ Some builder
+  pub state : entry.1.state ≡ Building
+  pub later : after < take_of entry

@@ -1,11 +1,13 @@
 //! Laws of the definitions, each on a function that does nothing.
-ghost use Rattle.std.specs.Prelude.{◌≡◌, ◌↔◌, ℕ, List, IsTrue, Ok};
+ghost use Rattle.std.specs.Prelude.{◌≡◌, ◌≢◌, ◌↔◌, ◌≤◌, ℕ, List, IsTrue, Some, None, Ok};
+ghost use Rattle.std.specs.FinMap as map;
 ghost use Rattle.std.specs.List.Sorted.{IsStrictlySortedBy};
 ghost use Rattle.std.specs.Cmp.{IsTotalOrder};
 ghost use Rattle.std.specs.declared.cmp.Ordering.TheVariants.{Equal};
 ghost use Rattle.wb_states.specs.declared.record.Record.{Record};
 ghost use Rattle.wb_states.specs.declared.moves.Move.{Move};
-ghost use Rattle.wb_states.specs.Machine.{Machine};
+ghost use Rattle.wb_states.specs.Holds.{IsBuildingAfter, building_after, held_of, take_cmp, take_of, taken_as};
+ghost use Rattle.wb_states.specs.Machine.{HasDistinctTakes, IsConsistent, Machine};
 ghost use Rattle.wb_states.specs.Moves.{may_go, move_of};
 ghost use Rattle.wb_states.specs.Queue.{Entry, IsIn, IsWaitingAt, entry_cmp, queue_of, place_cmp, place_of};
 ghost use Rattle.wb_states.specs.Record.{IsWellFormed};
@@ -34,4 +36,35 @@ pub fn moves_follow_the_table()
         → move_of move old ≡ Ok new → IsTrue (may_go move old.state) }
     ensures row { (move : Move) (old new : Record)
         → IsWellFormed old → move_of move old ≡ Ok new → new ≡ row_of move old }
+{}
+
+/// A take number finds the record that is held under it: where no take number is held twice, that record
+/// and no other, and where it finds none, there is none.
+pub fn a_take_number_finds_its_record()
+    ensures found { (machine : Machine) (take_number : ℕ) (entry : Entry) → HasDistinctTakes machine
+        → (taken_as machine take_number ≡ Some entry)
+        ↔ ((map.get machine.records entry.0 ≡ Some entry.1) × (entry.1.take ≡ Some take_number)) }
+    ensures none { (machine : Machine) (take_number : ℕ) (entry : Entry)
+        → taken_as machine take_number ≡ None → map.get machine.records entry.0 ≡ Some entry.1
+        → entry.1.take ≢ Some take_number }
+{}
+
+/// What a builder holds are the records that name it, and in a consistent office they ascend strictly by
+/// take number, so that each stands once. What it is told of again is the one with the least later take
+/// number among those that it builds on the architecture, and nothing where there is none.
+pub fn holds_are_by_take_number()
+    ensures members { (machine : Machine) (builder : List ℕ) (entry : Entry)
+        → IsIn entry (held_of machine builder)
+        ↔ ((map.get machine.records entry.0 ≡ Some entry.1) × (entry.1.holder ≡ Some builder)) }
+    ensures ascending { (machine : Machine) (builder : List ℕ)
+        → IsConsistent machine → IsStrictlySortedBy take_cmp (held_of machine builder) }
+    ensures building { (machine : Machine) (arch builder : List ℕ) (after : ℕ) (entry : Entry)
+        → building_after machine arch builder after ≡ Some entry
+        → IsBuildingAfter machine arch builder after entry }
+    ensures least { (machine : Machine) (arch builder : List ℕ) (after : ℕ) (entry other : Entry)
+        → building_after machine arch builder after ≡ Some entry
+        → IsBuildingAfter machine arch builder after other → take_of entry ≤ take_of other }
+    ensures none { (machine : Machine) (arch builder : List ℕ) (after : ℕ) (entry : Entry)
+        → building_after machine arch builder after ≡ None
+        → ¬ (IsBuildingAfter machine arch builder after entry) }
 {}
