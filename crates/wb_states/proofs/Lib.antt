@@ -1,3 +1,4 @@
+pub mod CodeLemmas
 pub mod HoldLemmas
 pub mod KeyLemmas
 pub mod MapLemmas

@@ -6,11 +6,15 @@ ghost use Rattle.std.specs.Cmp.{IsTotalOrder};
 ghost use Rattle.std.specs.declared.cmp.Ordering.TheVariants.{Equal};
 ghost use Rattle.wb_states.specs.declared.record.Record.{Record};
 ghost use Rattle.wb_states.specs.declared.moves.Move.{Move};
+ghost use Rattle.wb_states.specs.declared.refusal.Refusal.{Refusal};
+ghost use Rattle.wb_states.specs.declared.state.State.{State};
 ghost use Rattle.wb_states.specs.Holds.{IsBuildingAfter, building_after, held_of, take_cmp, take_of, taken_as};
 ghost use Rattle.wb_states.specs.Machine.{HasDistinctTakes, IsConsistent, Machine};
 ghost use Rattle.wb_states.specs.Moves.{may_go, move_of};
 ghost use Rattle.wb_states.specs.Queue.{Entry, IsIn, IsWaitingAt, entry_cmp, queue_of, place_cmp, place_of};
 ghost use Rattle.wb_states.specs.Record.{IsWellFormed};
+ghost use Rattle.wb_states.specs.Refusals.{code_of_refusal, name_of_refusal};
+ghost use Rattle.wb_states.specs.State.{code_of, name_of};
 ghost use Rattle.wb_states.specs.Table.{row_of};
 
 /// The queue of an architecture has each of its records that wait for a builder, and no other, and they
@@ -67,4 +71,13 @@ pub fn holds_are_by_take_number()
     ensures none { (machine : Machine) (arch builder : List ℕ) (after : ℕ) (entry : Entry)
         → building_after machine arch builder after ≡ None
         → ¬ (IsBuildingAfter machine arch builder after entry) }
+{}
+
+/// No two states have one number or one name, and two refusals have one number exactly where they have
+/// one name (the numbers and the names of refusals are this project's own).
+pub fn codes_differ()
+    ensures states { (one other : State) → code_of one ≡ code_of other → one ≡ other }
+    ensures names { (one other : State) → name_of one ≡ name_of other → one ≡ other }
+    ensures refusals { (one other : Refusal) → (code_of_refusal one ≡ code_of_refusal other)
+        ↔ (name_of_refusal one ≡ name_of_refusal other) }
 {}
