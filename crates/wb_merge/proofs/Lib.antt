@@ -10,6 +10,7 @@ pub mod ReadCountLemmas
 pub mod RebuildLemmas
 pub mod RecordLemmas
 pub mod SourceLemmas
+pub mod TotalLemmas
 pub mod TwiceLemmas
 pub mod WholeLemmas
 pub mod WordLemmas

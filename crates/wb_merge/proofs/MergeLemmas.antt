@@ -31,7 +31,7 @@ recorded-any arch name (key ∷ keys) =
           rest ∙ (λ i. sym here i || list_any (eq_by_cmp pair_cmp (arch, name)) keys)
     ] refl
 
-recorded-apart : (arch : List ℕ) (keys : List Key) → IsApart (eq_by_cmp pair_cmp) keys → IsApart bytes_eq (map (λ key. key.1) (filter (λ key. bytes_eq key.0 arch) keys))
+pub recorded-apart : (arch : List ℕ) (keys : List Key) → IsApart (eq_by_cmp pair_cmp) keys → IsApart bytes_eq (map (λ key. key.1) (filter (λ key. bytes_eq key.0 arch) keys))
 recorded-apart arch [] h = tt
 recorded-apart arch (key ∷ keys) h =
     let rest = recorded-apart arch keys h.1 in
@@ -42,7 +42,7 @@ recorded-apart arch (key ∷ keys) h =
     ] refl
 
 -- the names of those that have a record
-recorded-names-any : (old : Records) (arch name : List ℕ) → list_any (bytes_eq name) (recorded_names old arch) ≡ finite.contains_key old (arch, name)
+pub recorded-names-any : (old : Records) (arch name : List ℕ) → list_any (bytes_eq name) (recorded_names old arch) ≡ finite.contains_key old (arch, name)
 recorded-names-any old arch name = recorded-any arch name (finite.keys old) ∙ sym (finite.contains_key-keys old (arch, name))
 
 listed-any : {X : Type 0} (listed : finite.FinMap text_cmp X) (name : List ℕ) → list_any (bytes_eq name) (finite.keys listed) ≡ finite.contains_key listed name
@@ -50,7 +50,7 @@ listed-any listed name =
     ap (λ (eq : List ℕ → Bool). list_any eq (finite.keys listed)) (λ i other. sym (text_eq name other) i) ∙ sym (finite.contains_key-keys listed name)
 
 -- whether a source package is named
-names-any : (old : Records) (arch : List ℕ) (lists : Lists) (name : List ℕ)
+pub names-any : (old : Records) (arch : List ℕ) (lists : Lists) (name : List ℕ)
     → list_any (bytes_eq name) (names_of old arch lists) ≡ (finite.contains_key old (arch, name) || (not (finite.contains_key old (arch, name)) && finite.contains_key lists.listed name))
 unfolding names_of
 names-any old arch lists name =
@@ -81,7 +81,7 @@ split-or true b e = absurd cc
 split-or false b e = (refl, e)
 
 -- a source package of the architecture that is not named has no record, before or after
-unnamed : (old : Records) (arch : List ℕ) (lists : Lists) (name : List ℕ) → list_any (bytes_eq name) (names_of old arch lists) ≡ false
+pub unnamed : (old : Records) (arch : List ℕ) (lists : Lists) (name : List ℕ) → list_any (bytes_eq name) (names_of old arch lists) ≡ false
     → (finite.get old (arch, name) ≡ None) × (finite.get lists.listed name ≡ None)
 unnamed old arch lists name e =
     let both = split-or (finite.contains_key old (arch, name)) (finite.contains_key lists.listed name) (sym (names-any old arch lists name) ∙ e) in
@@ -98,7 +98,7 @@ none-after old lists name e f =
     (λ i. after (e i) (f i) (finite.get lists.built name) lists.available) ∙ sym e
 
 -- at a key of the architecture that is not named nothing changes
-kept-unnamed : (old : Records) (arch : List ℕ) (lists : Lists) (key : Key) → bytes_eq key.0 arch ≡ true
+pub kept-unnamed : (old : Records) (arch : List ℕ) (lists : Lists) (key : Key) → bytes_eq key.0 arch ≡ true
     → list_any (bytes_eq key.1) (names_of old arch lists) ≡ false → after_at old arch lists key ≡ finite.get old key
 unfolding after_at
 kept-unnamed old arch lists key e f =

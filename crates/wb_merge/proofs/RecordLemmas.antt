@@ -7,9 +7,9 @@ use Rattle.std.specs.Ordering.{eq_by_cmp}
 use Rattle.std.specs.FinMap as finite
 use Rattle.wb_states.specs.declared.record.Record.{Record}
 use Rattle.wb_states.specs.declared.state.State.{State}
-use Rattle.wb_states.specs.declared.state.State.TheVariants.{NeedsBuild, Building, Built, Uploaded, Installed, DepWait, BdUninstallable, Failed, NotForUs}
 use Rattle.wb_states.specs.State.{code_of}
 use Rattle.wb_states.specs.Machine.{pair_cmp}
+use Rattle.wb_states.proofs.CodeLemmas.{code_of-differ}
 use Rattle.wb_states.proofs.MapLemmas.{get-lookup}
 use Rattle.wb_states.proofs.KeyLemmas.{pair_cmp_total}
 use Rattle.wb_merge.specs.Merged.{Records, is_same_option, is_same_flag, has_same_source, has_same_place, has_same_texts, is_same_record}
@@ -57,87 +57,7 @@ same-option test is (Some x) (Some y) e = ap Some (is x y e)
 
 -- states of one number are equal
 same-state : (one other : State) → nat_eq (code_of one) (code_of other) ≡ true → one ≡ other
-same-state NeedsBuild NeedsBuild e = refl
-same-state NeedsBuild Building e = absurd cc
-same-state NeedsBuild Built e = absurd cc
-same-state NeedsBuild Uploaded e = absurd cc
-same-state NeedsBuild Installed e = absurd cc
-same-state NeedsBuild DepWait e = absurd cc
-same-state NeedsBuild BdUninstallable e = absurd cc
-same-state NeedsBuild Failed e = absurd cc
-same-state NeedsBuild NotForUs e = absurd cc
-same-state Building NeedsBuild e = absurd cc
-same-state Building Building e = refl
-same-state Building Built e = absurd cc
-same-state Building Uploaded e = absurd cc
-same-state Building Installed e = absurd cc
-same-state Building DepWait e = absurd cc
-same-state Building BdUninstallable e = absurd cc
-same-state Building Failed e = absurd cc
-same-state Building NotForUs e = absurd cc
-same-state Built NeedsBuild e = absurd cc
-same-state Built Building e = absurd cc
-same-state Built Built e = refl
-same-state Built Uploaded e = absurd cc
-same-state Built Installed e = absurd cc
-same-state Built DepWait e = absurd cc
-same-state Built BdUninstallable e = absurd cc
-same-state Built Failed e = absurd cc
-same-state Built NotForUs e = absurd cc
-same-state Uploaded NeedsBuild e = absurd cc
-same-state Uploaded Building e = absurd cc
-same-state Uploaded Built e = absurd cc
-same-state Uploaded Uploaded e = refl
-same-state Uploaded Installed e = absurd cc
-same-state Uploaded DepWait e = absurd cc
-same-state Uploaded BdUninstallable e = absurd cc
-same-state Uploaded Failed e = absurd cc
-same-state Uploaded NotForUs e = absurd cc
-same-state Installed NeedsBuild e = absurd cc
-same-state Installed Building e = absurd cc
-same-state Installed Built e = absurd cc
-same-state Installed Uploaded e = absurd cc
-same-state Installed Installed e = refl
-same-state Installed DepWait e = absurd cc
-same-state Installed BdUninstallable e = absurd cc
-same-state Installed Failed e = absurd cc
-same-state Installed NotForUs e = absurd cc
-same-state DepWait NeedsBuild e = absurd cc
-same-state DepWait Building e = absurd cc
-same-state DepWait Built e = absurd cc
-same-state DepWait Uploaded e = absurd cc
-same-state DepWait Installed e = absurd cc
-same-state DepWait DepWait e = refl
-same-state DepWait BdUninstallable e = absurd cc
-same-state DepWait Failed e = absurd cc
-same-state DepWait NotForUs e = absurd cc
-same-state BdUninstallable NeedsBuild e = absurd cc
-same-state BdUninstallable Building e = absurd cc
-same-state BdUninstallable Built e = absurd cc
-same-state BdUninstallable Uploaded e = absurd cc
-same-state BdUninstallable Installed e = absurd cc
-same-state BdUninstallable DepWait e = absurd cc
-same-state BdUninstallable BdUninstallable e = refl
-same-state BdUninstallable Failed e = absurd cc
-same-state BdUninstallable NotForUs e = absurd cc
-same-state Failed NeedsBuild e = absurd cc
-same-state Failed Building e = absurd cc
-same-state Failed Built e = absurd cc
-same-state Failed Uploaded e = absurd cc
-same-state Failed Installed e = absurd cc
-same-state Failed DepWait e = absurd cc
-same-state Failed BdUninstallable e = absurd cc
-same-state Failed Failed e = refl
-same-state Failed NotForUs e = absurd cc
-same-state NotForUs NeedsBuild e = absurd cc
-same-state NotForUs Building e = absurd cc
-same-state NotForUs Built e = absurd cc
-same-state NotForUs Uploaded e = absurd cc
-same-state NotForUs Installed e = absurd cc
-same-state NotForUs DepWait e = absurd cc
-same-state NotForUs BdUninstallable e = absurd cc
-same-state NotForUs Failed e = absurd cc
-same-state NotForUs NotForUs e = refl
+same-state one other e = code_of-differ one other (eqb-true (code_of one) (code_of other) e)
 
 pub same-record : (one other : Record) → is_same_record one other ≡ true → one ≡ other
 unfolding is_same_record has_same_source has_same_place has_same_texts

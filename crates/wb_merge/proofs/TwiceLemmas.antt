@@ -240,7 +240,7 @@ at_key-twice : (is_of : Bool) (lists : Lists) (name : List ℕ) (current : Optio
 at_key-twice true lists name current = after-twice current (finite.get lists.listed name) (finite.get lists.built name) lists.available
 at_key-twice false lists name current = refl
 
-after_at-twice : (old : Records) (arch : List ℕ) (lists : Lists) (key : Key) → after_at (merged old arch lists) arch lists key ≡ after_at old arch lists key
+pub after_at-twice : (old : Records) (arch : List ℕ) (lists : Lists) (key : Key) → after_at (merged old arch lists) arch lists key ≡ after_at old arch lists key
 unfolding after_at
 after_at-twice old arch lists key =
     ap (at_key (bytes_eq key.0 arch) lists key.1) (merged-get old arch lists key)

@@ -110,3 +110,7 @@ counts_over old arch lists names = record {
 -- what a merge of an architecture did
 unfoldable pub merge_counts : Records → List ℕ → Lists → MergeCounts
 merge_counts old arch lists = counts_over old arch lists (names_of old arch lists)
+
+-- the counts of a merge that keeps so many records, and does nothing else
+abbrev pub all_kept : ℕ → MergeCounts
+all_kept kept = record { added = 0; changed = 0; kept = kept; removed = 0 }

@@ -1,5 +1,5 @@
 //! Laws of the listing and of the merge, each on a function that does nothing.
-ghost use Rattle.std.specs.Prelude.{◌≡◌, ◌≢◌, ℕ, ◌≤◌, List, ◌++◌, length, codes, Option, Some, ◌↔◌, IsTrue, true, false};
+ghost use Rattle.std.specs.Prelude.{◌≡◌, ◌≢◌, ℕ, ◌+◌, ◌≤◌, List, ◌++◌, length, codes, Option, Some, ◌↔◌, IsTrue, true, false};
 ghost use Rattle.std.specs.List.{list_all};
 ghost use Rattle.std.specs.Char.{is_ascii_digit};
 ghost use Rattle.std.specs.declared.cmp.Ordering.TheVariants.{Less, Equal};
@@ -17,8 +17,8 @@ ghost use Rattle.wb_states.specs.Limits.{rebuild_limit};
 ghost use Rattle.wb_states.specs.Moves.{build_text_of};
 ghost use Rattle.wb_states.specs.State.{is_held};
 ghost use Rattle.wb_merge.specs.Merge.{ends_hold, HasSameHold};
-ghost use Rattle.wb_merge.specs.Merged.{Records, BecomesAt, after_at, is_same_record, merged};
-ghost use Rattle.wb_merge.specs.Steps.{Key};
+ghost use Rattle.wb_merge.specs.Merged.{Records, BecomesAt, after_at, all_kept, is_same_record, merge_counts, merged};
+ghost use Rattle.wb_merge.specs.Steps.{Key, recorded_names};
 
 /// What a listing has of a source package is the paragraph of its greatest version among those that list
 /// it, and of equal ones the first; nothing else is. Takes no memory (Debian Policy 5.6.12; that the first
@@ -48,10 +48,26 @@ pub fn merge_is_pointwise()
         → map.get (merged old arch lists) key ≡ after_at old arch lists key }
 {}
 
-/// A merge of the listing that was merged just before changes nothing.
+/// A merge of the listing that was merged just before changes nothing, and counts every record of the
+/// architecture as kept.
 pub fn merge_twice_changes_nothing()
     ensures unchanged { (old : Records) (arch : List ℕ) (lists : Lists)
         → merged (merged old arch lists) arch lists ≡ merged old arch lists }
+    ensures counts { (old : Records) (arch : List ℕ) (lists : Lists)
+        → merge_counts (merged old arch lists) arch lists
+        ≡ all_kept (length (recorded_names (merged old arch lists) arch)) }
+{}
+
+/// The counts of a merge add up: each record that the architecture had before is removed, changed or
+/// kept, and each that it has afterwards is added, changed or kept.
+pub fn merge_counts_add_up()
+    ensures before { (old : Records) (arch : List ℕ) (lists : Lists)
+        → let counts = merge_counts old arch lists in
+        counts.removed + (counts.changed + counts.kept) ≡ length (recorded_names old arch) }
+    ensures behind { (old : Records) (arch : List ℕ) (lists : Lists)
+        → let counts = merge_counts old arch lists in
+        counts.added + (counts.changed + counts.kept)
+        ≡ length (recorded_names (merged old arch lists) arch) }
 {}
 
 /// Records are found to be the same exactly where they are equal, so what is counted as kept is as it was.

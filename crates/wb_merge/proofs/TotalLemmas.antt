@@ -1,0 +1,204 @@
+-- The counts of a merge add up to the records before it and after it, and a second merge counts every record as kept.
+use Rattle.std.proofs.Common.{◌≡◌, ℕ, ◌+◌, suc, Bool, true, false, cond, not, ◌&&◌, ◌||◌, List, [], ◌∷◌, length, filter, bytes_eq, refl, sym, ap, ◌∙◌, Option, Some, None, is_some, arith}
+use Rattle.std.specs.List.{list_any}
+use Rattle.std.specs.FinMap as finite
+use Rattle.wb_states.specs.declared.record.Record.{Record}
+use Rattle.wb_merge.specs.Listing.{Lists}
+use Rattle.wb_merge.specs.Merged.{Records, after_at, merged, names_of, is_added, is_changed, is_kept, is_removed, is_same_record, number_where, counts_over, merge_counts, all_kept}
+use Rattle.wb_merge.specs.Steps.{Key, recorded_names}
+use Rattle.wb_merge.proofs.NameLemmas.{IsApart, bytes_eq-flip, bytes_eq-is, bytes_eq-itself, filter-any, filter-apart, keys-apart}
+use Rattle.wb_merge.proofs.MergeLemmas.{merged-get, names-any, names-apart, recorded-apart, recorded-names-any, kept-unnamed, unnamed}
+use Rattle.wb_merge.proofs.RecordLemmas.{same-record-is}
+use Rattle.wb_merge.proofs.TwiceLemmas.{after_at-twice}
+
+-- ---- lists of the same texts, each once, are of one length
+
+others-kept : (text : List ℕ) (texts : List (List ℕ)) → list_any (bytes_eq text) texts ≡ false → filter (λ other. not (bytes_eq text other)) texts ≡ texts
+others-kept text [] e = refl
+others-kept text (first ∷ texts) e =
+    let parts = neither (bytes_eq text first) (list_any (bytes_eq text) texts) e in
+    ap (λ (b : Bool). cond (not b) (first ∷ filter (λ (other : List ℕ). not (bytes_eq text other)) texts) (filter (λ (other : List ℕ). not (bytes_eq text other)) texts)) parts.0
+    ∙ ap (λ (xs : List (List ℕ)). first ∷ xs) (others-kept text texts parts.1)
+  where
+    neither : (a b : Bool) → (a || b) ≡ false → (a ≡ false) × (b ≡ false)
+    neither true b e = absurd cc
+    neither false b e = (refl, e)
+
+length-without : (text : List ℕ) (texts : List (List ℕ)) → IsApart bytes_eq texts → list_any (bytes_eq text) texts ≡ true
+    → length texts ≡ suc (length (filter (λ other. not (bytes_eq text other)) texts))
+length-without text [] apart e = absurd cc
+length-without text (first ∷ texts) apart e =
+    let others = filter (λ (other : List ℕ). not (bytes_eq text other)) texts in
+    (elim (bytes_eq text first) as (λ b. bytes_eq text first ≡ b → (b || list_any (bytes_eq text) texts) ≡ true
+    → suc (length texts) ≡ suc (length (cond (not b) (first ∷ others) others))) [
+      | true ↦ λ is _.
+          let none : list_any (bytes_eq text) texts ≡ false = ap (λ (t : List ℕ). list_any (bytes_eq t) texts) (bytes_eq-is text first is) ∙ apart.0 in
+          ap (λ (xs : List (List ℕ)). suc (length xs)) (sym (others-kept text texts none))
+      | false ↦ λ _ later. ap suc (length-without text texts apart.1 later)
+    ]) refl e
+
+without-any : (text name : List ℕ) (xs : List (List ℕ)) → list_any (bytes_eq text) xs ≡ false
+    → (not (bytes_eq text name) && (bytes_eq name text || list_any (bytes_eq name) xs)) ≡ list_any (bytes_eq name) xs
+without-any text name xs none =
+    elim (bytes_eq text name) as (λ b. bytes_eq text name ≡ b → (not b && (bytes_eq name text || list_any (bytes_eq name) xs)) ≡ list_any (bytes_eq name) xs) [
+      | true ↦ λ is. sym none ∙ ap (λ (t : List ℕ). list_any (bytes_eq t) xs) (bytes_eq-is text name is)
+      | false ↦ λ is. ap (λ (b : Bool). b || list_any (bytes_eq name) xs) (bytes_eq-flip name text ∙ is)
+    ] refl
+
+pub same-length : (xs ys : List (List ℕ)) → IsApart bytes_eq xs → IsApart bytes_eq ys
+    → ((name : List ℕ) → list_any (bytes_eq name) xs ≡ list_any (bytes_eq name) ys) → length xs ≡ length ys
+same-length [] [] apart_x apart_y same = refl
+same-length [] (y ∷ ys) apart_x apart_y same = absurd (never (same y ∙ (λ i. bytes_eq-itself y i || list_any (bytes_eq y) ys))) where
+  never : false ≡ true → ⊥
+  never e = cc
+same-length (x ∷ xs) ys apart_x apart_y same =
+    let others = filter (λ (other : List ℕ). not (bytes_eq x other)) ys in
+    let there : list_any (bytes_eq x) ys ≡ true = sym (same x) ∙ (λ i. bytes_eq-itself x i || list_any (bytes_eq x) xs) in
+    let rest : length xs ≡ length others =
+    same-length xs others apart_x.1 (filter-apart (λ other. not (bytes_eq x other)) ys apart_y)
+    (λ name. sym (without-any x name xs apart_x.0)
+    ∙ ap (λ (b : Bool). not (bytes_eq x name) && b) (same name)
+    ∙ sym (filter-any (λ other. not (bytes_eq x other)) name ys)) in
+    ap suc rest ∙ sym (length-without x ys apart_y there)
+
+-- ---- what is counted in parts is counted
+
+abbrev bit : Bool → ℕ
+bit b = cond b 1 0
+
+length-more : {X : Type 0} (b : Bool) (x : X) (xs : List X) → length (cond b (x ∷ xs) xs) ≡ bit b + length xs
+length-more true x xs = omega arith
+length-more false x xs = omega arith
+
+parts-add : {X : Type 0} (p q r s : X → Bool) → ((x : X) → bit (p x) + (bit (q x) + bit (r x)) ≡ bit (s x)) → (xs : List X)
+    → length (filter p xs) + (length (filter q xs) + length (filter r xs)) ≡ length (filter s xs)
+parts-add p q r s each [] = refl
+parts-add p q r s each (x ∷ xs) =
+    omega (
+      arith,
+      each x,
+      parts-add p q r s each xs,
+      length-more (p x) x (filter p xs),
+      length-more (q x) x (filter q xs),
+      length-more (r x) x (filter r xs),
+      length-more (s x) x (filter s xs),
+    )
+
+part-before : (old new : Option Record) → bit (is_removed old new) + (bit (is_changed old new) + bit (is_kept old new)) ≡ bit (is_some old)
+part-before None None = refl
+part-before None (Some new) = refl
+part-before (Some old) None = refl
+part-before (Some old) (Some new) = elim (is_same_record old new) as (λ b. 0 + (bit (not b) + bit b) ≡ 1) [ true ↦ refl | false ↦ refl ]
+
+part-after : (old new : Option Record) → bit (is_added old new) + (bit (is_changed old new) + bit (is_kept old new)) ≡ bit (is_some new)
+part-after None None = refl
+part-after None (Some new) = refl
+part-after (Some old) None = refl
+part-after (Some old) (Some new) = elim (is_same_record old new) as (λ b. 0 + (bit (not b) + bit b) ≡ 1) [ true ↦ refl | false ↦ refl ]
+
+module _ (old : Records) (arch : List ℕ) (lists : Lists) where
+  abbrev names : List (List ℕ)
+  names = names_of old arch lists
+
+  -- those of the names that have a record are those that have one
+  kept-of : (a b : Bool) → (a && (a || (not a && b))) ≡ a
+  kept-of true b = refl
+  kept-of false b = refl
+
+  length-before : length (filter (λ name. is_some (finite.get old (arch, name))) names) ≡ length (recorded_names old arch)
+  length-before =
+      same-length (filter (λ name. is_some (finite.get old (arch, name))) names) (recorded_names old arch)
+      (filter-apart (λ name. is_some (finite.get old (arch, name))) names (names-apart old arch lists))
+      (recorded-apart arch (finite.keys old) (keys-apart old))
+      (λ name. filter-any (λ name. is_some (finite.get old (arch, name))) name names
+      ∙ ap (λ (b : Bool). is_some (finite.get old (arch, name)) && b) (names-any old arch lists name)
+      ∙ kept-of (is_some (finite.get old (arch, name))) (finite.contains_key lists.listed name)
+      ∙ sym (recorded-names-any old arch name))
+
+  pub counts-before : (merge_counts old arch lists).removed + ((merge_counts old arch lists).changed + (merge_counts old arch lists).kept)
+      ≡ length (recorded_names old arch)
+  unfolding merge_counts counts_over
+  counts-before =
+      parts-add (λ name. is_removed (finite.get old (arch, name)) (after_at old arch lists (arch, name)))
+      (λ name. is_changed (finite.get old (arch, name)) (after_at old arch lists (arch, name)))
+      (λ name. is_kept (finite.get old (arch, name)) (after_at old arch lists (arch, name)))
+      (λ name. is_some (finite.get old (arch, name)))
+      (λ name. part-before (finite.get old (arch, name)) (after_at old arch lists (arch, name))) names
+      ∙ length-before
+
+  -- a source package that has a record after the merge is named
+  named-after : (name : List ℕ) → (is_some (after_at old arch lists (arch, name)) && list_any (bytes_eq name) names) ≡ is_some (after_at old arch lists (arch, name))
+  named-after name =
+      elim (list_any (bytes_eq name) names) as (λ b. list_any (bytes_eq name) names ≡ b
+      → (is_some (after_at old arch lists (arch, name)) && b) ≡ is_some (after_at old arch lists (arch, name))) [
+        | true ↦ λ _. and-true (is_some (after_at old arch lists (arch, name)))
+        | false ↦ λ e.
+            let nothing : after_at old arch lists (arch, name) ≡ None =
+            kept-unnamed old arch lists (arch, name) (bytes_eq-itself arch) e ∙ (unnamed old arch lists name e).0 in
+            ap (λ (o : Option Record). is_some o && false) nothing ∙ ap is_some (sym nothing)
+      ] refl
+    where
+      and-true : (b : Bool) → (b && true) ≡ b
+      and-true true = refl
+      and-true false = refl
+
+  length-after : length (filter (λ name. is_some (after_at old arch lists (arch, name))) names) ≡ length (recorded_names (merged old arch lists) arch)
+  length-after =
+      same-length (filter (λ name. is_some (after_at old arch lists (arch, name))) names) (recorded_names (merged old arch lists) arch)
+      (filter-apart (λ name. is_some (after_at old arch lists (arch, name))) names (names-apart old arch lists))
+      (recorded-apart arch (finite.keys (merged old arch lists)) (keys-apart (merged old arch lists)))
+      (λ name. filter-any (λ name. is_some (after_at old arch lists (arch, name))) name names
+      ∙ named-after name
+      ∙ ap is_some (sym (merged-get old arch lists (arch, name)))
+      ∙ sym (recorded-names-any (merged old arch lists) arch name))
+
+  pub counts-after : (merge_counts old arch lists).added + ((merge_counts old arch lists).changed + (merge_counts old arch lists).kept)
+      ≡ length (recorded_names (merged old arch lists) arch)
+  unfolding merge_counts counts_over
+  counts-after =
+      parts-add (λ name. is_added (finite.get old (arch, name)) (after_at old arch lists (arch, name)))
+      (λ name. is_changed (finite.get old (arch, name)) (after_at old arch lists (arch, name)))
+      (λ name. is_kept (finite.get old (arch, name)) (after_at old arch lists (arch, name)))
+      (λ name. is_some (after_at old arch lists (arch, name)))
+      (λ name. part-after (finite.get old (arch, name)) (after_at old arch lists (arch, name))) names
+      ∙ length-after
+
+-- ---- a second merge
+
+filter-none : {X : Type 0} (p : X → Bool) → ((x : X) → p x ≡ false) → (xs : List X) → length (filter p xs) ≡ 0
+filter-none p none [] = refl
+filter-none p none (x ∷ xs) = ap (λ b. length (cond b (x ∷ filter p xs) (filter p xs))) (none x) ∙ filter-none p none xs
+
+none-added : (current : Option Record) → is_added current current ≡ false
+none-added None = refl
+none-added (Some current) = refl
+
+none-removed : (current : Option Record) → is_removed current current ≡ false
+none-removed None = refl
+none-removed (Some current) = refl
+
+none-changed : (current : Option Record) → is_changed current current ≡ false
+none-changed None = refl
+none-changed (Some current) = ap not ((same-record-is current current).1 refl)
+
+module _ (old : Records) (arch : List ℕ) (lists : Lists) where
+  abbrev once : Records
+  once = merged old arch lists
+
+  same-again : (key : Key) → after_at once arch lists key ≡ finite.get once key
+  same-again key = after_at-twice old arch lists key ∙ sym (merged-get old arch lists key)
+
+  none-where : (test : Option Record → Option Record → Bool) → ((current : Option Record) → test current current ≡ false) → (names : List (List ℕ))
+      → number_where test once arch lists names ≡ 0
+  none-where test none names =
+      filter-none (λ name. test (finite.get once (arch, name)) (after_at once arch lists (arch, name)))
+      (λ name. ap (test (finite.get once (arch, name))) (same-again (arch, name)) ∙ none (finite.get once (arch, name))) names
+
+  pub counts-twice : merge_counts once arch lists ≡ all_kept (length (recorded_names once arch))
+  unfolding merge_counts counts_over
+  counts-twice =
+      let added : (merge_counts once arch lists).added ≡ 0 = none-where is_added none-added (names_of once arch lists) in
+      let changed : (merge_counts once arch lists).changed ≡ 0 = none-where is_changed none-changed (names_of once arch lists) in
+      let removed : (merge_counts once arch lists).removed ≡ 0 = none-where is_removed none-removed (names_of once arch lists) in
+      let kept : (merge_counts once arch lists).kept ≡ length (recorded_names once arch) = omega (arith, counts-before once arch lists, changed, removed) in
+      λ i. record { added = added i; changed = changed i; kept = kept i; removed = removed i }
