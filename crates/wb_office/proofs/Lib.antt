@@ -1,3 +1,4 @@
+pub mod AppliedLemmas
 pub mod AskedLemmas
 pub mod ChosenLemmas
 pub mod ConsistencyLemmas

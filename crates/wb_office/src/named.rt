@@ -1,5 +1,6 @@
 //! The commands that name a source package, by which operators move its record.
-ghost use Rattle.std.specs.Prelude.{◌≡◌, ◌≢◌, Ok, Err, IfOk, IfErr, OnErr};
+ghost use Rattle.std.specs.Prelude.{◌≡◌, ◌≢◌, Ok, Err, IfOk, IfErr, OnOk, OnErr};
+ghost use Rattle.std.specs.Str.{IsUtf8};
 ghost use Rattle.wb_states.specs.declared.command.Command.TheVariants.{GiveBack, DepWait, Fail, NotForUs, Rebuild};
 ghost use Rattle.wb_states.specs.declared.refusal.Refusal.TheVariants.{Memory};
 ghost use Rattle.wb_office.specs.Found.{named_step};
@@ -95,6 +96,7 @@ pub(crate) fn fail(
     ensures refused { IfErr result (λ refusal. refusal ≢ Memory
         → step store.old (Fail arch.now source.now version.now note.now) ≡ (Err refusal, store.old)) }
     ensures unchanged { OnErr result (store.new ≡ store.old) }
+    ensures utf8 { OnOk result (IsUtf8 note.now) }
 {
     let read = read_key(alloc, arch, source, version)?;
     if is_long(note) {
@@ -120,6 +122,7 @@ pub(crate) fn not_for_us(
     ensures refused { IfErr result (λ refusal. refusal ≢ Memory
         → step store.old (NotForUs arch.now source.now version.now note.now) ≡ (Err refusal, store.old)) }
     ensures unchanged { OnErr result (store.new ≡ store.old) }
+    ensures utf8 { OnOk result (IsUtf8 note.now) }
 {
     let read = read_key(alloc, arch, source, version)?;
     if is_long(note) {
@@ -146,6 +149,7 @@ pub(crate) fn rebuild(
     ensures refused { IfErr result (λ refusal. refusal ≢ Memory
         → step store.old (Rebuild arch.now source.now version.now number message.now) ≡ (Err refusal, store.old)) }
     ensures unchanged { OnErr result (store.new ≡ store.old) }
+    ensures utf8 { OnOk result (IsUtf8 message.now) }
 {
     let read = read_key(alloc, arch, source, version)?;
     let Some(number) = rebuild_number(number) else {

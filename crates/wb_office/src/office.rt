@@ -1,8 +1,9 @@
 //! The office over its store.
-ghost use Rattle.std.specs.Prelude.{◌≡◌, ◌≢◌, IfOk, IfErr, OnErr};
+ghost use Rattle.std.specs.Prelude.{◌≡◌, ◌≢◌, IfOk, IfErr, OnOk, OnErr};
 ghost use Rattle.wb_states.specs.declared.refusal.Refusal.TheVariants.{Memory};
-ghost use Rattle.wb_states.specs.Machine.{empty_office};
+ghost use Rattle.wb_states.specs.Machine.{IsConsistent, empty_office};
 ghost use Rattle.wb_office.specs.Step.{step};
+ghost use Rattle.wb_office.specs.Utf8.{HasUtf8Texts};
 
 use crate::{builder, holder, merge, named, operator};
 use std::alloc::Global;
@@ -73,6 +74,18 @@ impl Office {
         ensures refused { IfErr result (λ refusal. refusal ≢ Memory
             → step self.old command.now ≡ (Err refusal, self.old)) }
         ensures unchanged { OnErr result (self.new ≡ self.old) }
+        ensures consistent { IsConsistent self.old → IsConsistent self.new }
+    {
+        Ok(self.carry_out(command)?)
+    }
+
+    /// Carries out one command by its kind.
+    fn carry_out(&mut self, command: &Command) -> Result<Reply, Refusal>
+        ensures reply { IfOk result (λ reply. step self.old command.now ≡ (Ok reply, self.new)) }
+        ensures refused { IfErr result (λ refusal. refusal ≢ Memory
+            → step self.old command.now ≡ (Err refusal, self.old)) }
+        ensures unchanged { OnErr result (self.new ≡ self.old) }
+        ensures utf8 { OnOk result (HasUtf8Texts command.now) }
     {
         match command {
             Command::AddArch { name, os, cpu } => {

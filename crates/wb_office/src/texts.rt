@@ -1,6 +1,7 @@
 //! The texts of commands, each read once.
 ghost use Rattle.std.specs.Prelude.{◌≡◌, ◌≢◌, ◌||◌, None, Some, Ok, nat_eq, nat_lt, length, OnOk, IfOk, IfErr, if◌then◌else◌};
 ghost use Rattle.std.specs.Option.{option_map};
+ghost use Rattle.std.specs.Str.{IsUtf8};
 ghost use Rattle.deb_version.specs.Syntax.{fault_of};
 ghost use Rattle.deb_relations.specs.declared.fault.RelationFault.TheVariants.{Memory as NoMemory};
 ghost use Rattle.deb_relations.specs.Reading.{reading_of};
@@ -86,9 +87,10 @@ pub(crate) fn read_key(
     Ok(read)
 }
 
-/// Whether a note or a message has more than 1000 bytes.
+/// Whether a note or a message, which is UTF-8 as each text is, has more than 1000 bytes.
 pub(crate) fn is_long(text: &Text) -> bool
     ensures value { result ≡ nat_lt note_limit (length text.now) }
+    ensures utf8 { IsUtf8 text.now }
 {
     NOTE_LIMIT < text.as_str().len()
 }
