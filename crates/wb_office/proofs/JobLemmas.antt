@@ -1,6 +1,5 @@
 -- A record that was found is handed to a builder, or the builder is refused.
-use Rattle.std.proofs.Common.{◌≡◌, ℕ, ◌+◌, ◌||◌, Bool, true, false, List, Option, Some, None, Result, Ok, Err, refl, sym, ap, ◌∙◌, nat_le}
-use Rattle.std.proofs.lemmas.Bool.{lt-leb}
+use Rattle.std.proofs.Common.{◌≡◌, ℕ, ◌+◌, ◌||◌, Bool, true, false, List, Some, None, Ok, Err, refl, sym, ◌∙◌, nat_le}
 use Rattle.std.specs.FinMap as map
 use Rattle.wb_states.specs.declared.moves.Move.TheVariants as to
 use Rattle.wb_states.specs.declared.record.Record.{Record}
@@ -13,9 +12,9 @@ use Rattle.wb_states.specs.Limits.{count_limit}
 use Rattle.wb_states.specs.Machine.{Machine}
 use Rattle.wb_states.specs.Moves.{move_refusal, moved, may_go}
 use Rattle.wb_states.specs.Queue.{Entry}
-use Rattle.wb_office.specs.Checks.{first_some, or_refusal, when}
+use Rattle.wb_office.specs.Checks.{or_refusal, when}
 use Rattle.wb_office.specs.Found.{unless_refused, job_step, take_move}
-use Rattle.wb_office.specs.Step.{Outcome, assignment_of, counted, after_take, job_of}
+use Rattle.wb_office.specs.Step.{assignment_of, counted, after_take, job_of}
 
 -- whether a record can be taken does not depend on the take number
 pub take-any : (builder : List ℕ) (one other : ℕ) (current : Record)

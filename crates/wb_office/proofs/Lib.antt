@@ -25,3 +25,4 @@ pub mod StepLemmas
 pub mod TakeLemmas
 pub mod TakeStateLemmas
 pub mod TextLemmas
+pub mod WantLemmas

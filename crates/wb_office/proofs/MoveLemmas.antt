@@ -1,5 +1,5 @@
 -- A record that was found is moved, or the move is refused.
-use Rattle.std.proofs.Common.{◌≡◌, ℕ, ◌+◌, ◌||◌, Bool, true, false, List, Option, Some, None, Result, Ok, Err, refl, sym, ap, ◌∙◌, nat_le}
+use Rattle.std.proofs.Common.{◌≡◌, ℕ, ◌+◌, true, false, List, Option, Some, None, Result, Ok, Err, refl, sym, ◌∙◌, nat_le}
 use Rattle.std.specs.FinMap as map
 use Rattle.wb_states.specs.declared.moves.Move.{Move}
 use Rattle.wb_states.specs.declared.record.Record.{Record}
@@ -12,9 +12,9 @@ use Rattle.wb_states.specs.Machine.{Machine}
 use Rattle.wb_states.specs.Moves.{move_refusal, move_of, moved, unless_refused as unless_move_refused}
 use Rattle.wb_states.specs.Queue.{Entry}
 use Rattle.wb_office.specs.declared.moved.Moved.{Moved}
-use Rattle.wb_office.specs.Checks.{first_some, or_refusal, when}
+use Rattle.wb_office.specs.Checks.{or_refusal, when}
 use Rattle.wb_office.specs.Found.{unless_refused, move_step}
-use Rattle.wb_office.specs.Step.{Outcome, counted, after_move}
+use Rattle.wb_office.specs.Step.{counted, after_move}
 
 pub move_of-Ok : (move : Move) (current after : Record) → move_of move current ≡ Ok after
     → (move_refusal move current ≡ None) × (after ≡ moved move current)

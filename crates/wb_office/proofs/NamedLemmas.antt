@@ -1,7 +1,6 @@
 -- What the commands answer that move the record of a source package by its name.
-use Rattle.std.proofs.Common.{◌≡◌, ℕ, ◌+◌, ◌||◌, Bool, true, false, not, List, [], ◌∷◌, Option, Some, None, Ok, Err, refl, sym, ap, ◌∙◌, nat_le, is_some, option_and_then, option_map}
+use Rattle.std.proofs.Common.{◌≡◌, ℕ, ◌+◌, Bool, true, false, not, List, [], ◌∷◌, Option, Some, None, Ok, Err, refl, ap, ◌∙◌, nat_le, is_some, option_and_then, option_map}
 use Rattle.std.specs.FinMap as map
-use Rattle.wb_states.specs.declared.command.Command.{Command}
 use Rattle.wb_states.specs.declared.command.Command.TheVariants.{GiveBack, DepWait, Fail, NotForUs, Rebuild}
 use Rattle.wb_states.specs.declared.moves.Move.{Move}
 use Rattle.wb_states.specs.declared.moves.Move.TheVariants as to
@@ -14,10 +13,10 @@ use Rattle.wb_states.specs.Machine.{Machine, arch_words}
 use Rattle.wb_states.specs.Moves.{move_refusal}
 use Rattle.wb_states.specs.Queue.{Entry}
 use Rattle.deb_relations.specs.Reading.{reading_of}
-use Rattle.wb_office.specs.Checks.{first_some, or_refusal, when, differing, text_refusal, state_refusal}
+use Rattle.wb_office.specs.Checks.{first_some, when, differing, text_refusal, state_refusal}
 use Rattle.wb_office.specs.Found.{unless_refused, move_step, found_refusal, named_at, named_step}
 use Rattle.wb_office.specs.Moving.{groups_in, moving, record_named, with_move}
-use Rattle.wb_office.specs.Step.{Outcome, step, counted, after_move}
+use Rattle.wb_office.specs.Step.{step, counted, after_move}
 use Rattle.wb_office.proofs.StepLemmas.{step-state, unless_refused-or_refusal, unless_refused-last}
 
 named-answer : (machine : Machine) (arch source version : List ℕ) (move : Move) (is_unknown : Bool) (found : Option Record)

@@ -1,7 +1,5 @@
 -- What a builder's command for the head of a queue answers.
-use Rattle.std.proofs.Common.{◌≡◌, ℕ, ◌+◌, ◌||◌, ◌&&◌, Bool, true, false, not, List, [], ◌∷◌, Option, Some, None, Result, Ok, Err, refl, sym, ap, ◌∙◌, nat_le, is_none, option_and_then, option_map}
-use Rattle.std.specs.FinMap as map
-use Rattle.wb_states.specs.declared.command.Command.{Command}
+use Rattle.std.proofs.Common.{◌≡◌, ℕ, ◌||◌, ◌&&◌, Bool, true, false, List, [], ◌∷◌, Option, Some, None, Ok, Err, refl, sym, ap, ◌∙◌, nat_le, is_none, option_and_then, option_map}
 use Rattle.wb_states.specs.declared.command.Command.TheVariants.{Next}
 use Rattle.wb_states.specs.declared.refusal.Refusal.{Refusal}
 use Rattle.wb_states.specs.declared.refusal.Refusal.TheVariants.{AfterAhead, BadName, QueueEmpty, Spent, UnknownArch, UnknownBuilder, WrongArch}
@@ -9,7 +7,6 @@ use Rattle.wb_states.specs.declared.reply.Reply.TheVariants.{Again}
 use Rattle.wb_states.specs.declared.moves.Move.{Move}
 use Rattle.wb_states.specs.declared.record.Record.{Record}
 use Rattle.wb_states.specs.declared.reply.Assignment.{Assignment}
-use Rattle.wb_states.specs.declared.state.State.{State}
 use Rattle.wb_states.specs.declared.state.State.TheVariants.{NeedsBuild}
 use Rattle.wb_states.specs.Limits.{count_limit}
 use Rattle.wb_states.specs.Machine.{Machine}
@@ -17,10 +14,10 @@ use Rattle.wb_states.specs.Moves.{move_refusal, may_go}
 use Rattle.wb_states.specs.Queue.{Entry, head_of}
 use Rattle.wb_states.proofs.QueueLemmas.{head_of-waits}
 use Rattle.wb_store.specs.Lookups.{named}
-use Rattle.wb_office.specs.Checks.{first_some, or_refusal, when, has_bad_name, is_ahead, is_for_other_archs, lacks_arch, lacks_builder, text_refusal, state_refusal, first_refusal, refused_move}
+use Rattle.wb_office.specs.Checks.{first_some, or_refusal, when, has_bad_name, is_ahead, is_for_other_archs, lacks_arch, lacks_builder, text_refusal, state_refusal, first_refusal}
 use Rattle.wb_office.specs.Found.{unless_refused, builder_refusal, head_at, head_step, job_step, take_move, told_of}
 use Rattle.wb_office.specs.Moving.{again_of, moving}
-use Rattle.wb_office.specs.Step.{Outcome, outcome, step, reply_to, change, counted, after_take, job_of}
+use Rattle.wb_office.specs.Step.{outcome, step, reply_to, change, counted, after_take, job_of}
 use Rattle.wb_office.proofs.StepLemmas.{step-refused, outcome-None, three-None, three-Some}
 
 -- the checks of the builder before others

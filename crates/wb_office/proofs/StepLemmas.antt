@@ -1,5 +1,5 @@
 -- The step of a command, by what its texts and what the office has refuse.
-use Rattle.std.proofs.Common.{◌≡◌, List, [], ◌∷◌, Option, Some, None, Ok, Err, refl, ap, ◌∙◌}
+use Rattle.std.proofs.Common.{◌≡◌, [], ◌∷◌, Option, Some, None, Ok, Err, refl, ap, ◌∙◌}
 use Rattle.wb_states.specs.declared.command.Command.{Command}
 use Rattle.wb_states.specs.declared.refusal.Refusal.{Refusal}
 use Rattle.wb_states.specs.Machine.{Machine}
@@ -53,6 +53,13 @@ pub two-Some : (a b rest : Option Refusal) (refusal : Refusal) → first_some (a
 two-Some None None rest refusal is = cc
 two-Some None (Some b) rest refusal is = is
 two-Some (Some a) b rest refusal is = is
+
+-- two checks before a third that refuses
+pub two-later : (a b rest : Option Refusal) (later refusal : Refusal) → or_refusal (first_some (a ∷ b ∷ [])) (Some later) ≡ Some refusal → rest ≡ Some later
+    → or_refusal a (or_refusal b rest) ≡ Some refusal
+two-later None None rest later refusal is same = same ∙ is
+two-later None (Some b) rest later refusal is same = is
+two-later (Some a) b rest later refusal is same = is
 
 pub three-None : (a b c rest : Option Refusal) → first_some (a ∷ b ∷ c ∷ []) ≡ None → or_refusal a (or_refusal b (or_refusal c rest)) ≡ rest
 three-None None None None rest is = refl

@@ -1,5 +1,5 @@
 -- What a builder's command for a source package answers.
-use Rattle.std.proofs.Common.{◌≡◌, ℕ, ◌+◌, ◌||◌, Bool, true, false, not, List, [], ◌∷◌, Option, Some, None, Ok, Err, refl, sym, ap, ◌∙◌, nat_le, is_some, option_and_then, option_map}
+use Rattle.std.proofs.Common.{◌≡◌, ℕ, ◌||◌, true, false, not, List, [], ◌∷◌, Option, Some, None, Ok, Err, refl, ap, ◌∙◌, nat_le, is_some, option_and_then, option_map}
 use Rattle.std.specs.FinMap as map
 use Rattle.deb_version.specs.Syntax.{fault_of}
 use Rattle.wb_states.specs.declared.command.Command.TheVariants.{Take}

@@ -1,5 +1,5 @@
 -- The checks of a command, in the one order in which they are answered (this project's own).
-use Rattle.std.specs.Prelude.{◌≡◌, ℕ, ◌+◌, Bool, true, false, not, ◌||◌, ◌&&◌, nat_le, nat_lt, nat_eq, List, [], ◌∷◌, length, bytes_eq, Option, Some, None, is_none, is_some, Result, Ok, Err, option_and_then, if◌then◌else◌}
+use Rattle.std.specs.Prelude.{◌≡◌, ℕ, Bool, true, false, not, ◌||◌, ◌&&◌, nat_le, nat_lt, nat_eq, List, [], ◌∷◌, length, bytes_eq, Option, Some, None, is_none, Result, Ok, Err, option_and_then, if◌then◌else◌}
 use Rattle.std.specs.Option.{option_map}
 use Rattle.std.specs.List.{list_any}
 use Rattle.std.specs.Ordering.{is_eq}
@@ -18,12 +18,12 @@ use Rattle.wb_states.specs.declared.record.Record.{Record}
 use Rattle.wb_states.specs.declared.refusal.Refusal.{Refusal}
 use Rattle.wb_states.specs.declared.refusal.Refusal.TheVariants.{UnknownArch, UnknownBuilder, WrongArch, UnknownSource, OtherVersion, QueueEmpty, NotHeld, AfterAhead, AlreadyThere, BadName, BadVersion, BadRelations, BadNumber, TextTooLong, Spent, RepeatedArch, Memory}
 use Rattle.wb_states.specs.Holds.{taken_as}
-use Rattle.wb_states.specs.Limits.{count_limit, note_limit, rebuild_limit}
+use Rattle.wb_states.specs.Limits.{count_limit, note_limit, rebuild_limit, relations_limit}
 use Rattle.wb_states.specs.Machine.{Machine, archs_of}
 use Rattle.wb_states.specs.Moves.{move_refusal}
 use Rattle.wb_states.specs.Names.{is_arch_name, is_os_cpu_word, is_builder_name, is_source_name, is_label_text}
 use Rattle.wb_states.specs.Queue.{head_of}
-use Rattle.wb_office.specs.Moving.{again_of, moving, record_named}
+use Rattle.wb_office.specs.Moving.{again_of, moving}
 use Rattle.wb_office.specs.Parts.{parts_refusal}
 
 -- a refusal where a test holds
@@ -261,6 +261,21 @@ state_refusal machine command = first_some (
 -- the refusal of a command, the first in the one order, or none where it is accepted
 unfoldable pub first_refusal : Machine → Command → Option Refusal
 first_refusal machine command = or_refusal (text_refusal command) (state_refusal machine command)
+
+-- the relations that the command brings are longer than any that are read
+abbrev pub has_long_relations : Command → Bool
+has_long_relations (Waits take_number relations) = nat_lt relations_limit (length relations)
+has_long_relations (DepWait arch source version relations) = nat_lt relations_limit (length relations)
+has_long_relations _ = false
+
+-- what is known of a command for which memory is wanted: its texts are refused in no way that is seen without memory
+pub record MayWantMemory (command : Command) : Type 0 where
+  pub names : has_bad_name command ≡ false
+  pub version : version_fault command ≡ None
+  pub relations : has_long_relations command ≡ false
+  pub number : has_bad_number command ≡ false
+  pub short : has_long_text command ≡ false
+  pub parts : repeats_arch command ≡ false
 
 -- the refusal of a version's fault: want of memory is no fault of the version
 abbrev pub refusal_of_fault : VersionFault → Refusal

@@ -7,6 +7,7 @@ ghost use Rattle.wb_states.specs.declared.refusal.Refusal.TheVariants.{Memory};
 ghost use Rattle.wb_states.specs.declared.reply.Reply.TheVariants.{Job};
 ghost use Rattle.wb_states.specs.Limits.{count_limit};
 ghost use Rattle.wb_states.specs.Moves.{move_refusal, moved};
+ghost use Rattle.wb_office.specs.Checks.{MayWantMemory};
 ghost use Rattle.wb_office.specs.Found.{builder_refusal, head_step, job_step, take_move, take_step};
 ghost use Rattle.wb_office.specs.Step.{step, assignment_of};
 
@@ -193,6 +194,8 @@ pub(crate) fn next(
     ensures reply { IfOk result (λ reply. step store.old (Next arch.now builder.now after) ≡ (Ok reply, store.new)) }
     ensures refused { IfErr result (λ refusal. refusal ≢ Memory
         → step store.old (Next arch.now builder.now after) ≡ (Err refusal, store.old)) }
+    ensures memory { IfErr result (λ refusal. refusal ≡ Memory
+        → MayWantMemory (Next arch.now builder.now after)) }
     ensures unchanged { OnErr result (store.new ≡ store.old) }
 {
     if is_bad_asker(arch, builder) {
@@ -252,6 +255,8 @@ pub(crate) fn take(
         step store.old (Take arch.now builder.now source.now version.now) ≡ (Ok reply, store.new)) }
     ensures refused { IfErr result (λ refusal. refusal ≢ Memory
         → step store.old (Take arch.now builder.now source.now version.now) ≡ (Err refusal, store.old)) }
+    ensures memory { IfErr result (λ refusal. refusal ≡ Memory
+        → MayWantMemory (Take arch.now builder.now source.now version.now)) }
     ensures unchanged { OnErr result (store.new ≡ store.old) }
 {
     if is_bad_taker(arch, builder, source) {

@@ -2,6 +2,7 @@
 ghost use Rattle.std.specs.Prelude.{◌≡◌, ◌≢◌, Ok, Err, IfOk, IfErr, OnErr};
 ghost use Rattle.wb_states.specs.declared.command.Command.TheVariants.{Built, Uploaded, Waits, PutBack};
 ghost use Rattle.wb_states.specs.declared.refusal.Refusal.TheVariants.{Memory};
+ghost use Rattle.wb_office.specs.Checks.{MayWantMemory};
 ghost use Rattle.wb_office.specs.Found.{taken_step};
 ghost use Rattle.wb_office.specs.Step.{step};
 
@@ -75,6 +76,8 @@ pub(crate) fn waits(
     ensures reply { IfOk result (λ reply. step store.old (Waits take_number relations.now) ≡ (Ok reply, store.new)) }
     ensures refused { IfErr result (λ refusal. refusal ≢ Memory
         → step store.old (Waits take_number relations.now) ≡ (Err refusal, store.old)) }
+    ensures memory { IfErr result (λ refusal. refusal ≡ Memory
+        → MayWantMemory (Waits take_number relations.now)) }
     ensures unchanged { OnErr result (store.new ≡ store.old) }
 {
     let read = read_relations(alloc, relations)?;

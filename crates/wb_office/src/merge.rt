@@ -7,7 +7,7 @@ ghost use Rattle.wb_states.specs.declared.refusal.Refusal.TheVariants.{Memory};
 ghost use Rattle.wb_states.specs.declared.reply.Reply.TheVariants.{Merged};
 ghost use Rattle.wb_states.specs.Limits.{count_limit};
 ghost use Rattle.wb_states.specs.Names.{is_arch_name};
-ghost use Rattle.wb_office.specs.Checks.{has_repeated_arch};
+ghost use Rattle.wb_office.specs.Checks.{MayWantMemory, has_repeated_arch};
 ghost use Rattle.wb_office.specs.Found.{refused_merge};
 ghost use Rattle.wb_office.specs.Parts.{is_good, is_merged, part_listing, part_replies, parts_refusal, records_after, end_with, records_with};
 ghost use Rattle.wb_office.specs.Step.{step};
@@ -168,6 +168,8 @@ fn prepare_merge(
         ≡ part_replies store.now sources.now parts.now store.now.records) }
     ensures ok { OnOk result (refused_merge store.now sources.now parts.now ≡ None) }
     ensures room { OnOk result (nat_le count_limit store.now.accepted ≡ false) }
+    ensures memory { IfErr result (λ refusal. refusal ≡ Memory
+        → MayWantMemory (Merge sources.now parts.now)) }
     ensures refused { IfErr result (λ refusal. refusal ≢ Memory
         → refused_merge store.now sources.now parts.now ≡ Some refusal) }
 {
@@ -198,6 +200,8 @@ pub(crate) fn merge(
     ensures reply { IfOk result (λ reply. step store.old (Merge sources.now parts.now) ≡ (Ok reply, store.new)) }
     ensures refused { IfErr result (λ refusal. refusal ≢ Memory
         → step store.old (Merge sources.now parts.now) ≡ (Err refusal, store.old)) }
+    ensures memory { IfErr result (λ refusal. refusal ≡ Memory
+        → MayWantMemory (Merge sources.now parts.now)) }
     ensures unchanged { OnErr result (store.new ≡ store.old) }
 {
     let made = prepare_merge(alloc, store, sources.as_slice(), parts.as_slice())?;

@@ -3,12 +3,13 @@ ghost use Rattle.std.specs.Prelude.{◌≡◌, ◌≢◌, Ok, Err, IfOk, IfErr, 
 ghost use Rattle.std.specs.Str.{IsUtf8};
 ghost use Rattle.wb_states.specs.declared.command.Command.TheVariants.{GiveBack, DepWait, Fail, NotForUs, Rebuild};
 ghost use Rattle.wb_states.specs.declared.refusal.Refusal.TheVariants.{Memory};
+ghost use Rattle.wb_office.specs.Checks.{MayWantMemory};
 ghost use Rattle.wb_office.specs.Found.{named_step};
 ghost use Rattle.wb_office.specs.Step.{step};
 
 use crate::checks::{find_source, lacks_arch, words_of};
 use crate::moved::{keep_move, prepare_move};
-use crate::texts::{is_long, read_key, read_relations, rebuild_number};
+use crate::texts::{is_long, or_later, read_key, read_relations, rebuild_number};
 use deb_relations::Text;
 use deb_version::Version;
 use std::alloc::Global;
@@ -50,6 +51,8 @@ pub(crate) fn give_back(
         step store.old (GiveBack arch.now source.now version.now) ≡ (Ok reply, store.new)) }
     ensures refused { IfErr result (λ refusal. refusal ≢ Memory
         → step store.old (GiveBack arch.now source.now version.now) ≡ (Err refusal, store.old)) }
+    ensures memory { IfErr result (λ refusal. refusal ≡ Memory
+        → MayWantMemory (GiveBack arch.now source.now version.now)) }
     ensures unchanged { OnErr result (store.new ≡ store.old) }
 {
     let read = read_key(alloc, arch, source, version)?;
@@ -70,10 +73,16 @@ pub(crate) fn dep_wait(
         step store.old (DepWait arch.now source.now version.now relations.now) ≡ (Ok reply, store.new)) }
     ensures refused { IfErr result (λ refusal. refusal ≢ Memory
         → step store.old (DepWait arch.now source.now version.now relations.now) ≡ (Err refusal, store.old)) }
+    ensures memory { IfErr result (λ refusal. refusal ≡ Memory
+        → MayWantMemory (DepWait arch.now source.now version.now relations.now)) }
     ensures unchanged { OnErr result (store.new ≡ store.old) }
 {
-    let read = read_key(alloc, arch, source, version)?;
-    let groups = read_relations(alloc, relations)?;
+    let key = read_key(alloc, arch, source, version);
+    let groups = match read_relations(alloc, relations) {
+        Ok(groups) => groups,
+        Err(refusal) => return Err(or_later(key, refusal)),
+    };
+    let read = key?;
     let words = words_of(alloc, store, arch)?;
     let change = Move::DepWait {
         relations: groups,
@@ -95,13 +104,16 @@ pub(crate) fn fail(
         step store.old (Fail arch.now source.now version.now note.now) ≡ (Ok reply, store.new)) }
     ensures refused { IfErr result (λ refusal. refusal ≢ Memory
         → step store.old (Fail arch.now source.now version.now note.now) ≡ (Err refusal, store.old)) }
+    ensures memory { IfErr result (λ refusal. refusal ≡ Memory
+        → MayWantMemory (Fail arch.now source.now version.now note.now)) }
     ensures unchanged { OnErr result (store.new ≡ store.old) }
     ensures utf8 { OnOk result (IsUtf8 note.now) }
 {
-    let read = read_key(alloc, arch, source, version)?;
+    let key = read_key(alloc, arch, source, version);
     if is_long(note) {
-        return Err(Refusal::TextTooLong);
+        return Err(or_later(key, Refusal::TextTooLong));
     }
+    let read = key?;
     let change = Move::Fail {
         note: note.clone()?,
     };
@@ -121,13 +133,16 @@ pub(crate) fn not_for_us(
         step store.old (NotForUs arch.now source.now version.now note.now) ≡ (Ok reply, store.new)) }
     ensures refused { IfErr result (λ refusal. refusal ≢ Memory
         → step store.old (NotForUs arch.now source.now version.now note.now) ≡ (Err refusal, store.old)) }
+    ensures memory { IfErr result (λ refusal. refusal ≡ Memory
+        → MayWantMemory (NotForUs arch.now source.now version.now note.now)) }
     ensures unchanged { OnErr result (store.new ≡ store.old) }
     ensures utf8 { OnOk result (IsUtf8 note.now) }
 {
-    let read = read_key(alloc, arch, source, version)?;
+    let key = read_key(alloc, arch, source, version);
     if is_long(note) {
-        return Err(Refusal::TextTooLong);
+        return Err(or_later(key, Refusal::TextTooLong));
     }
+    let read = key?;
     let change = Move::NotForUs {
         note: note.clone()?,
     };
@@ -148,16 +163,19 @@ pub(crate) fn rebuild(
         step store.old (Rebuild arch.now source.now version.now number message.now) ≡ (Ok reply, store.new)) }
     ensures refused { IfErr result (λ refusal. refusal ≢ Memory
         → step store.old (Rebuild arch.now source.now version.now number message.now) ≡ (Err refusal, store.old)) }
+    ensures memory { IfErr result (λ refusal. refusal ≡ Memory
+        → MayWantMemory (Rebuild arch.now source.now version.now number message.now)) }
     ensures unchanged { OnErr result (store.new ≡ store.old) }
     ensures utf8 { OnOk result (IsUtf8 message.now) }
 {
-    let read = read_key(alloc, arch, source, version)?;
+    let key = read_key(alloc, arch, source, version);
     let Some(number) = rebuild_number(number) else {
-        return Err(Refusal::BadNumber);
+        return Err(or_later(key, Refusal::BadNumber));
     };
     if is_long(message) {
-        return Err(Refusal::TextTooLong);
+        return Err(or_later(key, Refusal::TextTooLong));
     }
+    let read = key?;
     let change = Move::Rebuild {
         number,
         message: message.clone()?,

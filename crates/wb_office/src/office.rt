@@ -2,6 +2,7 @@
 ghost use Rattle.std.specs.Prelude.{◌≡◌, ◌≢◌, IfOk, IfErr, OnOk, OnErr};
 ghost use Rattle.wb_states.specs.declared.refusal.Refusal.TheVariants.{Memory};
 ghost use Rattle.wb_states.specs.Machine.{IsConsistent, empty_office};
+ghost use Rattle.wb_office.specs.Checks.{MayWantMemory};
 ghost use Rattle.wb_office.specs.Step.{step};
 ghost use Rattle.wb_office.specs.Utf8.{HasUtf8Texts};
 
@@ -67,12 +68,14 @@ impl Office {
     /// Carries out one command, whole or not at all, and answers it.
     ///
     /// The refusal is the first that is true of the command in the order of [`Refusal`]; `Memory` comes
-    /// where there is no memory for it, at any point. After every refusal the office is as it was (this
-    /// project's own).
+    /// where there is no memory for it, at any point after its names, its version, its number and the
+    /// lengths of its texts were looked at. After every refusal the office is as it was (this project's
+    /// own).
     pub fn apply(&mut self, command: &Command) -> Result<Reply, Refusal>
         ensures reply { IfOk result (λ reply. step self.old command.now ≡ (Ok reply, self.new)) }
         ensures refused { IfErr result (λ refusal. refusal ≢ Memory
             → step self.old command.now ≡ (Err refusal, self.old)) }
+        ensures memory { IfErr result (λ refusal. refusal ≡ Memory → MayWantMemory command.now) }
         ensures unchanged { OnErr result (self.new ≡ self.old) }
         ensures consistent { IsConsistent self.old → IsConsistent self.new }
     {
@@ -84,6 +87,7 @@ impl Office {
         ensures reply { IfOk result (λ reply. step self.old command.now ≡ (Ok reply, self.new)) }
         ensures refused { IfErr result (λ refusal. refusal ≢ Memory
             → step self.old command.now ≡ (Err refusal, self.old)) }
+        ensures memory { IfErr result (λ refusal. refusal ≡ Memory → MayWantMemory command.now) }
         ensures unchanged { OnErr result (self.new ≡ self.old) }
         ensures utf8 { OnOk result (HasUtf8Texts command.now) }
     {

@@ -4,7 +4,7 @@ ghost use Rattle.wb_states.specs.declared.command.Command.TheVariants.{AddArch, 
 ghost use Rattle.wb_states.specs.declared.refusal.Refusal.TheVariants.{Memory};
 ghost use Rattle.wb_states.specs.declared.reply.Reply.TheVariants.{Done};
 ghost use Rattle.wb_states.specs.Limits.{count_limit};
-ghost use Rattle.wb_office.specs.Checks.{first_refusal};
+ghost use Rattle.wb_office.specs.Checks.{MayWantMemory, first_refusal};
 ghost use Rattle.wb_office.specs.Step.{step, counted, entered};
 
 use crate::checks::{has_arch, has_record, is_spent, lacks_arch};
@@ -36,6 +36,8 @@ fn check_arch(store: &Store, name: &Text, os: &Text, cpu: &Text) -> Result<(), R
     ensures ok { OnOk result (first_refusal store.now (AddArch name.now os.now cpu.now) ≡ None) }
     ensures refused { IfErr result (λ refusal. refusal ≢ Memory
         → first_refusal store.now (AddArch name.now os.now cpu.now) ≡ Some refusal) }
+    ensures memory { IfErr result (λ refusal. refusal ≡ Memory
+        → MayWantMemory (AddArch name.now os.now cpu.now)) }
     ensures room { OnOk result (nat_le count_limit store.now.accepted ≡ false) }
 {
     if is_bad_arch(name, os, cpu) {
@@ -61,6 +63,8 @@ pub(crate) fn add_arch(
     ensures reply { IfOk result (λ reply. step store.old (AddArch name.now os.now cpu.now) ≡ (Ok reply, store.new)) }
     ensures refused { IfErr result (λ refusal. refusal ≢ Memory
         → step store.old (AddArch name.now os.now cpu.now) ≡ (Err refusal, store.old)) }
+    ensures memory { IfErr result (λ refusal. refusal ≡ Memory
+        → MayWantMemory (AddArch name.now os.now cpu.now)) }
     ensures unchanged { OnErr result (store.new ≡ store.old) }
 {
     check_arch(store, name, os, cpu)?;
@@ -77,6 +81,8 @@ fn check_builder(store: &Store, name: &Text, arch: &Text) -> Result<(), Refusal>
     ensures ok { OnOk result (first_refusal store.now (AddBuilder name.now arch.now) ≡ None) }
     ensures refused { IfErr result (λ refusal. refusal ≢ Memory
         → first_refusal store.now (AddBuilder name.now arch.now) ≡ Some refusal) }
+    ensures memory { IfErr result (λ refusal. refusal ≡ Memory
+        → MayWantMemory (AddBuilder name.now arch.now)) }
     ensures room { OnOk result (nat_le count_limit store.now.accepted ≡ false) }
 {
     if is_bad_builder(name, arch) {
@@ -101,6 +107,8 @@ pub(crate) fn add_builder(store: &mut Store, name: &Text, arch: &Text) -> Result
     ensures reply { IfOk result (λ reply. step store.old (AddBuilder name.now arch.now) ≡ (Ok reply, store.new)) }
     ensures refused { IfErr result (λ refusal. refusal ≢ Memory
         → step store.old (AddBuilder name.now arch.now) ≡ (Err refusal, store.old)) }
+    ensures memory { IfErr result (λ refusal. refusal ≡ Memory
+        → MayWantMemory (AddBuilder name.now arch.now)) }
     ensures unchanged { OnErr result (store.new ≡ store.old) }
 {
     check_builder(store, name, arch)?;
@@ -123,6 +131,8 @@ fn check_entry(
         (first_refusal store.now (Enter arch.now source.now version.now priority.now section.now) ≡ None) }
     ensures refused { IfErr result (λ refusal. refusal ≢ Memory
         → first_refusal store.now (Enter arch.now source.now version.now priority.now section.now) ≡ Some refusal) }
+    ensures memory { IfErr result (λ refusal. refusal ≡ Memory
+        → MayWantMemory (Enter arch.now source.now version.now priority.now section.now)) }
     ensures room { OnOk result (nat_le count_limit store.now.accepted ≡ false) }
 {
     if is_bad_entry(arch, source, priority, section) {
@@ -157,6 +167,8 @@ pub(crate) fn enter(
         step store.old (Enter arch.now source.now version.now priority.now section.now) ≡ (Ok reply, store.new)) }
     ensures refused { IfErr result (λ refusal. refusal ≢ Memory
         → step store.old (Enter arch.now source.now version.now priority.now section.now) ≡ (Err refusal, store.old)) }
+    ensures memory { IfErr result (λ refusal. refusal ≡ Memory
+        → MayWantMemory (Enter arch.now source.now version.now priority.now section.now)) }
     ensures unchanged { OnErr result (store.new ≡ store.old) }
 {
     let read = check_entry(alloc, store, arch, source, version, priority, section)?;

@@ -1,13 +1,14 @@
 //! The texts of commands, each read once.
-ghost use Rattle.std.specs.Prelude.{◌≡◌, ◌≢◌, ◌||◌, None, Some, Ok, nat_eq, nat_lt, length, OnOk, IfOk, IfErr, if◌then◌else◌};
+ghost use Rattle.std.specs.Prelude.{◌≡◌, ◌≢◌, ◌||◌, false, Option, None, Some, Ok, nat_eq, nat_lt, length, OnOk, IfOk, IfErr, if◌then◌else◌};
 ghost use Rattle.std.specs.Option.{option_map};
 ghost use Rattle.std.specs.Str.{IsUtf8};
 ghost use Rattle.deb_version.specs.Syntax.{fault_of};
 ghost use Rattle.deb_relations.specs.declared.fault.RelationFault.TheVariants.{Memory as NoMemory};
 ghost use Rattle.deb_relations.specs.Reading.{reading_of};
+ghost use Rattle.wb_states.specs.declared.refusal.Refusal.{Refusal};
 ghost use Rattle.wb_states.specs.declared.refusal.Refusal.TheVariants.{Memory, BadVersion, BadRelations};
-ghost use Rattle.wb_states.specs.Limits.{note_limit, rebuild_limit};
-ghost use Rattle.wb_office.specs.Checks.{refusal_of_fault};
+ghost use Rattle.wb_states.specs.Limits.{note_limit, rebuild_limit, relations_limit};
+ghost use Rattle.wb_office.specs.Checks.{or_refusal, refusal_of_fault};
 ghost use Rattle.wb_office.specs.Found.{key_refusal, relations_refusal};
 
 use crate::forms::is_bad_key;
@@ -28,6 +29,7 @@ pub(crate) fn read_version(alloc: Global, text: &Text) -> Result<Version, Refusa
     ensures ok { OnOk result (fault_of text.now ≡ None) }
     ensures refused { IfErr result (λ refusal. refusal ≢ Memory
         → option_map BadVersion (fault_of text.now) ≡ Some refusal) }
+    ensures memory { IfErr result (λ refusal. refusal ≡ Memory → fault_of text.now ≡ None) }
 {
     match Version::parse(alloc, text.as_str()) {
         Ok(read) => Ok(read),
@@ -48,8 +50,11 @@ fn refusal_of(fault: VersionFault) -> Refusal
 /// The relations that a text is.
 pub(crate) fn read_relations(alloc: Global, text: &Text) -> Result<Relations, Refusal>
     ensures value { IfOk result (λ read. reading_of text.now ≡ Ok read) }
+    ensures short { OnOk result (nat_lt relations_limit (length text.now) ≡ false) }
     ensures refused { IfErr result (λ refusal. refusal ≢ Memory
         → relations_refusal text.now ≡ Some refusal) }
+    ensures memory { IfErr result (λ refusal. refusal ≡ Memory
+        → nat_lt relations_limit (length text.now) ≡ false) }
 {
     match Relations::parse(alloc, text.as_str()) {
         Ok(read) => Ok(read),
@@ -79,12 +84,29 @@ pub(crate) fn read_key(
     ensures ok { OnOk result (key_refusal arch.now source.now version.now ≡ None) }
     ensures refused { IfErr result (λ refusal. refusal ≢ Memory
         → key_refusal arch.now source.now version.now ≡ Some refusal) }
+    ensures memory { IfErr result (λ refusal. refusal ≡ Memory
+        → key_refusal arch.now source.now version.now ≡ None) }
 {
     if is_bad_key(arch, source) {
         return Err(Refusal::BadName);
     }
     let read = read_version(alloc, version)?;
     Ok(read)
+}
+
+/// The first refusal of a command that a later check refuses: that of what was read before, if it is no want
+/// of memory.
+pub(crate) fn or_later(read: Result<Version, Refusal>, later: Refusal) -> Refusal
+    ensures value { (first : Option Refusal) → OnOk read (first ≡ None)
+        → IfErr read (λ refusal. refusal ≢ Memory → first ≡ Some refusal)
+        → IfErr read (λ refusal. refusal ≡ Memory → first ≡ None)
+        → or_refusal first (Some later) ≡ Some result }
+    ensures memory { result ≡ Memory → later ≡ Memory }
+{
+    match read {
+        Ok(_) | Err(Refusal::Memory) => later,
+        Err(refusal) => refusal,
+    }
 }
 
 /// Whether a note or a message, which is UTF-8 as each text is, has more than 1000 bytes.

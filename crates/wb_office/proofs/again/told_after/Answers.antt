@@ -1,4 +1,4 @@
-use Rattle.std.proofs.Common.{◌≡◌, ◌∙◌, Some, ap, map, option_map}
+use Rattle.std.proofs.Common.{◌∙◌, Some, ap, map, option_map}
 use Rattle.std.specs.List.{find}
 use Rattle.wb_states.specs.Holds.{building_after, is_building_after}
 use Rattle.wb_store.specs.Lookups.{entry_of}

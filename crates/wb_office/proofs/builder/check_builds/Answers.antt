@@ -1,4 +1,4 @@
-use Rattle.std.proofs.Common.{◌≡◌, ◌∙◌, sym, refl, true, false}
+use Rattle.std.proofs.Common.{◌∙◌, sym, refl, true, false}
 use Rattle.wb_office.proofs.RefusalLemmas.{builder_refusal-is}
 use Rattle.wb_office.proofs.builder.check_builds.Goals as goal
 

@@ -1,4 +1,4 @@
-use Rattle.std.proofs.Common.{◌≡◌, ◌∙◌, sym, ap}
+use Rattle.std.proofs.Common.{◌∙◌}
 use Rattle.std.proofs.lemmas.Result.{err_from_is_err_and}
 use Rattle.wb_office.proofs.NextLemmas.{head_step-QueueEmpty, head_step-job}
 use Rattle.wb_office.proofs.JobLemmas.{job_step-kept}

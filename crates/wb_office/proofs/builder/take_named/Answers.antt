@@ -1,4 +1,4 @@
-use Rattle.std.proofs.Common.{◌∙◌, sym}
+use Rattle.std.proofs.Common.{◌∙◌}
 use Rattle.std.proofs.lemmas.Result.{err_from_is_err_and}
 use Rattle.wb_office.proofs.TakeLemmas.{take_step-builder, take_step-found, take_step-job}
 use Rattle.wb_office.proofs.JobLemmas.{job_step-kept}

@@ -1,10 +1,7 @@
 -- The refusal of a merge, check by check.
-use Rattle.std.proofs.Common.{◌≡◌, ◌∙◌, sym, refl, true, false, None, Some, rules, not, nat_le}
+use Rattle.std.proofs.Common.{◌≡◌, ◌∙◌, sym, refl, true, false, None, Some, rules}
 use Rattle.std.specs.List.{list_any}
-use Rattle.wb_states.specs.Limits.{count_limit}
-use Rattle.wb_states.specs.Names.{is_arch_name}
-use Rattle.wb_office.specs.Checks.{has_repeated_arch}
-use Rattle.wb_office.specs.Parts.{is_good, parts_refusal}
+use Rattle.wb_office.specs.Parts.{is_good}
 use Rattle.wb_office.proofs.PartLemmas.{parts_refusal-none, refused_merge-is}
 use Rattle.wb_office.proofs.merge.prepare_merge.Goals as goal
 

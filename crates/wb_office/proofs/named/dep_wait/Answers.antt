@@ -1,8 +1,9 @@
 use Rattle.std.proofs.Common.{◌∙◌, sym}
 use Rattle.std.proofs.lemmas.Result.{err_from_is_err_and}
 use Rattle.wb_states.specs.declared.moves.Move.TheVariants as to
-use Rattle.wb_office.specs.Found.{named_step}
-use Rattle.wb_office.proofs.KeyLemmas.{dep_wait-refused, dep_wait-BadRelations, dep_wait-is}
+use Rattle.wb_office.specs.Found.{key_refusal, named_step}
+use Rattle.wb_office.proofs.KeyLemmas.{dep_wait-refused, dep_wait-either, dep_wait-is}
+use Rattle.wb_office.proofs.WantLemmas.{wanted, key-wanted, want-DepWait}
 use Rattle.wb_office.proofs.named.dep_wait.Goals as goal
 
 pub returns-in_err-read-clause-refused : goal.returns-in_err-read-clause-refused
@@ -10,18 +11,39 @@ returns-in_err-read-clause-refused c =
     let p = err_from_is_err_and c.from_residual.result c.from_residual.ensures.1 in
     rw (p.1, p.2) (λ differs. dep_wait-refused c.args.store.now c.args.arch.now c.args.source.now c.args.version.now c.args.relations.now _ (c.in_err-read.ensures.refused differs))
 
-pub returns-in_err-groups-clause-refused : goal.returns-in_err-groups-clause-refused
-returns-in_err-groups-clause-refused c =
-    let p = err_from_is_err_and c.from_residual-in_err-groups.result c.from_residual-in_err-groups.ensures.1 in
-    rw (p.1, p.2) (λ differs. dep_wait-BadRelations c.args.store.now c.args.arch.now c.args.source.now c.args.version.now c.args.relations.now _ c.in_ok-read.ensures.ok (c.in_err-groups.ensures.refused differs))
+pub returns-in-Err-clause-refused : goal.returns-in-Err-clause-refused
+returns-in-Err-clause-refused c = λ differs.
+    dep_wait-either c.args.store.now c.args.arch.now c.args.source.now c.args.version.now c.args.relations.now c.in-Err.refusal c.or_later.result
+    (c.or_later.ensures.value (key_refusal c.args.arch.now c.args.source.now c.args.version.now) c.read_key-key.ensures.ok c.read_key-key.ensures.refused c.read_key-key.ensures.memory)
+    c.in-Err.ensures.refused differs
+
+pub returns-in-Err-clause-memory : goal.returns-in-Err-clause-memory
+returns-in-Err-clause-memory c = λ none.
+    want-DepWait c.args.arch.now c.args.source.now c.args.version.now c.args.relations.now
+    (key-wanted c.args.arch.now c.args.source.now c.args.version.now c.in-Err.refusal c.or_later.result
+    (c.or_later.ensures.value (key_refusal c.args.arch.now c.args.source.now c.args.version.now) c.read_key-key.ensures.ok c.read_key-key.ensures.refused c.read_key-key.ensures.memory) none)
+    (c.in-Err.ensures.memory (c.or_later.ensures.memory none))
+
+pub returns-in_err-read-clause-memory : goal.returns-in_err-read-clause-memory
+returns-in_err-read-clause-memory c =
+    let p = err_from_is_err_and c.from_residual.result c.from_residual.ensures.1 in
+    rw (p.1, p.2) (λ none. want-DepWait c.args.arch.now c.args.source.now c.args.version.now c.args.relations.now (c.in_err-read.ensures.memory none) c.in-Ok.ensures.short)
+
+pub returns-in_err-words-clause-memory : goal.returns-in_err-words-clause-memory
+returns-in_err-words-clause-memory c =
+    wanted _ (want-DepWait c.args.arch.now c.args.source.now c.args.version.now c.args.relations.now c.in_ok-read.ensures.ok c.in-Ok.ensures.short)
+
+pub returns-in_err-move_named-clause-memory : goal.returns-in_err-move_named-clause-memory
+returns-in_err-move_named-clause-memory c =
+    wanted _ (want-DepWait c.args.arch.now c.args.source.now c.args.version.now c.args.relations.now c.in_ok-read.ensures.ok c.in-Ok.ensures.short)
 
 pub returns-in_err-move_named-clause-refused : goal.returns-in_err-move_named-clause-refused
 returns-in_err-move_named-clause-refused c =
     let p = err_from_is_err_and c.from_residual-in_err-move_named.result c.from_residual-in_err-move_named.ensures.1 in
-    rw (p.1, p.2) (λ differs. dep_wait-is c.args.store.now c.args.arch.now c.args.source.now c.args.version.now c.args.relations.now c.in_ok-groups.groups c.in_ok-words.words c.in_ok-read.ensures.ok c.in_ok-groups.ensures.value c.in_ok-words.ensures.value ∙ (λ i. named_step c.args.store.now c.args.arch.now c.args.source.now (sym c.in_ok-read.ensures.value i) (to.DepWait c.in_ok-groups.groups c.in_ok-words.words))
+    rw (p.1, p.2) (λ differs. dep_wait-is c.args.store.now c.args.arch.now c.args.source.now c.args.version.now c.args.relations.now c.in-Ok.groups c.in_ok-words.words c.in_ok-read.ensures.ok c.in-Ok.ensures.value c.in_ok-words.ensures.value ∙ (λ i. named_step c.args.store.now c.args.arch.now c.args.source.now (sym c.in_ok-read.ensures.value i) (to.DepWait c.in-Ok.groups c.in_ok-words.words))
     ∙ c.in_err-move_named.ensures.refused differs)
 
 pub returns-clause-reply : goal.returns-clause-reply
 returns-clause-reply c =
-    dep_wait-is c.args.store.now c.args.arch.now c.args.source.now c.args.version.now c.args.relations.now c.in_ok-groups.groups c.in_ok-words.words c.in_ok-read.ensures.ok c.in_ok-groups.ensures.value c.in_ok-words.ensures.value ∙ (λ i. named_step c.args.store.now c.args.arch.now c.args.source.now (sym c.in_ok-read.ensures.value i) (to.DepWait c.in_ok-groups.groups c.in_ok-words.words))
+    dep_wait-is c.args.store.now c.args.arch.now c.args.source.now c.args.version.now c.args.relations.now c.in-Ok.groups c.in_ok-words.words c.in_ok-read.ensures.ok c.in-Ok.ensures.value c.in_ok-words.ensures.value ∙ (λ i. named_step c.args.store.now c.args.arch.now c.args.source.now (sym c.in_ok-read.ensures.value i) (to.DepWait c.in-Ok.groups c.in_ok-words.words))
     ∙ c.in_ok-move_named.ensures.reply

@@ -3,6 +3,7 @@ use Rattle.std.proofs.lemmas.Result.{err_from_is_err_and}
 use Rattle.wb_states.specs.declared.moves.Move.TheVariants as to
 use Rattle.wb_office.specs.Found.{named_step}
 use Rattle.wb_office.proofs.KeyLemmas.{give_back-refused, give_back-is}
+use Rattle.wb_office.proofs.WantLemmas.{wanted, want-GiveBack}
 use Rattle.wb_office.proofs.named.give_back.Goals as goal
 
 pub returns-in_err-read-clause-refused : goal.returns-in_err-read-clause-refused
@@ -20,3 +21,11 @@ pub returns-clause-reply : goal.returns-clause-reply
 returns-clause-reply c =
     give_back-is c.args.store.now c.args.arch.now c.args.source.now c.args.version.now c.in_ok-read.ensures.ok ∙ (λ i. named_step c.args.store.now c.args.arch.now c.args.source.now (sym c.in_ok-read.ensures.value i) to.GiveBack)
     ∙ c.in_ok-move_named.ensures.reply
+
+pub returns-in_err-read-clause-memory : goal.returns-in_err-read-clause-memory
+returns-in_err-read-clause-memory c =
+    let p = err_from_is_err_and c.from_residual.result c.from_residual.ensures.1 in
+    rw (p.1, p.2) (λ none. want-GiveBack c.args.arch.now c.args.source.now c.args.version.now (c.in_err-read.ensures.memory none))
+
+pub returns-in_err-move_named-clause-memory : goal.returns-in_err-move_named-clause-memory
+returns-in_err-move_named-clause-memory c = wanted _ (want-GiveBack c.args.arch.now c.args.source.now c.args.version.now c.in_ok-read.ensures.ok)

@@ -1,8 +1,9 @@
 use Rattle.std.proofs.Common.{◌∙◌, sym}
 use Rattle.std.proofs.lemmas.Result.{err_from_is_err_and}
 use Rattle.wb_states.specs.declared.moves.Move.TheVariants as to
-use Rattle.wb_office.specs.Found.{named_step}
+use Rattle.wb_office.specs.Found.{key_refusal, named_step}
 use Rattle.wb_office.proofs.KeyLemmas.{rebuild-refused, rebuild-BadNumber, rebuild-long, rebuild-is, numbered}
+use Rattle.wb_office.proofs.WantLemmas.{wanted, want-Rebuild}
 use Rattle.wb_office.proofs.named.rebuild.Goals as goal
 
 pub returns-in_err-read-clause-refused : goal.returns-in_err-read-clause-refused
@@ -10,13 +11,30 @@ returns-in_err-read-clause-refused c =
     let p = err_from_is_err_and c.from_residual.result c.from_residual.ensures.1 in
     rw (p.1, p.2) (λ differs. rebuild-refused c.args.store.now c.args.arch.now c.args.source.now c.args.version.now c.args.number c.args.message.now _ (c.in_err-read.ensures.refused differs))
 
+pub returns-in_err-read-clause-memory : goal.returns-in_err-read-clause-memory
+returns-in_err-read-clause-memory c =
+    let p = err_from_is_err_and c.from_residual.result c.from_residual.ensures.1 in
+    rw (p.1, p.2) (λ none. want-Rebuild c.args.arch.now c.args.source.now c.args.version.now c.args.number c.args.message.now (c.in_err-read.ensures.memory none) (numbered c.args.number c.in-Some.number _ c.in-Some.ensures.value).0 (sym c.is_long.ensures.value ∙ c.if-is_long.false))
+
 pub returns-in_default-clause-refused : goal.returns-in_default-clause-refused
 returns-in_default-clause-refused c = λ _.
-    rebuild-BadNumber c.args.store.now c.args.arch.now c.args.source.now c.args.version.now c.args.number c.args.message.now c.in_ok-read.ensures.ok c.in_default.ensures.value
+    rebuild-BadNumber c.args.store.now c.args.arch.now c.args.source.now c.args.version.now c.args.number c.args.message.now _
+    (c.or_later.ensures.value (key_refusal c.args.arch.now c.args.source.now c.args.version.now) c.read_key-key.ensures.ok c.read_key-key.ensures.refused c.read_key-key.ensures.memory)
+    c.in_default.ensures.value
 
 pub returns-then-is_long-clause-refused : goal.returns-then-is_long-clause-refused
 returns-then-is_long-clause-refused c = λ _.
-    rebuild-long c.args.store.now c.args.arch.now c.args.source.now c.args.version.now c.args.number c.args.message.now c.in_ok-read.ensures.ok (numbered c.args.number c.in-Some.number _ c.in-Some.ensures.value).0 (sym c.is_long.ensures.value ∙ c.if-is_long.true)
+    rebuild-long c.args.store.now c.args.arch.now c.args.source.now c.args.version.now c.args.number c.args.message.now _
+    (c.or_later-then-is_long.ensures.value (key_refusal c.args.arch.now c.args.source.now c.args.version.now) c.read_key-key.ensures.ok c.read_key-key.ensures.refused c.read_key-key.ensures.memory)
+    (numbered c.args.number c.in-Some.number _ c.in-Some.ensures.value).0 (sym c.is_long.ensures.value ∙ c.if-is_long.true)
+
+pub returns-in_err-clone-clause-memory : goal.returns-in_err-clone-clause-memory
+returns-in_err-clone-clause-memory c =
+    wanted _ (want-Rebuild c.args.arch.now c.args.source.now c.args.version.now c.args.number c.args.message.now c.in_ok-read.ensures.ok (numbered c.args.number c.in-Some.number _ c.in-Some.ensures.value).0 (sym c.is_long.ensures.value ∙ c.if-is_long.false))
+
+pub returns-in_err-move_named-clause-memory : goal.returns-in_err-move_named-clause-memory
+returns-in_err-move_named-clause-memory c =
+    wanted _ (want-Rebuild c.args.arch.now c.args.source.now c.args.version.now c.args.number c.args.message.now c.in_ok-read.ensures.ok (numbered c.args.number c.in-Some.number _ c.in-Some.ensures.value).0 (sym c.is_long.ensures.value ∙ c.if-is_long.false))
 
 pub returns-in_err-move_named-clause-refused : goal.returns-in_err-move_named-clause-refused
 returns-in_err-move_named-clause-refused c =

@@ -1,8 +1,5 @@
-use Rattle.std.proofs.Common.{◌≡◌, ◌∙◌, sym, refl, true, false, None, ap}
+use Rattle.std.proofs.Common.{◌∙◌, sym, refl, true, false, None}
 use Rattle.std.proofs.lemmas.Result.{err_from_is_err_and}
-use Rattle.wb_states.specs.declared.command.Command.TheVariants.{Enter}
-use Rattle.wb_office.specs.Checks.{has_bad_name, lacks_arch}
-use Rattle.deb_version.specs.Syntax.{fault_of}
 use Rattle.wb_office.proofs.RefusalLemmas.{first_refusal-Enter, entry-BadVersion}
 use Rattle.wb_office.proofs.operator.check_entry.Goals as goal
 

@@ -16,3 +16,9 @@ returns-in_err-read-clause-refused c =
 pub returns-clause-ok : goal.returns-clause-ok
 returns-clause-ok c =
     key_refusal-None c.args.arch.now c.args.source.now c.args.version.now (sym c.is_bad_key.ensures.value ∙ c.if-is_bad_key.false) c.in_ok-read.ensures.ok
+
+pub returns-in_err-read-clause-memory : goal.returns-in_err-read-clause-memory
+returns-in_err-read-clause-memory c =
+    let p = err_from_is_err_and c.from_residual.result c.from_residual.ensures.1 in
+    rw (p.1, p.2) (λ none. key_refusal-None c.args.arch.now c.args.source.now c.args.version.now
+    (sym c.is_bad_key.ensures.value ∙ c.if-is_bad_key.false) (c.in_err-read.ensures.memory none))

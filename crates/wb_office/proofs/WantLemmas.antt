@@ -1,0 +1,82 @@
+-- What is known of a command for which memory is wanted.
+use Rattle.std.proofs.Common.{◌≡◌, ℕ, ◌||◌, Bool, true, false, nat_eq, nat_lt, length, List, [], ◌∷◌, Option, Some, None, Result, Ok, Err, IfErr, refl, ap, ◌∙◌, option_map}
+use Rattle.deb_version.specs.declared.fault.VersionFault.{VersionFault}
+use Rattle.deb_version.specs.Syntax.{fault_of}
+use Rattle.wb_states.specs.declared.command.Command.TheVariants.{AddArch, AddBuilder, Enter, GiveBack, DepWait, Fail, NotForUs, Rebuild}
+use Rattle.wb_states.specs.declared.refusal.Refusal.{Refusal}
+use Rattle.wb_states.specs.declared.refusal.Refusal.TheVariants.{Memory, BadName, BadVersion}
+use Rattle.wb_states.specs.Limits.{note_limit, rebuild_limit, relations_limit}
+use Rattle.wb_states.specs.Machine.{Machine}
+use Rattle.wb_office.specs.Checks.{MayWantMemory, first_refusal, first_some, has_bad_key, or_refusal, when}
+use Rattle.wb_office.specs.Found.{key_refusal}
+use Rattle.wb_office.proofs.PassLemmas.{passes, first_some-None, when-None, option_map-None}
+
+-- what is known on a way is known of each refusal that comes of it
+pub wanted : {X P : Type 0} (answer : Result X Refusal) → P → IfErr answer (λ refusal. refusal ≡ Memory → P)
+wanted (Ok x) known = tt
+wanted (Err refusal) known = λ _. known
+
+-- a source package whose names and version are not refused
+pub key-good : (arch source version : List ℕ) → key_refusal arch source version ≡ None → (has_bad_key arch source ≡ false) × (fault_of version ≡ None)
+unfolding key_refusal
+key-good arch source version is =
+    let both = first_some-None (when (has_bad_key arch source) BadName ∷ option_map BadVersion (fault_of version) ∷ []) is in
+    (when-None _ _ both.0, option_map-None BadVersion _ both.1.0)
+
+-- such a package is known where memory is what is wanted in the end
+pub key-wanted : (arch source version : List ℕ) (later refusal : Refusal) → or_refusal (key_refusal arch source version) (Some later) ≡ Some refusal → refusal ≡ Memory
+    → key_refusal arch source version ≡ None
+unfolding key_refusal
+key-wanted arch source version later refusal is none = either (has_bad_key arch source) (fault_of version) (is ∙ ap Some none) where
+  either : (b : Bool) (fault : Option VersionFault)
+      → or_refusal (first_some (when b BadName ∷ option_map BadVersion fault ∷ [])) (Some later) ≡ Some Memory
+      → first_some (when b BadName ∷ option_map BadVersion fault ∷ []) ≡ None
+  either true fault e = cc
+  either false None e = refl
+  either false (Some fault) e = cc
+
+pub want-AddArch : (machine : Machine) (name os cpu : List ℕ) → first_refusal machine (AddArch name os cpu) ≡ None → MayWantMemory (AddArch name os cpu)
+want-AddArch machine name os cpu is =
+    let pass = passes machine (AddArch name os cpu) is in
+    record { names = pass.names; version = refl; relations = refl; number = refl; short = refl; parts = refl }
+
+pub want-AddBuilder : (machine : Machine) (name arch : List ℕ) → first_refusal machine (AddBuilder name arch) ≡ None → MayWantMemory (AddBuilder name arch)
+want-AddBuilder machine name arch is =
+    let pass = passes machine (AddBuilder name arch) is in
+    record { names = pass.names; version = refl; relations = refl; number = refl; short = refl; parts = refl }
+
+pub want-Enter : (machine : Machine) (arch source version priority section : List ℕ) → first_refusal machine (Enter arch source version priority section) ≡ None
+    → MayWantMemory (Enter arch source version priority section)
+want-Enter machine arch source version priority section is =
+    let pass = passes machine (Enter arch source version priority section) is in
+    record { names = pass.names; version = pass.version; relations = refl; number = refl; short = refl; parts = refl }
+
+pub want-GiveBack : (arch source version : List ℕ) → key_refusal arch source version ≡ None → MayWantMemory (GiveBack arch source version)
+want-GiveBack arch source version key =
+    let good = key-good arch source version key in
+    record { names = good.0; version = good.1; relations = refl; number = refl; short = refl; parts = refl }
+
+pub want-DepWait : (arch source version relations : List ℕ) → key_refusal arch source version ≡ None → nat_lt relations_limit (length relations) ≡ false
+    → MayWantMemory (DepWait arch source version relations)
+want-DepWait arch source version relations key short =
+    let good = key-good arch source version key in
+    record { names = good.0; version = good.1; relations = short; number = refl; short = refl; parts = refl }
+
+pub want-Fail : (arch source version note : List ℕ) → key_refusal arch source version ≡ None → nat_lt note_limit (length note) ≡ false
+    → MayWantMemory (Fail arch source version note)
+want-Fail arch source version note key short =
+    let good = key-good arch source version key in
+    record { names = good.0; version = good.1; relations = refl; number = refl; short = short; parts = refl }
+
+pub want-NotForUs : (arch source version note : List ℕ) → key_refusal arch source version ≡ None → nat_lt note_limit (length note) ≡ false
+    → MayWantMemory (NotForUs arch source version note)
+want-NotForUs arch source version note key short =
+    let good = key-good arch source version key in
+    record { names = good.0; version = good.1; relations = refl; number = refl; short = short; parts = refl }
+
+pub want-Rebuild : (arch source version : List ℕ) (number : ℕ) (message : List ℕ) → key_refusal arch source version ≡ None
+    → (nat_eq number 0 || nat_lt rebuild_limit number) ≡ false → nat_lt note_limit (length message) ≡ false
+    → MayWantMemory (Rebuild arch source version number message)
+want-Rebuild arch source version number message key within short =
+    let good = key-good arch source version key in
+    record { names = good.0; version = good.1; relations = refl; number = within; short = short; parts = refl }
