@@ -17,7 +17,7 @@ use Rattle.wb_states.specs.Queue.{Entry}
 use Rattle.wb_states.specs.State.{is_held}
 use Rattle.wb_states.proofs.KeyLemmas.{pair_cmp_total}
 use Rattle.wb_office.specs.Checks.{first_refusal}
-use Rattle.wb_office.specs.HandOuts.{HandOut, HasTakeByState, HasTakesByState, Ends, Rise, given_by, hand_out, hand_outs, onto_hand_outs, holds, is_held_as}
+use Rattle.wb_office.specs.HandOuts.{HandOut, IsBeingBuilt, HasTakeByState, HasTakesByState, Ends, Rise, given_by, hand_out, hand_outs, onto_hand_outs, holds, is_held_as}
 use Rattle.wb_office.specs.Moving.{target_of, moving, with_move, again_of}
 use Rattle.wb_office.specs.Replay.{replay}
 use Rattle.wb_office.specs.Step.{outcome, step, change, counted, after_move, after_take, reply_to, job_of}
@@ -29,6 +29,7 @@ use Rattle.wb_office.proofs.TakeStateLemmas.{allowed-from, replay-takes, step-ta
 record IsHandedOut (machine : Machine) (after : Machine) (given : HandOut) : Type 0 where
   entry : Entry
   builder : List ℕ
+  asker : given.builder ≡ builder
   key : given.key ≡ entry.0
   number : given.take ≡ machine.handed + 1
   stands : map.get machine.records entry.0 ≡ Some entry.1
@@ -53,11 +54,11 @@ AsksFor machine command builder =
     × (change machine command ≡ after_take machine (moving machine command))
 
 job-given : (machine : Machine) (builder : List ℕ) (found : Option Entry) (given : HandOut) → given_by builder (Ok (job_of machine found)) ≡ Some given
-    → (entry : Entry) × ((found ≡ Some entry) × ((given.key ≡ entry.0) × (given.take ≡ machine.handed + 1)))
+    → (entry : Entry) × ((found ≡ Some entry) × ((given.key ≡ entry.0) × ((given.take ≡ machine.handed + 1) × (given.builder ≡ builder))))
 job-given machine builder None given is = cc
 job-given machine builder (Some entry) given is =
     let same : record { builder = builder; key = entry.0; take = machine.handed + 1 } ≡ given = only _ _ is in
-    (entry, (refl, (sym (ap (λ (g : HandOut). g.key) same), sym (ap (λ (g : HandOut). g.take) same))))
+    (entry, (refl, (sym (ap (λ (g : HandOut). g.key) same), (sym (ap (λ (g : HandOut). g.take) same), sym (ap (λ (g : HandOut). g.builder) same)))))
 
 accepted-given : (machine : Machine) (command : Command) (builder : List ℕ) (given : HandOut) → AsksFor machine command builder → Passes machine command
     → given_by builder (Ok (reply_to machine command)) ≡ Some given → IsHandedOut machine (counted machine (change machine command)) given
@@ -72,8 +73,9 @@ accepted-given machine command builder given asks pass is =
     record {
       entry = entry;
       builder = builder;
+      asker = job.1.1.1.1;
       key = job.1.1.0;
-      number = job.1.1.1;
+      number = job.1.1.1.0;
       stands = may.stands;
       waits = taken-free builder (machine.handed + 1) entry.1.state (allowed-from move entry.1 may.allowed);
       handed = ap (λ (m : Machine). m.handed) done;
@@ -150,17 +152,40 @@ rise machine (command ∷ commands) =
 
 -- ---- a hold is ended before the next
 
+-- the record of a hand-out is the one that was moved
+given-record : (machine after : Machine) (given : HandOut) (known : IsHandedOut machine after given)
+    → map.get after.records given.key ≡ Some (moved (to.Take known.builder (machine.handed + 1)) known.entry.1)
+given-record machine after given known =
+    let put : Record = moved (to.Take known.builder (machine.handed + 1)) known.entry.1 in
+    ap (λ records. map.get records given.key) known.records
+    ∙ ap (map.get (map.insert machine.records known.entry.0 put)) known.key
+    ∙ map.get-insert pair_cmp_total machine.records known.entry.0 put known.entry.0
+    ∙ ap (λ r. cond (is_eq r) (Some put) (map.get machine.records known.entry.0)) (tied_itself pair_cmp_total known.entry.0)
+
 -- after a hand-out its record is held under its take number
 given-holds : (machine after : Machine) (given : HandOut) → IsHandedOut machine after given → holds after given ≡ true
 unfolding holds moved
 given-holds machine after given known =
-    let put : Record = moved (to.Take known.builder (machine.handed + 1)) known.entry.1 in
-    let at : map.get after.records given.key ≡ Some put =
-    ap (λ records. map.get records given.key) known.records
-    ∙ ap (map.get (map.insert machine.records known.entry.0 put)) known.key
-    ∙ map.get-insert pair_cmp_total machine.records known.entry.0 put known.entry.0
-    ∙ ap (λ r. cond (is_eq r) (Some put) (map.get machine.records known.entry.0)) (tied_itself pair_cmp_total known.entry.0) in
-    ap (is_held_as given.take) at ∙ ap (λ n. nat_eq n (machine.handed + 1)) known.number ∙ eq-eqb (machine.handed + 1) (machine.handed + 1) refl
+    ap (is_held_as given.take) (given-record machine after given known) ∙ ap (λ n. nat_eq n (machine.handed + 1)) known.number
+    ∙ eq-eqb (machine.handed + 1) (machine.handed + 1) refl
+
+-- after a hand-out its record is being built by the builder that it was handed to
+pub hand_out-built : (machine : Machine) (command : Command) (given : HandOut) → hand_out machine command ≡ Some given
+    → (current : Record) × ((map.get (step machine command).1.records given.key ≡ Some current) × IsBeingBuilt given current)
+unfolding moved
+hand_out-built machine command given is =
+    let known = hand_out-is machine command given is in
+    let put : Record = moved (to.Take known.builder (machine.handed + 1)) known.entry.1 in (
+      put,
+      (
+        given-record machine (step machine command).1 given known,
+        record {
+          state = refl;
+          holder = ap Some (sym known.asker);
+          take = ap Some (sym known.number);
+        },
+      ),
+    )
 
 -- a record that is handed out was held under no take number
 waiting-free : (machine after : Machine) (given later : HandOut) → HasTakesByState machine → IsHandedOut machine after later → given.key ≡ later.key

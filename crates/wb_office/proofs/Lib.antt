@@ -2,6 +2,7 @@ pub mod AppliedLemmas
 pub mod AskedLemmas
 pub mod ChosenLemmas
 pub mod ConsistencyLemmas
+pub mod CountedLemmas
 pub mod HandOutLemmas
 pub mod HeldLemmas
 pub mod InvariantLemmas

@@ -7,6 +7,7 @@ use Rattle.wb_states.specs.declared.record.Record.{Record}
 use Rattle.wb_states.specs.declared.reply.Reply.{Reply}
 use Rattle.wb_states.specs.declared.reply.Reply.TheVariants.{Job}
 use Rattle.wb_states.specs.declared.refusal.Refusal.{Refusal}
+use Rattle.wb_states.specs.declared.state.State.TheVariants.{Building}
 use Rattle.wb_states.specs.Holds.{has_value}
 use Rattle.wb_states.specs.Machine.{Machine}
 use Rattle.wb_states.specs.State.{is_held}
@@ -33,6 +34,12 @@ handed_by command answer = None
 -- what a command hands out
 abbrev pub hand_out : Machine → Command → Option HandOut
 hand_out machine command = handed_by command (step machine command).0
+
+-- a record is being built, by the builder of a hand-out and under its take number
+pub record IsBeingBuilt (given : HandOut) (current : Record) : Type 0 where
+  pub state : current.state ≡ Building
+  pub holder : current.holder ≡ Some given.builder
+  pub take : current.take ≡ Some given.take
 
 -- a hand-out before others, where there is one
 abbrev pub onto_hand_outs : Option HandOut → List HandOut → List HandOut

@@ -1,8 +1,11 @@
 //! Laws of the definitions, each on a function that does nothing.
-ghost use Rattle.std.specs.Prelude.{◌≡◌, List, ◌++◌, ◌∷◌, Some};
+ghost use Rattle.std.specs.Prelude.{◌≡◌, ◌≤◌, List, ◌++◌, ◌∷◌, Some, Err};
+ghost use Rattle.std.specs.FinMap as map;
 ghost use Rattle.wb_states.specs.Machine.{IsConsistent, Machine, empty_office};
 ghost use Rattle.wb_states.specs.declared.command.Command.{Command};
-ghost use Rattle.wb_office.specs.HandOuts.{HandOut, HasTakesByState, Ends, Rise, hand_out, hand_outs};
+ghost use Rattle.wb_states.specs.declared.record.Record.{Record};
+ghost use Rattle.wb_states.specs.declared.refusal.Refusal.{Refusal};
+ghost use Rattle.wb_office.specs.HandOuts.{HandOut, IsBeingBuilt, HasTakesByState, Ends, Rise, hand_out, hand_outs};
 ghost use Rattle.wb_office.specs.Replay.{replay};
 ghost use Rattle.wb_office.specs.Step.{step};
 ghost use Rattle.wb_office.specs.Utf8.{HasUtf8Texts, HaveUtf8Texts};
@@ -41,4 +44,23 @@ pub fn takes_rise()
         → hand_out (replay machine before) first ≡ Some given
         → hand_out (replay machine (before ++ first ∷ between)) second ≡ Some later
         → given.key ≡ later.key → Ends (step (replay machine before) first).1 between given }
+{}
+
+/// The two counts never fall, and a command that is refused changes nothing.
+pub fn counts_never_fall()
+    ensures handed { (machine : Machine) (command : Command)
+        → machine.handed ≤ (step machine command).1.handed }
+    ensures accepted { (machine : Machine) (command : Command)
+        → machine.accepted ≤ (step machine command).1.accepted }
+    ensures unchanged { (machine : Machine) (command : Command) (refusal : Refusal)
+        → (step machine command).0 ≡ Err refusal → (step machine command).1 ≡ machine }
+{}
+
+/// What a reply hands out is held from then on: the record of the source package is being built, by the
+/// builder that was told so and under the take number that it was told.
+pub fn hand_outs_are_held()
+    ensures held { (machine : Machine) (command : Command) (given : HandOut)
+        → hand_out machine command ≡ Some given
+        → (current : Record) × ((map.get (step machine command).1.records given.key ≡ Some current)
+        × IsBeingBuilt given current) }
 {}
