@@ -20,6 +20,7 @@ pub mod PartLemmas
 pub mod PassLemmas
 pub mod RefusalLemmas
 pub mod RelistedLemmas
+pub mod RetryLemmas
 pub mod RowLemmas
 pub mod SettledLemmas
 pub mod StepLemmas

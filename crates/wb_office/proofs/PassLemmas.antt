@@ -50,6 +50,7 @@ pub record Passes (machine : Machine) (command : Command) : Type 0 where
   pub arch : lacks_arch machine command ≡ false
   pub builder : lacks_builder machine command ≡ false
   pub others : is_for_other_archs machine command ≡ false
+  pub ahead : is_ahead machine command ≡ false
   pub source : lacks_source machine command ≡ false
   pub move : refused_move machine command ≡ None
   pub there : is_there_already machine command ≡ false
@@ -91,6 +92,7 @@ passes machine command is =
       arch = when-None _ _ states.0;
       builder = when-None _ _ states.1.1.0;
       others = when-None _ _ states.1.1.1.0;
+      ahead = when-None _ _ states.1.1.1.1.0;
       source = when-None _ _ later.1.0;
       move = later.1.1.1.0;
       there = when-None _ _ later.1.1.1.1.1.0;

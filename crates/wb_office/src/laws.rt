@@ -1,10 +1,13 @@
 //! Laws of the definitions, each on a function that does nothing.
-ghost use Rattle.std.specs.Prelude.{◌≡◌, ◌≤◌, List, ◌++◌, ◌∷◌, Some, Err};
+ghost use Rattle.std.specs.Prelude.{◌≡◌, ℕ, ◌≤◌, List, ◌++◌, ◌∷◌, Option, Some, Ok, Err};
 ghost use Rattle.std.specs.FinMap as map;
 ghost use Rattle.wb_states.specs.Machine.{IsConsistent, Machine, empty_office};
 ghost use Rattle.wb_states.specs.declared.command.Command.{Command};
+ghost use Rattle.wb_states.specs.declared.command.Command.TheVariants.{Next};
 ghost use Rattle.wb_states.specs.declared.record.Record.{Record};
 ghost use Rattle.wb_states.specs.declared.refusal.Refusal.{Refusal};
+ghost use Rattle.wb_states.specs.declared.reply.Assignment.{Assignment};
+ghost use Rattle.wb_states.specs.declared.reply.Reply.TheVariants.{Again, Job};
 ghost use Rattle.wb_office.specs.HandOuts.{HandOut, IsBeingBuilt, HasTakesByState, Ends, Rise, hand_out, hand_outs};
 ghost use Rattle.wb_office.specs.Replay.{replay};
 ghost use Rattle.wb_office.specs.Step.{step};
@@ -63,4 +66,19 @@ pub fn hand_outs_are_held()
         → hand_out machine command ≡ Some given
         → (current : Record) × ((map.get (step machine command).1.records given.key ≡ Some current)
         × IsBeingBuilt given current) }
+{}
+
+/// A builder that asks again for the head of a queue with the take number that it asked with is told of the
+/// same assignment, and nothing changes. So it is where a builder that lost the answer asks after the last
+/// number that was given before it, with or without a number the first time.
+pub fn retries_are_idempotent()
+    ensures again { (machine : Machine) (arch builder : List ℕ) (after accepted : ℕ) (given : Assignment)
+        → (step machine (Next arch builder (Some after))).0 ≡ Ok (Job accepted given)
+        → step (step machine (Next arch builder (Some after))).1 (Next arch builder (Some after))
+        ≡ (Ok (Again accepted given), (step machine (Next arch builder (Some after))).1) }
+    ensures lost { (machine : Machine) (arch builder : List ℕ) (after : Option ℕ) (accepted : ℕ)
+        (given : Assignment) → IsConsistent machine
+        → (step machine (Next arch builder after)).0 ≡ Ok (Job accepted given)
+        → step (step machine (Next arch builder after)).1 (Next arch builder (Some machine.handed))
+        ≡ (Ok (Again accepted given), (step machine (Next arch builder after)).1) }
 {}
