@@ -1,5 +1,5 @@
 -- Lemmas on runs over lines, as far as a loop has come.
-use Rattle.std.proofs.Common.{◌≡◌, ℕ, ◌+◌, ◌-◌, ◌<◌, ◌≤◌, Bool, true, false, ◌||◌, cond, max, List, [], ◌∷◌, ◌++◌, length, take, Option, None, Some, IfSome, IsTrue, ◌⊎◌, inl, inr, refl, sym, ap, ◌∙◌, subst, append_assoc, append-nil, length-append, length-take, arith}
+use Rattle.std.proofs.Common.{◌≡◌, ℕ, ◌+◌, ◌-◌, ◌<◌, ◌≤◌, Bool, true, false, ◌||◌, cond, max, List, [], ◌∷◌, ◌++◌, length, take, Option, None, Some, IsTrue, ◌⊎◌, inl, inr, refl, sym, ap, ◌∙◌, subst, append_assoc, append-nil, length-append, length-take, arith}
 use Rattle.std.proofs.Math.Nat.{max-zero, zero-max}
 use Rattle.std.proofs.lemmas.Bool.{eqb-true}
 use Rattle.std.proofs.lemmas.Bool.Decides.{nat_tests}
@@ -7,9 +7,9 @@ use Rattle.std.proofs.lemmas.List.Splits.{length-slice_split, slice_split-cons_n
 use Rattle.std.specs.Io.KnownBytes.{Appends, Consumes, IsAtEnd}
 use Rattle.std.specs.List.{list_any, onto_first, slice_split}
 use Rattle.wb_states.specs.Machine.{Machine}
-use Rattle.wb_daemon.specs.Line.{ended_in, is_feed, is_long, bytes_of, lines_of, max_line, max_lines, through_long, HasNoFeed}
-use Rattle.wb_daemon.specs.Lists.{Gives}
-use Rattle.wb_daemon.specs.Run.{Said, Says, Runs, RunEnds, RunStops, StopsWithin, followed, silent}
+use Rattle.wb_daemon.specs.Line.{ended_in, is_feed, is_long, bytes_of, lines_of, max_line, max_lines, through_long, AreWithinLimit, HasNoFeed}
+use Rattle.wb_daemon.specs.Lists.{Gives, IsAllOf}
+use Rattle.wb_daemon.specs.Run.{Said, Says, Runs, EndsInput, RunStops, StopsWithin, followed, silent}
 use Rattle.wb_daemon.specs.Turn.{Answers, AnswersInPart, GivesFed, GivesLast, Turns}
 use Rattle.wb_daemon.specs.declared.line.ByteRead.{ByteRead}
 use Rattle.wb_daemon.specs.declared.line.ByteRead.TheVariants as byte
@@ -193,21 +193,18 @@ module _ {gives : Gives} {input now old new : Option (List ℕ)} {before after :
 
 -- ---- how a run ends
 
-if_some : (o : Option (List ℕ)) (P Q : List ℕ → Type 0) → ((xs : List ℕ) → P xs → Q xs) → IfSome o P → IfSome o Q
-if_some None P Q f h = tt
-if_some (Some xs) P Q f h = f xs h
+-- an input of which this is the front: what the reader had left where that is known, and else no more than this
+whole_input : (More : Type 0) (input now left : Option (List ℕ)) (xs ys : List ℕ) → Consumes input now xs → Consumes now left ys → IsAtEnd left ⊎ More
+    → (rest : List ℕ) × IsAllOf input (xs ++ (ys ++ rest)) × ((rest ≡ []) ⊎ More)
+whole_input More None now left xs ys p q e = ([], tt, inl refl)
+whole_input More (Some b) None left xs ys p q e = absurd p
+whole_input More (Some b) (Some c) None xs ys p q e = absurd q
+whole_input More (Some b) (Some c) (Some d) xs ys p q (inl e) = (d, sym (p ∙ ap (λ l. xs ++ l) q), inl e)
+whole_input More (Some b) (Some c) (Some d) xs ys p q (inr h) = (d, sym (p ∙ ap (λ l. xs ++ l) q), inr h)
 
--- what was read is the front of the input
-front_of_input : (input now left : Option (List ℕ)) (xs ys : List ℕ) → Consumes input now xs → Consumes now left ys
-    → IfSome input (λ bytes. (rest : List ℕ) × (bytes ≡ xs ++ (ys ++ rest)) × (left ≡ Some rest))
-front_of_input None now left xs ys p q = tt
-front_of_input (Some b) None left xs ys p q = absurd p
-front_of_input (Some b) (Some c) None xs ys p q = absurd q
-front_of_input (Some b) (Some c) (Some d) xs ys p q = (d, p ∙ ap (λ l. xs ++ l) q, refl)
-
-nothing_or_long : (left : Option (List ℕ)) (rest line : List ℕ) → left ≡ Some rest → IsAtEnd left ⊎ (is_long line ≡ true) → (rest ≡ []) ⊎ (is_long line ≡ true)
-nothing_or_long left rest line e (inl h) = inl (subst IsAtEnd e h)
-nothing_or_long left rest line e (inr h) = inr h
+nothing_left : (rest : List ℕ) → (rest ≡ []) ⊎ ⊥ → rest ≡ []
+nothing_left rest (inl e) = e
+nothing_left rest (inr h) = absurd h
 
 -- the lines of an input whose last line was read, in so far as it is not too long
 last_lines : (gives : Gives) (lines : List (List ℕ)) (line rest : List ℕ) → AreLines lines → HasNoFeed line → (rest ≡ []) ⊎ (is_long line ≡ true)
@@ -231,29 +228,41 @@ list_any-last [] line h = ap (λ b. b || false) h
 list_any-last (x ∷ xs) line h = ap (λ b. is_long x || b) (list_any-last xs line h) ∙ or-true (is_long x)
 
 module _ {gives : Gives} {input now old new : Option (List ℕ)} {before after : Machine} {status count : ℕ} (far : SoFar gives input now old new before after status count) where
-  -- the last line was answered
-  pub ends-line : (line : List ℕ) (left written : Option (List ℕ)) (next : Machine) (more : ℕ)
-      → GivesLast line now left → Answers gives line after next new written more
-      → IfSome input (λ bytes. RunEnds gives bytes old written before next (max status more) × (length (lines_of bytes) ≤ count + 1))
-  ends-line line left written next more g a = if_some input _ _ (λ bytes k.
-      let last = last_lines gives far.lines line k.0 far.are g.0 (nothing_or_long left k.0 line k.2 g.2) in
-      let same : lines_of bytes ≡ far.lines ++ last.0 ∷ [] = ap lines_of k.1 ∙ last.1 in (
-        (
-          far.text ++ a.0,
-          subst (λ l. Runs gives before l (record { text = far.text ++ a.0; machine = next; status = max status more })) (sym same)
-              (Runs-snoc gives far.lines before _ last.0 _ far.runs (last.2 _ _ a.2)),
-          Appends-then old new written far.text a.0 far.written a.3,
-        ),
-        omega (arith, ap length same, length-append far.lines (last.0 ∷ []), far.counted),
-      ))
-      (front_of_input input now left (fed far.lines) line far.taken g.1)
+  ended : (bytes last : List ℕ) (written : Option (List ℕ)) (next : Machine) (more : ℕ)
+      → IsAllOf input bytes → lines_of bytes ≡ far.lines ++ last ∷ [] → AreWithinLimit (far.lines ++ last ∷ [])
+      → Answers gives last after next new written more → EndsInput gives input old written before next (max status more)
+  ended bytes last written next more p same few a = (
+    bytes,
+    p,
+    subst AreWithinLimit (sym same) few,
+    (
+      far.text ++ a.0,
+      subst (λ l. Runs gives before l (record { text = far.text ++ a.0; machine = next; status = max status more })) (sym same)
+          (Runs-snoc gives far.lines before _ last _ far.runs a.2),
+      Appends-then old new written far.text a.0 far.written a.3,
+    ),
+  )
 
-  -- nothing follows
-  pub ends-nothing : (left : Option (List ℕ)) → Consumes now left [] → IsAtEnd left
-      → IfSome input (λ bytes. RunEnds gives bytes old new before after status × (length (lines_of bytes) ≤ count + 1))
-  ends-nothing left p e =
-      subst (λ n. IfSome input (λ bytes. RunEnds gives bytes old new before after n × (length (lines_of bytes) ≤ count + 1))) (max-zero status)
-      (ends-line [] left new after 0 (refl, p, inl e) (answers-blank gives after [] new refl refl))
+  -- the last line was answered
+  pub ends-line : (line : List ℕ) (left written : Option (List ℕ)) (next : Machine) (more greatest : ℕ) → count < max_lines → greatest ≡ max status more
+      → GivesLast line now left → Answers gives line after next new written more → EndsInput gives input old written before next greatest
+  ends-line line left written next more greatest few e g a =
+      let whole = whole_input (is_long line ≡ true) input now left (fed far.lines) line far.taken g.1 g.2 in
+      let last = last_lines gives far.lines line whole.0 far.are g.0 whole.2 in
+      subst (λ n. EndsInput gives input old written before next n) (sym e)
+      (ended (fed far.lines ++ (line ++ whole.0)) last.0 written next more whole.1 last.1
+      (inl (omega (arith, length-append far.lines (last.0 ∷ []), far.counted, few)))
+      (a.0, a.1, last.2 _ _ a.2, a.3))
+
+  -- nothing follows the last line that a run may have
+  pub ends-nothing : (left : Option (List ℕ)) → count ≡ max_lines → Consumes now left [] → IsAtEnd left → EndsInput gives input old new before after status
+  ends-nothing left full p e =
+      let whole = whole_input ⊥ input now left (fed far.lines) [] far.taken p (inl e) in
+      subst (λ n. EndsInput gives input old new before after n) (max-zero status)
+      (ended (fed far.lines ++ ([] ++ whole.0)) [] new after 0 whole.1
+      (ap (λ l. lines_of (fed far.lines ++ l)) (nothing_left whole.0 whole.2) ∙ lines_of-last far.lines [] far.are refl)
+      (inr (far.lines, refl, far.counted ∙ full))
+      (answers-blank gives after [] new refl refl))
 
   -- ---- how a run stops
 
@@ -350,12 +359,6 @@ pub so_far-next : {gives : Gives} {input now old new : Option (List ℕ)} {befor
     → SoFar gives input left old written before next greatest (count + 1)
 so_far-next {gives} {input} {old} {before} {count} far line left written next more greatest g a e =
     subst (λ n. SoFar gives input left old written before next n (count + 1)) (sym e) (so_far-line far line left written next more g a)
-
-pub within_limit : (gives : Gives) (input old new : Option (List ℕ)) (before after : Machine) (status greatest count : ℕ) → count ≤ max_lines → greatest ≡ status
-    → IfSome input (λ bytes. RunEnds gives bytes old new before after status × (length (lines_of bytes) ≤ count + 1))
-    → IfSome input (λ bytes. RunEnds gives bytes old new before after greatest × (length (lines_of bytes) ≤ max_lines + 1))
-within_limit gives input old new before after status greatest count h e k =
-    if_some input _ _ (λ bytes p. (subst (λ n. RunEnds gives bytes old new before after n) (sym e) p.0, omega (arith, p.1, h))) k
 
 pub short_line : (room : List ℕ) (len : ℕ) → len ≤ max_line → is_long (take len room) ≡ false
 short_line room len h = grind (arith, nat_tests, length-take len room)

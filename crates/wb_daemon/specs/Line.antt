@@ -1,5 +1,5 @@
 -- The lines that a run reads, and the words of a line (this project's own).
-use Rattle.std.specs.Prelude.{◌≡◌, ℕ, ◌-◌, ◌≤◌, Bool, true, false, not, ◌||◌, ◌==◌, nat_lt, if◌then◌else◌, List, [], ◌∷◌, ◌++◌, length, take, filter, Option}
+use Rattle.std.specs.Prelude.{◌≡◌, ◌⊎◌, ℕ, ◌-◌, ◌≤◌, Bool, true, false, not, ◌||◌, ◌==◌, nat_lt, if◌then◌else◌, List, [], ◌∷◌, ◌++◌, length, take, filter, Option}
 use Rattle.std.specs.List.{list_all, list_any, slice_split}
 use Rattle.std.specs.Io.KnownBytes.{Consumes, IsAtEnd}
 use Rattle.wb_daemon.specs.declared.line.LineRead.{LineRead}
@@ -43,6 +43,12 @@ lines_of input = through_long (slice_split is_feed input)
 -- the lines that are ended by a line feed
 unfoldable pub ended_in : List ℕ → List (List ℕ)
 ended_in text = take (length (slice_split is_feed text) - 1) (slice_split is_feed text)
+
+-- at most the greatest number of lines, or one more that is empty, behind the last line feed
+abbrev pub AreWithinLimit : List (List ℕ) → Type 0
+AreWithinLimit lines =
+    (length lines ≤ max_lines)
+    ⊎ ((before : List (List ℕ)) × (lines ≡ before ++ [] ∷ []) × (length before ≡ max_lines))
 
 -- the words of a line: its parts between spaces and tabs, without the empty ones
 unfoldable pub words_of : List ℕ → List (List ℕ)

@@ -14,8 +14,8 @@ use Rattle.wb_words.specs.declared.words.Asked.{Asked}
 use Rattle.wb_words.specs.declared.words.Asked.TheVariants.{Command as asked_Command, Merge as asked_Merge}
 use Rattle.wb_words.specs.declared.words.PartNames.{PartNames}
 use Rattle.wb_api.specs.Encoding.{reply_text, refusal_text, memory_text, line_fault_text, file_fault_text}
-use Rattle.wb_daemon.specs.Line.{is_blank_line, is_long, lines_of, ended_in, words_of}
-use Rattle.wb_daemon.specs.Lists.{Gives, GivesMerge}
+use Rattle.wb_daemon.specs.Line.{is_blank_line, is_long, lines_of, ended_in, words_of, AreWithinLimit}
+use Rattle.wb_daemon.specs.Lists.{Gives, GivesMerge, IsAllOf}
 
 -- what is said to lines: the text that is written, the office after it, and the status, which is 0 where all was accepted, 1 after a refusal, 2 after a line that is no command and 3 after a list that cannot be read
 pub record Said : Type 0 where
@@ -119,6 +119,12 @@ abbrev pub RunEnds : Gives → List ℕ → Option (List ℕ) → Option (List �
 RunEnds gives input old_text new_text before after status =
     (text : List ℕ) × Runs gives before (lines_of input) (record { text = text; machine = after; status = status })
     × Appends old_text new_text text
+
+-- a run that ended with its input: some input, which is what the reader had left where that is known
+abbrev pub EndsInput : Gives → Option (List ℕ) → Option (List ℕ) → Option (List ℕ) → Machine → Machine → ℕ → Type 0
+EndsInput gives known old_text new_text before after status =
+    (input : List ℕ) × IsAllOf known input × AreWithinLimit (lines_of input)
+    × RunEnds gives input old_text new_text before after status
 
 -- a run that stopped between two lines: every line that a line feed had ended was answered, and no more was acted on
 abbrev pub StopsBetween : Gives → List ℕ → Machine → List ℕ → Machine → Type 0

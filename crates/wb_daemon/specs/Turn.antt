@@ -1,13 +1,13 @@
 -- What one turn of a run does: it reads a line and answers it (this project's own).
-use Rattle.std.specs.Prelude.{◌≡◌, ℕ, ◌+◌, ◌<◌, ◌≤◌, false, true, ◌⊎◌, List, [], ◌∷◌, ◌++◌, length, take, Option, IfSome}
+use Rattle.std.specs.Prelude.{◌≡◌, ℕ, ◌<◌, ◌≤◌, false, true, ◌⊎◌, List, [], ◌∷◌, ◌++◌, length, take, Option}
 use Rattle.std.specs.Cow.{cow_str_bytes}
 use Rattle.std.specs.Io.KnownBytes.{Appends, Consumes, IsAtEnd}
 use Rattle.wb_states.specs.Machine.{Machine}
 use Rattle.wb_states.specs.declared.command.Command.{Command}
 use Rattle.wb_words.specs.declared.words.Asked.{Asked}
-use Rattle.wb_daemon.specs.Line.{is_long, lines_of, max_lines, HasNoFeed}
+use Rattle.wb_daemon.specs.Line.{is_long, HasNoFeed}
 use Rattle.wb_daemon.specs.Lists.{Gives}
-use Rattle.wb_daemon.specs.Run.{Said, Says, SaysAsked, command_said, memory_said, with_feed, RunEnds, RunStops}
+use Rattle.wb_daemon.specs.Run.{Said, Says, SaysAsked, command_said, memory_said, with_feed, EndsInput, RunStops}
 use Rattle.wb_daemon.specs.declared.answer.Answer.{Answer}
 use Rattle.wb_daemon.specs.declared.run.RunEnd.{RunEnd}
 use Rattle.wb_daemon.specs.declared.run.RunEnd.TheVariants.{Ended, Stopped}
@@ -59,11 +59,6 @@ Turns gives Stop before after old_input new_input old new =
     (line : List ℕ) × ((HasNoFeed line × Consumes old_input new_input line × (after ≡ before) × (new ≡ old))
     ⊎ ((GivesFed line old_input new_input × AnswersInPart gives line before after old new)
     ⊎ (GivesLast line old_input new_input × AnswersInPart gives line before after old new)))
-
--- a run that ended with its input, where that is known, and read no line too many
-abbrev pub EndsInput : Gives → Option (List ℕ) → Option (List ℕ) → Option (List ℕ) → Machine → Machine → ℕ → Type 0
-EndsInput gives old_input old new before after status = IfSome old_input (λ input.
-    RunEnds gives input old new before after status × (length (lines_of input) ≤ max_lines + 1))
 
 -- what a run did: it ended with its input, or stopped before
 abbrev pub Ran : Gives → RunEnd → Machine → Machine → Option (List ℕ) → Option (List ℕ) → Option (List ℕ) → Option (List ℕ) → Type 0

@@ -1,8 +1,8 @@
 //! The run: each line of the input is answered with one line of JSON.
-ghost use Rattle.std.specs.Prelude.{◌≡◌, ◌⊎◌, ◌<◌, ◌≤◌, ◌+◌, IfSome, None, length, false};
-ghost use Rattle.wb_daemon.specs.Line.{is_long, lines_of, max_line, max_lines};
+ghost use Rattle.std.specs.Prelude.{◌≡◌, ◌⊎◌, ◌<◌, ◌≤◌, IfSome, None, length, false};
+ghost use Rattle.wb_daemon.specs.Line.{is_long, max_line};
 ghost use Rattle.wb_daemon.specs.Lists.{GivesNoMore};
-ghost use Rattle.wb_daemon.specs.Run.{RunEnds, RunStops};
+ghost use Rattle.wb_daemon.specs.Run.{EndsInput, RunStops};
 ghost use Rattle.wb_daemon.specs.Turn.{Answers, AnswersInPart, Ran, Turns};
 
 use crate::answer::{ACCEPTED, Answer, LINE_FAULT, answer_of};
@@ -158,12 +158,10 @@ pub fn run_lines<R: Read, W: Write, L: Lists>(
     lists: &mut L,
 ) -> u8
     ensures status { result ≤ 3 }
-    ensures value { result < 3 → IfSome (R.remaining reader.old) (λ input.
-        RunEnds (L.gives lists.old) input (W.contents writer.old) (W.contents writer.new) office.old office.new result
-        × (length (lines_of input) ≤ max_lines + 1)) }
-    ensures err { result ≡ 3 → IfSome (R.remaining reader.old) (λ input.
-        RunEnds (L.gives lists.old) input (W.contents writer.old) (W.contents writer.new) office.old office.new 3
-        × (length (lines_of input) ≤ max_lines + 1))
+    ensures value { result < 3 → EndsInput (L.gives lists.old) (R.remaining reader.old)
+        (W.contents writer.old) (W.contents writer.new) office.old office.new result }
+    ensures err { result ≡ 3 → EndsInput (L.gives lists.old) (R.remaining reader.old)
+        (W.contents writer.old) (W.contents writer.new) office.old office.new 3
         ⊎ RunStops (L.gives lists.old) (R.remaining reader.old) (R.remaining reader.new)
         (W.contents writer.old) (W.contents writer.new) office.old office.new }
 {

@@ -1,6 +1,6 @@
 -- Without room for a line the run does not begin; a run may end with a file fault.
 use Rattle.std.proofs.Common.{inl, inr, subst}
-use Rattle.wb_daemon.specs.Turn.{EndsInput}
+use Rattle.wb_daemon.specs.Run.{EndsInput}
 use Rattle.wb_daemon.proofs.RunLemmas.{stops-at_once}
 use Rattle.wb_daemon.proofs.run.run_lines.Goals as goal
 

@@ -2,7 +2,7 @@
 use Rattle.std.proofs.Common.{refl, arith}
 use Rattle.wb_daemon.proofs.AnswerLemmas.{Turns-more}
 use Rattle.wb_daemon.proofs.ListLemmas.{GivesNoMore-same, GivesNoMore-then}
-use Rattle.wb_daemon.proofs.RunLemmas.{so_far-start, so_far-next, ends-line, ends-nothing, stops-turn, stops-read, within_limit}
+use Rattle.wb_daemon.proofs.RunLemmas.{so_far-start, so_far-next, ends-line, ends-nothing, stops-turn, stops-read}
 use Rattle.wb_daemon.specs.declared.run.Turn.TheVariants.{More, End, Stop}
 use Rattle.wb_daemon.proofs.run.run_within.Goals as goal
 
@@ -21,9 +21,8 @@ returns-in-End g c =
     record {
       value = (
         omega (arith, c.lines.invariant.far.small, did.2.1, c.max.ensures),
-        within_limit gives (g.R.Read.remaining c.args.reader.now) (g.W.Write.contents c.args.writer.now) (g.W.Write.contents c.take_turn.new.writer)
-            c.args.office.now c.take_turn.new.office _ c.max.result c.lines._count c.lines.auto._count-end c.max.ensures
-            (ends-line c.lines.invariant.far did.0 (g.R.Read.remaining c.take_turn.new.reader) (g.W.Write.contents c.take_turn.new.writer) c.take_turn.new.office c.in-End.status did.1 did.2),
+        ends-line c.lines.invariant.far did.0 (g.R.Read.remaining c.take_turn.new.reader) (g.W.Write.contents c.take_turn.new.writer) c.take_turn.new.office
+            c.in-End.status c.max.result (omega arith) c.max.ensures did.1 did.2,
       );
     }
 
@@ -51,9 +50,7 @@ pub returns-in-End-read_byte : goal.returns-in-End-read_byte
 returns-in-End-read_byte g c = record {
   value = (
     c.lines.invariant.far.small,
-    within_limit (g.L.Lists.gives c.args.lists.now) (g.R.Read.remaining c.args.reader.now) (g.W.Write.contents c.args.writer.now) (g.W.Write.contents c.lines.writer)
-        c.args.office.now c.lines.office c.lines.greatest c.lines.greatest c.lines._count c.lines.auto._count-end refl
-        (ends-nothing c.lines.invariant.far (g.R.Read.remaining c.read_byte.new.reader) c.in-End-read_byte.ensures.value (c.in-End-read_byte.ensures.status refl)),
+    ends-nothing c.lines.invariant.far (g.R.Read.remaining c.read_byte.new.reader) (omega arith) c.in-End-read_byte.ensures.value (c.in-End-read_byte.ensures.status refl),
   );
 }
 
