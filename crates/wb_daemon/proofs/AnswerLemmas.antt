@@ -1,22 +1,23 @@
 -- Lemmas on what may be said to a line.
-use Rattle.std.proofs.Common.{◌≡◌, ℕ, ◌<◌, Bool, true, false, not, ◌&&◌, cond, List, [], length, Option, None, Some, Ok, IfSome, IsTrue, ◌⊎◌, inl, inr, refl, sym, ap, ◌∙◌, subst, arith, length-append}
+use Rattle.std.proofs.Common.{◌≡◌, ℕ, Bool, true, false, not, ◌&&◌, cond, List, [], Option, None, Some, Ok, IfSome, IsOk, IsTrue, ◌⊎◌, inl, inr, refl, sym, ap, ◌∙◌, subst, arith}
 use Rattle.std.proofs.lemmas.Bool.{false≢true}
 use Rattle.std.specs.Str.{is_utf8}
-use Rattle.std.specs.Io.KnownBytes.{Appends, Consumes}
-use Rattle.wb_states.specs.Commands.{name_of_command}
+use Rattle.std.specs.Io.KnownBytes.{Appends}
 use Rattle.wb_states.specs.Machine.{Machine}
 use Rattle.wb_states.specs.declared.command.Command.{Command}
 use Rattle.wb_states.specs.declared.reply.Reply.{Reply}
-use Rattle.wb_office.specs.Step.{step}
+use Rattle.wb_office.specs.Step.{step, Outcome}
 use Rattle.wb_words.specs.Words.{asked_in}
 use Rattle.wb_words.specs.declared.words.Asked.{Asked}
 use Rattle.wb_words.specs.declared.words.Asked.TheVariants.{Command as asked_Command, Merge as asked_Merge}
 use Rattle.wb_words.specs.declared.words.PartNames.{PartNames}
 use Rattle.wb_api.specs.Encoding.{line_fault_text}
-use Rattle.wb_daemon.specs.Line.{is_blank_line, is_long, words_of, HasNoFeed}
+use Rattle.wb_daemon.specs.Line.{is_blank_line, is_long, words_of}
 use Rattle.wb_daemon.specs.Lists.{Gives, GivesMerge, GivesNoMore}
-use Rattle.wb_daemon.specs.Run.{Said, Says, SaysHeard, Heard, Silence, Fault, Asks, heard_in, heard_of, answer_said, asked_of_line, fault_said, memory_said, needs_memory, with_feed}
-use Rattle.wb_daemon.specs.Turn.{Answers, AnswersAsked, AnswersCommand, AnswersInPart, AppendsFront, GivesFed, GivesLast, Turns}
+use Rattle.wb_daemon.specs.Run.{Said, Says, Accepts, AsksFor, LineAsks, SaysHeard, Heard, Silence, Fault, Asks, heard_in, heard_of, asked_of_line, fault_said, memory_said, needs_memory, with_feed}
+use Rattle.wb_daemon.specs.Turn.{Answers, AnswersAsked, AnswersCommand, AnswersInPart, AppendsFront, GivesFed, GivesLast, LacksAnswer, StopsTurn, Turns}
+use Rattle.wb_daemon.specs.declared.run.Cause.{Cause}
+use Rattle.wb_daemon.specs.declared.run.Cause.TheVariants as why
 use Rattle.wb_daemon.specs.declared.run.Turn.{Turn}
 use Rattle.wb_daemon.specs.declared.run.Turn.TheVariants.{More, End, Stop}
 use Rattle.wb_daemon.proofs.LineLemmas.{Appends-same}
@@ -127,43 +128,61 @@ AnswersInPart-more : (old new : Gives) → GivesNoMore old new → (line : List 
     → AnswersInPart new line before after a b → AnswersInPart old line before after a b
 AnswersInPart-more old new m line before after a b h = (h.0, Says-more old new m before line h.0 h.1, h.2, h.3)
 
-Stop-more : (old new : Gives) → GivesNoMore old new → (line : List ℕ) (before after : Machine) (i j a b : Option (List ℕ))
-    → (HasNoFeed line × Consumes i j line × (after ≡ before) × (b ≡ a))
-    ⊎ ((GivesFed line i j × AnswersInPart new line before after a b) ⊎ (GivesLast line i j × AnswersInPart new line before after a b))
-    → (HasNoFeed line × Consumes i j line × (after ≡ before) × (b ≡ a))
-    ⊎ ((GivesFed line i j × AnswersInPart old line before after a b) ⊎ (GivesLast line i j × AnswersInPart old line before after a b))
-Stop-more old new m line before after i j a b (inl h) = inl h
-Stop-more old new m line before after i j a b (inr (inl h)) = inr (inl (h.0, AnswersInPart-more old new m line before after a b h.1))
-Stop-more old new m line before after i j a b (inr (inr h)) = inr (inr (h.0, AnswersInPart-more old new m line before after a b h.1))
+AsksFor-more : (old new : Gives) → GivesNoMore old new → (asked : Asked) (command : Command) → AsksFor new asked command → AsksFor old asked command
+AsksFor-more old new m (asked_Command asked) command h = h
+AsksFor-more old new m (asked_Merge sources parts) command h = GivesMerge-more old new m sources parts command h
+
+LineAsks-more : (old new : Gives) → GivesNoMore old new → (line : List ℕ) (command : Command) → LineAsks new line command → LineAsks old line command
+LineAsks-more old new m line command h = (h.0, h.1, AsksFor-more old new m h.0 command h.2)
+
+LacksAnswer-more : (old new : Gives) → GivesNoMore old new → (line : List ℕ) (before after : Machine) (a b : Option (List ℕ)) (cause : Cause)
+    → LacksAnswer new line before after a b cause → LacksAnswer old line before after a b cause
+LacksAnswer-more old new m line before after a b why.Read h = absurd h
+LacksAnswer-more old new m line before after a b why.Write h = AnswersInPart-more old new m line before after a b h
+LacksAnswer-more old new m line before after a b why.Reply h = (h.0, LineAsks-more old new m line h.0 h.1, h.2, h.3)
+LacksAnswer-more old new m line before after a b why.Lines h = absurd h
+LacksAnswer-more old new m line before after a b why.Room h = absurd h
+
+StopsTurn-more : (old new : Gives) → GivesNoMore old new → (cause : Cause) (before after : Machine) (i j a b : Option (List ℕ))
+    → StopsTurn new cause before after i j a b → StopsTurn old cause before after i j a b
+StopsTurn-more old new m why.Read before after i j a b t = t
+StopsTurn-more old new m why.Write before after i j a b t = (t.0, t.1, LacksAnswer-more old new m t.0 before after a b why.Write t.2)
+StopsTurn-more old new m why.Reply before after i j a b t = (t.0, t.1, LacksAnswer-more old new m t.0 before after a b why.Reply t.2)
+StopsTurn-more old new m why.Lines before after i j a b t = absurd t.2
+StopsTurn-more old new m why.Room before after i j a b t = absurd t.2
 
 -- what a turn did with lists that gave no more than those of the run's start
 pub Turns-more : (old new : Gives) → GivesNoMore old new → (turn : Turn) (before after : Machine) (i j a b : Option (List ℕ))
     → Turns new turn before after i j a b → Turns old turn before after i j a b
 Turns-more old new m (More status) before after i j a b t = (t.0, t.1, Answers-more old new m t.0 before after a b status t.2)
 Turns-more old new m (End status) before after i j a b t = (t.0, t.1, Answers-more old new m t.0 before after a b status t.2)
-Turns-more old new m Stop before after i j a b t = (t.0, Stop-more old new m t.0 before after i j a b t.1)
+Turns-more old new m (Stop cause) before after i j a b t = StopsTurn-more old new m cause before after i j a b t
 
 -- ---- what was written
 
--- a reply that finds no memory is said, and nothing of it is written
-pub reply-unwritten : (machine after : Machine) (command : Command) (reply : Reply) → step machine command ≡ (Ok reply, after)
-    → (said : Said) × AnswersCommand machine command said × (after ≡ said.machine) × (0 < length said.text)
-reply-unwritten machine after command reply e = (
-  answer_said (name_of_command command) (Ok reply) after,
-  inl (sym (ap (λ outcome. answer_said (name_of_command command) outcome.0 outcome.1) e)),
-  refl,
-  omega (arith, length-append {A = ℕ}),
-)
+-- a command that the office replies to is accepted
+pub reply-accepted : (machine after : Machine) (command : Command) (reply : Reply) → step machine command ≡ (Ok reply, after) → Accepts machine command after
+reply-accepted machine after command reply e =
+    (subst (λ (outcome : Outcome). IsOk outcome.0) (sym e) refl, sym (ap (λ (outcome : Outcome). outcome.1) e))
+
+-- a line that is neither long nor blank asks for what its words ask for
+pub LineAsks-asked : (gives : Gives) (line : List ℕ) (asked : Asked) (command : Command) → is_long line ≡ false → is_blank_line line ≡ false
+    → asked_of_line line ≡ Some asked → AsksFor gives asked command → LineAsks gives line command
+LineAsks-asked gives line asked command h k e a = (asked, heard_in-read line h k ∙ ap heard_of e, a)
+
+-- a line that was not answered stops the turn
+pub stops_turn : (gives : Gives) (cause : Cause) (line : List ℕ) (before after : Machine) (i j a b : Option (List ℕ))
+    → GivesFed line i j ⊎ GivesLast line i j → LacksAnswer gives line before after a b cause → StopsTurn gives cause before after i j a b
+stops_turn gives why.Read line before after i j a b g h = absurd h
+stops_turn gives why.Write line before after i j a b g h = (line, g, h)
+stops_turn gives why.Reply line before after i j a b g h = (line, g, h)
+stops_turn gives why.Lines line before after i j a b g h = absurd h
+stops_turn gives why.Room line before after i j a b g h = absurd h
 
 pub answers-blank : (gives : Gives) (machine : Machine) (line : List ℕ) (written : Option (List ℕ)) → is_long line ≡ false → is_blank_line line ≡ true
     → Answers gives line machine machine written written 0
 answers-blank gives machine line written h k =
     ([], omega arith, Says-heard gives machine line Silence _ (heard_in-blank line h k) refl, Appends-same written)
-
-pub answers-unwritten : (gives : Gives) (line : List ℕ) (before after : Machine) (written : Option (List ℕ))
-    → (said : Said) × Says gives before line said × (after ≡ said.machine) × (0 < length said.text)
-    → AnswersInPart gives line before after written written
-answers-unwritten gives line before after written p = (p.0, p.1, p.2, (0, p.3, Appends-same written))
 
 pub answers-long : (gives : Gives) (line : List ℕ) (machine : Machine) (old new : Option (List ℕ)) → is_long line ≡ true
     → Appends old new (with_feed line_fault_text) → Answers gives line machine machine old new 2

@@ -1,19 +1,17 @@
 -- Lemmas on runs over lines, as far as a loop has come.
 use Rattle.std.proofs.Common.{◌≡◌, ℕ, ◌+◌, ◌-◌, ◌<◌, ◌≤◌, Bool, true, false, ◌||◌, cond, max, List, [], ◌∷◌, ◌++◌, length, take, Option, None, Some, IsTrue, ◌⊎◌, inl, inr, refl, sym, ap, ◌∙◌, subst, append_assoc, append-nil, length-append, length-take, arith}
 use Rattle.std.proofs.Math.Nat.{max-zero, zero-max}
-use Rattle.std.proofs.lemmas.Bool.{eqb-true}
 use Rattle.std.proofs.lemmas.Bool.Decides.{nat_tests}
 use Rattle.std.proofs.lemmas.List.Splits.{length-slice_split, slice_split-cons_no}
 use Rattle.std.specs.Io.KnownBytes.{Appends, Consumes, IsAtEnd}
 use Rattle.std.specs.List.{list_any, onto_first, slice_split}
 use Rattle.wb_states.specs.Machine.{Machine}
-use Rattle.wb_daemon.specs.Line.{ended_in, is_feed, is_long, bytes_of, lines_of, max_line, max_lines, through_long, AreWithinLimit, HasNoFeed}
+use Rattle.wb_daemon.specs.Line.{ended_in, is_feed, is_long, lines_of, max_line, max_lines, through_long, AreWithinLimit, HasNoFeed}
 use Rattle.wb_daemon.specs.Lists.{Gives, IsAllOf}
-use Rattle.wb_daemon.specs.Run.{Said, Says, Runs, EndsInput, RunStops, StopsWithin, followed, silent}
-use Rattle.wb_daemon.specs.Turn.{Answers, AnswersInPart, GivesFed, GivesLast, Turns}
-use Rattle.wb_daemon.specs.declared.line.ByteRead.{ByteRead}
-use Rattle.wb_daemon.specs.declared.line.ByteRead.TheVariants as byte
-use Rattle.wb_daemon.specs.declared.run.Turn.TheVariants.{Stop}
+use Rattle.wb_daemon.specs.Run.{Said, Says, Runs, EndsInput, RunStops, StopsBeforeReply, StopsBetween, StopsWithin, WereHeard, followed, silent}
+use Rattle.wb_daemon.specs.Turn.{Answers, AnswersInPart, GivesFed, GivesLast, LacksAnswer, LacksReply, StopsRun, StopsTurn}
+use Rattle.wb_daemon.specs.declared.run.Cause.{Cause}
+use Rattle.wb_daemon.specs.declared.run.Cause.TheVariants.{Read, Write, Reply, Lines, Room}
 use Rattle.wb_daemon.proofs.LineLemmas.{Appends-same, Appends-then, Consumes-then}
 use Rattle.wb_daemon.proofs.AnswerLemmas.{Says-long, answers-blank}
 use lib.Seq.{take-append_seam}
@@ -266,15 +264,31 @@ module _ {gives : Gives} {input now old new : Option (List ℕ)} {before after :
 
   -- ---- how a run stops
 
+  between : (line : List ℕ) → HasNoFeed line → StopsBetween gives (fed far.lines ++ line) before far.text after
+  between line h =
+      (status, subst (λ l. Runs gives before l (record { text = far.text; machine = after; status = status })) (sym (ended_in-fed far.lines line far.are h)) far.runs)
+
   -- the reader failed within a line
-  pub stops-between : (line : List ℕ) (left : Option (List ℕ)) → HasNoFeed line → Consumes now left line → RunStops gives input left old new before after
-  stops-between line left h p = (
-    fed far.lines ++ line,
-    far.text,
-    Consumes-then input now left (fed far.lines) line far.taken p,
-    far.written,
-    inl (status, subst (λ l. Runs gives before l (record { text = far.text; machine = after; status = status })) (sym (ended_in-fed far.lines line far.are h)) far.runs),
-  )
+  pub stops-read : (line : List ℕ) (left : Option (List ℕ)) → HasNoFeed line → Consumes now left line → StopsRun gives Read before after input left old new
+  stops-read line left h p =
+      (fed far.lines ++ line, far.text, Consumes-then input now left (fed far.lines) line far.taken p, far.written, between line h)
+
+  -- a byte follows the last line that a run may have
+  pub stops-limit : (byte : ℕ) (left : Option (List ℕ)) → count ≡ max_lines → Consumes now left (byte ∷ []) → StopsRun gives Lines before after input left old new
+  stops-limit byte left full p =
+      let acted = fed far.lines ++ [] in (
+        fed far.lines ++ byte ∷ [],
+        far.text,
+        Consumes-then input now left (fed far.lines) (byte ∷ []) far.taken p,
+        far.written,
+        (
+          acted,
+          byte,
+          ap (λ l. l ++ byte ∷ []) (sym (append-nil (fed far.lines))),
+          ap length (ended_in-fed far.lines [] far.are refl) ∙ far.counted ∙ full,
+          between [] refl,
+        ),
+      )
 
   within : (line : List ℕ) (written : Option (List ℕ)) (next : Machine) → (a : AnswersInPart gives line after next new written)
       → StopsWithin gives (far.lines ++ line ∷ []) before (far.text ++ take a.3.0 a.0.text) next
@@ -292,65 +306,74 @@ module _ {gives : Gives} {input now old new : Option (List ℕ)} {before after :
     office = a.2;
   }
 
-  -- the answer to a line was not written whole
-  pub stops-fed : (line : List ℕ) (left written : Option (List ℕ)) (next : Machine)
-      → GivesFed line now left → AnswersInPart gives line after next new written → RunStops gives input left old written before next
-  stops-fed line left written next g a =
-      let all = far.lines ++ line ∷ [] in
-      let are = AreLines-snoc far.lines line far.are g.1 g.0 in (
-        fed all,
-        far.text ++ take a.3.0 a.0.text,
-        after_line far line left g.2,
-        Appends-then old new written far.text _ far.written a.3.2,
-        inr (all, inl (sym (ap ended_in (sym (append-nil (fed all))) ∙ ended_in-fed all [] are refl)), within line written next a),
-      )
-
   at_last : (line : List ℕ) (left : Option (List ℕ)) → IsAtEnd left ⊎ (is_long line ≡ true) → IsAtEnd left ⊎ IsTrue (list_any is_long (far.lines ++ line ∷ []))
   at_last line left (inl h) = inl h
   at_last line left (inr h) = inr (list_any-last far.lines line h)
 
-  -- the answer to the last line was not written whole
-  pub stops-last : (line : List ℕ) (left written : Option (List ℕ)) (next : Machine)
-      → GivesLast line now left → AnswersInPart gives line after next new written → RunStops gives input left old written before next
-  stops-last line left written next g a =
+  before_reply : (line : List ℕ) (written : Option (List ℕ)) (next : Machine) → LacksReply gives line after next new written
+      → StopsBeforeReply gives (far.lines ++ line ∷ []) before far.text next
+  before_reply line written next a = record {
+    earlier = far.lines;
+    last = line;
+    answered = record { text = far.text; machine = after; status = status };
+    command = a.0;
+    parts = refl;
+    runs = far.runs;
+    asks = a.1;
+    accepted = a.2;
+    unwritten = refl;
+  }
+
+  -- the bytes of the lines that were acted on
+  heard : (line : List ℕ) (left : Option (List ℕ)) → GivesFed line now left ⊎ GivesLast line now left
+      → (seen : List ℕ) × Consumes input left seen × WereHeard seen left (far.lines ++ line ∷ [])
+  heard line left (inl g) =
       let all = far.lines ++ line ∷ [] in (
-        fed far.lines ++ line,
-        far.text ++ take a.3.0 a.0.text,
-        Consumes-then input now left (fed far.lines) line far.taken g.1,
-        Appends-then old new written far.text _ far.written a.3.2,
-        inr (all, inr (sym (lines_of-last far.lines line far.are g.0), at_last line left g.2), within line written next a),
+        fed all,
+        after_line far line left g.2,
+        inl (sym (ap ended_in (sym (append-nil (fed all))) ∙ ended_in-fed all [] (AreLines-snoc far.lines line far.are g.1 g.0) refl)),
       )
+  heard line left (inr g) = (
+    fed far.lines ++ line,
+    Consumes-then input now left (fed far.lines) line far.taken g.1,
+    inr (sym (lines_of-last far.lines line far.are g.0), at_last line left g.2),
+  )
+
+  stops-unanswered : (cause : Cause) (line : List ℕ) (left written : Option (List ℕ)) (next : Machine)
+      → GivesFed line now left ⊎ GivesLast line now left → LacksAnswer gives line after next new written cause → StopsRun gives cause before next input left old written
+  stops-unanswered Read line left written next g a = absurd a
+  stops-unanswered Write line left written next g a =
+      let h = heard line left g in
+      (h.0, far.text ++ take a.3.0 a.0.text, h.1, Appends-then old new written far.text _ far.written a.3.2, (far.lines ++ line ∷ [], h.2, within line written next a))
+  stops-unanswered Reply line left written next g a =
+      let h = heard line left g in
+      (h.0, far.text, h.1, subst (λ w. Appends old w far.text) (sym a.3) far.written, (far.lines ++ line ∷ [], h.2, before_reply line written next a))
+  stops-unanswered Lines line left written next g a = absurd a
+  stops-unanswered Room line left written next g a = absurd a
 
   -- a turn stopped
-  pub stops-turn : (left written : Option (List ℕ)) (next : Machine) → Turns gives Stop after next now left new written → RunStops gives input left old written before next
-  stops-turn left written next t = elim t.1 [
-    | inl p ↦ subst (λ w. RunStops gives input left old w before next) (sym p.3)
-        (subst (λ m. RunStops gives input left old new before m) (sym p.2) (stops-between t.0 left p.0 p.1))
-    | inr q ↦ elim q [ inl p ↦ stops-fed t.0 left written next p.0 p.1 | inr p ↦ stops-last t.0 left written next p.0 p.1 ]
-  ]
-
-byte_more : {gives : Gives} {input now old new : Option (List ℕ)} {before after : Machine} {status count : ℕ} (far : SoFar gives input now old new before after status count)
-    (byte : ℕ) (left : Option (List ℕ)) (b : Bool) → is_feed byte ≡ b → Consumes now left (byte ∷ []) → RunStops gives input left old new before after
-byte_more {gives} {now} {new} {after} far byte left true h p =
-    let line = so_far-line far [] left new after 0 (refl, refl, subst (λ n. Consumes now left (n ∷ [])) (eqb-true byte 10 h) p) (answers-blank gives after [] new refl refl) in
-    stops-between line [] left refl (Consumes-same left)
-byte_more far byte left false h p = stops-between far (byte ∷ []) left (ap (λ b. b || false) h) p
-
--- a byte follows the last line that a run may have
-pub stops-byte : {gives : Gives} {input now old new : Option (List ℕ)} {before after : Machine} {status count : ℕ} (far : SoFar gives input now old new before after status count)
-    (byte : ℕ) (left : Option (List ℕ)) → Consumes now left (byte ∷ []) → RunStops gives input left old new before after
-stops-byte far byte left p = byte_more far byte left (is_feed byte) refl p
-
--- what is left after the last line that a run may have
-pub stops-read : {gives : Gives} {input now old new : Option (List ℕ)} {before after : Machine} {status count : ℕ} (far : SoFar gives input now old new before after status count)
-    (came : ByteRead) (left : Option (List ℕ)) → Consumes now left (bytes_of came) → RunStops gives input left old new before after
-stops-read far (byte.Byte c) left p = stops-byte far c left p
-stops-read far byte.End left p = stops-between far [] left refl p
-stops-read far byte.Fault left p = stops-between far [] left refl p
+  pub stops-turn : (cause : Cause) (left written : Option (List ℕ)) (next : Machine)
+      → StopsTurn gives cause after next now left new written → StopsRun gives cause before next input left old written
+  stops-turn Read left written next t =
+      subst (λ w. StopsRun gives Read before next input left old w) (sym t.4)
+      (subst (λ m. StopsRun gives Read before m input left old new) (sym t.3) (stops-read t.0 left t.1 t.2))
+  stops-turn Write left written next t = stops-unanswered Write t.0 left written next t.1 t.2
+  stops-turn Reply left written next t = stops-unanswered Reply t.0 left written next t.1 t.2
+  stops-turn Lines left written next t = absurd t.2
+  stops-turn Room left written next t = absurd t.2
 
 -- a run that could not begin
-pub stops-at_once : (gives : Gives) (input old : Option (List ℕ)) (machine : Machine) → RunStops gives input input old old machine machine
-stops-at_once gives input old machine = stops-between (so_far-start gives input old machine) [] input refl (Consumes-same input)
+pub stops-at_once : (gives : Gives) (input old : Option (List ℕ)) (machine : Machine) → StopsRun gives Room machine machine input input old old
+stops-at_once gives input old machine = ([], [], Consumes-same input, Appends-same old, (refl, refl, refl))
+
+-- a run that stopped, for whatever cause
+pub StopsRun-stops : (gives : Gives) (cause : Cause) (input left old new : Option (List ℕ)) (before after : Machine)
+    → StopsRun gives cause before after input left old new → RunStops gives input left old new before after
+StopsRun-stops gives Read input left old new before after h = (h.0, h.1, h.2, h.3, inl (inl h.4))
+StopsRun-stops gives Write input left old new before after h = (h.0, h.1, h.2, h.3, inr (inr (h.4.0, h.4.1, inl h.4.2)))
+StopsRun-stops gives Reply input left old new before after h = (h.0, h.1, h.2, h.3, inr (inr (h.4.0, h.4.1, inr h.4.2)))
+StopsRun-stops gives Lines input left old new before after h = (h.0, h.1, h.2, h.3, inl (inr h.4))
+StopsRun-stops gives Room input left old new before after h = (h.0, h.1, h.2, h.3, inr (inl h.4))
 
 -- the run goes on, or ends, with the greater of two statuses
 pub so_far-next : {gives : Gives} {input now old new : Option (List ℕ)} {before after : Machine} {status count : ℕ} (far : SoFar gives input now old new before after status count)

@@ -1,5 +1,5 @@
 -- What a run over the lines of an input writes, and what it leaves of the office (this project's own).
-use Rattle.std.specs.Prelude.{◌≡◌, ℕ, ◌<◌, max, Bool, not, ◌&&◌, ◌⊎◌, if◌then◌else◌, List, [], ◌∷◌, ◌++◌, length, take, Option, None, Some, IsTrue, Result, Ok, Err}
+use Rattle.std.specs.Prelude.{◌≡◌, ℕ, ◌<◌, max, Bool, not, ◌&&◌, ◌⊎◌, if◌then◌else◌, List, [], ◌∷◌, ◌++◌, length, take, Option, None, Some, IsTrue, IsOk, Result, Ok, Err}
 use Rattle.std.specs.List.{list_any}
 use Rattle.std.specs.Str.{is_utf8}
 use Rattle.std.specs.Io.KnownBytes.{Appends, Consumes, IsAtEnd}
@@ -14,7 +14,7 @@ use Rattle.wb_words.specs.declared.words.Asked.{Asked}
 use Rattle.wb_words.specs.declared.words.Asked.TheVariants.{Command as asked_Command, Merge as asked_Merge}
 use Rattle.wb_words.specs.declared.words.PartNames.{PartNames}
 use Rattle.wb_api.specs.Encoding.{reply_text, refusal_text, memory_text, line_fault_text, file_fault_text}
-use Rattle.wb_daemon.specs.Line.{is_blank_line, is_long, lines_of, ended_in, words_of, AreWithinLimit}
+use Rattle.wb_daemon.specs.Line.{is_blank_line, is_long, lines_of, ended_in, max_lines, words_of, AreWithinLimit}
 use Rattle.wb_daemon.specs.Lists.{Gives, GivesMerge, IsAllOf}
 
 -- what is said to lines: the text that is written, the office after it, and the status, which is 0 where all was accepted, 1 after a refusal, 2 after a line that is no command and 3 after a list that cannot be read
@@ -74,6 +74,19 @@ heard_in line =
     if is_long line then Fault
     else (if is_blank_line line then Silence else heard_of (asked_of_line line))
 
+-- what a line asks for is this command, or the merge of what its lists may be read as
+abbrev pub AsksFor : Gives → Asked → Command → Type 0
+AsksFor gives (asked_Command asked) command = command ≡ asked
+AsksFor gives (asked_Merge sources parts) command = GivesMerge gives sources parts command
+
+-- a line asks for a command
+abbrev pub LineAsks : Gives → List ℕ → Command → Type 0
+LineAsks gives line command = (asked : Asked) × (heard_in line ≡ Asks asked) × AsksFor gives asked command
+
+-- a command is accepted, and the office is then in this state
+abbrev pub Accepts : Machine → Command → Machine → Type 0
+Accepts before command after = IsOk (step before command).0 × (after ≡ (step before command).1)
+
 -- what may be said to a merge of these lists: what is said to the command with what the lists gave, or that one of them cannot be read
 abbrev pub SaysMerge : Gives → Machine → List ℕ → List PartNames → Said → Type 0
 SaysMerge gives machine sources parts said =
@@ -131,6 +144,16 @@ abbrev pub StopsBetween : Gives → List ℕ → Machine → List ℕ → Machin
 StopsBetween gives seen before text after =
     (status : ℕ) × Runs gives before (ended_in seen) (record { text = text; machine = after; status = status })
 
+-- a run that stopped since more follows its last line: the greatest number of lines was answered, and a byte more was read
+abbrev pub StopsAtLimit : Gives → List ℕ → Machine → List ℕ → Machine → Type 0
+StopsAtLimit gives seen before text after =
+    (acted : List ℕ) × (byte : ℕ) × (seen ≡ acted ++ byte ∷ []) × (length (ended_in acted) ≡ max_lines)
+    × StopsBetween gives acted before text after
+
+-- a run that did not begin: nothing was read, written or done
+abbrev pub NeverBegins : List ℕ → Machine → List ℕ → Machine → Type 0
+NeverBegins seen before text after = (seen ≡ []) × (text ≡ []) × (after ≡ before)
+
 -- the lines that were acted on, of the bytes that were read: those that a line feed had ended, or all where nothing follows or one is too long
 abbrev pub WereHeard : List ℕ → Option (List ℕ) → List (List ℕ) → Type 0
 WereHeard seen left lines =
@@ -151,9 +174,32 @@ pub record StopsWithin (gives : Gives) (lines : List (List ℕ)) (before : Machi
   pub front : text ≡ answered.text ++ take written said.text
   pub office : after ≡ said.machine
 
--- a run that stopped before its input ended: what it had read, and what it wrote
+-- a run that stopped for want of memory for the reply to the last of these lines: the command was accepted, and nothing of the reply was written
+pub record StopsBeforeReply (gives : Gives) (lines : List (List ℕ)) (before : Machine) (text : List ℕ) (after : Machine) : Type 0 where
+  pub earlier : List (List ℕ)
+  pub last : List ℕ
+  pub answered : Said
+  pub command : Command
+  pub parts : lines ≡ earlier ++ last ∷ []
+  pub runs : Runs gives before earlier answered
+  pub asks : LineAsks gives last command
+  pub accepted : Accepts answered.machine command after
+  pub unwritten : text ≡ answered.text
+
+-- a run that did not answer the last line that it acted on: the answer was not written whole, or there is no memory for the reply
+abbrev pub StopsInLine : Gives → List ℕ → Option (List ℕ) → Machine → List ℕ → Machine → Type 0
+StopsInLine gives seen left before text after =
+    (lines : List (List ℕ)) × WereHeard seen left lines
+    × (StopsWithin gives lines before text after ⊎ StopsBeforeReply gives lines before text after)
+
+-- why a run stops: a read failed, or more follows its last line, or it has no room for a line, or a line was not answered
+abbrev pub StopsFor : Gives → List ℕ → Option (List ℕ) → Machine → List ℕ → Machine → Type 0
+StopsFor gives seen left before text after =
+    (StopsBetween gives seen before text after ⊎ StopsAtLimit gives seen before text after)
+    ⊎ (NeverBegins seen before text after ⊎ StopsInLine gives seen left before text after)
+
+-- a run that stopped before its input ended: what it had read, what it wrote, and why it stopped
 abbrev pub RunStops : Gives → Option (List ℕ) → Option (List ℕ) → Option (List ℕ) → Option (List ℕ) → Machine → Machine → Type 0
 RunStops gives old_input new_input old_text new_text before after =
     (seen text : List ℕ) × Consumes old_input new_input seen × Appends old_text new_text text
-    × (StopsBetween gives seen before text after
-    ⊎ ((lines : List (List ℕ)) × WereHeard seen new_input lines × StopsWithin gives lines before text after))
+    × StopsFor gives seen new_input before text after

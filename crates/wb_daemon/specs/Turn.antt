@@ -7,8 +7,10 @@ use Rattle.wb_states.specs.declared.command.Command.{Command}
 use Rattle.wb_words.specs.declared.words.Asked.{Asked}
 use Rattle.wb_daemon.specs.Line.{is_long, HasNoFeed}
 use Rattle.wb_daemon.specs.Lists.{Gives}
-use Rattle.wb_daemon.specs.Run.{Said, Says, SaysAsked, command_said, memory_said, with_feed, EndsInput, RunStops}
+use Rattle.wb_daemon.specs.Run.{Said, Says, SaysAsked, command_said, memory_said, with_feed, Accepts, EndsInput, LineAsks, NeverBegins, StopsAtLimit, StopsBeforeReply, StopsBetween, StopsWithin, WereHeard}
 use Rattle.wb_daemon.specs.declared.answer.Answer.{Answer}
+use Rattle.wb_daemon.specs.declared.run.Cause.{Cause}
+use Rattle.wb_daemon.specs.declared.run.Cause.TheVariants.{Read, Write, Reply, Lines, Room}
 use Rattle.wb_daemon.specs.declared.run.RunEnd.{RunEnd}
 use Rattle.wb_daemon.specs.declared.run.RunEnd.TheVariants.{Ended, Stopped}
 use Rattle.wb_daemon.specs.declared.run.Turn.{Turn}
@@ -41,6 +43,17 @@ abbrev pub AnswersInPart : Gives → List ℕ → Machine → Machine → Option
 AnswersInPart gives line before after old new =
     (said : Said) × Says gives before line said × (after ≡ said.machine) × AppendsFront old new said.text
 
+-- a line was acted on and its command accepted, but nothing of the reply was written
+abbrev pub LacksReply : Gives → List ℕ → Machine → Machine → Option (List ℕ) → Option (List ℕ) → Type 0
+LacksReply gives line before after old new =
+    (command : Command) × LineAsks gives line command × Accepts before command after × (new ≡ old)
+
+-- why a line that was acted on was not answered: a write failed, or there is no memory for the reply
+abbrev pub LacksAnswer : Gives → List ℕ → Machine → Machine → Option (List ℕ) → Option (List ℕ) → Cause → Type 0
+LacksAnswer gives line before after old new Write = AnswersInPart gives line before after old new
+LacksAnswer gives line before after old new Reply = LacksReply gives line before after old new
+LacksAnswer gives line before after old new cause = ⊥
+
 -- the reader gave a line and its line feed
 abbrev pub GivesFed : List ℕ → Option (List ℕ) → Option (List ℕ) → Type 0
 GivesFed line old new = (is_long line ≡ false) × HasNoFeed line × Consumes old new (line ++ 10 ∷ [])
@@ -49,19 +62,42 @@ GivesFed line old new = (is_long line ≡ false) × HasNoFeed line × Consumes o
 abbrev pub GivesLast : List ℕ → Option (List ℕ) → Option (List ℕ) → Type 0
 GivesLast line old new = HasNoFeed line × Consumes old new line × (IsAtEnd new ⊎ (is_long line ≡ true))
 
--- what a turn did: a line was answered and more may follow, or the last line was answered, or the run stops: within the line, within an answer, or within the last answer
+-- why a turn stopped: a read failed within the line, or the line was not answered
+abbrev pub StopsTurn : Gives → Cause → Machine → Machine → Option (List ℕ) → Option (List ℕ) → Option (List ℕ) → Option (List ℕ) → Type 0
+StopsTurn gives Read before after old_input new_input old new =
+    (line : List ℕ) × HasNoFeed line × Consumes old_input new_input line × (after ≡ before) × (new ≡ old)
+StopsTurn gives cause before after old_input new_input old new =
+    (line : List ℕ) × (GivesFed line old_input new_input ⊎ GivesLast line old_input new_input)
+    × LacksAnswer gives line before after old new cause
+
+-- what a turn did: a line was answered and more may follow, or the last line was answered, or the run stops
 abbrev pub Turns : Gives → Turn → Machine → Machine → Option (List ℕ) → Option (List ℕ) → Option (List ℕ) → Option (List ℕ) → Type 0
 Turns gives (More status) before after old_input new_input old new =
     (line : List ℕ) × GivesFed line old_input new_input × Answers gives line before after old new status
 Turns gives (End status) before after old_input new_input old new =
     (line : List ℕ) × GivesLast line old_input new_input × Answers gives line before after old new status
-Turns gives Stop before after old_input new_input old new =
-    (line : List ℕ) × ((HasNoFeed line × Consumes old_input new_input line × (after ≡ before) × (new ≡ old))
-    ⊎ ((GivesFed line old_input new_input × AnswersInPart gives line before after old new)
-    ⊎ (GivesLast line old_input new_input × AnswersInPart gives line before after old new)))
+Turns gives (Stop cause) before after old_input new_input old new =
+    StopsTurn gives cause before after old_input new_input old new
+
+-- what holds of a run that stopped for this cause
+abbrev pub StopsBy : Gives → Cause → List ℕ → Option (List ℕ) → Machine → List ℕ → Machine → Type 0
+StopsBy gives Read seen left before text after = StopsBetween gives seen before text after
+StopsBy gives Write seen left before text after =
+    (lines : List (List ℕ)) × WereHeard seen left lines × StopsWithin gives lines before text after
+StopsBy gives Reply seen left before text after =
+    (lines : List (List ℕ)) × WereHeard seen left lines × StopsBeforeReply gives lines before text after
+StopsBy gives Lines seen left before text after = StopsAtLimit gives seen before text after
+StopsBy gives Room seen left before text after = NeverBegins seen before text after
+
+-- a run that stopped for this cause: what it had read, and what it wrote
+abbrev pub StopsRun : Gives → Cause → Machine → Machine → Option (List ℕ) → Option (List ℕ) → Option (List ℕ) → Option (List ℕ) → Type 0
+StopsRun gives cause before after old_input new_input old new =
+    (seen text : List ℕ) × Consumes old_input new_input seen × Appends old new text
+    × StopsBy gives cause seen new_input before text after
 
 -- what a run did: it ended with its input, or stopped before
 abbrev pub Ran : Gives → RunEnd → Machine → Machine → Option (List ℕ) → Option (List ℕ) → Option (List ℕ) → Option (List ℕ) → Type 0
 Ran gives (Ended status) before after old_input new_input old new =
     (status ≤ 3) × EndsInput gives old_input old new before after status
-Ran gives Stopped before after old_input new_input old new = RunStops gives old_input new_input old new before after
+Ran gives (Stopped cause) before after old_input new_input old new =
+    StopsRun gives cause before after old_input new_input old new

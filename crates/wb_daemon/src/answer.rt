@@ -1,11 +1,12 @@
 //! The answer to one line.
-ghost use Rattle.std.specs.Prelude.{◌≡◌, ◌≢◌, ◌<◌, ◌≤◌, IfOk, IfErr, IfSome, IsTrue, Some, None, Err, length, false};
+ghost use Rattle.std.specs.Prelude.{◌≡◌, ◌≢◌, ◌≤◌, IfOk, IfErr, IfSome, IsTrue, Some, None, Err, false};
 ghost use Rattle.std.specs.Str.{is_utf8};
 ghost use Rattle.wb_words.specs.declared.fault.WordsFault.TheVariants.{Memory};
 ghost use Rattle.wb_daemon.specs.Line.{is_blank_line, is_long};
 ghost use Rattle.wb_daemon.specs.Lists.{GivesNoMore};
-ghost use Rattle.wb_daemon.specs.Run.{asked_of_line, file_said, memory_said, Said, Says};
+ghost use Rattle.wb_daemon.specs.Run.{asked_of_line, file_said, memory_said, Accepts, AsksFor, LineAsks, Says};
 ghost use Rattle.wb_states.specs.Machine.{Machine};
+ghost use Rattle.wb_states.specs.declared.command.Command.{Command};
 ghost use Rattle.wb_daemon.specs.Turn.{said_by, AnswersAsked, AnswersCommand};
 
 use crate::line::{text_of, words_of};
@@ -58,8 +59,7 @@ fn asked_of_line(alloc: Global, line: &[u8]) -> Result<Asked, WordsFault>
 fn answer_to(alloc: Global, office: &mut Office, command: &Command) -> Option<Answer>
     ensures value { IfSome result (λ answer. (answer.status ≤ 3)
         × AnswersCommand office.old command.now (said_by answer office.new)) }
-    ensures memory { result ≡ None → (said : Said) × AnswersCommand office.old command.now said
-        × (office.new ≡ said.machine) × (0 < length said.text) }
+    ensures memory { result ≡ None → Accepts office.old command.now office.new }
 {
     match office.apply(command) {
         Ok(reply) => match reply_json(alloc, command.name(), &reply) {
@@ -109,9 +109,8 @@ fn answer_asked<L: Lists>(
 ) -> Option<Answer>
     ensures value { IfSome result (λ answer. (answer.status ≤ 3)
         × AnswersAsked (L.gives lists.old) office.old asked.now (said_by answer office.new)) }
-    ensures memory { result ≡ None → (said : Said)
-        × AnswersAsked (L.gives lists.old) office.old asked.now said
-        × (office.new ≡ said.machine) × (0 < length said.text) }
+    ensures memory { result ≡ None → (command : Command)
+        × AsksFor (L.gives lists.old) asked.now command × Accepts office.old command office.new }
     ensures kept { GivesNoMore (L.gives lists.old) (L.gives lists.new) }
 {
     match asked {
@@ -138,9 +137,8 @@ pub(crate) fn answer_of<L: Lists>(
     requires words { is_blank_line line.now ≡ false }
     ensures value { IfSome result (λ answer. (answer.status ≤ 3)
         × Says (L.gives lists.old) office.old line.now (said_by answer office.new)) }
-    ensures memory { result ≡ None → (said : Said)
-        × Says (L.gives lists.old) office.old line.now said
-        × (office.new ≡ said.machine) × (0 < length said.text) }
+    ensures memory { result ≡ None → (command : Command)
+        × LineAsks (L.gives lists.old) line.now command × Accepts office.old command office.new }
     ensures kept { GivesNoMore (L.gives lists.old) (L.gives lists.new) }
 {
     match asked_of_line(alloc, line) {

@@ -1,9 +1,9 @@
 //! The run: each line of the input is answered with one line of JSON.
-ghost use Rattle.std.specs.Prelude.{◌≡◌, ◌⊎◌, ◌<◌, ◌≤◌, IfSome, None, length, false};
+ghost use Rattle.std.specs.Prelude.{◌≡◌, ◌⊎◌, ◌<◌, ◌≤◌, IfOk, IfErr, length, false};
 ghost use Rattle.wb_daemon.specs.Line.{is_long, max_line};
 ghost use Rattle.wb_daemon.specs.Lists.{GivesNoMore};
 ghost use Rattle.wb_daemon.specs.Run.{EndsInput, RunStops};
-ghost use Rattle.wb_daemon.specs.Turn.{Answers, AnswersInPart, Ran, Turns};
+ghost use Rattle.wb_daemon.specs.Turn.{Answers, LacksAnswer, Ran, Turns};
 
 use crate::answer::{ACCEPTED, Answer, LINE_FAULT, answer_of};
 use crate::line::{ByteRead, LineRead, MAX_LINE, is_blank_line, read_byte, read_line};
@@ -20,6 +20,21 @@ const MAX_LINES: u64 = 1_000_000_000;
 /// The status of a run that stopped before its input ended.
 const STOPPED: u8 = 3;
 
+/// Why a run stops before its input ends.
+#[derive(Clone, Copy)]
+pub(crate) enum Cause {
+    /// A read failed.
+    Read,
+    /// A write failed, or took no byte.
+    Write,
+    /// There is no memory for the reply to an accepted command.
+    Reply,
+    /// More follows the last line that a run reads.
+    Lines,
+    /// There is no memory for the room that holds a line.
+    Room,
+}
+
 /// How a turn of the run ended. A status is that of its line.
 #[derive(Clone, Copy)]
 pub(crate) enum Turn {
@@ -28,7 +43,7 @@ pub(crate) enum Turn {
     /// The last line was answered.
     End(u8),
     /// The run stops here.
-    Stop,
+    Stop(Cause),
 }
 
 /// How a run ended.
@@ -37,34 +52,36 @@ pub(crate) enum RunEnd {
     /// With its input: the status is the greatest of its lines.
     Ended(u8),
     /// Before its input ended.
-    Stopped,
+    Stopped(Cause),
 }
 
-/// Acts on a line and writes what is said to it. Gives the status of the line, and `None` where the run
-/// stops here.
+/// Acts on a line and writes what is said to it. Gives the status of the line. The errors are `Reply` and
+/// `Write`, and the run stops there.
 fn answer_line<W: Write, L: Lists>(
     alloc: Global,
     office: &mut Office,
     line: &[u8],
     writer: &mut W,
     lists: &mut L,
-) -> Option<u8>
+) -> Result<u8, Cause>
     requires { is_long line.now ≡ false }
-    ensures value { IfSome result (Answers (L.gives lists.old) line.now office.old office.new
+    ensures value { IfOk result (Answers (L.gives lists.old) line.now office.old office.new
         (W.contents writer.old) (W.contents writer.new)) }
-    ensures err { result ≡ None → AnswersInPart (L.gives lists.old) line.now office.old office.new
-        (W.contents writer.old) (W.contents writer.new) }
+    ensures err { IfErr result (LacksAnswer (L.gives lists.old) line.now office.old office.new
+        (W.contents writer.old) (W.contents writer.new)) }
     ensures kept { GivesNoMore (L.gives lists.old) (L.gives lists.new) }
 {
     if is_blank_line(line) {
-        return Some(ACCEPTED);
+        return Ok(ACCEPTED);
     }
-    let answer = answer_of(alloc, office, lists, line)?;
+    let Some(answer) = answer_of(alloc, office, lists, line) else {
+        return Err(Cause::Reply);
+    };
     let Answer { text, status } = answer;
     if write_line(writer, text.as_str().as_bytes()) {
-        Some(status)
+        Ok(status)
     } else {
-        None
+        Err(Cause::Write)
     }
 }
 
@@ -86,25 +103,25 @@ fn take_turn<R: Read, W: Write, L: Lists>(
         LineRead::Fed(len) => {
             let (line, _) = room.split_at(len);
             match answer_line(alloc, office, line, writer, lists) {
-                Some(status) => Turn::More(status),
-                None => Turn::Stop,
+                Ok(status) => Turn::More(status),
+                Err(cause) => Turn::Stop(cause),
             }
         }
         LineRead::Last(len) => {
             let (line, _) = room.split_at(len);
             match answer_line(alloc, office, line, writer, lists) {
-                Some(status) => Turn::End(status),
-                None => Turn::Stop,
+                Ok(status) => Turn::End(status),
+                Err(cause) => Turn::Stop(cause),
             }
         }
         LineRead::Long => {
             if write_line(writer, line_fault_json().as_bytes()) {
                 Turn::End(LINE_FAULT)
             } else {
-                Turn::Stop
+                Turn::Stop(Cause::Write)
             }
         }
-        LineRead::Fault => Turn::Stop,
+        LineRead::Fault => Turn::Stop(Cause::Read),
     }
 }
 
@@ -126,13 +143,31 @@ fn run_within<R: Read, W: Write, L: Lists>(
         match take_turn(alloc, office, reader, writer, lists, room) {
             Turn::More(status) => greatest = greatest.max(status),
             Turn::End(status) => return RunEnd::Ended(greatest.max(status)),
-            Turn::Stop => return RunEnd::Stopped,
+            Turn::Stop(cause) => return RunEnd::Stopped(cause),
         }
     }
     match read_byte(reader) {
         ByteRead::End => RunEnd::Ended(greatest),
-        ByteRead::Byte(_) | ByteRead::Fault => RunEnd::Stopped,
+        ByteRead::Byte(_) => RunEnd::Stopped(Cause::Lines),
+        ByteRead::Fault => RunEnd::Stopped(Cause::Read),
     }
+}
+
+/// The run in a room of its own, for which there may be no memory.
+fn run_in_room<R: Read, W: Write, L: Lists>(
+    alloc: Global,
+    office: &mut Office,
+    reader: &mut R,
+    writer: &mut W,
+    lists: &mut L,
+) -> RunEnd
+    ensures value { Ran (L.gives lists.old) result office.old office.new
+        (R.remaining reader.old) (R.remaining reader.new) (W.contents writer.old) (W.contents writer.new) }
+{
+    let Ok(mut room) = vec![in alloc; 0u8; MAX_LINE] else {
+        return RunEnd::Stopped(Cause::Room);
+    };
+    run_within(alloc, office, reader, writer, lists, &mut room)
 }
 
 /// Acts on each line of the input in turn and answers it with one line of JSON. Gives the status of the run.
@@ -165,11 +200,8 @@ pub fn run_lines<R: Read, W: Write, L: Lists>(
         ⊎ RunStops (L.gives lists.old) (R.remaining reader.old) (R.remaining reader.new)
         (W.contents writer.old) (W.contents writer.new) office.old office.new }
 {
-    let Ok(mut room) = vec![in alloc; 0u8; MAX_LINE] else {
-        return STOPPED;
-    };
-    match run_within(alloc, office, reader, writer, lists, &mut room) {
+    match run_in_room(alloc, office, reader, writer, lists) {
         RunEnd::Ended(status) => status,
-        RunEnd::Stopped => STOPPED,
+        RunEnd::Stopped(_) => STOPPED,
     }
 }

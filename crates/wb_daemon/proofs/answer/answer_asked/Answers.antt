@@ -1,33 +1,26 @@
 -- What may be said to the command may be said to what the line asks for.
-use Rattle.std.proofs.Common.{sym, subst, inl, inr, IfSome}
+use Rattle.std.proofs.Common.{refl, sym, subst, inl, inr, IfSome}
 use Rattle.wb_daemon.specs.Lists.{GivesMerge}
+use Rattle.wb_daemon.specs.Run.{AsksFor}
 use Rattle.wb_daemon.specs.Turn.{said_by, AnswersAsked}
-use Rattle.wb_daemon.proofs.AnswerLemmas.{asked-command, asked-merge}
 use Rattle.wb_daemon.proofs.answer.answer_asked.Goals as goal
 
 pub returns-in-Command-clause-memory : goal.returns-in-Command-clause-memory
-returns-in-Command-clause-memory g c = λ e.
-    let gives = g.L.Lists.gives c.args.lists.now in
-    let h = c.answer_to.ensures.memory e in (
-      h.0,
-      subst (λ asked. AnswersAsked gives c.args.office.now asked h.0) (sym c.in-Command.is)
-          (asked-command gives c.args.office.now c.in-Command.command h.0 h.1),
-      h.2,
-      h.3,
-    )
+returns-in-Command-clause-memory g c = λ e. (
+  c.in-Command.command,
+  subst (λ asked. AsksFor (g.L.Lists.gives c.args.lists.now) asked c.in-Command.command) (sym c.in-Command.is) refl,
+  c.answer_to.ensures.memory e,
+)
 
 pub returns-in-Ok-Some-clause-memory : goal.returns-in-Ok-Some-clause-memory
 returns-in-Ok-Some-clause-memory g c = λ e.
     let gives = g.L.Lists.gives c.args.lists.now in
-    let h = c.answer_to-in-Ok-Some.ensures.memory e in
     let found = subst (λ found. IfSome found (λ command. GivesMerge gives c.in-Merge.sources c.as_slice.result.now command))
     c.in-Ok-Some.field-0-is c.in-Ok-Some.ensures.value in
     let given = subst (λ parts. GivesMerge gives c.in-Merge.sources parts c.in-Ok-Some.command) c.as_slice.ensures found in (
-      h.0,
-      subst (λ asked. AnswersAsked gives c.args.office.now asked h.0) (sym c.in-Merge.is)
-          (asked-merge gives c.args.office.now c.in-Merge.sources c.in-Merge.parts c.in-Ok-Some.command h.0 given h.1),
-      h.2,
-      h.3,
+      c.in-Ok-Some.command,
+      subst (λ asked. AsksFor gives asked c.in-Ok-Some.command) (sym c.in-Merge.is) given,
+      c.answer_to-in-Ok-Some.ensures.memory e,
     )
 
 pub returns-in-Ok-None-clause-value : goal.returns-in-Ok-None-clause-value

@@ -2,7 +2,7 @@
 use Rattle.std.proofs.Common.{◌≡◌, ap, refl, arith}
 use Rattle.wb_words.specs.declared.fault.WordsFault.TheVariants.{NoCommand, Memory}
 use Rattle.wb_daemon.specs.Run.{with_feed}
-use Rattle.wb_daemon.proofs.AnswerLemmas.{Says-asked, Says-fault, Says-memory, if_some-weaker}
+use Rattle.wb_daemon.proofs.AnswerLemmas.{LineAsks-asked, Says-asked, Says-fault, Says-memory, if_some-weaker}
 use Rattle.wb_daemon.proofs.answer.answer_of.Goals as goal
 
 pub returns-in-Ok-clause-value : goal.returns-in-Ok-clause-value
@@ -14,7 +14,7 @@ returns-in-Ok-clause-value g c =
 pub returns-in-Ok-clause-memory : goal.returns-in-Ok-clause-memory
 returns-in-Ok-clause-memory g c = λ e.
     let h = c.answer_asked.ensures.memory e in
-    (h.0, Says-asked (g.L.Lists.gives c.args.lists.now) c.args.office.now c.args.line.now c.in-Ok.asked h.0 c.requires.short c.requires.words c.in-Ok.ensures.value h.1, h.2, h.3)
+    (h.0, LineAsks-asked (g.L.Lists.gives c.args.lists.now) c.args.line.now c.in-Ok.asked h.0 c.requires.short c.requires.words c.in-Ok.ensures.value h.1, h.2)
 
 pub returns-in-Err-NoCommand-clause-value : goal.returns-in-Err-NoCommand-clause-value
 returns-in-Err-NoCommand-clause-value g c =

@@ -1,8 +1,8 @@
 -- The run so far, and how it ends.
-use Rattle.std.proofs.Common.{refl, arith}
+use Rattle.std.proofs.Common.{[], refl, arith}
 use Rattle.wb_daemon.proofs.AnswerLemmas.{Turns-more}
 use Rattle.wb_daemon.proofs.ListLemmas.{GivesNoMore-same, GivesNoMore-then}
-use Rattle.wb_daemon.proofs.RunLemmas.{so_far-start, so_far-next, ends-line, ends-nothing, stops-turn, stops-read}
+use Rattle.wb_daemon.proofs.RunLemmas.{so_far-start, so_far-next, ends-line, ends-nothing, stops-limit, stops-read, stops-turn}
 use Rattle.wb_daemon.specs.declared.run.Turn.TheVariants.{More, End, Stop}
 use Rattle.wb_daemon.proofs.run.run_within.Goals as goal
 
@@ -28,8 +28,8 @@ returns-in-End g c =
 
 pub returns-in-Stop : goal.returns-in-Stop
 returns-in-Stop g c = record {
-  value = stops-turn c.lines.invariant.far _ _ _
-      (Turns-more (g.L.Lists.gives c.args.lists.now) (g.L.Lists.gives c.lines.lists) c.lines.invariant.kept Stop c.lines.office c.take_turn.new.office
+  value = stops-turn c.lines.invariant.far c.in-Stop.cause _ _ _
+      (Turns-more (g.L.Lists.gives c.args.lists.now) (g.L.Lists.gives c.lines.lists) c.lines.invariant.kept (Stop c.in-Stop.cause) c.lines.office c.take_turn.new.office
       (g.R.Read.remaining c.lines.reader) (g.R.Read.remaining c.take_turn.new.reader) (g.W.Write.contents c.lines.writer) (g.W.Write.contents c.take_turn.new.writer)
       c.in-Stop.ensures.value);
 }
@@ -56,5 +56,10 @@ returns-in-End-read_byte g c = record {
 
 pub returns-in-Byte : goal.returns-in-Byte
 returns-in-Byte g c = record {
-  value = stops-read c.lines.invariant.far c.read_byte.result (g.R.Read.remaining c.read_byte.new.reader) c.read_byte.ensures.value;
+  value = stops-limit c.lines.invariant.far c.in-Byte.field-0 (g.R.Read.remaining c.read_byte.new.reader) (omega arith) c.in-Byte.ensures.value;
+}
+
+pub returns-in-Fault : goal.returns-in-Fault
+returns-in-Fault g c = record {
+  value = stops-read c.lines.invariant.far [] (g.R.Read.remaining c.read_byte.new.reader) refl c.in-Fault.ensures.value;
 }
