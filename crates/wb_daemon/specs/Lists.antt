@@ -1,9 +1,11 @@
 -- The lists that a merge names, and the bytes that they are read as (this project's own).
-use Rattle.std.specs.Prelude.{◌≡◌, ℕ, ◌≤◌, ⊤, List, [], ◌∷◌, length, Option, IfSome}
+use Rattle.std.specs.Prelude.{◌≡◌, ℕ, ◌<◌, ◌≤◌, ⊤, List, [], ◌∷◌, length, Option, IfSome}
 use Rattle.wb_states.specs.declared.command.Command.{Command}
 use Rattle.wb_states.specs.declared.command.Command.TheVariants.{Merge}
 use Rattle.wb_states.specs.declared.command.Part.{Part}
 use Rattle.wb_words.specs.declared.words.PartNames.{PartNames}
+use Rattle.wb_daemon.specs.declared.lists.ListRead.{ListRead}
+use Rattle.wb_daemon.specs.declared.lists.ListRead.TheVariants.{Whole, TooLong, Failed}
 
 -- which bytes the list of a name may be read as: those that it holds where these are known, and any where nothing is known of it
 abbrev pub Gives : Type 1
@@ -16,6 +18,12 @@ max_list = 2147483648
 -- these are all the bytes that a reader has left, where those are known
 abbrev pub IsAllOf : Option (List ℕ) → List ℕ → Type 0
 IsAllOf known bytes = IfSome known (λ left. bytes ≡ left)
+
+-- what a read of a list gave: all its bytes, or there are more than a list may have; a read may always fail
+abbrev pub ReadsList : Option (List ℕ) → ListRead → Type 0
+ReadsList known (Whole bytes) = IsAllOf known bytes × (length bytes ≤ max_list)
+ReadsList known TooLong = IfSome known (λ left. max_list < length left)
+ReadsList known Failed = ⊤
 
 -- a reader was opened over the list of this name: what it reads to its end is what the list may be read as
 abbrev pub OpensList : Gives → List ℕ → Option (List ℕ) → Type 0

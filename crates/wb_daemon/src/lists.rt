@@ -1,6 +1,6 @@
 //! The lists that a merge names, each read whole.
-ghost use Rattle.std.specs.Prelude.{◌≡◌, ◌≤◌, ℕ, List, Option, IfOk, IfSome, length};
-ghost use Rattle.wb_daemon.specs.Lists.{max_list, GivesList, GivesMerge, GivesNoMore, GivesParts, IsAllOf, OpensList};
+ghost use Rattle.std.specs.Prelude.{◌≡◌, ℕ, List, Option, IfOk, IfSome};
+ghost use Rattle.wb_daemon.specs.Lists.{GivesList, GivesMerge, GivesNoMore, GivesParts, OpensList, ReadsList};
 
 use deb_relations::{Items, Text};
 use std::alloc::{AllocError, Global};
@@ -27,22 +27,32 @@ pub trait Lists {
         ensures kept { GivesNoMore (gives self.old) (gives self.new) };
 }
 
-/// All bytes that the reader has left; none where a read fails, also an interrupted one, or where there are
-/// more than a list may have. The error is that there is no memory for them.
-fn read_list<R: Read>(alloc: Global, reader: &mut R) -> Result<Option<Items<u8>>, AllocError>
-    ensures value { IfOk result (λ found. IfSome found (λ bytes.
-        IsAllOf (R.remaining reader.old) bytes × (length bytes ≤ max_list))) }
+/// What a read of a list gave.
+#[derive(Drop)]
+enum ListRead {
+    /// All its bytes.
+    Whole(Items<u8>),
+    /// There are more bytes than a list may have.
+    TooLong,
+    /// A read failed, or was interrupted.
+    Failed,
+}
+
+/// All bytes that the reader has left, or why there are none. The error is that there is no memory for
+/// them.
+fn read_list<R: Read>(alloc: Global, reader: &mut R) -> Result<ListRead, AllocError>
+    ensures value { IfOk result (ReadsList (R.remaining reader.old)) }
 {
     let mut room = [0u8; 8192];
     let mut bytes: Vec<u8> = Vec::new(alloc);
     while bytes.len() <= MAX_LIST {
         match reader.read(&mut room) {
-            Ok(0) => return Ok(Some(Items::from(bytes))),
+            Ok(0) => return Ok(ListRead::Whole(Items::from(bytes))),
             Ok(count) => bytes.extend_from_slice(&room[..count])?,
-            Err(_) => return Ok(None),
+            Err(_) => return Ok(ListRead::Failed),
         }
     }
-    Ok(None)
+    Ok(ListRead::TooLong)
 }
 
 /// The bytes of the list of this name; none where it cannot be opened or read, or is too long.
@@ -55,9 +65,12 @@ fn list_of<L: Lists>(
         GivesList (L.gives lists.old) name.now bytes)) }
     ensures kept { GivesNoMore (L.gives lists.old) (L.gives lists.new) }
 {
-    match lists.open(alloc, name.as_str())? {
-        Some(mut list) => read_list(alloc, &mut list),
-        None => Ok(None),
+    let Some(mut list) = lists.open(alloc, name.as_str())? else {
+        return Ok(None);
+    };
+    match read_list(alloc, &mut list)? {
+        ListRead::Whole(bytes) => Ok(Some(bytes)),
+        ListRead::TooLong | ListRead::Failed => Ok(None),
     }
 }
 
