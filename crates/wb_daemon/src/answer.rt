@@ -5,7 +5,7 @@ ghost use Rattle.wb_words.specs.declared.fault.WordsFault.TheVariants.{Memory};
 ghost use Rattle.wb_daemon.specs.Line.{is_blank_line, is_long};
 ghost use Rattle.wb_daemon.specs.Lists.{GivesNoMore};
 ghost use Rattle.wb_daemon.specs.Run.{asked_of_line, file_said, memory_said, Accepts, AsksFor, LineAsks, Says};
-ghost use Rattle.wb_states.specs.Machine.{Machine};
+ghost use Rattle.wb_states.specs.Machine.{IsConsistent, Machine};
 ghost use Rattle.wb_states.specs.declared.command.Command.{Command};
 ghost use Rattle.wb_daemon.specs.Turn.{said_by, AnswersAsked, AnswersCommand};
 
@@ -60,6 +60,7 @@ fn answer_to(alloc: Global, office: &mut Office, command: &Command) -> Option<An
     ensures value { IfSome result (λ answer. (answer.status ≤ 3)
         × AnswersCommand office.old command.now (said_by answer office.new)) }
     ensures memory { result ≡ None → Accepts office.old command.now office.new }
+    ensures consistent { IsConsistent office.old → IsConsistent office.new }
 {
     match office.apply(command) {
         Ok(reply) => match reply_json(alloc, command.name(), &reply) {
@@ -112,6 +113,7 @@ fn answer_asked<L: Lists>(
     ensures memory { result ≡ None → (command : Command)
         × AsksFor (L.gives lists.old) asked.now command × Accepts office.old command office.new }
     ensures kept { GivesNoMore (L.gives lists.old) (L.gives lists.new) }
+    ensures consistent { IsConsistent office.old → IsConsistent office.new }
 {
     match asked {
         Asked::Command { command } => answer_to(alloc, office, command),
@@ -140,6 +142,7 @@ pub(crate) fn answer_of<L: Lists>(
     ensures memory { result ≡ None → (command : Command)
         × LineAsks (L.gives lists.old) line.now command × Accepts office.old command office.new }
     ensures kept { GivesNoMore (L.gives lists.old) (L.gives lists.new) }
+    ensures consistent { IsConsistent office.old → IsConsistent office.new }
 {
     match asked_of_line(alloc, line) {
         Ok(asked) => answer_asked(alloc, office, lists, &asked),

@@ -1,5 +1,6 @@
 //! The run: each line of the input is answered with one line of JSON.
 ghost use Rattle.std.specs.Prelude.{◌≡◌, ◌⊎◌, ◌<◌, ◌≤◌, IfOk, IfErr, length, false};
+ghost use Rattle.wb_states.specs.Machine.{IsConsistent};
 ghost use Rattle.wb_daemon.specs.Line.{is_long, max_line};
 ghost use Rattle.wb_daemon.specs.Lists.{GivesNoMore};
 ghost use Rattle.wb_daemon.specs.Run.{EndsInput, RunStops};
@@ -70,6 +71,7 @@ fn answer_line<W: Write, L: Lists>(
     ensures err { IfErr result (LacksAnswer (L.gives lists.old) line.now office.old office.new
         (W.contents writer.old) (W.contents writer.new)) }
     ensures kept { GivesNoMore (L.gives lists.old) (L.gives lists.new) }
+    ensures consistent { IsConsistent office.old → IsConsistent office.new }
 {
     if is_blank_line(line) {
         return Ok(ACCEPTED);
@@ -98,6 +100,7 @@ fn take_turn<R: Read, W: Write, L: Lists>(
     ensures kept { GivesNoMore (L.gives lists.old) (L.gives lists.new) }
     ensures value { Turns (L.gives lists.old) result office.old office.new (R.remaining reader.old) (R.remaining reader.new)
         (W.contents writer.old) (W.contents writer.new) }
+    ensures consistent { IsConsistent office.old → IsConsistent office.new }
 {
     match read_line(reader, room) {
         LineRead::Fed(len) => {
@@ -137,6 +140,7 @@ fn run_within<R: Read, W: Write, L: Lists>(
     requires { length room.old ≡ max_line }
     ensures value { Ran (L.gives lists.old) result office.old office.new
         (R.remaining reader.old) (R.remaining reader.new) (W.contents writer.old) (W.contents writer.new) }
+    ensures consistent { IsConsistent office.old → IsConsistent office.new }
 {
     let mut greatest = ACCEPTED;
     'lines: for _count in 0..MAX_LINES {
@@ -163,6 +167,7 @@ fn run_in_room<R: Read, W: Write, L: Lists>(
 ) -> RunEnd
     ensures value { Ran (L.gives lists.old) result office.old office.new
         (R.remaining reader.old) (R.remaining reader.new) (W.contents writer.old) (W.contents writer.new) }
+    ensures consistent { IsConsistent office.old → IsConsistent office.new }
 {
     let Ok(mut room) = vec![in alloc; 0u8; MAX_LINE] else {
         return RunEnd::Stopped(Cause::Room);
@@ -199,6 +204,7 @@ pub fn run_lines<R: Read, W: Write, L: Lists>(
         (W.contents writer.old) (W.contents writer.new) office.old office.new 3
         ⊎ RunStops (L.gives lists.old) (R.remaining reader.old) (R.remaining reader.new)
         (W.contents writer.old) (W.contents writer.new) office.old office.new }
+    ensures kept { IsConsistent office.old → IsConsistent office.new }
 {
     match run_in_room(alloc, office, reader, writer, lists) {
         RunEnd::Ended(status) => status,

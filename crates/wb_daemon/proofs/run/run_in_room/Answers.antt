@@ -4,6 +4,7 @@ use Rattle.wb_daemon.proofs.run.run_in_room.Goals as goal
 
 pub returns-in_default : goal.returns-in_default
 returns-in_default g c = record {
+  consistent = λ h. h;
   value = stops-at_once (g.L.Lists.gives c.args.lists.now)
       (g.R.Read.remaining c.args.reader.now) (g.W.Write.contents c.args.writer.now) c.args.office.now;
 }

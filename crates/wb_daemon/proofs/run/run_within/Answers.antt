@@ -8,6 +8,7 @@ use Rattle.wb_daemon.proofs.run.run_within.Goals as goal
 
 pub lines-init : goal.lines-init
 lines-init g c = record {
+  consistent = λ h. h;
   kept = GivesNoMore-same (g.L.Lists.gives c.args.lists.now);
   far = so_far-start (g.L.Lists.gives c.args.lists.now) (g.R.Read.remaining c.args.reader.now) (g.W.Write.contents c.args.writer.now) c.args.office.now;
 }
@@ -19,6 +20,7 @@ returns-in-End g c =
     (g.R.Read.remaining c.lines.reader) (g.R.Read.remaining c.take_turn.new.reader) (g.W.Write.contents c.lines.writer) (g.W.Write.contents c.take_turn.new.writer)
     c.in-End.ensures.value in
     record {
+      consistent = λ h. c.take_turn.ensures.consistent (c.lines.invariant.consistent h);
       value = (
         omega (arith, c.lines.invariant.far.small, did.2.1, c.max.ensures),
         ends-line c.lines.invariant.far did.0 (g.R.Read.remaining c.take_turn.new.reader) (g.W.Write.contents c.take_turn.new.writer) c.take_turn.new.office
@@ -28,6 +30,7 @@ returns-in-End g c =
 
 pub returns-in-Stop : goal.returns-in-Stop
 returns-in-Stop g c = record {
+  consistent = λ h. c.take_turn.ensures.consistent (c.lines.invariant.consistent h);
   value = stops-turn c.lines.invariant.far c.in-Stop.cause _ _ _
       (Turns-more (g.L.Lists.gives c.args.lists.now) (g.L.Lists.gives c.lines.lists) c.lines.invariant.kept (Stop c.in-Stop.cause) c.lines.office c.take_turn.new.office
       (g.R.Read.remaining c.lines.reader) (g.R.Read.remaining c.take_turn.new.reader) (g.W.Write.contents c.lines.writer) (g.W.Write.contents c.take_turn.new.writer)
@@ -41,6 +44,7 @@ lines-preserved g c =
     (g.R.Read.remaining c.lines.reader) (g.R.Read.remaining c.take_turn.new.reader) (g.W.Write.contents c.lines.writer) (g.W.Write.contents c.take_turn.new.writer)
     c.in-More.ensures.value in
     record {
+      consistent = λ h. c.take_turn.ensures.consistent (c.lines.invariant.consistent h);
       kept = GivesNoMore-then gives (g.L.Lists.gives c.lines.lists) (g.L.Lists.gives c.take_turn.new.lists) c.lines.invariant.kept c.take_turn.ensures.kept;
       far = so_far-next c.lines.invariant.far did.0 (g.R.Read.remaining c.take_turn.new.reader) (g.W.Write.contents c.take_turn.new.writer) c.take_turn.new.office
           c.in-More.status c.max-greatest.result did.1 did.2 c.max-greatest.ensures;
@@ -48,6 +52,7 @@ lines-preserved g c =
 
 pub returns-in-End-read_byte : goal.returns-in-End-read_byte
 returns-in-End-read_byte g c = record {
+  consistent = c.lines.invariant.consistent;
   value = (
     c.lines.invariant.far.small,
     ends-nothing c.lines.invariant.far (g.R.Read.remaining c.read_byte.new.reader) (omega arith) c.in-End-read_byte.ensures.value (c.in-End-read_byte.ensures.status refl),
@@ -56,10 +61,12 @@ returns-in-End-read_byte g c = record {
 
 pub returns-in-Byte : goal.returns-in-Byte
 returns-in-Byte g c = record {
+  consistent = c.lines.invariant.consistent;
   value = stops-limit c.lines.invariant.far c.in-Byte.field-0 (g.R.Read.remaining c.read_byte.new.reader) (omega arith) c.in-Byte.ensures.value;
 }
 
 pub returns-in-Fault : goal.returns-in-Fault
 returns-in-Fault g c = record {
+  consistent = c.lines.invariant.consistent;
   value = stops-read c.lines.invariant.far [] (g.R.Read.remaining c.read_byte.new.reader) refl c.in-Fault.ensures.value;
 }
