@@ -1,4 +1,5 @@
 pub mod AnswerLemmas
 pub mod LineLemmas
 pub mod ListLemmas
+pub mod ReplayedLemmas
 pub mod RunLemmas

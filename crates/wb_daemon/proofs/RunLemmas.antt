@@ -125,7 +125,7 @@ said-same {s} {t} {m} {j} {k} p q = ap (λ x. record { text = x; machine = m; st
 max_assoc : (i j k : ℕ) → max (max i j) k ≡ max i (max j k)
 max_assoc i j k = omega arith
 
-Runs-snoc : (gives : Gives) (lines : List (List ℕ)) (machine : Machine) (whole : Said) (line : List ℕ) (said : Said)
+pub Runs-snoc : (gives : Gives) (lines : List (List ℕ)) (machine : Machine) (whole : Said) (line : List ℕ) (said : Said)
     → Runs gives machine lines whole → Says gives whole.machine line said → Runs gives machine (lines ++ line ∷ []) (followed whole said)
 Runs-snoc gives [] machine whole line said p q = (
   said,

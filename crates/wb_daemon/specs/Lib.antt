@@ -1,4 +1,5 @@
 pub mod Line
 pub mod Lists
+pub mod Replays
 pub mod Run
 pub mod Turn

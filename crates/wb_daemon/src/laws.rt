@@ -1,0 +1,18 @@
+//! Laws of the definitions, each on a function that does nothing.
+ghost use Rattle.std.specs.Prelude.{ℕ, List, Option};
+ghost use Rattle.wb_states.specs.Machine.{Machine};
+ghost use Rattle.wb_daemon.specs.Replays.{IsReplay, IsReplayCut};
+ghost use Rattle.wb_daemon.specs.Run.{Runs, Said, StopsInLine};
+
+use crate::lists::Lists;
+
+/// What a run leaves is what the commands that its lines ask for leave, one after another, also where it
+/// was cut off within the answer to a line. So what holds of every list of commands holds of every run.
+pub fn runs_are_replays<L: Lists>(lists: &L)
+    ensures state { (machine : Machine) (heard : List (List ℕ)) (whole : Said)
+        → Runs (L.gives lists.now) machine heard whole
+        → IsReplay (L.gives lists.now) machine heard whole }
+    ensures stops { (seen : List ℕ) (left : Option (List ℕ)) (machine : Machine) (text : List ℕ)
+        (after : Machine) → StopsInLine (L.gives lists.now) seen left machine text after
+        → IsReplayCut (L.gives lists.now) seen left machine text after }
+{}
