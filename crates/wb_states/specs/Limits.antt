@@ -9,7 +9,7 @@ count_limit = 1000000000000
 abbrev pub rebuild_limit : ℕ
 rebuild_limit = 999
 
--- the most bytes of a note, a message or a reason
+-- the most bytes of a note or a message
 abbrev pub note_limit : ℕ
 note_limit = 1000
 

@@ -119,7 +119,7 @@ pub enum Refusal {
     },
     /// The architecture, the builder on the architecture, or the record is there already.
     AlreadyThere,
-    /// A name, a priority or a section has not its form.
+    /// A name, a word, a priority or a section has not its form.
     BadName,
     /// The version has this fault.
     BadVersion {
@@ -219,7 +219,7 @@ impl fmt::Display for Refusal {
             Refusal::NotHeld => f.write_str("nothing is held under the take number"),
             Refusal::AfterAhead { handed } => write!(f, "the last take number is {handed}"),
             Refusal::AlreadyThere => f.write_str("it is there already"),
-            Refusal::BadName => f.write_str("a name, a priority or a section has not its form"),
+            Refusal::BadName => f.write_str("a name, a word, a priority or a section has not its form"),
             Refusal::BadVersion { fault } => write!(f, "the version has not its form: {fault}"),
             Refusal::BadRelations { fault: Some(fault) } => write!(
                 f,
