@@ -3,6 +3,7 @@ pub mod AskedLemmas
 pub mod ChosenLemmas
 pub mod ConsistencyLemmas
 pub mod CountedLemmas
+pub mod EndedLemmas
 pub mod HandOutLemmas
 pub mod HeldLemmas
 pub mod InvariantLemmas

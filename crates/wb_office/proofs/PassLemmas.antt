@@ -51,6 +51,7 @@ pub record Passes (machine : Machine) (command : Command) : Type 0 where
   pub builder : lacks_builder machine command ≡ false
   pub others : is_for_other_archs machine command ≡ false
   pub ahead : is_ahead machine command ≡ false
+  pub held : is_not_held machine command ≡ false
   pub source : lacks_source machine command ≡ false
   pub move : refused_move machine command ≡ None
   pub there : is_there_already machine command ≡ false
@@ -93,6 +94,7 @@ passes machine command is =
       builder = when-None _ _ states.1.1.0;
       others = when-None _ _ states.1.1.1.0;
       ahead = when-None _ _ states.1.1.1.1.0;
+      held = when-None _ _ later.0;
       source = when-None _ _ later.1.0;
       move = later.1.1.1.0;
       there = when-None _ _ later.1.1.1.1.1.0;

@@ -1,13 +1,16 @@
 //! Laws of the definitions, each on a function that does nothing.
-ghost use Rattle.std.specs.Prelude.{◌≡◌, ℕ, ◌≤◌, List, ◌++◌, ◌∷◌, Option, Some, Ok, Err};
+ghost use Rattle.std.specs.Prelude.{◌≡◌, ℕ, ◌≤◌, false, List, ◌++◌, ◌∷◌, Option, Some, None, Ok, Err, is_ok};
 ghost use Rattle.std.specs.FinMap as map;
 ghost use Rattle.wb_states.specs.Machine.{IsConsistent, Machine, empty_office};
 ghost use Rattle.wb_states.specs.declared.command.Command.{Command};
-ghost use Rattle.wb_states.specs.declared.command.Command.TheVariants.{Next};
+ghost use Rattle.wb_states.specs.declared.command.Command.TheVariants.{Next, Built};
 ghost use Rattle.wb_states.specs.declared.record.Record.{Record};
 ghost use Rattle.wb_states.specs.declared.refusal.Refusal.{Refusal};
+ghost use Rattle.wb_states.specs.declared.refusal.Refusal.TheVariants.{NotHeld};
+ghost use Rattle.wb_states.specs.Holds.{taken_as};
 ghost use Rattle.wb_states.specs.declared.reply.Assignment.{Assignment};
 ghost use Rattle.wb_states.specs.declared.reply.Reply.TheVariants.{Again, Job};
+ghost use Rattle.wb_office.specs.Checks.{take_named};
 ghost use Rattle.wb_office.specs.HandOuts.{HandOut, IsBeingBuilt, HasTakesByState, Ends, Rise, hand_out, hand_outs};
 ghost use Rattle.wb_office.specs.Replay.{replay};
 ghost use Rattle.wb_office.specs.Step.{step};
@@ -81,4 +84,19 @@ pub fn retries_are_idempotent()
         → (step machine (Next arch builder after)).0 ≡ Ok (Job accepted given)
         → step (step machine (Next arch builder after)).1 (Next arch builder (Some machine.handed))
         ≡ (Ok (Again accepted given), (step machine (Next arch builder after)).1) }
+{}
+
+/// A take number is a fencing token: one that was given and under which nothing is held is held never
+/// again, so that each later command under it is refused, however late it comes.
+pub fn ended_takes_stay_ended()
+    ensures ended { (machine : Machine) (commands : List Command) (take_number : ℕ)
+        → take_number ≤ machine.handed → taken_as machine take_number ≡ None
+        → taken_as (replay machine commands) take_number ≡ None }
+    ensures refused { (machine : Machine) (commands : List Command) (take_number : ℕ) (command : Command)
+        → take_number ≤ machine.handed → taken_as machine take_number ≡ None
+        → take_named command ≡ Some take_number
+        → is_ok (step (replay machine commands) command).0 ≡ false }
+    ensures not_held { (machine : Machine) (commands : List Command) (take_number : ℕ)
+        → take_number ≤ machine.handed → taken_as machine take_number ≡ None
+        → (step (replay machine commands) (Built take_number)).0 ≡ Err NotHeld }
 {}
