@@ -1,11 +1,13 @@
 //! The merge of what the archive lists into the records of the office.
-ghost use Rattle.std.specs.Prelude.{◌≡◌, ◌≢◌, ◌+◌, not, None, Some, Ok, Err, false, nat_le, bytes_eq, OnOk, IfOk, IfErr, OnErr};
+ghost use Rattle.std.specs.Prelude.{◌≡◌, ◌≢◌, ◌+◌, ℕ, List, not, None, Some, Ok, Err, false, nat_le, bytes_eq, OnOk, IfOk, IfErr, OnErr};
 ghost use Rattle.std.specs.FinMap as map;
 ghost use Rattle.std.specs.List.{list_any};
 ghost use Rattle.wb_states.specs.declared.command.Command.TheVariants.{Merge};
+ghost use Rattle.wb_states.specs.declared.command.Part.{Part};
 ghost use Rattle.wb_states.specs.declared.refusal.Refusal.TheVariants.{Memory};
 ghost use Rattle.wb_states.specs.declared.reply.Reply.TheVariants.{Merged};
 ghost use Rattle.wb_states.specs.Limits.{count_limit};
+ghost use Rattle.wb_states.specs.Machine.{Machine};
 ghost use Rattle.wb_states.specs.Names.{is_arch_name};
 ghost use Rattle.wb_office.specs.Checks.{MayWantMemory, has_repeated_arch};
 ghost use Rattle.wb_office.specs.Found.{refused_merge};
@@ -24,7 +26,7 @@ use wb_store::Store;
 #[derive(Drop)]
 struct Parts {
     records: BTreeMap<(Text, Text), Record>,
-    replies: Items<PartReply>,
+    replies: Vec<PartReply>,
     is_any_good: bool,
 }
 
@@ -120,13 +122,13 @@ fn merge_parts(
 ) -> Result<Parts, Refusal>
     ensures records { IfOk result (λ made. map.from_entries made.records.entries
         ≡ records_after store.now sources.now parts.now store.now.records) }
-    ensures replies { IfOk result (λ made. made.replies
+    ensures replies { IfOk result (λ made. made.replies.items
         ≡ part_replies store.now sources.now parts.now store.now.records) }
     ensures good { IfOk result (λ made. made.is_any_good ≡ list_any (is_good store.now sources.now) parts.now) }
     ensures refused { IfErr result (λ refusal. refusal ≡ Memory) }
 {
     let mut records = store.copy_records()?;
-    let mut replies = Items::new(alloc);
+    let mut replies = Vec::new(alloc);
     let mut is_any_good = false;
     for part in parts {
         let end = merge_part(alloc, store, sources, part, &mut records)?;
@@ -141,17 +143,21 @@ fn merge_parts(
     })
 }
 
-/// Why a merge is refused of which no part can be merged.
-fn refusal_of(alloc: Global, store: &Store, sources: &[u8], parts: &[Part]) -> Refusal
-    ensures { result ≢ Memory → list_any (is_good store.now sources.now) parts.now ≡ false
-        → parts_refusal store.now sources.now parts.now ≡ Some result }
+/// Why a merge is refused of which no part was merged: as its first part is, and as of an unknown
+/// architecture where it has none.
+fn refusal_of(replies: Vec<PartReply>) -> Refusal
+    ensures { (machine : Machine) (sources : List ℕ) (parts : List Part)
+        → replies.items ≡ part_replies machine sources parts machine.records
+        → list_any (is_good machine sources) parts ≡ false
+        → parts_refusal machine sources parts ≡ Some result }
 {
-    match parts {
-        [] => Refusal::UnknownArch,
-        [first, ..] => match listing_of(alloc, store, sources, first) {
-            Ok(_) => Refusal::Memory,
-            Err(refusal) => refusal,
-        },
+    let Some(first) = replies.into_iter().next() else {
+        return Refusal::UnknownArch;
+    };
+    let PartReply { arch: _, end } = first;
+    match end {
+        PartEnd::Merged { .. } => Refusal::UnknownArch,
+        PartEnd::Refused { refusal } => refusal,
     }
 }
 
@@ -164,7 +170,7 @@ fn prepare_merge(
 ) -> Result<Parts, Refusal>
     ensures records { IfOk result (λ made. map.from_entries made.records.entries
         ≡ records_after store.now sources.now parts.now store.now.records) }
-    ensures replies { IfOk result (λ made. made.replies
+    ensures replies { IfOk result (λ made. made.replies.items
         ≡ part_replies store.now sources.now parts.now store.now.records) }
     ensures ok { OnOk result (refused_merge store.now sources.now parts.now ≡ None) }
     ensures room { OnOk result (nat_le count_limit store.now.accepted ≡ false) }
@@ -181,7 +187,7 @@ fn prepare_merge(
     }
     let made = merge_parts(alloc, store, sources, parts)?;
     if !made.is_any_good {
-        return Err(refusal_of(alloc, store, sources, parts));
+        return Err(refusal_of(made.replies));
     }
     if is_spent(store) {
         return Err(Refusal::Spent);
@@ -214,6 +220,6 @@ pub(crate) fn merge(
     });
     Ok(Reply::Merged {
         accepted,
-        parts: made.replies,
+        parts: Items::from(made.replies),
     })
 }

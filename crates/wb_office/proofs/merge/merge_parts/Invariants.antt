@@ -9,7 +9,7 @@ abbrev pub invariant-loop-part : goal.invariant-loop-part
 invariant-loop-part l = record {
   records : records_after l.store l.sources (drop l.part-index l.parts) (map.from_entries l.records.entries)
       ≡ records_after l.store l.sources l.parts l.store.records;
-  replies : l.replies ++ part_replies l.store l.sources (drop l.part-index l.parts) (map.from_entries l.records.entries)
+  replies : l.replies.items ++ part_replies l.store l.sources (drop l.part-index l.parts) (map.from_entries l.records.entries)
       ≡ part_replies l.store l.sources l.parts l.store.records;
   good : (l.is_any_good || list_any (is_good l.store l.sources) (drop l.part-index l.parts))
       ≡ list_any (is_good l.store l.sources) l.parts;
