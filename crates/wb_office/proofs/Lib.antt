@@ -4,6 +4,7 @@ pub mod ChosenLemmas
 pub mod ConsistencyLemmas
 pub mod CountedLemmas
 pub mod EndedLemmas
+pub mod FrameLemmas
 pub mod HandOutLemmas
 pub mod HeldLemmas
 pub mod InvariantLemmas

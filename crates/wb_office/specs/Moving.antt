@@ -1,5 +1,6 @@
 -- Which record a command moves, and by which move (this project's own).
-use Rattle.std.specs.Prelude.{ℕ, ◌+◌, List, [], Option, Some, None, Result, Ok, Err, option_and_then}
+use Rattle.std.specs.Prelude.{◌≡◌, ℕ, ◌+◌, IsTrue, bytes_eq, List, [], Option, Some, None, Result, Ok, Err, option_and_then}
+use Rattle.std.specs.List.{list_any}
 use Rattle.std.specs.Option.{option_map}
 use Rattle.std.specs.FinMap as map
 use Rattle.deb_relations.specs.declared.arch.ArchWords.{ArchWords}
@@ -7,7 +8,7 @@ use Rattle.deb_relations.specs.declared.fault.RelationFault.{RelationFault}
 use Rattle.deb_relations.specs.declared.relations.Alternative.{Alternative}
 use Rattle.deb_relations.specs.Reading.{reading_of}
 use Rattle.wb_states.specs.declared.command.Command.{Command}
-use Rattle.wb_states.specs.declared.command.Command.TheVariants.{Next, Take, Built, Uploaded, Waits, PutBack, GiveBack, DepWait, Fail, NotForUs, Rebuild}
+use Rattle.wb_states.specs.declared.command.Command.TheVariants.{Enter, Merge, Next, Take, Built, Uploaded, Waits, PutBack, GiveBack, DepWait, Fail, NotForUs, Rebuild}
 use Rattle.wb_states.specs.declared.moves.Move.{Move}
 use Rattle.wb_states.specs.declared.moves.Move.TheVariants as to
 use Rattle.wb_states.specs.Holds.{taken_as, building_after}
@@ -67,3 +68,9 @@ moving machine command = option_and_then (with_move machine command) (target_of 
 abbrev pub again_of : Machine → Command → Option Entry
 again_of machine (Next arch builder (Some after)) = building_after machine arch builder after
 again_of machine _ = None
+
+-- a command may change the record at a key: the one that it enters or moves, and of a merge those of its parts' architectures
+abbrev pub MayChange : Machine → Command → List ℕ × List ℕ → Type 0
+MayChange machine (Enter arch source version priority section) key = key ≡ (arch, source)
+MayChange machine (Merge sources parts) key = IsTrue (list_any (λ part. bytes_eq key.0 part.arch) parts)
+MayChange machine command key = (entry : Entry) × ((target_of machine command ≡ Some entry) × (key ≡ entry.0))

@@ -12,6 +12,7 @@ ghost use Rattle.wb_states.specs.declared.reply.Assignment.{Assignment};
 ghost use Rattle.wb_states.specs.declared.reply.Reply.TheVariants.{Again, Job};
 ghost use Rattle.wb_office.specs.Checks.{take_named};
 ghost use Rattle.wb_office.specs.HandOuts.{HandOut, IsBeingBuilt, HasTakesByState, Ends, Rise, hand_out, hand_outs};
+ghost use Rattle.wb_office.specs.Moving.{MayChange};
 ghost use Rattle.wb_office.specs.Replay.{replay};
 ghost use Rattle.wb_office.specs.Step.{step};
 ghost use Rattle.wb_office.specs.Utf8.{HasUtf8Texts, HaveUtf8Texts};
@@ -99,4 +100,12 @@ pub fn ended_takes_stay_ended()
     ensures not_held { (machine : Machine) (commands : List Command) (take_number : ℕ)
         → take_number ≤ machine.handed → taken_as machine take_number ≡ None
         → (step (replay machine commands) (Built take_number)).0 ≡ Err NotHeld }
+{}
+
+/// A command changes no record but the one that it enters or moves, and a merge none of another
+/// architecture than those of its parts.
+pub fn commands_leave_other_records()
+    ensures others { (machine : Machine) (command : Command) (key : List ℕ × List ℕ)
+        → (MayChange machine command key → ⊥)
+        → map.get (step machine command).1.records key ≡ map.get machine.records key }
 {}

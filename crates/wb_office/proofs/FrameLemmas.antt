@@ -1,0 +1,93 @@
+-- A command changes no record but those that it may change.
+use Rattle.std.proofs.Common.{◌≡◌, ℕ, ◌||◌, Bool, true, false, cond, List, [], ◌∷◌, Some, None, Result, Ok, Err, refl, ap, ◌∙◌, bytes_eq}
+use Rattle.std.specs.FinMap as map
+use Rattle.std.specs.List.{list_any}
+use Rattle.std.specs.Ordering.{eq_by_cmp}
+use Rattle.wb_states.specs.declared.command.Command.{Command}
+use Rattle.wb_states.specs.declared.command.Command.TheVariants as of
+use Rattle.wb_states.specs.declared.command.Part.{Part}
+use Rattle.wb_states.specs.declared.record.Record.{Record}
+use Rattle.wb_states.specs.declared.refusal.Refusal.{Refusal}
+use Rattle.wb_states.specs.Machine.{Machine, pair_cmp}
+use Rattle.wb_states.specs.Moves.{moved}
+use Rattle.wb_states.specs.Queue.{Entry}
+use Rattle.wb_states.proofs.KeyLemmas.{pair_cmp_total, pair_cmp-same, eq_by_cmp-same}
+use Rattle.wb_merge.specs.Listing.{Lists}
+use Rattle.wb_merge.specs.Merge.{after}
+use Rattle.wb_merge.specs.Merged.{Records, after_at}
+use Rattle.wb_merge.proofs.MergeLemmas.{merged-get}
+use Rattle.wb_office.specs.Checks.{refused_move}
+use Rattle.wb_office.specs.Moving.{MayChange, moving, target_of}
+use Rattle.wb_office.specs.Parts.{part_listing, records_after, records_with}
+use Rattle.wb_office.specs.Step.{after_move, change, entered, step}
+use Rattle.wb_office.proofs.MovingLemmas.{moving-may}
+use Rattle.wb_office.proofs.PassLemmas.{step-either}
+
+-- an insertion changes no other key
+insert-other : (records : Records) (key other : List ℕ × List ℕ) (current : Record) → (other ≡ key → ⊥)
+    → map.get (map.insert records key current) other ≡ map.get records other
+insert-other records key other current apart =
+    map.get-insert pair_cmp_total records key current other
+    ∙ (elim (eq_by_cmp pair_cmp other key) as (λ b. eq_by_cmp pair_cmp other key ≡ b → cond b (Some current) (map.get records other) ≡ map.get records other) [
+      | true ↦ λ is. absurd (apart (eq_by_cmp-same pair_cmp-same other key is))
+      | false ↦ λ _. refl
+    ]) refl
+
+-- a part changes no record of another architecture
+part-others : (records : Records) (arch : List ℕ) (read : Result Lists Refusal) (key : List ℕ × List ℕ) → bytes_eq key.0 arch ≡ false
+    → map.get (records_with records arch read) key ≡ map.get records key
+unfolding after_at
+part-others records arch (Err refusal) key other = refl
+part-others records arch (Ok lists) key other =
+    merged-get records arch lists key
+    ∙ ap (λ b. cond b (after (map.get records key) (map.get lists.listed key.1) (map.get lists.built key.1) lists.available) (map.get records key)) other
+
+either-not : (a b : Bool) → ((a || b) ≡ true → ⊥) → (a ≡ false) × (b ≡ true → ⊥)
+either-not true b apart = absurd (apart refl)
+either-not false b apart = (refl, apart)
+
+parts-others : (machine : Machine) (sources : List ℕ) (parts : List Part) (records : Records) (key : List ℕ × List ℕ)
+    → (list_any (λ part. bytes_eq key.0 part.arch) parts ≡ true → ⊥)
+    → map.get (records_after machine sources parts records) key ≡ map.get records key
+parts-others machine sources [] records key apart = refl
+parts-others machine sources (part ∷ parts) records key apart =
+    let both = either-not (bytes_eq key.0 part.arch) (list_any (λ other. bytes_eq key.0 other.arch) parts) apart in
+    parts-others machine sources parts (records_with records part.arch (part_listing machine sources part)) key both.1
+    ∙ part-others records part.arch (part_listing machine sources part) key both.0
+
+-- a command changes no record but the one that it moves
+moving-others : (machine : Machine) (command : Command) (key : List ℕ × List ℕ) → refused_move machine command ≡ None
+    → ((entry : Entry) × ((target_of machine command ≡ Some entry) × (key ≡ entry.0)) → ⊥)
+    → map.get (after_move machine (moving machine command)).records key ≡ map.get machine.records key
+moving-others machine command key allowed apart =
+    (elim (moving machine command) as (λ asked. moving machine command ≡ asked → map.get (after_move machine asked).records key ≡ map.get machine.records key) [
+      | None ↦ λ _. refl
+      | Some asked ↦ λ is.
+          let may = moving-may machine command asked allowed is in
+          insert-other machine.records asked.0.0 key (moved asked.1 asked.0.1) (λ same. apart (asked.0, (may.target, same)))
+    ]) refl
+
+change-others : (machine : Machine) (command : Command) (key : List ℕ × List ℕ) → refused_move machine command ≡ None → (MayChange machine command key → ⊥)
+    → map.get (change machine command).records key ≡ map.get machine.records key
+change-others machine (of.AddArch name os cpu) key allowed apart = refl
+change-others machine (of.AddBuilder name arch) key allowed apart = refl
+change-others machine (of.Enter arch source version priority section) key allowed apart =
+    insert-other machine.records (arch, source) key (entered version priority section) apart
+change-others machine (of.Merge sources parts) key allowed apart = parts-others machine sources parts machine.records key apart
+change-others machine (of.Next arch builder after) key allowed apart = moving-others machine (of.Next arch builder after) key allowed apart
+change-others machine (of.Take arch builder source version) key allowed apart = moving-others machine (of.Take arch builder source version) key allowed apart
+change-others machine (of.Built number) key allowed apart = moving-others machine (of.Built number) key allowed apart
+change-others machine (of.Uploaded number) key allowed apart = moving-others machine (of.Uploaded number) key allowed apart
+change-others machine (of.Waits number relations) key allowed apart = moving-others machine (of.Waits number relations) key allowed apart
+change-others machine (of.PutBack number) key allowed apart = moving-others machine (of.PutBack number) key allowed apart
+change-others machine (of.GiveBack arch source version) key allowed apart = moving-others machine (of.GiveBack arch source version) key allowed apart
+change-others machine (of.DepWait arch source version relations) key allowed apart = moving-others machine (of.DepWait arch source version relations) key allowed apart
+change-others machine (of.Fail arch source version note) key allowed apart = moving-others machine (of.Fail arch source version note) key allowed apart
+change-others machine (of.NotForUs arch source version note) key allowed apart = moving-others machine (of.NotForUs arch source version note) key allowed apart
+change-others machine (of.Rebuild arch source version number message) key allowed apart =
+    moving-others machine (of.Rebuild arch source version number message) key allowed apart
+
+pub step-others : (machine : Machine) (command : Command) (key : List ℕ × List ℕ) → (MayChange machine command key → ⊥)
+    → map.get (step machine command).1.records key ≡ map.get machine.records key
+step-others machine command key apart =
+    step-either (λ after. map.get after.records key ≡ map.get machine.records key) machine command refl (λ pass _. change-others machine command key pass.move apart)
