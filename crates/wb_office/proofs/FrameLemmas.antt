@@ -24,7 +24,7 @@ use Rattle.wb_office.proofs.MovingLemmas.{moving-may}
 use Rattle.wb_office.proofs.PassLemmas.{step-either}
 
 -- an insertion changes no other key
-insert-other : (records : Records) (key other : List ℕ × List ℕ) (current : Record) → (other ≡ key → ⊥)
+pub insert-other : (records : Records) (key other : List ℕ × List ℕ) (current : Record) → (other ≡ key → ⊥)
     → map.get (map.insert records key current) other ≡ map.get records other
 insert-other records key other current apart =
     map.get-insert pair_cmp_total records key current other

@@ -6,6 +6,7 @@ pub mod CountedLemmas
 pub mod EndedLemmas
 pub mod FrameLemmas
 pub mod HandOutLemmas
+pub mod HeadLemmas
 pub mod HeldLemmas
 pub mod InvariantLemmas
 pub mod JobLemmas

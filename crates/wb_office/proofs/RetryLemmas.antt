@@ -105,7 +105,7 @@ taken : List ℕ → ℕ → Entry → Entry
 taken builder take_number entry = (entry.0, moved (to.Take builder take_number) entry.1)
 
 -- the state after the head of a queue was handed to a builder
-handed_to : Machine → List ℕ → Entry → Machine
+unfoldable pub handed_to : Machine → List ℕ → Entry → Machine
 handed_to machine builder entry = record machine {
   records = map.insert machine.records entry.0 (moved (to.Take builder (machine.handed + 1)) entry.1);
   handed = machine.handed + 1;
@@ -113,14 +113,14 @@ handed_to machine builder entry = record machine {
 }
 
 -- what is known of a command for the head of a queue that was answered with an assignment
-record IsJob (machine : Machine) (arch builder : List ℕ) (after : Option ℕ) (accepted : ℕ) (given : Assignment) : Type 0 where
-  entry : Entry
-  pass : Passes machine (Next arch builder after)
-  none : again_of machine (Next arch builder after) ≡ None
-  head : head_of machine arch ≡ Some entry
-  count : accepted ≡ machine.accepted + 1
-  told : given ≡ assignment_of entry (machine.handed + 1)
-  new : (step machine (Next arch builder after)).1 ≡ handed_to machine builder entry
+pub record IsJob (machine : Machine) (arch builder : List ℕ) (after : Option ℕ) (accepted : ℕ) (given : Assignment) : Type 0 where
+  pub entry : Entry
+  pub pass : Passes machine (Next arch builder after)
+  pub none : again_of machine (Next arch builder after) ≡ None
+  pub head : head_of machine arch ≡ Some entry
+  pub count : accepted ≡ machine.accepted + 1
+  pub told : given ≡ assignment_of entry (machine.handed + 1)
+  pub new : (step machine (Next arch builder after)).1 ≡ handed_to machine builder entry
 
 -- the state after the head of a queue was moved
 head-handed : (machine : Machine) (arch builder : List ℕ) (after : Option ℕ) (entry : Entry) → head_of machine arch ≡ Some entry
@@ -132,7 +132,7 @@ head-handed machine arch builder after entry is =
 job-parts : (one other : ℕ) (made given : Assignment) → Job one made ≡ Job other given → (one ≡ other) × (made ≡ given)
 job-parts one other made given is = (cc, cc)
 
-job-is : (machine : Machine) (arch builder : List ℕ) (after : Option ℕ) (accepted : ℕ) (given : Assignment)
+pub job-is : (machine : Machine) (arch builder : List ℕ) (after : Option ℕ) (accepted : ℕ) (given : Assignment)
     → (step machine (Next arch builder after)).0 ≡ Ok (Job accepted given) → IsJob machine arch builder after accepted given
 unfolding step
 job-is machine arch builder after accepted given is =

@@ -10,6 +10,7 @@ ghost use Rattle.wb_states.specs.declared.refusal.Refusal.TheVariants.{NotHeld};
 ghost use Rattle.wb_states.specs.Holds.{taken_as};
 ghost use Rattle.wb_states.specs.declared.reply.Assignment.{Assignment};
 ghost use Rattle.wb_states.specs.declared.reply.Reply.TheVariants.{Again, Job};
+ghost use Rattle.wb_states.specs.Queue.{queue_of};
 ghost use Rattle.wb_office.specs.Checks.{take_named};
 ghost use Rattle.wb_office.specs.HandOuts.{HandOut, IsBeingBuilt, HasTakesByState, Ends, Rise, hand_out, hand_outs};
 ghost use Rattle.wb_office.specs.Moving.{MayChange};
@@ -108,4 +109,14 @@ pub fn commands_leave_other_records()
     ensures others { (machine : Machine) (command : Command) (key : List ℕ × List ℕ)
         → (MayChange machine command key → ⊥)
         → map.get (step machine command).1.records key ≡ map.get machine.records key }
+{}
+
+/// A builder that asks for the head of a queue is handed the first of the queue, and the rest stays in its
+/// order.
+pub fn next_takes_the_head()
+    ensures queue { (machine : Machine) (arch builder : List ℕ) (after : Option ℕ) (accepted : ℕ)
+        (given : Assignment)
+        → (step machine (Next arch builder after)).0 ≡ Ok (Job accepted given)
+        → (current : Record) × (queue_of machine arch
+        ≡ ((arch, given.source), current) ∷ queue_of (step machine (Next arch builder after)).1 arch) }
 {}
