@@ -15,7 +15,7 @@ use Rattle.wb_api.specs.Encoding.{line_fault_text}
 use Rattle.wb_daemon.specs.Line.{is_blank_line, is_long, words_of}
 use Rattle.wb_daemon.specs.Lists.{Gives, GivesMerge, GivesNoMore}
 use Rattle.wb_daemon.specs.Run.{Said, Says, Accepts, AsksFor, LineAsks, SaysHeard, Heard, Silence, Fault, Asks, heard_in, heard_of, asked_of_line, fault_said, memory_said, needs_memory, with_feed}
-use Rattle.wb_daemon.specs.Turn.{Answers, AnswersAsked, AnswersCommand, AnswersInPart, AppendsFront, GivesFed, GivesLast, LacksAnswer, StopsTurn, Turns}
+use Rattle.wb_daemon.specs.Turn.{Answers, AnswersAsked, AnswersInPart, AppendsFront, GivesFed, GivesLast, LacksAnswer, StopsTurn, Turns}
 use Rattle.wb_daemon.specs.declared.run.Cause.{Cause}
 use Rattle.wb_daemon.specs.declared.run.Cause.TheVariants as why
 use Rattle.wb_daemon.specs.declared.run.Turn.{Turn}
@@ -87,17 +87,6 @@ Says-fault gives machine line said h k e p = Says-heard gives machine line Fault
 pub Says-memory : (gives : Gives) (machine : Machine) (line : List ℕ) (said : Said) → is_long line ≡ false → is_blank_line line ≡ false
     → IsTrue (is_utf8 line) → said ≡ memory_said machine → Says gives machine line said
 Says-memory gives machine line said h k u p = inr (needs_memory-read line h k u, p)
-
--- what may be said to the merge of what the lists gave may be said to the line's merge
-pub asked-merge : (gives : Gives) (machine : Machine) (sources : List ℕ) (parts : List PartNames) (command : Command) (said : Said)
-    → GivesMerge gives sources parts command → AnswersCommand machine command said → AnswersAsked gives machine (asked_Merge sources parts) said
-asked-merge gives machine sources parts command said g (inl p) = inl (inl (command, g, p))
-asked-merge gives machine sources parts command said g (inr p) = inr p
-
-pub asked-command : (gives : Gives) (machine : Machine) (command : Command) (said : Said)
-    → AnswersCommand machine command said → AnswersAsked gives machine (asked_Command command) said
-asked-command gives machine command said (inl p) = inl p
-asked-command gives machine command said (inr p) = inr p
 
 -- ---- lists that gave no more than they might
 

@@ -2,7 +2,7 @@
 use Rattle.std.proofs.Common.{take, drop, take-add, subst, append-nil, ◌≤◌, Option, None, Some, ◌≡◌, ℕ, ◌+◌, ◌<◌, Bool, true, false, eqb, List, [], ◌∷◌, ◌++◌, length, refl, sym, ap, ◌∙◌, append_assoc, arith, length-append}
 use Rattle.std.specs.List.{slice_split, flat_map, onto_first}
 use Rattle.std.proofs.lemmas.List.Splits.{length-slice_split, slice_split-cons_yes, slice_split-cons_no}
-use Rattle.std.specs.Io.KnownBytes.{Consumes, Appends, Keeps}
+use Rattle.std.specs.Io.KnownBytes.{Consumes, Appends}
 use Rattle.std.specs.Str.{IsUtf8, is_utf8}
 use Rattle.std.proofs.lemmas.Str.{IsUtf8-from_is_utf8}
 use Rattle.std.proofs.lemmas.List.Folds.{list_any-append}
@@ -86,11 +86,6 @@ Appends-then None b c xs ys p q = tt
 Appends-then (Some x) None c xs ys p q = absurd p
 Appends-then (Some x) (Some y) None xs ys p q = absurd q
 Appends-then (Some x) (Some y) (Some z) xs ys p q = q ∙ ap (λ l. l ++ ys) p ∙ append_assoc x xs ys
-
-pub Appends-nothing : (a b : Option (List ℕ)) → Keeps a b → Appends a b []
-Appends-nothing None b p = tt
-Appends-nothing (Some x) None p = absurd p
-Appends-nothing (Some x) (Some y) p = p ∙ sym (append-nil x)
 
 -- more of a text that was written up to a place
 pub Appends-take : (a b c : Option (List ℕ)) (bs : List ℕ) (m n : ℕ) → Appends a b (take m bs) → Appends b c (take n (drop m bs)) → Appends a c (take (m + n) bs)

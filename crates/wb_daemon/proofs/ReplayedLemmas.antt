@@ -9,9 +9,13 @@ use Rattle.wb_office.specs.Replay.{replay}
 use Rattle.wb_office.specs.Step.{step}
 use Rattle.wb_words.specs.declared.words.Asked.{Asked}
 use Rattle.wb_words.specs.declared.words.Asked.TheVariants.{Command as asked_Command, Merge as asked_Merge}
+use Rattle.wb_daemon.specs.Line.{ended_in, lines_of}
 use Rattle.wb_daemon.specs.Lists.{Gives}
-use Rattle.wb_daemon.specs.Replays.{IsReplay, IsReplayCut, SaysNoReply}
-use Rattle.wb_daemon.specs.Run.{Asks, AsksFor, Fault, Heard, LineAsks, Runs, Said, Says, SaysAsked, SaysHeard, Silence, StopsInLine, answer_said, command_said, followed, heard_in}
+use Rattle.wb_daemon.specs.Replays.{IsReplay, IsReplayCut, LeavesReplay, SaysNoReply}
+use Rattle.wb_daemon.specs.Run.{Asks, AsksFor, EndsInput, Fault, Heard, LineAsks, Runs, Said, Says, SaysAsked, SaysHeard, Silence, StopsInLine, answer_said, command_said, followed, heard_in, silent}
+use Rattle.wb_daemon.specs.Turn.{StopsRun}
+use Rattle.wb_daemon.specs.declared.run.Cause.{Cause}
+use Rattle.wb_daemon.specs.declared.run.Cause.TheVariants as why
 use Rattle.wb_daemon.proofs.RunLemmas.{Runs-snoc}
 
 answer_said-machine : (name : List ℕ) (result : Result Reply Refusal) (after : Machine) → (answer_said name result after).machine ≡ after
@@ -114,3 +118,28 @@ StopsInLine-replay gives seen left machine text after (lines, heard, inr s) =
       s.accepted.1 ∙ sym (command_said-machine s.answered.machine s.command),
       ap (λ t. t ++ said.text) (sym s.unwritten),
     )
+
+-- ---- a whole run
+
+Runs-leaves : (gives : Gives) (before after : Machine) (lines : List (List ℕ)) (text : List ℕ) (status : ℕ)
+    → Runs gives before lines (record { text = text; machine = after; status = status }) → LeavesReplay gives before after
+Runs-leaves gives before after lines text status h = (lines, _, Runs-replay gives lines before _ h, refl)
+
+pub EndsInput-leaves : (gives : Gives) (known old new : Option (List ℕ)) (before after : Machine) (status : ℕ)
+    → EndsInput gives known old new before after status → LeavesReplay gives before after
+EndsInput-leaves gives known old new before after status h = Runs-leaves gives before after (lines_of h.0) h.3.0 status h.3.1
+
+StopsInLine-leaves : (gives : Gives) (seen : List ℕ) (left : Option (List ℕ)) (before : Machine) (text : List ℕ) (after : Machine)
+    → StopsInLine gives seen left before text after → LeavesReplay gives before after
+StopsInLine-leaves gives seen left before text after h =
+    let cut = StopsInLine-replay gives seen left before text after h in (cut.0, cut.1, cut.4, cut.5)
+
+-- what a run leaves that stopped, for whatever cause
+pub StopsRun-leaves : (gives : Gives) (cause : Cause) (before after : Machine) (input left old new : Option (List ℕ))
+    → StopsRun gives cause before after input left old new → LeavesReplay gives before after
+StopsRun-leaves gives why.Read before after input left old new h = Runs-leaves gives before after (ended_in h.0) h.1 h.4.0 h.4.1
+StopsRun-leaves gives why.Write before after input left old new h = StopsInLine-leaves gives h.0 left before h.1 after (h.4.0, h.4.1, inl h.4.2)
+StopsRun-leaves gives why.Reply before after input left old new h = StopsInLine-leaves gives h.0 left before h.1 after (h.4.0, h.4.1, inr h.4.2)
+StopsRun-leaves gives why.Lines before after input left old new h = Runs-leaves gives before after (ended_in h.4.0) h.1 h.4.4.0 h.4.4.1
+StopsRun-leaves gives why.Room before after input left old new h =
+    ([], silent before, Runs-replay gives [] before (silent before) refl, h.4.2)

@@ -27,6 +27,11 @@ abbrev pub IsReplay : Gives → Machine → List (List ℕ) → Said → Type 0
 IsReplay gives machine lines whole =
     (commands : List Command) × CarriesOut gives machine lines whole commands × (whole.machine ≡ replay machine commands)
 
+-- an office is left as the commands that some lines ask for leave it, one after another
+abbrev pub LeavesReplay : Gives → Machine → Machine → Type 0
+LeavesReplay gives before after =
+    (lines : List (List ℕ)) × (whole : Said) × IsReplay gives before lines whole × (after ≡ whole.machine)
+
 -- a run that was cut off left what the lines that it heard leave, and wrote a front of what is said to them
 abbrev pub IsReplayCut : Gives → List ℕ → Option (List ℕ) → Machine → List ℕ → Machine → Type 0
 IsReplayCut gives seen left machine text after =

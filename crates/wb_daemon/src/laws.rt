@@ -9,9 +9,9 @@ use crate::lists::Lists;
 /// What a run leaves is what the commands that its lines ask for leave, one after another, also where it
 /// was cut off within the answer to a line. So what holds of every list of commands holds of every run.
 pub fn runs_are_replays<L: Lists>(lists: &L)
-    ensures state { (machine : Machine) (heard : List (List ℕ)) (whole : Said)
-        → Runs (L.gives lists.now) machine heard whole
-        → IsReplay (L.gives lists.now) machine heard whole }
+    ensures state { (machine : Machine) (lines : List (List ℕ)) (whole : Said)
+        → Runs (L.gives lists.now) machine lines whole
+        → IsReplay (L.gives lists.now) machine lines whole }
     ensures stops { (seen : List ℕ) (left : Option (List ℕ)) (machine : Machine) (text : List ℕ)
         (after : Machine) → StopsInLine (L.gives lists.now) seen left machine text after
         → IsReplayCut (L.gives lists.now) seen left machine text after }

@@ -3,6 +3,7 @@ ghost use Rattle.std.specs.Prelude.{◌≡◌, ◌⊎◌, ◌<◌, ◌≤◌, If
 ghost use Rattle.wb_states.specs.Machine.{IsConsistent};
 ghost use Rattle.wb_daemon.specs.Line.{is_long, max_line};
 ghost use Rattle.wb_daemon.specs.Lists.{GivesNoMore};
+ghost use Rattle.wb_daemon.specs.Replays.{LeavesReplay};
 ghost use Rattle.wb_daemon.specs.Run.{EndsInput, RunStops};
 ghost use Rattle.wb_daemon.specs.Turn.{Answers, LacksAnswer, Ran, Turns};
 
@@ -98,7 +99,8 @@ fn take_turn<R: Read, W: Write, L: Lists>(
 ) -> Turn
     requires { length room.old ≡ max_line }
     ensures kept { GivesNoMore (L.gives lists.old) (L.gives lists.new) }
-    ensures value { Turns (L.gives lists.old) result office.old office.new (R.remaining reader.old) (R.remaining reader.new)
+    ensures value { Turns (L.gives lists.old) result office.old office.new
+        (R.remaining reader.old) (R.remaining reader.new)
         (W.contents writer.old) (W.contents writer.new) }
     ensures consistent { IsConsistent office.old → IsConsistent office.new }
 {
@@ -139,7 +141,8 @@ fn run_within<R: Read, W: Write, L: Lists>(
 ) -> RunEnd
     requires { length room.old ≡ max_line }
     ensures value { Ran (L.gives lists.old) result office.old office.new
-        (R.remaining reader.old) (R.remaining reader.new) (W.contents writer.old) (W.contents writer.new) }
+        (R.remaining reader.old) (R.remaining reader.new)
+        (W.contents writer.old) (W.contents writer.new) }
     ensures consistent { IsConsistent office.old → IsConsistent office.new }
 {
     let mut greatest = ACCEPTED;
@@ -166,7 +169,8 @@ fn run_in_room<R: Read, W: Write, L: Lists>(
     lists: &mut L,
 ) -> RunEnd
     ensures value { Ran (L.gives lists.old) result office.old office.new
-        (R.remaining reader.old) (R.remaining reader.new) (W.contents writer.old) (W.contents writer.new) }
+        (R.remaining reader.old) (R.remaining reader.new)
+        (W.contents writer.old) (W.contents writer.new) }
     ensures consistent { IsConsistent office.old → IsConsistent office.new }
 {
     let Ok(mut room) = vec![in alloc; 0u8; MAX_LINE] else {
@@ -204,6 +208,7 @@ pub fn run_lines<R: Read, W: Write, L: Lists>(
         (W.contents writer.old) (W.contents writer.new) office.old office.new 3
         ⊎ RunStops (L.gives lists.old) (R.remaining reader.old) (R.remaining reader.new)
         (W.contents writer.old) (W.contents writer.new) office.old office.new }
+    ensures replay { LeavesReplay (L.gives lists.old) office.old office.new }
     ensures kept { IsConsistent office.old → IsConsistent office.new }
 {
     match run_in_room(alloc, office, reader, writer, lists) {

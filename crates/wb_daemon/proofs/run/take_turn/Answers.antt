@@ -13,7 +13,7 @@ returns-in-Err-clause-value g c =
     let line = take c.in-Fed.len c.read_line.new.room in
     let lacks = subst (λ l. LacksAnswer (g.L.Lists.gives c.args.lists.now) l c.args.office.now c.answer_line.new.office
     (g.W.Write.contents c.args.writer.now) (g.W.Write.contents c.answer_line.new.writer) c.in-Err.cause)
-    c.split_at.ensures.front c.in-Err.ensures.err in
+    {y = line} c.split_at.ensures.front c.in-Err.ensures.err in
     stops_turn (g.L.Lists.gives c.args.lists.now) c.in-Err.cause line c.args.office.now c.answer_line.new.office
     (g.R.Read.remaining c.args.reader.now) (g.R.Read.remaining c.read_line.new.reader) (g.W.Write.contents c.args.writer.now) (g.W.Write.contents c.answer_line.new.writer)
     (inl (short_line c.read_line.new.room c.in-Fed.len took.0, took.1, took.2)) lacks
@@ -24,7 +24,7 @@ returns-in-Err-answer_line-clause-value g c =
     let line = take c.in-Last.len c.read_line.new.room in
     let lacks = subst (λ l. LacksAnswer (g.L.Lists.gives c.args.lists.now) l c.args.office.now c.answer_line-in-Last.new.office
     (g.W.Write.contents c.args.writer.now) (g.W.Write.contents c.answer_line-in-Last.new.writer) c.in-Err-answer_line.cause)
-    c.split_at-in-Last.ensures.front c.in-Err-answer_line.ensures.err in
+    {y = line} c.split_at-in-Last.ensures.front c.in-Err-answer_line.ensures.err in
     stops_turn (g.L.Lists.gives c.args.lists.now) c.in-Err-answer_line.cause line c.args.office.now c.answer_line-in-Last.new.office
     (g.R.Read.remaining c.args.reader.now) (g.R.Read.remaining c.read_line.new.reader) (g.W.Write.contents c.args.writer.now) (g.W.Write.contents c.answer_line-in-Last.new.writer)
     (inr (took.1, took.2, inl took.3)) lacks
