@@ -190,10 +190,11 @@ fn run_in_room<R: Read, W: Write, L: Lists>(
 /// memory. The status is the greatest of the lines': 0 accepted, 1 refused, 2 a line fault, 3 a file fault.
 ///
 /// Status 3 tells as well that the run stopped: a read of the input failed, and the line that it cut off was
-/// not acted on; or a write failed or took no byte, also an interrupted one, or there was no memory for the
-/// reply to an accepted command, and the output ends within the answer to the last line that was acted on;
-/// or more follows the 1000000000th line feed; or there was no memory for the room that holds a line, and
-/// nothing was read. The commands of the lines that were answered stand (this project's own).
+/// not acted on; or a write failed or took no byte, also an interrupted one, and the output ends within the
+/// answer to the last line that was acted on; or there was no memory for the reply to an accepted command,
+/// and nothing of it was written; or more follows the 1000000000th line feed; or there was no memory for the
+/// room that holds a line, and nothing was read. The commands of all lines that were acted on stand (this
+/// project's own).
 pub fn run_lines<R: Read, W: Write, L: Lists>(
     alloc: Global,
     office: &mut Office,
