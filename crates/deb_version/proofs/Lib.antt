@@ -3,3 +3,4 @@ pub mod LawLemmas
 pub mod NumberLemmas
 pub mod OrderLemmas
 pub mod ReadingLemmas
+pub mod VersionGrammar

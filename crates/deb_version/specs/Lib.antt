@@ -1,4 +1,5 @@
 pub mod Faults
+pub mod Grammar
 pub mod Operator
 pub mod Order
 pub mod OrderLaws

@@ -1,12 +1,23 @@
 //! Laws of the definitions, each on a function with nothing to run.
 
-ghost use Rattle.deb_version.specs.Syntax.{TextIsItsParts};
+ghost use Rattle.std.specs.Prelude.{◌≡◌, List, Ok, ℕ};
+ghost use Rattle.deb_version.specs.Grammar.{IsVersion};
+ghost use Rattle.deb_version.specs.Syntax.{Parts, TextIsItsParts, reading_of};
 ghost use Rattle.deb_version.specs.OrderLaws.{KeyIsByRuns, ZerosSayNothing, TildeIsEarlier};
 
 /// A text is its parts, joined by the colon and the hyphen that cut them: `[epoch:]upstream[-revision]`.
 /// Source: Debian Policy 5.6.12.
 pub fn text_is_its_parts()
     ensures { TextIsItsParts }
+{}
+
+/// A text has the reading of the parts of which it is a version, and has a reading where it is one.
+/// Source: Debian Policy 5.6.12.
+pub fn versions_are_read()
+    ensures is { (text : List ℕ) (parts : Parts)
+        → reading_of text ≡ Ok parts → IsVersion text parts }
+    ensures only { (text : List ℕ) (parts : Parts)
+        → IsVersion text parts → reading_of text ≡ Ok parts }
 {}
 
 /// A part is compared as a run of non-digits, then a run of digits as one number, and so on.
