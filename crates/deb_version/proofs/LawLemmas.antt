@@ -19,7 +19,7 @@ both : (b c : Bool) → (b && c) ≡ true → (b ≡ true) × (c ≡ true)
 both true c e = (refl, e)
 both false c e = cc
 
-then-same : (x : ℤ) (o : Ordering) → ordering_then (int_cmp x x) o ≡ o
+pub then-same : (x : ℤ) (o : Ordering) → ordering_then (int_cmp x x) o ≡ o
 then-same x o = ap (λ p. ordering_then p o) (tied_itself int_cmp_total x)
 
 -- `~` after what is left of a part makes its key smaller, in a run and in digits
@@ -65,7 +65,7 @@ not-true : (b : Bool) → not b ≡ true → b ≡ false
 not-true true e = sym e
 not-true false e = refl
 
-run-then : (run digits rest : List ℕ) → list_all (λ c. not (is_ascii_digit c)) run ≡ true → list_all is_ascii_digit digits ≡ true → MayFollow digits rest
+pub run-then : (run digits rest : List ℕ) → list_all (λ c. not (is_ascii_digit c)) run ≡ true → list_all is_ascii_digit digits ≡ true → MayFollow digits rest
     → key_in_run (run ++ (digits ++ rest)) ≡ map weight_of run ++ (pos 0 ∷ pos (value_of digits) ∷ key_of rest)
 unfolding value_of
 run-then [] [] [] r d m = refl

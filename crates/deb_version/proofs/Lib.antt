@@ -2,5 +2,6 @@ pub mod CutLemmas
 pub mod LawLemmas
 pub mod NumberLemmas
 pub mod OrderLemmas
+pub mod PartOrder
 pub mod ReadingLemmas
 pub mod VersionGrammar

@@ -32,7 +32,7 @@ run-cmp a b = ap (λ k. key_cmp k (key_in_run b)) (key_in_run-first a) ∙ ap (k
 rank-cmp : (m n : ℕ) (x y : ℤ) → pos m ≡ x +ℤ pos 1 → pos n ≡ y +ℤ pos 1 → int_cmp x y ≡ nat_cmp m n
 rank-cmp m n x y d e = grind (arith, ints, nat_tests)
 
-pos-cmp : (m n : ℕ) → int_cmp (pos m) (pos n) ≡ nat_cmp m n
+pub pos-cmp : (m n : ℕ) → int_cmp (pos m) (pos n) ≡ nat_cmp m n
 pos-cmp m n = grind (arith, ints, nat_tests)
 
 nat_cmp-same : (n : ℕ) → nat_cmp n n ≡ Equal

@@ -1,11 +1,11 @@
 -- The laws of the order of versions: it is total, and it is by runs of characters (Debian Policy 5.6.12).
-use Rattle.std.specs.Prelude.{◌≡◌, ℕ, zero, suc, ◌+◌, ◌<◌, ◌≤◌, true, false, not, ℤ, pos, List, [], ◌∷◌, ◌++◌, map, length}
-use Rattle.std.specs.Char.{is_ascii_digit}
+use Rattle.std.specs.Prelude.{◌≡◌, ◌≢◌, ℕ, zero, suc, ◌+◌, ◌<◌, ◌≤◌, true, false, not, ℤ, pos, List, [], ◌∷◌, ◌++◌, map, length}
+use Rattle.std.specs.Char.{is_ascii_alphabetic, is_ascii_alphanumeric, is_ascii_digit}
 use Rattle.std.specs.List.{list_all}
 use Rattle.std.specs.Cmp.{IsTotalOrder, then_total, on_total, int_cmp_total, nat_cmp_total}
 use Rattle.std.specs.declared.cmp.Ordering.{Ordering}
 use Rattle.std.specs.declared.cmp.Ordering.TheVariants.{Less, Equal}
-use Rattle.std.specs.Ordering.{ordering_then, ordering_reverse, int_cmp, on, then_cmp}
+use Rattle.std.specs.Ordering.{ordering_then, ordering_reverse, int_cmp, nat_cmp, on, then_cmp}
 use Rattle.std.proofs.Common.{refl, sym, ap, ◌∙◌, arith}
 use Rattle.deb_version.specs.Syntax.{parts_of, value_of}
 use Rattle.deb_version.specs.Order.{weight_of, key_of, key_cmp, part_cmp, revision_or_zero, parts_cmp, version_cmp}
@@ -93,3 +93,31 @@ ZerosSayNothing = (digits : List ℕ) → value_of (48 ∷ digits) ≡ value_of 
 -- a part with `~` and anything more after its end is earlier than the part (Policy 5.6.12)
 abbrev pub TildeIsEarlier : Type 0
 TildeIsEarlier = (part more : List ℕ) → part_cmp (part ++ (126 ∷ more)) part ≡ Less
+
+-- runs of non-digits compare by the weights of their characters, where the end of a run weighs 0 (Policy 5.6.12)
+abbrev pub run_cmp : List ℕ → List ℕ → Ordering
+run_cmp = on (map weight_of) key_cmp
+
+-- the first non-digit run of a part, the digit run behind it, and what follows these (Policy 5.6.12)
+pub record IsFirstPair (run digits rest : List ℕ) : Type 0 where
+  pub characters : list_all (λ c. not (is_ascii_digit c)) run ≡ true
+  pub number : list_all is_ascii_digit digits ≡ true
+  pub follows : MayFollow digits rest
+
+-- parts compare by their first non-digit runs, then by the numbers behind these, then by what follows (Policy 5.6.12)
+abbrev pub PartsCompareByRuns : Type 0
+PartsCompareByRuns = (run digits rest other_run other_digits other_rest : List ℕ)
+    → IsFirstPair run digits rest → IsFirstPair other_run other_digits other_rest
+    → part_cmp (run ++ (digits ++ rest)) (other_run ++ (other_digits ++ other_rest))
+    ≡ ordering_then (run_cmp run other_run) (ordering_then (nat_cmp (value_of digits) (value_of other_digits)) (part_cmp rest other_rest))
+
+-- where two parts differ first by a letter and by a character that is no letter, no digit and not `~`, the one with the letter is earlier (Policy 5.6.12)
+abbrev pub LettersAreEarlier : Type 0
+LettersAreEarlier = (part more other_more : List ℕ) (letter other : ℕ)
+    → is_ascii_alphabetic letter ≡ true → is_ascii_alphanumeric other ≡ false → other ≢ 126
+    → part_cmp (part ++ (letter ∷ more)) (part ++ (other ∷ other_more)) ≡ Less
+
+-- a zero before the digits of a number changes nothing in the order of parts (Policy 5.6.12)
+abbrev pub ZerosKeepTheOrder : Type 0
+ZerosKeepTheOrder = (run digits rest : List ℕ) → IsFirstPair run digits rest
+    → part_cmp (run ++ (48 ∷ (digits ++ rest))) (run ++ (digits ++ rest)) ≡ Equal

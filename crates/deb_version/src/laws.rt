@@ -3,7 +3,7 @@
 ghost use Rattle.std.specs.Prelude.{◌≡◌, List, Ok, ℕ};
 ghost use Rattle.deb_version.specs.Grammar.{IsVersion};
 ghost use Rattle.deb_version.specs.Syntax.{Parts, TextIsItsParts, reading_of};
-ghost use Rattle.deb_version.specs.OrderLaws.{KeyIsByRuns, ZerosSayNothing, TildeIsEarlier};
+ghost use Rattle.deb_version.specs.OrderLaws.{KeyIsByRuns, LettersAreEarlier, PartsCompareByRuns, TildeIsEarlier, ZerosKeepTheOrder, ZerosSayNothing};
 
 /// A text is its parts, joined by the colon and the hyphen that cut them: `[epoch:]upstream[-revision]`.
 /// Source: Debian Policy 5.6.12.
@@ -36,4 +36,18 @@ pub fn zeros_say_nothing()
 /// Source: Debian Policy 5.6.12.
 pub fn tilde_is_earlier()
     ensures { TildeIsEarlier }
+{}
+
+/// Letters are earlier than all characters but `~` that are no digits.
+/// Source: Debian Policy 5.6.12.
+pub fn letters_are_earlier()
+    ensures { LettersAreEarlier }
+{}
+
+/// Parts compare by their first non-digit runs, then by the numbers behind these, then by what follows;
+/// zeros before a number change nothing.
+/// Source: Debian Policy 5.6.12.
+pub fn parts_compare_by_runs()
+    ensures runs { PartsCompareByRuns }
+    ensures zeros { ZerosKeepTheOrder }
 {}

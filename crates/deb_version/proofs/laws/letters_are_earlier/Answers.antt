@@ -1,0 +1,5 @@
+use Rattle.deb_version.proofs.PartOrder.{letters-earlier}
+use Rattle.deb_version.proofs.laws.letters_are_earlier.Goals as goal
+
+pub returns : goal.returns
+returns c = letters-earlier
