@@ -10,3 +10,4 @@ pub mod GrammarLemmas
 pub mod ParagraphLemmas
 pub mod CallLemmas
 pub mod BadLineLemmas
+pub mod RoomLemmas

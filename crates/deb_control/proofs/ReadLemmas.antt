@@ -14,7 +14,7 @@ use Rattle.deb_control.specs.Fields.{Entry, lower, field_of, fields_of, fields_a
 use Rattle.deb_control.proofs.LineLemmas.{lines_in-front, concat-lines_of}
 
 -- the lines of a text that is not empty
-lines_in-split : (text line rest : List ℕ) → 0 < length text → line ≡ before_first is_feed text → rest ≡ after_first is_feed text → lines_in text ≡ line ∷ lines_in rest
+pub lines_in-split : (text line rest : List ℕ) → 0 < length text → line ≡ before_first is_feed text → rest ≡ after_first is_feed text → lines_in text ≡ line ∷ lines_in rest
 lines_in-split [] line rest some front behind = absurd (omega arith)
 lines_in-split (c ∷ cs) line rest some front behind =
     lines_in-front c cs ∙ ap (λ (v : List ℕ). v ∷ lines_in (after_first is_feed (c ∷ cs))) (sym front) ∙ ap (λ (v : List ℕ). line ∷ lines_in v) (sym behind)

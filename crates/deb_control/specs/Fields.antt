@@ -1,5 +1,5 @@
 -- The fields that the lines of a paragraph are, and the first fault of lines that are none, after Debian Policy 5.1.
-use Rattle.std.specs.Prelude.{◌≡◌, ℕ, Bool, true, false, not, ◌&&◌, ◌||◌, ◌==◌, ◌<◌, ◌≤◌, nat_lt, ⊤, IsUtf8, if◌then◌else◌, List, [], ◌∷◌, ◌++◌, map, length, drop, Option, None, Some, Result, Ok, Err, filter, find}
+use Rattle.std.specs.Prelude.{◌≡◌, ℕ, Bool, true, false, not, ◌&&◌, ◌||◌, ◌==◌, ◌<◌, ◌≤◌, nat_lt, ⊤, IsUtf8, if◌then◌else◌, List, [], ◌∷◌, ◌++◌, map, length, drop, Option, None, Some, Result, Ok, Err, filter, find, is_none}
 use Rattle.std.specs.List.{before_first, after_first, position_or_len, list_all, list_any, concat, join_with_byte}
 use Rattle.std.specs.Char.{to_ascii_lowercase, is_ascii_graphic}
 use Rattle.std.specs.Str.{is_utf8, bytes_eq}
@@ -122,6 +122,16 @@ outcome (Some kind) fields = Err kind
 -- the fields of a paragraph, or its fault (Policy 5.1)
 unfoldable pub reading_of : List (List ℕ) → Result (List Entry) ControlFaultKind
 reading_of lines = outcome (fault_of lines) (fields_of (map body_of lines))
+
+-- whether lines begin with the first line of a field (Policy 5.1)
+unfoldable pub begin_with_field : List (List ℕ) → Bool
+begin_with_field [] = false
+begin_with_field (line ∷ _) = is_none (line_fault [] line)
+
+-- whether memory is taken for a paragraph: it is small enough, is UTF-8, and begins with a field (this project's own)
+unfoldable pub takes_memory : List (List ℕ) → Bool
+takes_memory lines =
+    not (nat_lt largest_paragraph (length (concat lines))) && (is_utf8 (concat lines) && begin_with_field (map body_of lines))
 
 -- whether two names are the same but for case (Policy 5.1)
 abbrev pub has_name : List ℕ → Entry → Bool

@@ -1,9 +1,9 @@
 -- What a reader of control data answers, call by call, after Debian Policy 5.1.
-use Rattle.std.specs.Prelude.{◌≡◌, ℕ, zero, suc, ◌+◌, Bool, true, false, IsTrue, List, [], ◌∷◌, Option, None, Some, Result, Ok, Err, is_ok}
+use Rattle.std.specs.Prelude.{◌≡◌, ℕ, zero, suc, ◌+◌, Bool, false, IsTrue, List, [], ◌∷◌, Option, None, Some, Result, Ok, Err, is_ok}
 use Rattle.deb_control.specs.declared.fault.ControlFault.{ControlFault}
 use Rattle.deb_control.specs.declared.fault.ControlFaultKind.{ControlFaultKind}
 use Rattle.deb_control.specs.declared.fault.ControlFaultKind.TheVariants.{Ended}
-use Rattle.deb_control.specs.Fields.{Entry, reading_of}
+use Rattle.deb_control.specs.Fields.{Entry, reading_of, takes_memory}
 
 -- where a reader stands: how many paragraphs it went through, and those ahead, or none once it has refused (this project's own)
 pub record Place : Type 0 where
@@ -37,15 +37,15 @@ step_over passed (Some (lines ∷ later)) = told (passed + 1) later (reading_of 
 abbrev pub step : Place → Answer × Place
 step place = step_over place.passed place.ahead
 
--- whether a paragraph is ahead (this project's own)
-abbrev pub has_next : Option (List (List (List ℕ))) → Bool
-has_next None = false
-has_next (Some []) = false
-has_next (Some (_ ∷ _)) = true
+-- whether a paragraph is ahead for which memory is taken (this project's own)
+abbrev pub wants_memory : Option (List (List (List ℕ))) → Bool
+wants_memory None = false
+wants_memory (Some []) = false
+wants_memory (Some (lines ∷ _)) = takes_memory lines
 
--- a call that wanted memory ends the reader at the paragraph that was next (this project's own)
+-- a call that wanted memory ends the reader at the paragraph that was next, and for which memory is taken (this project's own)
 pub record MemoryEnds (old : Place) (fault : ControlFault) (new : Place) : Type 0 where
-  pub next : IsTrue (has_next old.ahead)
+  pub next : IsTrue (wants_memory old.ahead)
   pub paragraph : fault.paragraph ≡ old.passed + 1
   pub ended : new ≡ ended_at (old.passed + 1)
 

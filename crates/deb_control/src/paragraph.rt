@@ -1,12 +1,12 @@
 //! A paragraph: its fields, and how they are read.
-ghost use Rattle.std.specs.Prelude.{◌≡◌, ◌≢◌, ◌++◌, ◌∷◌, [], Some, None, Ok, Err, not, drop, IfOk, IfErr, OnOk, option_copied, string_bytes};
+ghost use Rattle.std.specs.Prelude.{◌≡◌, ◌≢◌, ◌++◌, ◌∷◌, [], Some, None, Ok, Err, true, not, drop, IfOk, IfErr, OnOk, option_copied, string_bytes};
 ghost use Rattle.std.specs.Bool.{OnTrue};
 ghost use Rattle.std.specs.List.{list_any};
 ghost use Rattle.std.specs.Str.{bytes_eq};
 ghost use Rattle.std.specs.BTreeSet.{contains_text};
 ghost use Rattle.deb_control.specs.declared.fault.ControlFaultKind.TheVariants.{Memory};
 ghost use Rattle.deb_control.specs.Lines.{is_continuation, lines_of, lines_in};
-ghost use Rattle.deb_control.specs.Fields.{has_name, lower, is_among, names_in, Knows, fields_at, line_fault, first_fault, fields_of, field_named, reading_of};
+ghost use Rattle.deb_control.specs.Fields.{has_name, lower, is_among, names_in, Knows, fields_at, line_fault, first_fault, fields_of, field_named, reading_of, begin_with_field, takes_memory};
 
 use crate::ControlFaultKind;
 use crate::field::{Field, colon_parts, is_name};
@@ -82,6 +82,7 @@ fn read_line<'a>(
     ensures err { IfErr result (λ kind. kind ≢ Memory →
         line_fault (names_in fields.old.items) line.now ≡ Some kind) }
     ensures ok { OnOk result (line_fault (names_in fields.old.items) line.now ≡ None) }
+    ensures memory { IfErr result (λ kind. kind ≡ Memory → line_fault [] line.now ≡ None) }
     ensures fields { OnOk result (
         fields.new.items ≡ fields.old.items ++ fields_at line.now rest.now) }
     ensures known { OnOk result (
@@ -111,6 +112,8 @@ fn read_fields<'a>(alloc: Global, text: &'a str) -> Result<Vec<Field<'a>>, Contr
     ensures err { IfErr result (λ kind. kind ≢ Memory →
         first_fault [] (lines_in text.now) ≡ Some kind) }
     ensures ok { OnOk result (first_fault [] (lines_in text.now) ≡ None) }
+    ensures memory { IfErr result (λ kind. kind ≡ Memory →
+        begin_with_field (lines_in text.now) ≡ true) }
     ensures fields { IfOk result (λ fields. fields.items ≡ fields_of (lines_in text.now)) }
 {
     let mut fields = Vec::new(alloc);
@@ -146,6 +149,8 @@ impl<'a> Paragraph<'a> {
         ensures ok { IfOk result (λ paragraph. reading_of (lines_of bytes.now) ≡ Ok paragraph) }
         ensures err { IfErr result (λ kind. kind ≢ Memory →
             reading_of (lines_of bytes.now) ≡ Err kind) }
+        ensures memory { IfErr result (λ kind. kind ≡ Memory →
+            takes_memory (lines_of bytes.now) ≡ true) }
     {
         if bytes.len() > LARGEST {
             return Err(ControlFaultKind::TooLarge);

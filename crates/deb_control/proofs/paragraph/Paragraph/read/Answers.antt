@@ -1,5 +1,6 @@
 use Rattle.std.proofs.lemmas.Result.{err_from_is_err_and}
 use Rattle.deb_control.proofs.ReadLemmas.{reading_of-large, reading_of-not_utf8, reading_of-fault, reading_of-fields}
+use Rattle.deb_control.proofs.RoomLemmas.{takes_memory-of}
 use Rattle.deb_control.proofs.paragraph.Paragraph.read.Goals as goal
 
 pub returns-then-bytes-gt-LARGEST-clause-err : goal.returns-then-bytes-gt-LARGEST-clause-err
@@ -13,6 +14,12 @@ returns-in_err-fields-clause-err c =
     let p = err_from_is_err_and c.from_residual.result c.from_residual.ensures.1 in
     rw (p.1, p.2) (λ other.
     reading_of-fault c.args.bytes.now c.in-Ok.text.now c.in_err-fields.field-0.0 c.if-bytes-gt-LARGEST.false c.in-Ok.ensures.cases (c.in_err-fields.ensures.err other))
+
+pub returns-in_err-fields-clause-memory : goal.returns-in_err-fields-clause-memory
+returns-in_err-fields-clause-memory c =
+    let p = err_from_is_err_and c.from_residual.result c.from_residual.ensures.1 in
+    rw (p.1, p.2) (λ memory.
+    takes_memory-of c.args.bytes.now c.in-Ok.text.now c.if-bytes-gt-LARGEST.false c.in-Ok.ensures.cases (c.in_err-fields.ensures.memory memory))
 
 pub returns-clause-ok : goal.returns-clause-ok
 returns-clause-ok c =
