@@ -11,3 +11,5 @@ pub mod ParagraphLemmas
 pub mod CallLemmas
 pub mod BadLineLemmas
 pub mod RoomLemmas
+pub mod TextLines
+pub mod FoundLemmas

@@ -1,5 +1,5 @@
 -- The lines of control data and the runs of lines that are its paragraphs, after Debian Policy 5.1.
-use Rattle.std.specs.Prelude.{◌≡◌, ℕ, ◌+◌, Bool, true, false, not, ◌||◌, ◌==◌, if◌then◌else◌, List, [], ◌∷◌, ◌++◌, map, filter, reverse, take}
+use Rattle.std.specs.Prelude.{◌≡◌, ℕ, ◌+◌, Bool, true, false, not, ◌||◌, ◌==◌, if◌then◌else◌, List, [], ◌∷◌, ◌++◌, map, filter, reverse, take, length, ◌<◌, ◌⊎◌}
 use Rattle.std.specs.List.{before_first, position_or_len, slice_split, onto_first, list_all, list_any}
 
 -- a line feed (Policy 5.1)
@@ -19,6 +19,17 @@ is_continuation (c ∷ _) = is_blank c
 abbrev pub lines_of : List ℕ → List (List ℕ)
 lines_of [] = []
 lines_of (c ∷ cs) = if is_feed c then (c ∷ []) ∷ lines_of cs else onto_first c (lines_of cs)
+
+-- a line, behind which this text stands: no line feed but one at its end, which a line that is not empty may lack where nothing stands behind it (Policy 5.1)
+pub record IsLine (line rest : List ℕ) : Type 0 where
+  pub body : List ℕ
+  pub free : list_any is_feed body ≡ false
+  pub ended : (line ≡ body ++ 10 ∷ []) ⊎ ((line ≡ body) × (0 < length body) × (rest ≡ []))
+
+-- a text that is these lines, one behind the other (Policy 5.1)
+abbrev pub HaveLines : List ℕ → List (List ℕ) → Type 0
+HaveLines text [] = text ≡ []
+HaveLines text (line ∷ lines) = (rest : List ℕ) × (text ≡ line ++ rest) × IsLine line rest × HaveLines rest lines
 
 -- a line without its line feed (Policy 5.1)
 unfoldable pub body_of : List ℕ → List ℕ

@@ -1,11 +1,19 @@
 //! Laws of the definitions that the contracts cite.
-ghost use Rattle.std.specs.Prelude.{◌≡◌, ◌≢◌, ◌+◌, ◌∷◌, ◌++◌, ℕ, List, true, false, None, Ok, Err, length};
+ghost use Rattle.std.specs.Prelude.{◌≡◌, ◌≢◌, ◌+◌, ◌∷◌, ◌++◌, ℕ, List, true, false, None, Some, Ok, Err, length};
 ghost use Rattle.std.specs.List.{list_all};
 ghost use Rattle.deb_control.specs.declared.fault.ControlFaultKind.{ControlFaultKind};
 ghost use Rattle.deb_control.specs.declared.fault.ControlFaultKind.TheVariants.{Memory, Ended};
-ghost use Rattle.deb_control.specs.Lines.{paragraphs_in, HaveParagraphs};
-ghost use Rattle.deb_control.specs.Fields.{Entry, reading_of, IsReading, IsFault};
+ghost use Rattle.deb_control.specs.Lines.{lines_of, HaveLines, paragraphs_in, HaveParagraphs};
+ghost use Rattle.deb_control.specs.Fields.{Entry, lower, field_named, reading_of, IsReading, IsFault};
 ghost use Rattle.deb_control.specs.Paragraphs.{begun, has_reading, answer_after, answer_for};
+
+/// The lines of a text are its pieces, each with the line feed that ends it,
+/// which the last may lack (Debian Policy 5.1).
+pub fn texts_are_lines()
+    ensures are { (text : List ℕ) → HaveLines text (lines_of text) }
+    ensures only { (text : List ℕ) (lines : List (List ℕ)) →
+        HaveLines text lines → lines_of text ≡ lines }
+{}
 
 /// The paragraphs of lines are the longest runs of lines that are no
 /// separators (Debian Policy 5.1).
@@ -31,6 +39,15 @@ pub fn paragraph_has_fault()
         reading_of lines ≡ Err kind → IsFault kind lines }
     ensures only { (lines : List (List ℕ)) (kind : ControlFaultKind) →
         IsFault kind lines → reading_of lines ≡ Err kind }
+{}
+
+/// Each field of a paragraph is found by its name, without regard to case
+/// (Debian Policy 5.1).
+pub fn fields_are_found()
+    ensures { (lines : List (List ℕ)) (before after : List Entry) (field : Entry)
+        (name : List ℕ) → reading_of lines ≡ Ok (before ++ field ∷ after) →
+        lower name ≡ lower field.name →
+        field_named name (before ++ field ∷ after) ≡ Some field }
 {}
 
 /// Call by call a reader answers the paragraphs in their order, each by its
