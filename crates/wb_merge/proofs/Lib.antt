@@ -1,3 +1,4 @@
+pub mod AvailableLemmas
 pub mod CountLemmas
 pub mod FoldLemmas
 pub mod ForwardLemmas

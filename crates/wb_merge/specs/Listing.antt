@@ -131,6 +131,11 @@ unfoldable pub available_of : ArchWords → List BinaryRow → Pairs
 available_of arch rows =
     fold (λ pairs row. with_pair pairs row.name row.version) no_pairs (filter (is_installable_on arch) rows)
 
+-- the versions of the packages of a name that can be installed on the architecture, in their order
+abbrev pub installable_versions : ArchWords → List BinaryRow → List ℕ → List (List ℕ)
+installable_versions arch rows name =
+    map (λ row. row.version) (filter (λ row. bytes_eq name row.name) (filter (is_installable_on arch) rows))
+
 -- ---- the listing
 
 -- what the archive lists for an architecture, by the names of source packages

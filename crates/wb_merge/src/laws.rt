@@ -7,10 +7,11 @@ ghost use Rattle.std.specs.FinMap as map;
 ghost use Rattle.deb_version.specs.Order.{version_cmp};
 ghost use Rattle.deb_version.specs.Syntax.{value_of};
 ghost use Rattle.deb_relations.specs.declared.arch.ArchWords.{ArchWords};
+ghost use Rattle.deb_relations.specs.Satisfaction.{versions_of};
 ghost use Rattle.wb_merge.specs.declared.listing.Listed.{Listed};
 ghost use Rattle.wb_merge.specs.declared.listing.Built.{Built};
 ghost use Rattle.wb_merge.specs.Lists.{SourceRow, BinaryRow, rebuild_number};
-ghost use Rattle.wb_merge.specs.Listing.{IsGreatest, listed_cmp, candidates, built_cmp, builds, lists_of, Lists};
+ghost use Rattle.wb_merge.specs.Listing.{IsGreatest, available_of, installable_versions, listed_cmp, candidates, built_cmp, builds, lists_of, Lists};
 ghost use Rattle.wb_states.specs.declared.record.Record.{Record};
 ghost use Rattle.wb_states.specs.declared.state.State.TheVariants.{NotForUs};
 ghost use Rattle.wb_states.specs.Limits.{rebuild_limit};
@@ -40,6 +41,13 @@ pub fn built_is_greatest()
     ensures only { (arch : ArchWords) (sources : List SourceRow) (packages : List BinaryRow) (name : List ℕ) (found : Option Built)
         → IsGreatest built_cmp (builds arch packages name) found
         → found ≡ map.get (lists_of arch sources packages).built name }
+{}
+
+/// What is available of a name are the versions of all its packages that can be installed on the
+/// architecture, in the order of the list (Debian Policy 5.6.8).
+pub fn available_is_each_pair()
+    ensures versions { (arch : ArchWords) (rows : List BinaryRow) (name : List ℕ)
+        → versions_of (available_of arch rows) name ≡ installable_versions arch rows name }
 {}
 
 /// At each key a merge makes of the record there what the cases say, whatever the other records are.

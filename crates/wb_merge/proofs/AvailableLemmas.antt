@@ -1,0 +1,52 @@
+-- What is available of a name are the versions of its packages that can be installed.
+use Rattle.std.proofs.Common.{◌≡◌, ℕ, Bool, true, false, cond, List, [], ◌∷◌, ◌++◌, map, filter, bytes_eq, refl, sym, ap, ◌∙◌, Option, Some, unwrap_or, append_assoc}
+use Rattle.std.specs.List.{fold}
+use Rattle.std.specs.FinMap as finite
+use Rattle.deb_relations.specs.declared.arch.ArchWords.{ArchWords}
+use Rattle.deb_relations.specs.Text.{text_cmp}
+use Rattle.deb_relations.specs.Satisfaction.{Pairs, no_pairs, versions_of, with_pair}
+use Rattle.wb_states.proofs.KeyLemmas.{text_cmp_total}
+use Rattle.wb_merge.specs.Lists.{BinaryRow}
+use Rattle.wb_merge.specs.Listing.{available_of, installable_versions, is_installable_on}
+use Rattle.wb_merge.proofs.NameLemmas.{bytes_eq-is, text_eq}
+
+-- the versions of a name with one more, where it is of that name
+one_more : (pairs : Pairs) (name other version : List ℕ) → versions_of (with_pair pairs other version) name
+    ≡ cond (bytes_eq name other) (versions_of pairs name ++ version ∷ []) (versions_of pairs name)
+unfolding versions_of with_pair
+one_more pairs name other version =
+    ap (λ (o : Option (List (List ℕ))). unwrap_or o []) (finite.get-insert text_cmp_total pairs other (unwrap_or (finite.get pairs other) [] ++ version ∷ []) name)
+    ∙ ap (λ (b : Bool). unwrap_or (cond b (Some (unwrap_or (finite.get pairs other) [] ++ version ∷ [])) (finite.get pairs name)) []) (text_eq name other)
+    ∙ elim (bytes_eq name other) as (λ b. bytes_eq name other ≡ b
+    → unwrap_or (cond b (Some (unwrap_or (finite.get pairs other) [] ++ version ∷ [])) (finite.get pairs name)) []
+    ≡ cond b (unwrap_or (finite.get pairs name) [] ++ version ∷ []) (unwrap_or (finite.get pairs name) [])) [
+      | true ↦ λ is. ap (λ (key : List ℕ). unwrap_or (finite.get pairs key) [] ++ version ∷ []) (sym (bytes_eq-is name other is))
+      | false ↦ λ _. refl
+    ] refl
+
+more-of : (pairs : Pairs) (name : List ℕ) (rows : List BinaryRow)
+    → versions_of (fold (λ pairs row. with_pair pairs row.name row.version) pairs rows) name
+    ≡ versions_of pairs name ++ map (λ row. row.version) (filter (λ row. bytes_eq name row.name) rows)
+more-of pairs name [] = sym (append-nil (versions_of pairs name)) where
+  append-nil : (xs : List (List ℕ)) → xs ++ [] ≡ xs
+  append-nil [] = refl
+  append-nil (x ∷ xs) = ap (λ (ys : List (List ℕ)). x ∷ ys) (append-nil xs)
+more-of pairs name (row ∷ rows) =
+    let others = filter (λ (other : BinaryRow). bytes_eq name other.name) rows in
+    more-of (with_pair pairs row.name row.version) name rows
+    ∙ ap (λ (xs : List (List ℕ)). xs ++ map (λ (other : BinaryRow). other.version) others) (one_more pairs name row.name row.version)
+    ∙ elim (bytes_eq name row.name) as (λ b. cond b (versions_of pairs name ++ row.version ∷ []) (versions_of pairs name) ++ map (λ (other : BinaryRow). other.version) others
+    ≡ versions_of pairs name ++ map (λ (other : BinaryRow). other.version) (cond b (row ∷ others) others)) [
+      | true ↦ append_assoc (versions_of pairs name) (row.version ∷ []) (map (λ (other : BinaryRow). other.version) others)
+      | false ↦ refl
+    ]
+
+none-yet : (name : List ℕ) → versions_of no_pairs name ≡ []
+unfolding versions_of
+none-yet name = ap (λ (o : Option (List (List ℕ))). unwrap_or o []) (finite.get-empty text_cmp name)
+
+pub versions_of-available_of : (arch : ArchWords) (rows : List BinaryRow) (name : List ℕ) → versions_of (available_of arch rows) name ≡ installable_versions arch rows name
+unfolding available_of
+versions_of-available_of arch rows name =
+    more-of no_pairs name (filter (is_installable_on arch) rows)
+    ∙ ap (λ (xs : List (List ℕ)). xs ++ installable_versions arch rows name) (none-yet name)
