@@ -1,5 +1,6 @@
 pub mod AvailableLemmas
 pub mod CountLemmas
+pub mod FirstFaultLemmas
 pub mod FoldLemmas
 pub mod ForwardLemmas
 pub mod GreatestLemmas

@@ -1,7 +1,7 @@
 -- The rows that a merge reads from the archive's lists, and the faults of lists (Debian Policy 5.3 and 5.6; the forms are this project's own where a line says so).
-use Rattle.std.specs.Prelude.{ℕ, ◌+◌, Bool, true, false, not, ◌&&◌, ◌||◌, ◌==◌, nat_le, List, [], ◌∷◌, ◌++◌, length, filter, reverse, codes, bytes_eq, Option, Some, None, Result, Ok, Err, if◌then◌else◌}
+use Rattle.std.specs.Prelude.{◌≡◌, IsOk, ℕ, ◌+◌, Bool, true, false, not, ◌&&◌, ◌||◌, ◌==◌, nat_le, List, [], ◌∷◌, ◌++◌, length, filter, reverse, codes, bytes_eq, Option, Some, None, Result, Ok, Err, if◌then◌else◌}
 use Rattle.std.specs.Option.{option_map, unwrap_or}
-use Rattle.std.specs.List.{list_any, slice_split, before_first, after_first}
+use Rattle.std.specs.List.{AllByRecursion, AllZip, list_any, slice_split, before_first, after_first}
 use Rattle.std.specs.Char.{is_ascii_digit}
 use Rattle.deb_version.specs.Syntax.{fault_of, value_of}
 use Rattle.deb_control.specs.declared.fault.ControlFaultKind.{ControlFaultKind}
@@ -254,3 +254,33 @@ source_rows text = rows_behind source_row_of Sources 0 (paragraphs_in (lines_of 
 -- the rows of a Packages list, or the refusal for its first faulty paragraph
 unfoldable pub binary_rows : List ℕ → Result (List BinaryRow) Refusal
 binary_rows text = rows_behind binary_row_of Packages 0 (paragraphs_in (lines_of text))
+
+-- ---- the first faulty paragraph
+
+-- what is read of a paragraph's fields, or the fault for which it has none
+abbrev pub of_fields : {X : Type 0} → (List Entry → Result X ListingFault) → Result (List Entry) ControlFaultKind → Result X ListingFault
+of_fields read (Ok fields) = read fields
+of_fields read (Err kind) = Err (Control kind)
+
+-- the row of a paragraph of a Sources list, or its fault: that of its lines, else that of its fields
+abbrev pub source_paragraph : List (List ℕ) → Result SourceRow ListingFault
+source_paragraph lines = of_fields source_row_of (reading_of lines)
+
+-- the row of a paragraph of a Packages list, or its fault: that of its lines, else that of its fields
+abbrev pub binary_paragraph : List (List ℕ) → Result BinaryRow ListingFault
+binary_paragraph lines = of_fields binary_row_of (reading_of lines)
+
+-- rows are those of the paragraphs, one of each, in their order
+abbrev pub AreRows : {X : Type 0} → (List (List ℕ) → Result X ListingFault) → List (List (List ℕ)) → List X → Type 0
+AreRows row_of paragraphs rows = AllZip (λ lines row. row_of lines ≡ Ok row) paragraphs rows
+
+-- a refusal for the first paragraph that has a fault, told with its number from 1: all before it have rows
+pub record IsFirstFault {X : Type 0} (which : ListKind) (row_of : List (List ℕ) → Result X ListingFault) (paragraphs : List (List (List ℕ))) (refusal : Refusal) : Type 0 where
+  pub before : List (List (List ℕ))
+  pub lines : List (List ℕ)
+  pub behind : List (List (List ℕ))
+  pub fault : ListingFault
+  pub stands : paragraphs ≡ before ++ lines ∷ behind
+  pub good : AllByRecursion (λ other. IsOk (row_of other)) before
+  pub bad : row_of lines ≡ Err fault
+  pub refused : refusal ≡ BadListing which (length before + 1) fault

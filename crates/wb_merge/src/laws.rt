@@ -1,18 +1,21 @@
 //! Laws of the listing and of the merge, each on a function that does nothing.
-ghost use Rattle.std.specs.Prelude.{◌≡◌, ◌≢◌, ℕ, ◌+◌, ◌≤◌, List, ◌++◌, length, codes, Option, Some, ◌↔◌, IsTrue, true, false};
+ghost use Rattle.std.specs.Prelude.{◌≡◌, ◌≢◌, ℕ, ◌+◌, ◌≤◌, List, ◌++◌, length, codes, Option, Some, Ok, Err, ◌↔◌, IsTrue, true, false};
 ghost use Rattle.std.specs.List.{list_all};
 ghost use Rattle.std.specs.Char.{is_ascii_digit};
 ghost use Rattle.std.specs.declared.cmp.Ordering.TheVariants.{Less, Equal};
 ghost use Rattle.std.specs.FinMap as map;
 ghost use Rattle.deb_version.specs.Order.{version_cmp};
 ghost use Rattle.deb_version.specs.Syntax.{value_of};
+ghost use Rattle.deb_control.specs.Lines.{lines_of, paragraphs_in};
 ghost use Rattle.deb_relations.specs.declared.arch.ArchWords.{ArchWords};
 ghost use Rattle.deb_relations.specs.Satisfaction.{versions_of};
 ghost use Rattle.wb_merge.specs.declared.listing.Listed.{Listed};
 ghost use Rattle.wb_merge.specs.declared.listing.Built.{Built};
-ghost use Rattle.wb_merge.specs.Lists.{SourceRow, BinaryRow, rebuild_number};
+ghost use Rattle.wb_merge.specs.Lists.{AreRows, IsFirstFault, SourceRow, BinaryRow, binary_paragraph, binary_rows, rebuild_number, source_paragraph, source_rows};
 ghost use Rattle.wb_merge.specs.Listing.{IsGreatest, available_of, installable_versions, listed_cmp, candidates, built_cmp, builds, lists_of, Lists};
 ghost use Rattle.wb_states.specs.declared.record.Record.{Record};
+ghost use Rattle.wb_states.specs.declared.refusal.Refusal.{Refusal};
+ghost use Rattle.wb_states.specs.declared.refusal.ListKind.TheVariants.{Sources, Packages};
 ghost use Rattle.wb_states.specs.declared.state.State.TheVariants.{NotForUs};
 ghost use Rattle.wb_states.specs.Limits.{rebuild_limit};
 ghost use Rattle.wb_states.specs.Moves.{build_text_of};
@@ -20,6 +23,20 @@ ghost use Rattle.wb_states.specs.State.{is_held};
 ghost use Rattle.wb_merge.specs.Merge.{ends_hold, HasSameHold};
 ghost use Rattle.wb_merge.specs.Merged.{Records, BecomesAt, after_at, all_kept, is_same_record, merge_counts, merged};
 ghost use Rattle.wb_merge.specs.Steps.{Key, recorded_names};
+
+/// A list is read as the rows of its paragraphs, one of each, or else refused for the first paragraph
+/// that has a fault, with its number from 1: that of its lines, or else the first of its fields (Debian
+/// Policy 5.1; the numbers are this project's own).
+pub fn the_first_faulty_paragraph_decides()
+    ensures sources { (text : List ℕ) (rows : List SourceRow) → (source_rows text ≡ Ok rows)
+        ↔ AreRows source_paragraph (paragraphs_in (lines_of text)) rows }
+    ensures sources_fault { (text : List ℕ) (refusal : Refusal) → (source_rows text ≡ Err refusal)
+        ↔ IsFirstFault Sources source_paragraph (paragraphs_in (lines_of text)) refusal }
+    ensures packages { (text : List ℕ) (rows : List BinaryRow) → (binary_rows text ≡ Ok rows)
+        ↔ AreRows binary_paragraph (paragraphs_in (lines_of text)) rows }
+    ensures packages_fault { (text : List ℕ) (refusal : Refusal) → (binary_rows text ≡ Err refusal)
+        ↔ IsFirstFault Packages binary_paragraph (paragraphs_in (lines_of text)) refusal }
+{}
 
 /// What a listing has of a source package is the paragraph of its greatest version among those that list
 /// it, and of equal ones the first; nothing else is. Takes no memory (Debian Policy 5.6.12; that the first
