@@ -12,6 +12,7 @@ pub mod ReadCountLemmas
 pub mod RebuildLemmas
 pub mod RecordLemmas
 pub mod SourceLemmas
+pub mod SourceTextLemmas
 pub mod TotalLemmas
 pub mod TwiceLemmas
 pub mod WholeLemmas

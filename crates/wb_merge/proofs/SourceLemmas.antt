@@ -30,7 +30,7 @@ not_opened [] none = refl
 not_opened (c ∷ cs) none = rw (bracket_test c (λ e. none cs (ap (λ (x : ℕ). x ∷ cs) e))) refl
 
 -- a text that ends with this character, read backwards
-last_is : (text : List ℕ) (c : ℕ) (rest : List ℕ) → reverse text ≡ c ∷ rest → text ≡ reverse rest ++ c ∷ []
+pub last_is : (text : List ℕ) (c : ℕ) (rest : List ℕ) → reverse text ≡ c ∷ rest → text ≡ reverse rest ++ c ∷ []
 last_is text c rest is = sym (reverse-reverse text) ∙ (ap reverse is ∙ reverse-append (c ∷ []) rest)
 
 -- what stands behind the bracket, read backwards, does not begin with the closing one
@@ -39,7 +39,7 @@ not_closed inner [] e none = rw e refl
 not_closed inner (c ∷ cs) e none =
     rw e (rw (closing_test c (λ s. none (reverse cs) (last_is inner c cs e ∙ ap (λ (x : ℕ). reverse cs ++ x ∷ []) s))) refl)
 
-closed : (inner front : List ℕ) → inner ≡ front ++ 41 ∷ [] → in_brackets (40 ∷ inner) ≡ Some front
+pub closed : (inner front : List ℕ) → inner ≡ front ++ 41 ∷ [] → in_brackets (40 ∷ inner) ≡ Some front
 closed inner front e = rw (e, reverse-append front (41 ∷ [])) (ap (λ (x : List ℕ). Some x) (reverse-reverse front))
 
 pub opened : (text inner : List ℕ) (r : Option (Bor (List ℕ))) → text ≡ 40 ∷ inner

@@ -1,5 +1,5 @@
 -- The rows that a merge reads from the archive's lists, and the faults of lists (Debian Policy 5.3 and 5.6; the forms are this project's own where a line says so).
-use Rattle.std.specs.Prelude.{◌≡◌, IsOk, ℕ, ◌+◌, Bool, true, false, not, ◌&&◌, ◌||◌, ◌==◌, nat_le, List, [], ◌∷◌, ◌++◌, length, filter, reverse, codes, bytes_eq, Option, Some, None, Result, Ok, Err, if◌then◌else◌}
+use Rattle.std.specs.Prelude.{◌≡◌, IsOk, IsTrue, ℕ, ◌+◌, Bool, true, false, not, ◌&&◌, ◌||◌, ◌==◌, nat_le, List, [], ◌∷◌, ◌++◌, length, filter, reverse, codes, bytes_eq, Option, Some, None, Result, Ok, Err, if◌then◌else◌}
 use Rattle.std.specs.Option.{option_map, unwrap_or}
 use Rattle.std.specs.List.{AllByRecursion, AllZip, list_any, slice_split, before_first, after_first}
 use Rattle.std.specs.Char.{is_ascii_digit}
@@ -80,6 +80,16 @@ passes test (Some text) = test text
 unfoldable pub is_source_text : List ℕ → Bool
 is_source_text text =
     is_source_name (source_name text) && (not (has_source_version text) || passes is_version_text (source_version text))
+
+-- a name with a version in brackets behind it (Debian Policy 5.6.1)
+abbrev pub with_version : List ℕ → List ℕ → List ℕ
+with_version name version = name ++ codes " (" ++ version ++ codes ")"
+
+-- a text is read as this source package, with this version where one is written
+pub record NamesSource (text name : List ℕ) (version : Option (List ℕ)) : Type 0 where
+  pub good : IsTrue (is_source_text text)
+  pub named : source_name text ≡ name
+  pub written : (if has_source_version text then source_version text else None) ≡ version
 
 -- ---- the number of a binary-only rebuild: N where a version ends in `+bN` (Debian Policy 5.6.12.2)
 

@@ -1,5 +1,5 @@
 //! Laws of the listing and of the merge, each on a function that does nothing.
-ghost use Rattle.std.specs.Prelude.{◌≡◌, ◌≢◌, ℕ, ◌+◌, ◌≤◌, List, ◌++◌, length, codes, Option, Some, Ok, Err, ◌↔◌, IsTrue, true, false};
+ghost use Rattle.std.specs.Prelude.{◌≡◌, ◌≢◌, ℕ, ◌+◌, ◌≤◌, List, ◌++◌, length, codes, Option, Some, None, Ok, Err, ◌↔◌, ◌⊎◌, IsTrue, true, false};
 ghost use Rattle.std.specs.List.{list_all};
 ghost use Rattle.std.specs.Char.{is_ascii_digit};
 ghost use Rattle.std.specs.declared.cmp.Ordering.TheVariants.{Less, Equal};
@@ -11,7 +11,7 @@ ghost use Rattle.deb_relations.specs.declared.arch.ArchWords.{ArchWords};
 ghost use Rattle.deb_relations.specs.Satisfaction.{versions_of};
 ghost use Rattle.wb_merge.specs.declared.listing.Listed.{Listed};
 ghost use Rattle.wb_merge.specs.declared.listing.Built.{Built};
-ghost use Rattle.wb_merge.specs.Lists.{AreRows, IsFirstFault, SourceRow, BinaryRow, binary_paragraph, binary_rows, rebuild_number, source_paragraph, source_rows};
+ghost use Rattle.wb_merge.specs.Lists.{AreRows, IsFirstFault, NamesSource, SourceRow, BinaryRow, binary_paragraph, binary_rows, is_source_text, is_version_text, rebuild_number, source_name, source_paragraph, source_rows, with_version};
 ghost use Rattle.wb_merge.specs.Listing.{IsGreatest, available_of, installable_versions, listed_cmp, candidates, built_cmp, builds, lists_of, Lists};
 ghost use Rattle.wb_states.specs.declared.record.Record.{Record};
 ghost use Rattle.wb_states.specs.declared.refusal.Refusal.{Refusal};
@@ -19,6 +19,7 @@ ghost use Rattle.wb_states.specs.declared.refusal.ListKind.TheVariants.{Sources,
 ghost use Rattle.wb_states.specs.declared.state.State.TheVariants.{NotForUs};
 ghost use Rattle.wb_states.specs.Limits.{rebuild_limit};
 ghost use Rattle.wb_states.specs.Moves.{build_text_of};
+ghost use Rattle.wb_states.specs.Names.{is_source_name};
 ghost use Rattle.wb_states.specs.State.{is_held};
 ghost use Rattle.wb_merge.specs.Merge.{ends_hold, HasSameHold};
 ghost use Rattle.wb_merge.specs.Merged.{Records, BecomesAt, after_at, all_kept, is_same_record, merge_counts, merged};
@@ -132,4 +133,15 @@ pub fn rebuild_numbers_read_back()
     ensures ends { (front digits : List ℕ) → 1 ≤ length digits → length digits ≤ 3
         → IsTrue (list_all is_ascii_digit digits)
         → rebuild_number (front ++ codes "+b" ++ digits) ≡ value_of digits }
+{}
+
+/// A source package's name, alone or with a version in brackets behind it, is read as that name and that
+/// version, and no other text names a source package (Debian Policy 5.6.1).
+pub fn source_texts_read_back()
+    ensures plain { (name : List ℕ) → IsTrue (is_source_name name) → NamesSource name name None }
+    ensures versioned { (name version : List ℕ)
+        → IsTrue (is_source_name name) → IsTrue (is_version_text version)
+        → NamesSource (with_version name version) name (Some version) }
+    ensures only { (text : List ℕ) → IsTrue (is_source_text text) → (text ≡ source_name text)
+        ⊎ ((version : List ℕ) × (text ≡ with_version (source_name text) version)) }
 {}
