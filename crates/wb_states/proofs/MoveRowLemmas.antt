@@ -30,6 +30,15 @@ move_of-done move old new is =
     let parts = done-is (move_refusal move old) (moved move old) new is in
     (from-is (may_go move old.state) (value_refusal move old) old.state parts.0, parts.1)
 
+value-none : (may : Bool) (value : Option Refusal) (state : State) → cond may value (Some (WrongState state)) ≡ None → value ≡ None
+value-none true value state is = is
+value-none false value state is = absurd cc
+
+pub move_of-value : (move : Move) (old new : Record) → move_of move old ≡ Ok new → value_refusal move old ≡ None
+unfolding move_of move_refusal
+move_of-value move old new is =
+    value-none (may_go move old.state) (value_refusal move old) old.state (done-is (move_refusal move old) (moved move old) new is).0
+
 -- ---- what a record lacks in a state
 
 none-is : {X : Type 0} (o : Option X) → is_some o ≡ false → o ≡ None
@@ -53,37 +62,37 @@ module _ (old : Record) (well : IsWellFormed old) where
 -- ---- the states from which a move goes
 
 -- a state that is not held, does not wait, and is not the one in which the move ends
-record IsLeft (goal state : State) : Type 0 where
-  other : nat_eq (code_of goal) (code_of state) ≡ false
-  waits : is_dep_wait state ≡ false
+pub record IsLeft (goal state : State) : Type 0 where
+  pub other : nat_eq (code_of goal) (code_of state) ≡ false
+  pub waits : is_dep_wait state ≡ false
 
-take-from : (holder : List ℕ) (take_number : ℕ) (state : State) → may_go (to.Take holder take_number) state ≡ true → IsLeft Building state
+pub take-from : (holder : List ℕ) (take_number : ℕ) (state : State) → may_go (to.Take holder take_number) state ≡ true → IsLeft Building state
 unfolding may_go
 take-from holder take_number NeedsBuild is = record { other = refl; waits = refl }
 take-from holder take_number _ is = absurd cc
 
-built-from : (state : State) → may_go to.Built state ≡ true → IsLeft Built state
+pub built-from : (state : State) → may_go to.Built state ≡ true → IsLeft Built state
 unfolding may_go
 built-from Building is = record { other = refl; waits = refl }
 built-from _ is = absurd cc
 
-uploaded-from : (state : State) → may_go to.Uploaded state ≡ true → IsLeft Uploaded state
+pub uploaded-from : (state : State) → may_go to.Uploaded state ≡ true → IsLeft Uploaded state
 unfolding may_go
 uploaded-from Building is = record { other = refl; waits = refl }
 uploaded-from Built is = record { other = refl; waits = refl }
 uploaded-from _ is = absurd cc
 
-put_back-from : (state : State) → may_go to.PutBack state ≡ true → IsLeft NeedsBuild state
+pub put_back-from : (state : State) → may_go to.PutBack state ≡ true → IsLeft NeedsBuild state
 unfolding may_go
 put_back-from Building is = record { other = refl; waits = refl }
 put_back-from _ is = absurd cc
 
-rebuild-from : (number : ℕ) (message : List ℕ) (state : State) → may_go (to.Rebuild number message) state ≡ true → IsLeft NeedsBuild state
+pub rebuild-from : (number : ℕ) (message : List ℕ) (state : State) → may_go (to.Rebuild number message) state ≡ true → IsLeft NeedsBuild state
 unfolding may_go
 rebuild-from number message Installed is = record { other = refl; waits = refl }
 rebuild-from number message _ is = absurd cc
 
-rebuild-free : (number : ℕ) (message : List ℕ) (state : State) → may_go (to.Rebuild number message) state ≡ true → is_held state ≡ false
+pub rebuild-free : (number : ℕ) (message : List ℕ) (state : State) → may_go (to.Rebuild number message) state ≡ true → is_held state ≡ false
 unfolding may_go
 rebuild-free number message Installed is = refl
 rebuild-free number message _ is = absurd cc

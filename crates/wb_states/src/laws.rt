@@ -15,7 +15,7 @@ ghost use Rattle.wb_states.specs.Queue.{Entry, IsIn, IsWaitingAt, entry_cmp, que
 ghost use Rattle.wb_states.specs.Record.{IsWellFormed};
 ghost use Rattle.wb_states.specs.Refusals.{code_of_refusal, name_of_refusal};
 ghost use Rattle.wb_states.specs.State.{code_of, name_of};
-ghost use Rattle.wb_states.specs.Table.{row_of};
+ghost use Rattle.wb_states.specs.Table.{HasForm, row_of};
 
 /// The queue of an architecture has each of its records that wait for a builder, and no other, and they
 /// ascend strictly, so that each stands once.
@@ -33,13 +33,16 @@ pub fn places_differ()
 {}
 
 /// A move that is not refused goes from a state that its row of the table names, and makes of a record
-/// whose fields have their forms what the row says; all that the row does not name stays as it was (this
-/// project's own, in wanna-build's terms).
+/// whose fields have their forms what the row says; all that the row does not name stays as it was. Where
+/// what the move brings has its form, so have the fields afterwards (this project's own, in wanna-build's
+/// terms).
 pub fn moves_follow_the_table()
     ensures from { (move : Move) (old new : Record)
         → move_of move old ≡ Ok new → IsTrue (may_go move old.state) }
     ensures row { (move : Move) (old new : Record)
         → IsWellFormed old → move_of move old ≡ Ok new → new ≡ row_of move old }
+    ensures form { (move : Move) (old new : Record) → IsWellFormed old → HasForm move
+        → move_of move old ≡ Ok new → IsWellFormed new }
 {}
 
 /// A take number finds the record that is held under it: where no take number is held twice, that record
