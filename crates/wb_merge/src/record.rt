@@ -1,10 +1,11 @@
 //! What a merge makes of the record of one source package.
-ghost use Rattle.std.specs.Prelude.{◌≡◌, IfOk, IfErr};
+ghost use Rattle.std.specs.Prelude.{◌≡◌, IsSome, IsTrue, IfOk, IfErr};
 ghost use Rattle.std.specs.Option.{option_map, option_copied};
 ghost use Rattle.std.specs.Map.Iter.{deref};
 ghost use Rattle.std.specs.FinMap as map;
 ghost use Rattle.wb_states.specs.declared.refusal.Refusal.TheVariants.{Memory};
 ghost use Rattle.wb_states.specs.Moves.{note_after};
+ghost use Rattle.wb_states.specs.State.{is_dep_wait};
 ghost use Rattle.wb_merge.specs.Merge.{after, covers, built_number, are_waits_met, relisted, blank_record, new_state, new_number, new_record, newer_state, newer_number, newer_record, same_state, same_number, same_record, listed_record};
 
 use crate::{Built, Listed, Listing};
@@ -191,6 +192,7 @@ fn same_state(
     ensures value { IfOk result (λ state.
         state ≡ same_state listed.now (option_copied built.entry) available.now current.now) }
     ensures refused { IfErr result (λ refusal. refusal ≡ Memory) }
+    ensures memory { IfErr result (λ refusal. IsTrue (is_dep_wait current.now.state)) }
 {
     if matches!(current.state, State::NotForUs) {
         return Ok(State::NotForUs);
@@ -253,7 +255,8 @@ fn listed_record(
 }
 
 /// The record of the source package `name` after a merge of the listing, given the one that it had, if any;
-/// none where the archive lists the source package no more. The only error is `Memory`.
+/// none where the archive lists the source package no more, which takes no memory. The only error is
+/// `Memory`.
 ///
 /// A new source package is Installed where the archive has it built, else Needs-Build; so is one of a later
 /// version than the record's, but Not-For-Us stays. A record of a later version than is listed stays as it
@@ -269,6 +272,7 @@ pub fn after(
     ensures value { IfOk result (λ new. new ≡ after (option_map deref current.entry)
         (map.get listing.now.listed name.now) (map.get listing.now.built name.now) listing.now.available) }
     ensures refused { IfErr result (λ refusal. refusal ≡ Memory) }
+    ensures memory { IfErr result (λ refusal. IsSome (map.get listing.now.listed name.now)) }
 {
     let Some(listed) = listing.listed(name) else {
         return Ok(None);
