@@ -1,5 +1,5 @@
 //! The fields of a paragraph of the archive's lists.
-ghost use Rattle.std.specs.Prelude.{◌≡◌, ◌≢◌, Some, None, true, false, codes, IfOk, IfErr, OnOk, not};
+ghost use Rattle.std.specs.Prelude.{◌≡◌, ◌≢◌, Some, None, true, false, codes, IsSome, IfOk, IfErr, OnOk, OnErr, not};
 ghost use Rattle.deb_control.specs.declared.fault.ControlFaultKind.TheVariants.{Memory};
 ghost use Rattle.wb_states.specs.declared.refusal.ListingFault.TheVariants.{Control, Missing, BadValue};
 ghost use Rattle.wb_states.specs.declared.refusal.ListField.TheVariants.{Package, Version as VersionField, Architecture};
@@ -28,6 +28,7 @@ pub(crate) fn value(
 ) -> Result<Option<Text>, ListingFault>
     ensures value { IfOk result (λ found. found ≡ value_named name.now paragraph.now) }
     ensures refused { IfErr result (λ fault. fault ≡ Control Memory) }
+    ensures memory { IfErr result (λ fault. IsSome (value_named name.now paragraph.now)) }
 {
     let Some(field) = paragraph.get(name) else {
         return Ok(None);
@@ -59,10 +60,26 @@ fn wanted(alloc: Global, paragraph: &Paragraph<'_>, field: ListField) -> Result<
     ensures missing { IfErr result (λ fault. fault ≢ Control Memory
         → value_named (name_of_field field) paragraph.now ≡ None) }
     ensures refused { IfErr result (λ fault. fault ≢ Control Memory → fault ≡ Missing field) }
+    ensures memory { IfErr result (λ fault. fault ≡ Control Memory
+        → IsSome (value_named (name_of_field field) paragraph.now)) }
 {
     match value(alloc, paragraph, field.name())? {
         Some(text) => Ok(text),
         None => Err(ListingFault::Missing { field }),
+    }
+}
+
+/// The text, where it has the form of its field. Takes no memory.
+fn formed(text: Text, has_form: bool, field: ListField) -> Result<Text, ListingFault>
+    ensures value { IfOk result (λ same. same ≡ text) }
+    ensures ok { OnOk result (has_form ≡ true) }
+    ensures bad { OnErr result (has_form ≡ false) }
+    ensures refused { IfErr result (λ fault. fault ≡ BadValue field) }
+{
+    if has_form {
+        Ok(text)
+    } else {
+        Err(ListingFault::BadValue { field })
     }
 }
 
@@ -76,10 +93,8 @@ pub(crate) fn package_name(alloc: Global, paragraph: &Paragraph<'_>) -> Result<T
 {
     let field = ListField::Package;
     let name = wanted(alloc, paragraph, field)?;
-    if !is_source(name.as_str()) {
-        return Err(ListingFault::BadValue { field });
-    }
-    Ok(name)
+    let has_form = is_source(name.as_str());
+    formed(name, has_form, field)
 }
 
 /// The version that a text of the field is.
@@ -93,6 +108,7 @@ pub(crate) fn parse_version(
     ensures ok { OnOk result (is_version_text text.now ≡ true) }
     ensures bad { IfErr result (λ fault. fault ≢ Control Memory → is_version_text text.now ≡ false) }
     ensures refused { IfErr result (λ fault. fault ≢ Control Memory → fault ≡ BadValue field) }
+    ensures memory { IfErr result (λ fault. fault ≡ Control Memory → is_version_text text.now ≡ true) }
 {
     match Version::parse(alloc, text) {
         Ok(version) => Ok(version),
@@ -128,10 +144,8 @@ pub(crate) fn architectures(alloc: Global, paragraph: &Paragraph<'_>) -> Result<
 {
     let field = ListField::Architecture;
     let archs = wanted(alloc, paragraph, field)?;
-    if archs.as_str().is_empty() {
-        return Err(ListingFault::BadValue { field });
-    }
-    Ok(archs)
+    let has_form = !archs.as_str().is_empty();
+    formed(archs, has_form, field)
 }
 
 #[tactic(auto, unfolding(crate::specs::Lists::is_label_or_empty))]
@@ -156,8 +170,6 @@ pub(crate) fn label(
     let Some(label) = value(alloc, paragraph, field.name())? else {
         return Ok(Text::new(alloc));
     };
-    if !is_label_or_empty(label.as_str()) {
-        return Err(ListingFault::BadValue { field });
-    }
-    Ok(label)
+    let has_form = is_label_or_empty(label.as_str());
+    formed(label, has_form, field)
 }
