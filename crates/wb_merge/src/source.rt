@@ -42,6 +42,8 @@ fn bracketed_version(alloc: Global, text: &str) -> Result<Version, ListingFault>
     ensures bad { IfErr result (λ fault. fault ≢ Control Memory
         → passes is_version_text (in_brackets text.now) ≡ false) }
     ensures refused { IfErr result (λ fault. fault ≢ Control Memory → fault ≡ BadValue Source) }
+    ensures memory { IfErr result (λ fault. fault ≡ Control Memory
+        → passes is_version_text (in_brackets text.now) ≡ true) }
 {
     let field = ListField::Source;
     match in_brackets(text) {
@@ -63,6 +65,7 @@ pub(crate) fn parse_source(
     ensures ok { OnOk result (is_source_text text.now ≡ true) }
     ensures bad { IfErr result (λ fault. fault ≢ Control Memory → is_source_text text.now ≡ false) }
     ensures refused { IfErr result (λ fault. fault ≢ Control Memory → fault ≡ BadValue Source) }
+    ensures memory { IfErr result (λ fault. fault ≡ Control Memory → is_source_text text.now ≡ true) }
 {
     let (name, rest) = cut_source(text);
     if !is_source(name) {
