@@ -16,19 +16,9 @@ use Rattle.wb_states.specs.declared.state.State.TheVariants.{NeedsBuild, Buildin
 use Rattle.wb_states.specs.State.{code_of}
 use Rattle.wb_states.specs.Machine.{Machine, HasDistinctTakes, IsConsistent, IsRecord}
 use Rattle.wb_states.specs.Holds.{has_value, is_taken_as, taken_as, is_held_by, take_of, take_cmp, held_of, is_building_after, building_after, IsBuildingAfter}
-use Rattle.wb_states.specs.Queue.{Entry, IsIn, first_of, with_item, sorted_by}
+use Rattle.wb_states.specs.Queue.{Entry, IsIn, with_item, sorted_by}
 use Rattle.wb_states.proofs.KeyLemmas.{pair_cmp_total}
-use Rattle.wb_states.proofs.QueueLemmas.{Apart, apart-filter, IsIn-entries, IsIn-filter, IsIn-sorted_by, sorted-sorted_by}
-
--- ---- the first of a list
-
-pub first_of-is : {X : Type 0} (xs : List X) (x : X) → first_of xs ≡ Some x → IsIn x xs
-first_of-is [] x is = absurd cc
-first_of-is (y ∷ ys) x is = inl cc
-
-pub first_of-some : {X : Type 0} (xs : List X) (x : X) → IsIn x xs → (y : X) × (first_of xs ≡ Some y)
-first_of-some [] x within = absurd within
-first_of-some (y ∷ ys) x within = (y, refl)
+use Rattle.wb_states.proofs.QueueLemmas.{Apart, apart-filter, first_of-is, first_of-some, IsIn-entries, IsIn-filter, IsIn-sorted_by, sorted-sorted_by}
 
 -- ---- what stands under a take number
 

@@ -264,18 +264,68 @@ waiting_apart arch es h =
     let arch_is : y.0.0 ≡ x.0.0 = ((is_waiting-is arch y).0 waits_y).0 ∙ sym ((is_waiting-is arch x).0 waits_x).0 in
     λ i. (arch_is i, name i))
 
+entry_cmp_total : IsTotalOrder entry_cmp
+entry_cmp_total = on_total (λ entry. place_of entry.1 entry.0.1) place_cmp_total
+
 pub sorted-queue_of : (machine : Machine) (arch : List ℕ) → IsStrictlySortedBy entry_cmp (queue_of machine arch)
 unfolding queue_of
 sorted-queue_of machine arch =
-    sorted-sorted_by entry_cmp (on_total (λ entry. place_of entry.1 entry.0.1) place_cmp_total) (filter (is_waiting arch) (map.entries machine.records))
+    sorted-sorted_by entry_cmp entry_cmp_total (filter (is_waiting arch) (map.entries machine.records))
     (waiting_apart arch (map.entries machine.records) (map.entries_sorted machine.records))
+
+-- ---- the first of a list
+
+pub first_of-is : {X : Type 0} (xs : List X) (x : X) → first_of xs ≡ Some x → IsIn x xs
+first_of-is [] x is = absurd cc
+first_of-is (y ∷ ys) x is = inl cc
+
+pub first_of-some : {X : Type 0} (xs : List X) (x : X) → IsIn x xs → (y : X) × (first_of xs ≡ Some y)
+first_of-some [] x within = absurd within
+first_of-some (y ∷ ys) x within = (y, refl)
+
+-- ---- the head of the queue
 
 -- the head of the queue is a record that waits
 pub head_of-waits : (machine : Machine) (arch : List ℕ) (entry : Entry) → head_of machine arch ≡ Some entry → IsWaitingAt machine arch entry
 unfolding head_of
-head_of-waits machine arch entry is = (IsIn-queue_of machine arch entry).0 (stands (queue_of machine arch) is) where
-  stands : (xs : List Entry) → first_of xs ≡ Some entry → IsIn entry xs
-  stands [] is = cc
-  stands (x ∷ xs) is = inl (only x entry (sym is)) where
-    only : (x y : Entry) → Some y ≡ Some x → y ≡ x
-    only x y e = cc
+head_of-waits machine arch entry is = (IsIn-queue_of machine arch entry).0 (first_of-is (queue_of machine arch) entry is)
+
+-- no record that waits stands before the first of a queue
+first-least : (entry other : Entry) (entries : List Entry) → IsStrictlySortedBy entry_cmp entries → first_of entries ≡ Some entry → IsIn other entries → entry_cmp other entry ≢ Less
+unfolding IsStrictlySortedBy
+first-least entry other [] sorted is within less = within
+first-least entry other (x ∷ xs) sorted is within less =
+    let same : x ≡ entry = cc in
+    elim within [
+      | inl here ↦ itself (sym (ap (λ e. entry_cmp e entry) (here ∙ same) ∙ tied_itself entry_cmp_total entry) ∙ less)
+      | inr later ↦
+          let behind : entry_cmp entry other ≡ Less = ap (λ e. entry_cmp e other) (sym same) ∙ all-less x other xs sorted.0 later in
+          turned (sym (entry_cmp_total.antisymm entry other ∙ ap ordering_reverse less) ∙ behind)
+    ]
+  where
+    itself : Equal ≡ Less → ⊥
+    itself e = cc
+
+    turned : Greater ≡ Less → ⊥
+    turned e = cc
+
+    all-less : (first other : Entry) (entries : List Entry) → AllByRecursion (λ z. entry_cmp first z ≡ Less) entries → IsIn other entries → entry_cmp first other ≡ Less
+    all-less first other [] all within = absurd within
+    all-less first other (x ∷ xs) all within = elim within [
+      | inl here ↦ ap (entry_cmp first) here ∙ all.0
+      | inr later ↦ all-less first other xs all.1 later
+    ]
+
+pub head_of-first : (machine : Machine) (arch : List ℕ) (entry other : Entry) → head_of machine arch ≡ Some entry → IsWaitingAt machine arch other → entry_cmp other entry ≢ Less
+unfolding head_of
+head_of-first machine arch entry other is waits =
+    first-least entry other (queue_of machine arch) (sorted-queue_of machine arch) is ((IsIn-queue_of machine arch other).1 waits)
+
+pub head_of-none : (machine : Machine) (arch : List ℕ) (other : Entry) → head_of machine arch ≡ None → IsWaitingAt machine arch other → ⊥
+unfolding head_of
+head_of-none machine arch other none waits =
+    let found = first_of-some (queue_of machine arch) other ((IsIn-queue_of machine arch other).1 waits) in
+    apart found.0 (sym none ∙ found.1)
+  where
+    apart : (x : Entry) → None ≡ Some x → ⊥
+    apart x e = cc

@@ -3,7 +3,7 @@ ghost use Rattle.std.specs.Prelude.{◌≡◌, ◌≢◌, ◌↔◌, ◌≤◌, 
 ghost use Rattle.std.specs.FinMap as map;
 ghost use Rattle.std.specs.List.Sorted.{IsStrictlySortedBy};
 ghost use Rattle.std.specs.Cmp.{IsTotalOrder};
-ghost use Rattle.std.specs.declared.cmp.Ordering.TheVariants.{Equal};
+ghost use Rattle.std.specs.declared.cmp.Ordering.TheVariants.{Less, Equal};
 ghost use Rattle.wb_states.specs.declared.record.Record.{Record};
 ghost use Rattle.wb_states.specs.declared.moves.Move.{Move};
 ghost use Rattle.wb_states.specs.declared.refusal.Refusal.{Refusal};
@@ -11,7 +11,7 @@ ghost use Rattle.wb_states.specs.declared.state.State.{State};
 ghost use Rattle.wb_states.specs.Holds.{IsBuildingAfter, building_after, held_of, take_cmp, take_of, taken_as};
 ghost use Rattle.wb_states.specs.Machine.{HasDistinctTakes, IsConsistent, Machine};
 ghost use Rattle.wb_states.specs.Moves.{may_go, move_of};
-ghost use Rattle.wb_states.specs.Queue.{Entry, IsIn, IsWaitingAt, entry_cmp, queue_of, place_cmp, place_of};
+ghost use Rattle.wb_states.specs.Queue.{Entry, IsIn, IsWaitingAt, entry_cmp, head_of, queue_of, place_cmp, place_of};
 ghost use Rattle.wb_states.specs.Record.{IsWellFormed};
 ghost use Rattle.wb_states.specs.Refusals.{code_of_refusal, name_of_refusal};
 ghost use Rattle.wb_states.specs.State.{code_of, name_of};
@@ -23,6 +23,18 @@ pub fn queue_has_each_waiting_record_once()
     ensures members { (machine : Machine) (arch : List ℕ) (entry : Entry)
         → IsIn entry (queue_of machine arch) ↔ IsWaitingAt machine arch entry }
     ensures ascending { (machine : Machine) (arch : List ℕ) → IsStrictlySortedBy entry_cmp (queue_of machine arch) }
+{}
+
+/// The head of a queue is a record that waits for a builder, and no other that waits on the architecture is
+/// to be built before it; where there is no head, none waits.
+pub fn the_head_is_built_first()
+    ensures waits { (machine : Machine) (arch : List ℕ) (entry : Entry)
+        → head_of machine arch ≡ Some entry → IsWaitingAt machine arch entry }
+    ensures first { (machine : Machine) (arch : List ℕ) (entry other : Entry)
+        → head_of machine arch ≡ Some entry → IsWaitingAt machine arch other
+        → entry_cmp other entry ≢ Less }
+    ensures none { (machine : Machine) (arch : List ℕ) (entry : Entry)
+        → head_of machine arch ≡ None → ¬ (IsWaitingAt machine arch entry) }
 {}
 
 /// The order of places is total, and two source packages of one architecture never have equal places.
