@@ -5,3 +5,4 @@ pub mod RowLemmas
 pub mod TreeLemmas
 pub mod UsageLemmas
 pub mod StartLemmas
+pub mod CommandNameLemmas

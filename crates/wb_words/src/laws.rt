@@ -2,6 +2,9 @@
 //! their contracts are proved.
 ghost use Rattle.std.specs.Prelude.{◌≡◌, ◌∷◌, [], ℕ, List, None, Some, codes};
 ghost use Rattle.std.specs.Prelude.{option_map};
+ghost use Rattle.clap.specs.Words.{Row, Text};
+ghost use Rattle.wb_states.specs.Commands.{name_of_command};
+ghost use Rattle.wb_states.specs.declared.command.Command.{Command as AnyCommand};
 ghost use Rattle.wb_states.specs.declared.command.Command.TheVariants.{AddArch, AddBuilder, Built};
 ghost use Rattle.wb_states.specs.declared.command.Command.TheVariants.{DepWait, Enter, Fail};
 ghost use Rattle.wb_states.specs.declared.command.Command.TheVariants.{GiveBack, Next, NotForUs};
@@ -9,7 +12,7 @@ ghost use Rattle.wb_states.specs.declared.command.Command.TheVariants.{PutBack, 
 ghost use Rattle.wb_states.specs.declared.command.Command.TheVariants.{Uploaded, Waits};
 ghost use Rattle.wb_words.specs.Arguments.{joined, number_in, parts_in};
 ghost use Rattle.wb_words.specs.Start.{IsNoStart, Starts};
-ghost use Rattle.wb_words.specs.Words.{asked_by, asked_in};
+ghost use Rattle.wb_words.specs.Words.{asked_by, asked_in, command_named};
 ghost use Rattle.wb_words.specs.declared.start.Start.TheVariants.{Help, Run};
 ghost use Rattle.wb_words.specs.declared.words.Asked.TheVariants.{Command, Merge};
 
@@ -200,4 +203,10 @@ pub fn starts_are_read()
     ensures nothing { IsNoStart [] }
     ensures command { IsNoStart (codes "next" ∷ codes "amd64" ∷ codes "b1" ∷ []) }
     ensures many { IsNoStart (codes "run" ∷ codes "now" ∷ codes "-h" ∷ []) }
+{}
+
+/// A command is asked for by its own name, which its answer then tells.
+pub fn commands_go_by_their_names()
+    ensures { (name : Text) (rows : List Row) (command : AnyCommand)
+        → command_named name rows ≡ Some command → name ≡ name_of_command command }
 {}

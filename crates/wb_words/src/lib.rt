@@ -5,7 +5,7 @@
 mod argument;
 mod builder;
 mod fault;
-mod laws;
+pub mod laws;
 mod lists;
 mod operator;
 mod start;
@@ -14,10 +14,5 @@ mod usage;
 mod words;
 
 pub use fault::WordsFault;
-pub use laws::{
-    any_words_are_arguments, builder_lines_are_commands, last_words_are_joined,
-    merge_lines_name_files, numbers_are_read, operator_lines_are_commands, options_are_read,
-    other_arguments_are_none, other_words_are_none, starts_are_read,
-};
 pub use start::{HELP, Start, start_of};
 pub use words::{Asked, PartNames, asked_of};
