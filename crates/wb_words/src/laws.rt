@@ -1,6 +1,6 @@
 //! What lines ask for and what the program is started for, by examples. The functions run nothing:
 //! their contracts are proved.
-ghost use Rattle.std.specs.Prelude.{◌≡◌, ◌∷◌, [], ℕ, List, None, Some, codes};
+ghost use Rattle.std.specs.Prelude.{◌≡◌, ◌∷◌, ◌++◌, [], ℕ, List, None, Some, codes};
 ghost use Rattle.std.specs.Prelude.{option_map};
 ghost use Rattle.clap.specs.Words.{Row, Text};
 ghost use Rattle.wb_states.specs.Commands.{name_of_command};
@@ -112,7 +112,8 @@ pub fn numbers_are_read()
     ensures after { asked_by (codes "next a b --after=") ≡ None }
 {}
 
-/// Behind `--` each word is an argument as it stands, whatever its bytes are: these are all texts.
+/// Behind `--` each word is an argument as it stands, whatever its bytes are, and so is what stands behind
+/// `--after=`: these are all texts. A last argument of several words has two of them here.
 pub fn any_words_are_arguments()
     // of operators
     ensures add_arch { (name os cpu : List ℕ) → asked_in (codes "add-arch" ∷ codes "--" ∷ name ∷ os
@@ -140,9 +141,9 @@ pub fn any_words_are_arguments()
     // of builders
     ensures next { (arch builder : List ℕ) → asked_in (codes "next" ∷ codes "--" ∷ arch ∷ builder
         ∷ []) ≡ Some (Command (Next arch builder None)) }
-    ensures after { (arch builder after : List ℕ) → asked_in (codes "next" ∷ codes "--after"
-        ∷ (53 ∷ after) ∷ codes "--" ∷ arch ∷ builder ∷ [])
-        ≡ option_map (λ n. Command (Next arch builder (Some n))) (number_in (53 ∷ after)) }
+    ensures after { (arch builder after : List ℕ) → asked_in (codes "next"
+        ∷ (codes "--after=" ++ after) ∷ codes "--" ∷ arch ∷ builder ∷ [])
+        ≡ option_map (λ n. Command (Next arch builder (Some n))) (number_in after) }
     ensures take { (arch builder source version : List ℕ) → asked_in (codes "take" ∷ codes "--"
         ∷ arch ∷ builder ∷ source ∷ version ∷ [])
         ≡ Some (Command (Take arch builder source version)) }

@@ -19,7 +19,7 @@ returns c = record {
   rebuild = λ arch source version number first second.
       operator-asked (λ n. Rebuild arch source version n (joined (first ∷ second ∷ []))) (number_in number);
   next = λ arch builder. refl;
-  after = λ arch builder after. next-asked arch builder (number_in (53 ∷ after));
+  after = λ arch builder after. next-asked arch builder (number_in after);
   take = λ arch builder source version. refl;
   built = λ take_number. builder-asked (λ n. Built n) (number_in take_number);
   uploaded = λ take_number. builder-asked (λ n. Uploaded n) (number_in take_number);
