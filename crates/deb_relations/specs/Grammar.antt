@@ -22,10 +22,11 @@ is_white c = c == 32 || (c == 9 || (c == 10 || c == 13))
 abbrev pub is_blank : List ℕ → Bool
 is_blank text = list_all is_white text
 
--- the comma between groups, and the bar between alternatives (Policy 7.1)
+-- the comma between groups (Policy 7.1)
 abbrev pub is_comma : ℕ → Bool
 is_comma c = c == 44
 
+-- the bar between alternatives (Policy 7.1)
 abbrev pub is_bar : ℕ → Bool
 is_bar c = c == 124
 

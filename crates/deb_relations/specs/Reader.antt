@@ -13,11 +13,12 @@ use Rattle.deb_relations.specs.declared.relations.Alternative.{Alternative}
 use Rattle.deb_relations.specs.Reduction.{is_filled}
 use Rattle.deb_relations.specs.Grammar.{is_white, is_blank, is_package_char, is_arch_char, is_op_char, is_package, is_word, is_said, op_of, words, are_alike}
 
--- the longest front whose characters pass, and what stands behind it (this project's own)
+-- the longest front of a text whose characters all pass a test (this project's own)
 abbrev pub run : (ℕ → Bool) → List ℕ → List ℕ
 run test [] = []
 run test (c ∷ cs) = if test c then c ∷ run test cs else []
 
+-- what stands behind the longest front of a text whose characters all pass a test (this project's own)
 abbrev pub skip : (ℕ → Bool) → List ℕ → List ℕ
 skip test [] = []
 skip test (c ∷ cs) = if test c then skip test cs else c ∷ cs
@@ -31,11 +32,12 @@ abbrev pub strip : ℕ → List ℕ → Option (List ℕ)
 strip c [] = None
 strip c (x ∷ xs) = if x == c then Some xs else None
 
--- what stands before the first c, and behind it (this project's own)
+-- two halves of a text with one character more before the first, where there are two (this project's own)
 abbrev pub onto_front : ℕ → Option (List ℕ × List ℕ) → Option (List ℕ × List ℕ)
 onto_front c None = None
 onto_front c (Some halves) = Some (c ∷ halves.0, halves.1)
 
+-- what stands before the first c, and behind it, where the text has one (this project's own)
 abbrev pub cut : ℕ → List ℕ → Option (List ℕ × List ℕ)
 cut c [] = None
 cut c (x ∷ xs) = if x == c then Some ([], xs) else onto_front x (cut c xs)
@@ -56,15 +58,17 @@ abbrev pub with_rest : {X : Type 0} → List ℕ → Option X → Option (X × L
 with_rest rest None = None
 with_rest rest (Some x) = Some (x, rest)
 
--- what stands between two brackets and behind them, where the first of them stands; none at all where it is not closed (this project's own)
+-- what was read, as a part that is written, where anything was read (this project's own)
 abbrev pub some_of : {X : Type 0} → Option X → Option (Option X)
 some_of None = None
 some_of (Some x) = Some (Some x)
 
+-- what stands between two brackets and behind them, of the text behind the first of them, where that stands (this project's own)
 abbrev pub between_opened : ℕ → Option (List ℕ) → Option (Option (List ℕ × List ℕ))
 between_opened right None = Some None
 between_opened right (Some behind) = some_of (cut right behind)
 
+-- what stands between two brackets and behind them, where the first of them stands; none at all where it is not closed (this project's own)
 unfoldable pub between : ℕ → ℕ → List ℕ → Option (Option (List ℕ × List ℕ))
 between left right text = between_opened right (strip left (skip is_white text))
 
@@ -80,80 +84,93 @@ read_name text =
     let front = skip is_white text in
     if is_package (run is_package_char front) then Some (run is_package_char front, skip is_package_char front) else None
 
--- a qualifier, where a colon stands first (Policy 7.1)
+-- a qualifier and what is left, of the text behind a colon, where one stands first (Policy 7.1)
 abbrev pub read_behind_colon : List ℕ → Option (List ℕ) → Option (Option (List ℕ) × List ℕ)
 read_behind_colon text None = Some (None, text)
 read_behind_colon text (Some behind) =
     if is_filled (run is_arch_char behind) then Some (Some (run is_arch_char behind), skip is_arch_char behind) else None
 
+-- a qualifier, where a colon stands first, and what is left (Policy 7.1)
 unfoldable pub read_qualifier : List ℕ → Option (Option (List ℕ) × List ℕ)
 read_qualifier text = read_behind_colon text (strip 58 text)
 
--- whether a text is a version (Policy 5.6.12)
+-- whether no fault was found (this project's own)
 abbrev pub has_no_fault : Option VersionFault → Bool
 has_no_fault None = true
 has_no_fault (Some fault) = false
 
+-- whether a text is a version (Policy 5.6.12)
 unfoldable pub is_version : List ℕ → Bool
 is_version text = has_no_fault (fault_of text)
 
--- an operator and a version (Policy 7.1)
+-- the restriction of an operator and a version, where both are there and white space alone follows (Policy 7.1)
 abbrev pub asked_of : Option Op → List ℕ → List ℕ → Option Restriction
 asked_of None version after = None
 asked_of (Some op) version after =
     if is_version version && is_blank after then Some (record { op = op; version = version }) else None
 
+-- the restriction of an operator and of the text behind it, which is a version up to white space (Policy 7.1)
 abbrev pub asked_behind : Option Op → List ℕ → Option Restriction
 asked_behind op text = asked_of op (run is_solid text) (skip is_solid text)
 
+-- the restriction of a text that begins with its operator (Policy 7.1)
 abbrev pub asked_from : List ℕ → Option Restriction
 asked_from text = asked_behind (op_of (run is_op_char text)) (skip is_white (skip is_op_char text))
 
+-- an operator and a version, as the text inside parentheses has them (Policy 7.1)
 unfoldable pub restriction_of : List ℕ → Option Restriction
 restriction_of inside = asked_from (skip is_white inside)
 
+-- the restriction inside parentheses, as a part that is written (Policy 7.1)
 abbrev pub asked_inside : List ℕ → Option (Option Restriction)
 asked_inside inside = some_of (restriction_of inside)
 
+-- an operator and a version in parentheses, where these stand first, and what is left (Policy 7.1)
 unfoldable pub read_restriction : List ℕ → Option (Option Restriction × List ℕ)
 read_restriction text = read_between asked_inside None text (between 40 41 text)
 
--- a word of a list (Policy 7.1)
+-- a word that is negated or plain, where it has the form of its kind (Policy 7.1)
 abbrev pub signed : Kind → Bool → List ℕ → Option Term
 signed kind negated word = if is_word kind word then Some (record { negated = negated; word = word }) else None
 
+-- a word of a list: what stands behind `!`, negated, or the plain word where there is no `!` (Policy 7.1)
 abbrev pub term_behind : Kind → List ℕ → Option (List ℕ) → Option Term
 term_behind kind word None = signed kind false word
 term_behind kind word (Some behind) = signed kind true behind
 
+-- a word of a list, perhaps after `!` (Policy 7.1)
 unfoldable pub term_of : Kind → List ℕ → Option Term
 term_of kind word = term_behind kind word (strip 33 word)
 
--- the words of a list (Policy 7.1)
+-- the items that were read, where there is at least one (this project's own)
 abbrev pub filled_only : {X : Type 0} → Option (List X) → Option (List X)
 filled_only None = None
 filled_only (Some []) = None
 filled_only (Some (x ∷ xs)) = Some (x ∷ xs)
 
+-- the words of a list, at least one (Policy 7.1)
 unfoldable pub terms_of : Kind → List ℕ → Option (List Term)
 terms_of kind inside = filled_only (all_some (term_of kind) (words inside))
 
--- architecture words of one sign (Policy 7.1)
+-- the words that were read, where all are negated or none is (Policy 7.1)
 abbrev pub alike_only : Option (List Term) → Option (List Term)
 alike_only None = None
 alike_only (Some terms) = if are_alike terms then Some terms else None
 
+-- architecture words of one sign (Policy 7.1)
 unfoldable pub archs_of : List ℕ → Option (List Term)
 archs_of inside = alike_only (terms_of Arch inside)
 
+-- architecture words in brackets, where these stand first, and what is left (Policy 7.1)
 unfoldable pub read_archs : List ℕ → Option (List Term × List ℕ)
 read_archs text = read_between archs_of [] text (between 91 93 text)
 
--- a list of build profiles, before its closing bracket (Policy 7.1)
+-- a list of build profiles, of the text behind its opening bracket, where that stands (Policy 7.1)
 abbrev pub profile_behind : Option (List ℕ) → Option (List Term)
 profile_behind None = None
 profile_behind (Some inside) = terms_of Profile inside
 
+-- a list of build profiles, before its closing bracket (Policy 7.1)
 unfoldable pub profile_of : List ℕ → Option (List Term)
 profile_of piece = profile_behind (strip 60 (skip is_white piece))
 
@@ -163,31 +180,37 @@ lists_of [] = None
 lists_of (last ∷ []) = if is_blank last then Some [] else None
 lists_of (piece ∷ (next ∷ more)) = both (profile_of piece) (lists_of (next ∷ more))
 
+-- the lists of build profiles of a text, each in angle brackets (Policy 7.1)
 unfoldable pub read_profiles : List ℕ → Option (List (List Term))
 read_profiles text = lists_of (slice_split (λ c. c == 62) text)
 
--- an alternative, part by part (Policy 7.1)
+-- an alternative of these parts and of its build profiles, where they were read (Policy 7.1)
 abbrev pub with_profiles : List ℕ → Option (List ℕ) → Option Restriction → List Term → Option (List (List Term)) → Option Alternative
 with_profiles name qualifier asked archs None = None
 with_profiles name qualifier asked archs (Some profiles) =
     Some (record { name = name; qualifier = qualifier; restriction = asked; archs = archs; profiles = profiles })
 
+-- an alternative of these parts, of its architectures, where they were read, and of what is left (Policy 7.1)
 abbrev pub with_archs : List ℕ → Option (List ℕ) → Option Restriction → Option (List Term × List ℕ) → Option Alternative
 with_archs name qualifier asked None = None
 with_archs name qualifier asked (Some found) = with_profiles name qualifier asked found.0 (read_profiles found.1)
 
+-- an alternative of a name and a qualifier, of the version that it asks for, where it was read, and of what is left (Policy 7.1)
 abbrev pub with_asked : List ℕ → Option (List ℕ) → Option (Option Restriction × List ℕ) → Option Alternative
 with_asked name qualifier None = None
 with_asked name qualifier (Some found) = with_archs name qualifier found.0 (read_archs found.1)
 
+-- an alternative of a name, of its qualifier, where it was read, and of what is left (Policy 7.1)
 abbrev pub with_qualifier : List ℕ → Option (Option (List ℕ) × List ℕ) → Option Alternative
 with_qualifier name None = None
 with_qualifier name (Some found) = with_asked name found.0 (read_restriction found.1)
 
+-- an alternative of its name, where it was read, and of what is left (Policy 7.1)
 abbrev pub with_name : Option (List ℕ × List ℕ) → Option Alternative
 with_name None = None
 with_name (Some found) = with_qualifier found.0 (read_qualifier found.1)
 
+-- an alternative, part by part (Policy 7.1)
 unfoldable pub read_alternative : List ℕ → Option Alternative
 read_alternative text = with_name (read_name text)
 
@@ -199,10 +222,11 @@ read_group text = all_some read_alternative (slice_split (λ c. c == 124) text)
 unfoldable pub read_groups : List ℕ → Option (List (List Alternative))
 read_groups text = all_some read_group (filter is_said (slice_split (λ c. c == 44) text))
 
--- groups, and behind them that of a piece where the piece is said (Policy 7.1)
+-- groups, and one more behind them, where it was read (Policy 7.1)
 abbrev pub push_group : List (List Alternative) → Option (List Alternative) → Option (List (List Alternative))
 push_group made None = None
 push_group made (Some group) = Some (made ++ group ∷ [])
 
+-- groups, and behind them that of a piece, where the piece is said (Policy 7.1)
 unfoldable pub with_group : List (List Alternative) → List ℕ → Option (List (List Alternative))
 with_group made piece = if is_said piece then push_group made (read_group piece) else Some made

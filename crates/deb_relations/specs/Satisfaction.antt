@@ -24,7 +24,7 @@ no_pairs = map.empty
 unfoldable pub versions_of : Pairs → List ℕ → List (List ℕ)
 versions_of pairs name = unwrap_or (map.get pairs name) []
 
--- the same and a version of a name more (this project's own)
+-- what is available, with a version of a name more (this project's own)
 unfoldable pub with_pair : Pairs → List ℕ → List ℕ → Pairs
 with_pair pairs name version = map.insert pairs name (versions_of pairs name ++ version ∷ [])
 

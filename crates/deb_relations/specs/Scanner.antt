@@ -15,9 +15,10 @@ test_of Arch = is_arch_char
 test_of Profile = is_profile_char
 test_of Op = is_op_char
 
--- what a borrowed text reads, and what two of them do (this project's own)
+-- what a borrowed text reads (this project's own)
 abbrev pub text_of : Bor (List ℕ) → List ℕ
 text_of text = text.now
 
+-- what two borrowed texts read (this project's own)
 abbrev pub halves_of : Bor (List ℕ) × Bor (List ℕ) → List ℕ × List ℕ
 halves_of halves = (halves.0.now, halves.1.now)

@@ -11,12 +11,14 @@ use Rattle.deb_version.specs.Syntax.{Parts, parts_of, with_digit}
 unfoldable pub weight_of : ℕ → ℤ
 weight_of c = if c == 126 then negsuc 0 else (if is_ascii_alphabetic c then pos c else pos (c + 256))
 
--- the key of what is left of a part inside a non-digit run, and inside a digit run whose digits so far write n: the weights of the non-digits, 0 at their end, the number of the digits, and so on (Policy 5.6.12)
+-- the key of what is left of a part, inside a non-digit run and inside a digit run (Policy 5.6.12)
 abbrev mutual
+  -- the key of what is left of a part inside a non-digit run: the weights of the run, then 0, then the digit run behind it (Policy 5.6.12)
   pub key_in_run : List ℕ → List ℤ
   key_in_run [] = pos 0 ∷ pos 0 ∷ []
   key_in_run (c ∷ cs) = if is_ascii_digit c then pos 0 ∷ key_in_digits (with_digit 0 c) cs else weight_of c ∷ key_in_run cs
 
+  -- the key of what is left of a part inside a digit run whose digits so far write n (Policy 5.6.12)
   pub key_in_digits : ℕ → List ℕ → List ℤ
   key_in_digits n [] = pos n ∷ []
   key_in_digits n (c ∷ cs) = if is_ascii_digit c then key_in_digits (with_digit n c) cs else pos n ∷ weight_of c ∷ key_in_run cs

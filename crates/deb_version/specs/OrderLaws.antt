@@ -10,11 +10,12 @@ use Rattle.std.proofs.Common.{refl, sym, ap, ◌∙◌, arith}
 use Rattle.deb_version.specs.Syntax.{parts_of, value_of}
 use Rattle.deb_version.specs.Order.{weight_of, key_of, key_cmp, part_cmp, revision_or_zero, parts_cmp, version_cmp}
 
--- the first item of a key and the items after it, with 0 for a missing one (this project's own)
+-- the first item of a key, and 0 where it has none (this project's own)
 abbrev first_item : List ℤ → ℤ
 first_item [] = pos 0
 first_item (x ∷ xs) = x
 
+-- the items of a key after the first (this project's own)
 abbrev other_items : List ℤ → List ℤ
 other_items [] = []
 other_items (x ∷ xs) = xs
@@ -24,11 +25,12 @@ abbrev cmp_within : ℕ → List ℤ → List ℤ → Ordering
 cmp_within zero = λ _ _. Equal
 cmp_within (suc n) = then_cmp (on first_item int_cmp) (on other_items (cmp_within n))
 
+-- the order of the first n items of two keys is total (this project's own)
 cmp_within-total : (n : ℕ) → IsTotalOrder (cmp_within n)
 cmp_within-total zero = record { antisymm = λ _ _. refl; trans = λ _ _ _ e _. e; congr = λ _ _ _ _. refl }
 cmp_within-total (suc n) = then_total (on_total first_item int_cmp_total) (on_total other_items (cmp_within-total n))
 
--- the order of two keys of at most n items is that of their first n items
+-- the order of two keys of at most n items is that of their first n items (this project's own)
 key_cmp-within : (n : ℕ) (xs ys : List ℤ) → length xs ≤ n → length ys ≤ n → key_cmp xs ys ≡ cmp_within n xs ys
 key_cmp-within zero [] [] h k = refl
 key_cmp-within zero [] (y ∷ ys) h k = absurd (omega arith)
@@ -60,12 +62,12 @@ key_cmp_total = record {
       ∙ sym (key_cmp-within n y z (omega arith) (omega arith));
 }
 
--- so are parts (Policy 5.6.12)
+-- upstream versions are in a total order, and so are revisions (Policy 5.6.12)
 pub part_cmp_total : IsTotalOrder part_cmp
 unfolding part_cmp
 part_cmp_total = on_total key_of key_cmp_total
 
--- and versions (Policy 5.6.12)
+-- versions are in a total order (Policy 5.6.12)
 pub version_cmp_total : IsTotalOrder version_cmp
 unfolding version_cmp parts_cmp
 version_cmp_total =

@@ -14,10 +14,11 @@ pub record Parts : Type 0 where
   pub upstream : List ℕ
   pub revision : Option (List ℕ)
 
--- the colon that ends an epoch, and the hyphen that begins a revision (Policy 5.6.12)
+-- the colon that ends an epoch (Policy 5.6.12)
 abbrev pub is_colon : ℕ → Bool
 is_colon c = c == 58
 
+-- the hyphen that begins a revision (Policy 5.6.12)
 abbrev pub is_hyphen : ℕ → Bool
 is_hyphen c = c == 45
 
@@ -25,7 +26,7 @@ is_hyphen c = c == 45
 unfoldable pub is_revision_char : ℕ → Bool
 is_revision_char c = is_ascii_alphanumeric c || (c == 46 || (c == 43 || c == 126))
 
--- the same and `-` `:`, of which an upstream version is made (Policy 5.6.12)
+-- letters, digits and `.` `+` `~` `-` `:`, of which an upstream version is made (Policy 5.6.12)
 unfoldable pub is_upstream_char : ℕ → Bool
 is_upstream_char c = is_revision_char c || (is_hyphen c || is_colon c)
 
@@ -53,10 +54,11 @@ upstream_text text = if has_revision text then before_last is_hyphen (rest_of te
 unfoldable pub revision_text : List ℕ → List ℕ
 revision_text text = after_last is_hyphen (rest_of text)
 
--- the places in the whole text where the upstream version begins and ends (this project's own)
+-- the place in the whole text where the upstream version begins (this project's own)
 unfoldable pub upstream_start : List ℕ → ℕ
 upstream_start text = if has_epoch text then length (epoch_text text) + 1 else 0
 
+-- the place in the whole text where the upstream version ends (this project's own)
 unfoldable pub upstream_end : List ℕ → ℕ
 upstream_end text = upstream_start text + length (upstream_text text)
 
@@ -68,10 +70,11 @@ all_digits text = list_all is_ascii_digit text
 unfoldable pub with_digit : ℕ → ℕ → ℕ
 with_digit n c = n * 10 + (c - 48)
 
--- the number that decimal digits write after those of n, and the number that they write alone (this project's own)
+-- the number that decimal digits write after those of n (this project's own)
 abbrev pub value_after : ℕ → List ℕ → ℕ
 value_after n digits = fold with_digit n digits
 
+-- the number that decimal digits write (this project's own)
 unfoldable pub value_of : List ℕ → ℕ
 value_of digits = value_after 0 digits
 
@@ -110,13 +113,15 @@ revision_part_fault start part =
     if length part == 0 then Some RevisionEmpty
     else option_map (λ place. RevisionBad (start + place)) (position (λ c. not (is_revision_char c)) part)
 
--- what is wrong with the epoch, and with the revision, where they are written (Policy 5.6.12)
+-- what is wrong with the epoch, where one is written (Policy 5.6.12)
 unfoldable pub epoch_fault : List ℕ → Option VersionFault
 epoch_fault text = if has_epoch text then number_fault (epoch_text text) else None
 
+-- what is wrong with the upstream version (Policy 5.6.12)
 unfoldable pub upstream_fault : List ℕ → Option VersionFault
 upstream_fault text = upstream_part_fault (upstream_start text) (upstream_text text)
 
+-- what is wrong with the revision, where one is written (Policy 5.6.12)
 unfoldable pub revision_fault : List ℕ → Option VersionFault
 revision_fault text = if has_revision text then revision_part_fault (upstream_end text + 1) (revision_text text) else None
 

@@ -73,7 +73,7 @@ refusal_members refusal = concat
 unfoldable pub refusal_text : Refusal → List ℕ
 refusal_text refusal = codes "{" ++ refusal_members refusal
 
--- the text of the end of a part on this architecture: what the merge did to its records, or its refusal with the architecture before all else (this project's own)
+-- the text of the end of a part on this architecture: what the merge did to its records, or its refusal (this project's own)
 unfoldable pub end_text : List ℕ → PartEnd → List ℕ
 end_text arch (part_Merged counts) = concat
     (codes "{\"added\":" ∷ decimal counts.added ∷

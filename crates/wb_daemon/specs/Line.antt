@@ -64,7 +64,7 @@ bytes_of (byte.Byte c) = c ∷ []
 bytes_of byte.End = []
 bytes_of byte.Fault = []
 
--- what a line that was read took from the reader: the line, which stands at the front of the room, and its line feed; or what follows is the end; or more than a line may have; or what came before a fault
+-- what a read took from the reader: a line and its line feed, the last line, more than a line may have, or what came before a fault
 abbrev pub TookLine : List ℕ → Option (List ℕ) → Option (List ℕ) → LineRead → Type 0
 TookLine room old new (Fed len) = (len ≤ max_line) × HasNoFeed (take len room) × Consumes old new (take len room ++ 10 ∷ [])
 TookLine room old new (Last len) = (len ≤ max_line) × HasNoFeed (take len room) × Consumes old new (take len room) × IsAtEnd new

@@ -17,7 +17,7 @@ use Rattle.wb_api.specs.Encoding.{reply_text, refusal_text, memory_text, line_fa
 use Rattle.wb_daemon.specs.Line.{is_blank_line, is_long, lines_of, ended_in, max_lines, words_of, AreWithinLimit}
 use Rattle.wb_daemon.specs.Lists.{Gives, GivesMerge, IsAllOf}
 
--- what is said to lines: the text that is written, the office after it, and the status, which is 0 where all was accepted, 1 after a refusal, 2 after a line that is no command and 3 after a list that cannot be read
+-- what is said to lines: the text, the office after it, and the status: 0 accepted, 1 refused, 2 no command, 3 a list that cannot be read
 pub record Said : Type 0 where
   pub text : List ℕ
   pub machine : Machine

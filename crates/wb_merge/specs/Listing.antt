@@ -53,11 +53,12 @@ abbrev pub joined : List ℕ → List ℕ → List ℕ
 joined first second =
     if is_empty_text first then second else (if is_empty_text second then first else first ++ codes ", " ++ second)
 
--- relations reduced for the architecture and printed, where the text has a reading
+-- relations that were read, reduced for the architecture and printed
 abbrev printed_of : ArchWords → Result (List (List Alternative)) RelationFault → Option (List ℕ)
 printed_of arch (Err fault) = None
 printed_of arch (Ok relations) = Some (waits_for relations arch)
 
+-- relations reduced for the architecture and printed, where the text has a reading
 unfoldable pub printed_for : ArchWords → List ℕ → Option (List ℕ)
 printed_for arch text = printed_of arch (reading_of text)
 
@@ -65,6 +66,7 @@ printed_for arch text = printed_of arch (reading_of text)
 abbrev pub within_limit : List ℕ → Option (List ℕ)
 within_limit text = if nat_lt relations_limit (length text) then None else Some text
 
+-- two texts joined, where both are there and the whole is within the limit of relations
 abbrev pub both_joined : Option (List ℕ) → Option (List ℕ) → Option (List ℕ)
 both_joined None second = None
 both_joined (Some first) None = None
@@ -144,11 +146,12 @@ pub record Lists : Type 0 where
   pub built : finite.FinMap text_cmp Built
   pub available : Pairs
 
--- what a function gives for a key, where it gives something
+-- a key and its value before other entries, where it has a value
 abbrev onto_entry : {K X : Type 0} → K → Option X → List (K × X) → List (K × X)
 onto_entry key None entries = entries
 onto_entry key (Some value) entries = (key, value) ∷ entries
 
+-- what a function gives for each of some keys, where it gives something
 abbrev pub with_values : {K X : Type 0} → (K → Option X) → List K → List (K × X)
 with_values f [] = []
 with_values f (key ∷ keys) = onto_entry key (f key) (with_values f keys)
@@ -165,11 +168,12 @@ lists_of arch sources packages = record {
   available = available_of arch packages;
 }
 
--- the listing of two lists, or the refusal for a fault of the Sources list, then of the Packages list
+-- the listing of the rows of two lists, or the first refusal where a list was refused
 abbrev pub lists_in : ArchWords → Result (List SourceRow) Refusal → Result (List BinaryRow) Refusal → Result Lists Refusal
 lists_in arch (Err refusal) packages = Err refusal
 lists_in arch (Ok sources) (Err refusal) = Err refusal
 lists_in arch (Ok sources) (Ok packages) = Ok (lists_of arch sources packages)
 
+-- the listing of two lists, or the refusal for a fault of the Sources list, then of the Packages list
 unfoldable pub listing_of : List ℕ → List ℕ → ArchWords → Result Lists Refusal
 listing_of sources packages arch = lists_in arch (source_rows sources) (binary_rows packages)

@@ -1,4 +1,4 @@
--- The rows that a merge reads from the archive's lists, and the faults of lists (Debian Policy 5.3 and 5.6; the forms are this project's own where a line says so).
+-- The rows that a merge reads from the archive's lists, and their faults (Debian Policy 5.3 and 5.6; this project's own where a line says so).
 use Rattle.std.specs.Prelude.{◌≡◌, IsOk, IsTrue, ℕ, ◌+◌, Bool, true, false, not, ◌&&◌, ◌||◌, ◌==◌, nat_le, List, [], ◌∷◌, ◌++◌, length, filter, reverse, codes, bytes_eq, Option, Some, None, Result, Ok, Err, if◌then◌else◌}
 use Rattle.std.specs.Option.{option_map, unwrap_or}
 use Rattle.std.specs.List.{AllByRecursion, AllZip, list_any, slice_split, before_first, after_first}
@@ -33,11 +33,12 @@ text_named name fields = unwrap_or (value_named name fields) []
 unfoldable pub words_in : List ℕ → List (List ℕ)
 words_in text = filter (λ word. not (is_empty_text word)) (slice_split is_blank text)
 
--- whether a text is a version (Debian Policy 5.6.12)
+-- whether no fault was found
 abbrev pub is_faultless : {F : Type 0} → Option F → Bool
 is_faultless None = true
 is_faultless (Some fault) = false
 
+-- whether a text is a version (Debian Policy 5.6.12)
 unfoldable pub is_version_text : List ℕ → Bool
 is_version_text text = is_faultless (fault_of text)
 
@@ -47,6 +48,7 @@ is_label_or_empty text = is_empty_text text || is_label_text text
 
 -- ---- the source of a binary package: `name`, or `name (version)` (Debian Policy 5.6.1)
 
+-- the space between a source's name and its version (Debian Policy 5.6.1)
 abbrev pub is_space : ℕ → Bool
 is_space c = c == 32
 
@@ -58,11 +60,12 @@ source_name text = before_first is_space text
 unfoldable pub has_source_version : List ℕ → Bool
 has_source_version text = list_any is_space text
 
--- a text without the bracket at its end, where it has both brackets round it
+-- a text that is given in reverse, without the closing bracket at its end, where it has one
 abbrev unclosed : List ℕ → Option (List ℕ)
 unclosed [] = None
 unclosed (c ∷ cs) = if bytes_eq (c ∷ []) (codes ")") then Some (reverse cs) else None
 
+-- a text without the brackets round it, where it has both
 abbrev pub in_brackets : List ℕ → Option (List ℕ)
 in_brackets [] = None
 in_brackets (c ∷ cs) = if bytes_eq (c ∷ []) (codes "(") then unclosed (reverse cs) else None
@@ -93,11 +96,12 @@ pub record NamesSource (text name : List ℕ) (version : Option (List ℕ)) : Ty
 
 -- ---- the number of a binary-only rebuild: N where a version ends in `+bN` (Debian Policy 5.6.12.2)
 
--- the digits at the end of a text
+-- the longest front of a text whose characters all pass a test
 abbrev pub leading : (ℕ → Bool) → List ℕ → List ℕ
 leading test [] = []
 leading test (c ∷ cs) = if test c then c ∷ leading test cs else []
 
+-- the digits at the end of a text
 unfoldable pub last_digits : List ℕ → List ℕ
 last_digits text = reverse (leading is_ascii_digit (reverse text))
 
@@ -118,27 +122,30 @@ rebuild_number version =
 
 -- ---- faults
 
--- what is wrong with a field that has to be there
+-- what is wrong with the value of a field that has to be there: it is missing, or has not its form
 abbrev form_fault : ListField → (List ℕ → Bool) → Option (List ℕ) → Option ListingFault
 form_fault field has_form None = Some (Missing field)
 form_fault field has_form (Some text) = if has_form text then None else Some (BadValue field)
 
+-- what is wrong with a field that has to be there
 unfoldable pub wanted_fault : ListField → (List ℕ → Bool) → List Entry → Option ListingFault
 wanted_fault field has_form fields = form_fault field has_form (value_named (name_of_field field) fields)
 
--- what is wrong with a field that may be missing
+-- what is wrong with the value of a field that may be missing: it has not its form
 abbrev spare_form_fault : ListField → (List ℕ → Bool) → Option (List ℕ) → Option ListingFault
 spare_form_fault field has_form None = None
 spare_form_fault field has_form (Some text) = if has_form text then None else Some (BadValue field)
 
+-- what is wrong with a field that may be missing
 unfoldable pub spare_fault : ListField → (List ℕ → Bool) → List Entry → Option ListingFault
 spare_fault field has_form fields = spare_form_fault field has_form (value_named (name_of_field field) fields)
 
--- the first fault of some
+-- this fault, or else that one
 abbrev pub or_fault : Option ListingFault → Option ListingFault → Option ListingFault
 or_fault (Some fault) later = Some fault
 or_fault None later = later
 
+-- the first fault of some
 abbrev pub first_fault : List (Option ListingFault) → Option ListingFault
 first_fault [] = None
 first_fault (fault ∷ later) = or_fault fault (first_fault later)
@@ -197,7 +204,7 @@ source_row fields = record {
   depends_arch = text_named (codes "Build-Depends-Arch") fields;
 }
 
--- the source that a paragraph of a Packages list names: the package's own name and version where it names none (Debian Policy 5.6.1)
+-- the row of a binary package and the source that it names: its own name and version where it names none (Debian Policy 5.6.1)
 abbrev pub with_source : List ℕ → List ℕ → List ℕ → Option (List ℕ) → BinaryRow
 with_source name version arch None = record {
   name = name;
@@ -227,9 +234,11 @@ abbrev pub unless_faulty : {X : Type 0} → Option ListingFault → X → Result
 unless_faulty (Some fault) row = Err fault
 unless_faulty None row = Ok row
 
+-- the row of a paragraph of a Sources list, or its fault
 unfoldable pub source_row_of : List Entry → Result SourceRow ListingFault
 source_row_of fields = unless_faulty (source_fault fields) (source_row fields)
 
+-- the row of a paragraph of a Packages list, or its fault
 unfoldable pub binary_row_of : List Entry → Result BinaryRow ListingFault
 binary_row_of fields = unless_faulty (binary_fault fields) (binary_row fields)
 

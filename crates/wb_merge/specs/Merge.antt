@@ -31,11 +31,12 @@ abbrev pub built_number : Option Built → List ℕ → ℕ → ℕ
 built_number None version other = other
 built_number (Some built) version other = by_order (version_cmp built.version version) other built.number other
 
--- whether waits are met by what is available (Debian Policy 7.1)
+-- whether relations were read and are met by what is available (Debian Policy 7.1)
 abbrev pub is_reading_met : Pairs → Result (List (List Alternative)) RelationFault → Bool
 is_reading_met available (Err fault) = false
 is_reading_met available (Ok relations) = satisfied available relations
 
+-- whether waits are met by what is available (Debian Policy 7.1)
 unfoldable pub are_waits_met : Pairs → List ℕ → Bool
 are_waits_met available waits = is_reading_met available (reading_of waits)
 
@@ -69,26 +70,30 @@ blank_record version = record {
   message = [];
 }
 
--- Installed where the version is built, else Needs-Build
+-- the state of a new record: Installed where the version is built, else Needs-Build
 abbrev pub new_state : Listed → Option Built → State
 new_state listed built = if covers built listed.version 0 then Installed else NeedsBuild
 
+-- the number of a new record: that of the build of its version, and 0 where there is none
 abbrev pub new_number : Listed → Option Built → ℕ
 new_number listed built = if covers built listed.version 0 then built_number built listed.version 0 else 0
 
+-- the record of a source package that had none
 unfoldable pub new_record : Listed → Option Built → Record
 new_record listed built =
     relisted (new_state listed built) (new_number listed built) listed built (blank_record listed.version)
 
 -- ---- a record of an earlier version than is listed
 
--- Not-For-Us stays, all others are as new
+-- the state at a later version: Not-For-Us stays, all others are as new
 abbrev pub newer_state : Listed → Option Built → Record → State
 newer_state listed built current = if is_not_for_us current.state then NotForUs else new_state listed built
 
+-- the number at a later version: 0 for Not-For-Us, else as new
 abbrev pub newer_number : Listed → Option Built → Record → ℕ
 newer_number listed built current = if is_not_for_us current.state then 0 else new_number listed built
 
+-- the record at a later version, without its message, its holder and its take number
 unfoldable pub newer_record : Listed → Option Built → Record → Record
 newer_record listed built current =
     relisted (newer_state listed built current) (newer_number listed built current) listed built
@@ -96,7 +101,7 @@ newer_record listed built current =
 
 -- ---- a record of the version that is listed
 
--- Not-For-Us stays; what is built is Installed; what was Installed and is built no more waits for a builder; so does what waited for relations that are met; all else stays
+-- the state at an equal version: Not-For-Us stays, what is built is Installed, a removed build and met waits give Needs-Build, all else stays
 abbrev pub same_state : Listed → Option Built → Pairs → Record → State
 same_state listed built available current =
     if is_not_for_us current.state then NotForUs
@@ -105,12 +110,14 @@ same_state listed built available current =
     else (if is_dep_wait current.state then (if are_waits_met available current.waits then NeedsBuild else current.state)
     else current.state)))
 
+-- the number at an equal version: that of a build of this version that covers the record, else the record's own, as for Not-For-Us
 abbrev pub same_number : Listed → Option Built → Record → ℕ
 same_number listed built current =
     if is_not_for_us current.state then current.number
     else (if covers built listed.version current.number then built_number built listed.version current.number
     else current.number)
 
+-- the record at an equal version, brought in line with its listing
 unfoldable pub same_record : Listed → Option Built → Pairs → Record → Record
 same_record listed built available current =
     relisted (same_state listed built available current) (same_number listed built current) listed built current

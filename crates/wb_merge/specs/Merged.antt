@@ -34,13 +34,14 @@ pub record BecomesAt (old : Records) (arch : List ℕ) (lists : Lists) (key : Li
 
 -- ---- what is counted
 
--- whether two texts that may be missing are equal
+-- whether two values that may be missing are equal, by this test
 abbrev pub is_same_option : {X : Type 0} → (X → X → Bool) → Option X → Option X → Bool
 is_same_option test None None = true
 is_same_option test None (Some y) = false
 is_same_option test (Some x) None = false
 is_same_option test (Some x) (Some y) = test x y
 
+-- whether two flags are equal
 abbrev pub is_same_flag : Bool → Bool → Bool
 is_same_flag true flag = flag
 is_same_flag false flag = not flag

@@ -49,7 +49,7 @@ with_package arch available row = if is_installable_on arch row then with_pair a
 abbrev pub Found : Type 0
 Found = finite.FinMap text_cmp Built × Pairs
 
--- both, with a row more
+-- what is built and what is available, with a row more
 abbrev pub with_binary : ArchWords → Found → BinaryRow → Found
 with_binary arch found row = (with_build arch found.0 row, with_package arch found.1 row)
 

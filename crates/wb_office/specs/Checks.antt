@@ -107,6 +107,7 @@ abbrev pub has_repeated_arch : List Part → Bool
 has_repeated_arch [] = false
 has_repeated_arch (part ∷ parts) = list_any (λ other. bytes_eq part.arch other.arch) parts || has_repeated_arch parts
 
+-- two parts of the command are for one architecture
 abbrev pub repeats_arch : Command → Bool
 repeats_arch (Merge sources parts) = has_repeated_arch parts
 repeats_arch _ = false

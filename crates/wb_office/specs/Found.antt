@@ -87,39 +87,43 @@ job_step machine builder entry =
 
 -- ---- a record that is sought
 
--- the record that is held under a take number is moved, by the move that is made of it
+-- what was found under a take number is moved, by the move that is made of it, or no record is held under it
 abbrev pub taken_at : Machine → (Entry → Move) → Option Entry → Outcome
 taken_at machine moves None = (Err NotHeld, machine)
 taken_at machine moves (Some entry) = move_step machine entry (moves entry)
 
+-- the record that is held under a take number is moved, by the move that is made of it
 unfoldable pub taken_step : Machine → ℕ → (Entry → Move) → Outcome
 taken_step machine take_number moves = taken_at machine moves (taken_as machine take_number)
 
--- the head of a queue is handed to a builder
+-- what was found at the head of a queue is handed to a builder, or the queue is empty
 abbrev pub head_at : Machine → List ℕ → Option Entry → Outcome
 head_at machine builder None = (Err QueueEmpty, machine)
 head_at machine builder (Some entry) = job_step machine builder entry
 
+-- the head of a queue is handed to a builder
 unfoldable pub head_step : Machine → List ℕ → List ℕ → Outcome
 head_step machine arch builder = head_at machine builder (head_of machine arch)
 
--- the record of a source package is moved, if it is of the version
+-- what was found of a source package is moved, if it is of the version, or there is no record
 abbrev pub named_at : Machine → List ℕ × List ℕ → List ℕ → Move → Option Record → Outcome
 named_at machine key version move None = (Err UnknownSource, machine)
 named_at machine key version move (Some current) =
     unless_refused (differing version current) machine (move_step machine (key, current) move)
 
+-- the record of a source package is moved, if it is of the version
 unfoldable pub named_step : Machine → List ℕ → List ℕ → List ℕ → Move → Outcome
 named_step machine arch source version move =
     unless_refused (when (not (map.contains_key machine.archs arch)) UnknownArch) machine
     (named_at machine (arch, source) version move (map.get machine.records (arch, source)))
 
--- the record of a source package is handed to a builder, if it is of the version
+-- what was found of a source package is handed to a builder, if it is of the version, or there is no record
 abbrev pub take_at : Machine → List ℕ → List ℕ × List ℕ → List ℕ → Option Record → Outcome
 take_at machine builder key version None = (Err UnknownSource, machine)
 take_at machine builder key version (Some current) =
     unless_refused (differing version current) machine (job_step machine builder (key, current))
 
+-- the record of a source package is handed to a builder, if it is of the version
 unfoldable pub take_step : Machine → List ℕ → List ℕ → List ℕ → List ℕ → Outcome
 take_step machine arch builder source version =
     unless_refused (builder_refusal machine arch builder) machine

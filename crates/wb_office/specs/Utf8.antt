@@ -12,6 +12,6 @@ HasUtf8Texts (NotForUs arch source version note) = IsUtf8 note
 HasUtf8Texts (Rebuild arch source version number message) = IsUtf8 message
 HasUtf8Texts _ = ⊤
 
--- so it is with each of some commands
+-- the note or the message that each of some commands brings is UTF-8
 abbrev pub HaveUtf8Texts : List Command → Type 0
 HaveUtf8Texts = AllByRecursion HasUtf8Texts

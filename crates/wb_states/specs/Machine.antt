@@ -20,7 +20,7 @@ use Rattle.wb_states.specs.Record.{IsWellFormed}
 abbrev pub pair_cmp : List ℕ × List ℕ → List ℕ × List ℕ → Ordering
 pair_cmp = then_cmp (on (λ p. p.0) text_cmp) (on (λ p. p.1) text_cmp)
 
--- the state of the office: a record for each architecture and source package that has one, the words of each architecture, which builder builds for which architecture, and the two counts
+-- the state of the office: records by architecture and source package, the words of architectures, who builds for which, and two counts
 pub record Machine : Type 0 where
   pub records : map.FinMap pair_cmp Record
   pub archs : map.FinMap text_cmp OsCpu
@@ -71,7 +71,7 @@ pub record IsBuilder (machine : Machine) (builder arch : List ℕ) : Type 0 wher
   pub name : IsTrue (is_builder_name builder)
   pub known : IsTrue (map.contains_key machine.archs arch)
 
--- a record has its form, is of an architecture that is there, is held by a builder that was added for that architecture, waits for relations that were reduced for it, and its take number was given
+-- a record has its form, its architecture is there, its holder may build for it, its waits are reduced for it, and its take number was given
 pub record IsRecord (machine : Machine) (arch source : List ℕ) (current : Record) : Type 0 where
   pub name : IsTrue (is_source_name source)
   pub known : IsTrue (map.contains_key machine.archs arch)
@@ -87,7 +87,7 @@ HasDistinctTakes machine =
     → map.get machine.records one ≡ Some first → map.get machine.records other ≡ Some second
     → first.take ≡ Some take_number → second.take ≡ Some take_number → one ≡ other
 
--- the invariant of the office: what is kept has its form, a source package on an architecture has at most one holder, which may build for it, and no take number is held twice
+-- the invariant of the office: what is kept has its form, a record has at most one holder, which may build for it, no take number is held twice
 pub record IsConsistent (machine : Machine) : Type 0 where
   pub archs : (name : List ℕ) → IfSome (map.get machine.archs name) (IsArch name)
   pub builders : (builder arch : List ℕ) → IsTrue (set.contains machine.builders (builder, arch)) → IsBuilder machine builder arch

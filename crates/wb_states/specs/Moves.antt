@@ -80,7 +80,7 @@ settled_in state current = record current {
   waits = if is_dep_wait state then current.waits else [];
 }
 
--- the note in a state after a record: the one that is brought, else none where the state changes
+-- the note in a state after a record: the one that is brought, else none where the state changes, else the record's
 abbrev pub note_after : Option (List ℕ) → State → Record → List ℕ
 note_after (Some note) state current = note
 note_after None state current = if nat_eq (code_of state) (code_of current.state) then current.note else []

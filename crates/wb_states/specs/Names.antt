@@ -1,4 +1,4 @@
--- The forms of names: of packages (Debian Policy 5.6.1), of priorities and sections (2.5 and 2.4), and, this project's own, of architectures, their words and builders.
+-- The forms of names: packages (Debian Policy 5.6.1), priorities and sections (2.5 and 2.4), and, this project's own, architectures and builders.
 use Rattle.std.specs.Prelude.{ℕ, Bool, false, not, ◌&&◌, ◌||◌, List, [], ◌∷◌, length, nat_le, nat_eq, codes, bytes_eq}
 use Rattle.std.specs.List.{list_all}
 

@@ -30,6 +30,7 @@ sections =
     ∷ codes "gnome" ∷ codes "kde" ∷ codes "science" ∷ codes "math" ∷ codes "doc" ∷ codes "misc" ∷ codes "oldlibs"
     ∷ codes "games" ∷ []
 
+-- the slash between an archive area and a section (Debian Policy 2.4)
 abbrev pub is_slash : ℕ → Bool
 is_slash c = nat_eq c 47
 
@@ -59,6 +60,7 @@ place_cmp =
     then_cmp (on (λ p. p.is_new) bool_cmp)
     (then_cmp (on (λ p. p.priority) nat_cmp) (then_cmp (on (λ p. p.section) nat_cmp) (on (λ p. p.name) text_cmp)))
 
+-- the order of places is total
 pub place_cmp_total : IsTotalOrder place_cmp
 place_cmp_total =
     then_total (on_total (λ p. p.is_new) bool_cmp_total)

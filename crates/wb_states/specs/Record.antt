@@ -7,6 +7,7 @@ use Rattle.wb_states.specs.State.{is_held, is_dep_wait}
 use Rattle.wb_states.specs.Names.{is_builder_name, is_label_text}
 use Rattle.wb_states.specs.Limits.{rebuild_limit, note_limit, relations_limit}
 
+-- whether a text is empty
 abbrev pub is_empty_text : List ℕ → Bool
 is_empty_text [] = true
 is_empty_text (_ ∷ _) = false

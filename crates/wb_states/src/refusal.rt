@@ -219,7 +219,9 @@ impl fmt::Display for Refusal {
             Refusal::NotHeld => f.write_str("nothing is held under the take number"),
             Refusal::AfterAhead { handed } => write!(f, "the last take number is {handed}"),
             Refusal::AlreadyThere => f.write_str("it is there already"),
-            Refusal::BadName => f.write_str("a name, a word, a priority or a section has not its form"),
+            Refusal::BadName => f.write_str(
+                "a name, a word, a priority or a section has not its form",
+            ),
             Refusal::BadVersion { fault } => write!(f, "the version has not its form: {fault}"),
             Refusal::BadRelations { fault: Some(fault) } => write!(
                 f,
