@@ -73,7 +73,8 @@ fn take_checked(
     builder: &Text,
     take_number: u64,
 ) -> Result<Record, Refusal>
-    ensures value { IfOk result (λ after. after ≡ moved (to.Take builder.now take_number) current.now) }
+    ensures value { IfOk result (λ after.
+        after ≡ moved (to.Take builder.now take_number) current.now) }
     ensures ok { OnOk result (move_refusal (to.Take builder.now take_number) current.now ≡ None) }
     ensures refused { IfErr result (λ refusal. refusal ≢ Memory
         → move_refusal (to.Take builder.now take_number) current.now ≡ Some refusal) }
@@ -96,13 +97,16 @@ pub(crate) fn prepare_job(
     builder: &Text,
 ) -> Result<Handed, Refusal>
     ensures key { IfOk result (λ job. (job.made.arch ≡ arch.now) × (job.made.source ≡ source.now)) }
-    ensures value { IfOk result (λ job. job.made.after ≡ moved (take_move store.now builder.now) current.now) }
+    ensures value { IfOk result (λ job.
+        job.made.after ≡ moved (take_move store.now builder.now) current.now) }
     ensures told { IfOk result (λ job. job.assignment
         ≡ assignment_of ((arch.now, source.now), current.now) (store.now.handed + 1)) }
     ensures ok { OnOk result (move_refusal (take_move store.now builder.now) current.now ≡ None) }
-    ensures room { OnOk result ((nat_le count_limit store.now.accepted || nat_le count_limit store.now.handed) ≡ false) }
+    ensures room { OnOk result
+        ((nat_le count_limit store.now.accepted || nat_le count_limit store.now.handed) ≡ false) }
     ensures refused { IfErr result (λ refusal. refusal ≢ Memory
-        → job_step store.now builder.now ((arch.now, source.now), current.now) ≡ (Err refusal, store.now)) }
+        → job_step store.now builder.now ((arch.now, source.now), current.now)
+        ≡ (Err refusal, store.now)) }
 {
     let take_number = next_take(store);
     let after = take_checked(alloc, current, builder, take_number)?;
@@ -122,7 +126,8 @@ pub(crate) fn prepare_job(
 
 /// Writes the record that a builder took, and counts the take number and the command.
 pub(crate) fn keep_job(store: &mut Store, job: Handed) -> Result<Reply, Refusal>
-    requires { (nat_le count_limit store.old.accepted || nat_le count_limit store.old.handed) ≡ false }
+    requires { (nat_le count_limit store.old.accepted || nat_le count_limit store.old.handed)
+        ≡ false }
     ensures reply { IfOk result (λ reply. reply ≡ Job (store.old.accepted + 1) job.assignment) }
     ensures ok { OnOk result (store.new ≡ record store.old {
       records = map.insert store.old.records (job.made.arch, job.made.source) job.made.after;
@@ -170,7 +175,8 @@ fn next_head(
     arch: &Text,
     builder: &Text,
 ) -> Result<Reply, Refusal>
-    ensures reply { IfOk result (λ reply. head_step store.old arch.now builder.now ≡ (Ok reply, store.new)) }
+    ensures reply { IfOk result (λ reply.
+        head_step store.old arch.now builder.now ≡ (Ok reply, store.new)) }
     ensures refused { IfErr result (λ refusal. refusal ≢ Memory
         → head_step store.old arch.now builder.now ≡ (Err refusal, store.old)) }
     ensures unchanged { OnErr result (store.new ≡ store.old) }
@@ -191,7 +197,8 @@ pub(crate) fn next(
     builder: &Text,
     after: Option<u64>,
 ) -> Result<Reply, Refusal>
-    ensures reply { IfOk result (λ reply. step store.old (Next arch.now builder.now after) ≡ (Ok reply, store.new)) }
+    ensures reply { IfOk result (λ reply.
+        step store.old (Next arch.now builder.now after) ≡ (Ok reply, store.new)) }
     ensures refused { IfErr result (λ refusal. refusal ≢ Memory
         → step store.old (Next arch.now builder.now after) ≡ (Err refusal, store.old)) }
     ensures memory { IfErr result (λ refusal. refusal ≡ Memory
@@ -233,7 +240,8 @@ fn take_named(
     ensures reply { IfOk result (λ reply.
         take_step store.old arch.now builder.now source.now version.now ≡ (Ok reply, store.new)) }
     ensures refused { IfErr result (λ refusal. refusal ≢ Memory
-        → take_step store.old arch.now builder.now source.now version.now ≡ (Err refusal, store.old)) }
+        → take_step store.old arch.now builder.now source.now version.now
+        ≡ (Err refusal, store.old)) }
     ensures unchanged { OnErr result (store.new ≡ store.old) }
 {
     check_builds(store, arch, builder)?;
@@ -254,7 +262,8 @@ pub(crate) fn take(
     ensures reply { IfOk result (λ reply.
         step store.old (Take arch.now builder.now source.now version.now) ≡ (Ok reply, store.new)) }
     ensures refused { IfErr result (λ refusal. refusal ≢ Memory
-        → step store.old (Take arch.now builder.now source.now version.now) ≡ (Err refusal, store.old)) }
+        → step store.old (Take arch.now builder.now source.now version.now)
+        ≡ (Err refusal, store.old)) }
     ensures memory { IfErr result (λ refusal. refusal ≡ Memory
         → MayWantMemory (Take arch.now builder.now source.now version.now)) }
     ensures unchanged { OnErr result (store.new ≡ store.old) }

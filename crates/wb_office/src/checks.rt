@@ -31,7 +31,8 @@ pub(crate) fn has_arch(store: &Store, arch: &Text) -> bool
 
 /// Whether the source package has a record on the architecture.
 pub(crate) fn has_record(store: &Store, arch: &Text, source: &Text) -> Result<bool, AllocError>
-    ensures value { IfOk result (λ has. has ≡ map.contains_key store.now.records (arch.now, source.now)) }
+    ensures value { IfOk result (λ has.
+        has ≡ map.contains_key store.now.records (arch.now, source.now)) }
 {
     Ok(store.get(arch, source)?.is_some())
 }
@@ -70,7 +71,8 @@ pub(crate) fn is_spent(store: &Store) -> bool
 
 /// Whether no more assignment can be counted.
 pub(crate) fn is_job_spent(store: &Store) -> bool
-    ensures value { result ≡ (nat_le count_limit store.now.accepted || nat_le count_limit store.now.handed) }
+    ensures value { result
+        ≡ (nat_le count_limit store.now.accepted || nat_le count_limit store.now.handed) }
 {
     let counts = store.office_row();
     COUNT_LIMIT <= counts.accepted || COUNT_LIMIT <= counts.handed
@@ -108,7 +110,8 @@ pub(crate) fn find_source<'a>(
         map.get store.now.records (arch.now, source.now) ≡ Some current.now) }
     ensures ok { IfOk result (λ current. differing version.now current.now ≡ None) }
     ensures refused { IfErr result (λ refusal. refusal ≢ Memory
-        → found_refusal version.now (map.get store.now.records (arch.now, source.now)) ≡ Some refusal) }
+        → found_refusal version.now (map.get store.now.records (arch.now, source.now))
+        ≡ Some refusal) }
 {
     let Some(current) = store.get(arch, source)? else {
         return Err(Refusal::UnknownSource);

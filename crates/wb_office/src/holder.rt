@@ -21,7 +21,8 @@ fn move_taken(
     take_number: u64,
     change: &Move,
 ) -> Result<Reply, Refusal>
-    ensures reply { IfOk result (λ reply. taken_step store.old take_number (λ _. change.now) ≡ (Ok reply, store.new)) }
+    ensures reply { IfOk result (λ reply.
+        taken_step store.old take_number (λ _. change.now) ≡ (Ok reply, store.new)) }
     ensures refused { IfErr result (λ refusal. refusal ≢ Memory
         → taken_step store.old take_number (λ _. change.now) ≡ (Err refusal, store.old)) }
     ensures unchanged { OnErr result (store.new ≡ store.old) }
@@ -35,7 +36,8 @@ fn move_taken(
 
 /// Says that the holder built it.
 pub(crate) fn built(alloc: Global, store: &mut Store, take_number: u64) -> Result<Reply, Refusal>
-    ensures reply { IfOk result (λ reply. step store.old (Built take_number) ≡ (Ok reply, store.new)) }
+    ensures reply { IfOk result (λ reply.
+        step store.old (Built take_number) ≡ (Ok reply, store.new)) }
     ensures refused { IfErr result (λ refusal. refusal ≢ Memory
         → step store.old (Built take_number) ≡ (Err refusal, store.old)) }
     ensures unchanged { OnErr result (store.new ≡ store.old) }
@@ -46,7 +48,8 @@ pub(crate) fn built(alloc: Global, store: &mut Store, take_number: u64) -> Resul
 
 /// Says that the holder uploaded it.
 pub(crate) fn uploaded(alloc: Global, store: &mut Store, take_number: u64) -> Result<Reply, Refusal>
-    ensures reply { IfOk result (λ reply. step store.old (Uploaded take_number) ≡ (Ok reply, store.new)) }
+    ensures reply { IfOk result (λ reply.
+        step store.old (Uploaded take_number) ≡ (Ok reply, store.new)) }
     ensures refused { IfErr result (λ refusal. refusal ≢ Memory
         → step store.old (Uploaded take_number) ≡ (Err refusal, store.old)) }
     ensures unchanged { OnErr result (store.new ≡ store.old) }
@@ -57,7 +60,8 @@ pub(crate) fn uploaded(alloc: Global, store: &mut Store, take_number: u64) -> Re
 
 /// Puts it back into the queue.
 pub(crate) fn put_back(alloc: Global, store: &mut Store, take_number: u64) -> Result<Reply, Refusal>
-    ensures reply { IfOk result (λ reply. step store.old (PutBack take_number) ≡ (Ok reply, store.new)) }
+    ensures reply { IfOk result (λ reply.
+        step store.old (PutBack take_number) ≡ (Ok reply, store.new)) }
     ensures refused { IfErr result (λ refusal. refusal ≢ Memory
         → step store.old (PutBack take_number) ≡ (Err refusal, store.old)) }
     ensures unchanged { OnErr result (store.new ≡ store.old) }
@@ -73,7 +77,8 @@ pub(crate) fn waits(
     take_number: u64,
     relations: &Text,
 ) -> Result<Reply, Refusal>
-    ensures reply { IfOk result (λ reply. step store.old (Waits take_number relations.now) ≡ (Ok reply, store.new)) }
+    ensures reply { IfOk result (λ reply.
+        step store.old (Waits take_number relations.now) ≡ (Ok reply, store.new)) }
     ensures refused { IfErr result (λ refusal. refusal ≢ Memory
         → step store.old (Waits take_number relations.now) ≡ (Err refusal, store.old)) }
     ensures memory { IfErr result (λ refusal. refusal ≡ Memory

@@ -77,7 +77,8 @@ pub fn hand_outs_are_held()
 /// same assignment, and nothing changes. So it is where a builder that lost the answer asks after the last
 /// number that was given before it, with or without a number the first time.
 pub fn retries_are_idempotent()
-    ensures again { (machine : Machine) (arch builder : List ℕ) (after accepted : ℕ) (given : Assignment)
+    ensures again { (machine : Machine) (arch builder : List ℕ) (after accepted : ℕ)
+        (given : Assignment)
         → (step machine (Next arch builder (Some after))).0 ≡ Ok (Job accepted given)
         → step (step machine (Next arch builder (Some after))).1 (Next arch builder (Some after))
         ≡ (Ok (Again accepted given), (step machine (Next arch builder (Some after))).1) }
@@ -94,7 +95,8 @@ pub fn ended_takes_stay_ended()
     ensures ended { (machine : Machine) (commands : List Command) (take_number : ℕ)
         → take_number ≤ machine.handed → taken_as machine take_number ≡ None
         → taken_as (replay machine commands) take_number ≡ None }
-    ensures refused { (machine : Machine) (commands : List Command) (take_number : ℕ) (command : Command)
+    ensures refused { (machine : Machine) (commands : List Command) (take_number : ℕ)
+        (command : Command)
         → take_number ≤ machine.handed → taken_as machine take_number ≡ None
         → take_named command ≡ Some take_number
         → is_ok (step (replay machine commands) command).0 ≡ false }
@@ -118,5 +120,6 @@ pub fn next_takes_the_head()
         (given : Assignment)
         → (step machine (Next arch builder after)).0 ≡ Ok (Job accepted given)
         → (current : Record) × (queue_of machine arch
-        ≡ ((arch, given.source), current) ∷ queue_of (step machine (Next arch builder after)).1 arch) }
+        ≡ ((arch, given.source), current)
+        ∷ queue_of (step machine (Next arch builder after)).1 arch) }
 {}

@@ -69,7 +69,8 @@ fn repeats_arch(parts: &[Part]) -> bool
 /// The listing of a part, or why the part is refused.
 #[tactic(auto, unfolding(crate::specs::Parts::part_listing))]
 fn listing_of(alloc: Global, store: &Store, sources: &[u8], part: &Part) -> Result<Listing, Refusal>
-    ensures value { IfOk result (λ listing. part_listing store.now sources.now part.now ≡ Ok listing) }
+    ensures value { IfOk result (λ listing.
+        part_listing store.now sources.now part.now ≡ Ok listing) }
     ensures refused { IfErr result (λ refusal. refusal ≢ Memory
         → part_listing store.now sources.now part.now ≡ Err refusal) }
 {
@@ -90,7 +91,8 @@ fn merge_part(
     part: &Part,
     records: &mut BTreeMap<(Text, Text), Record>,
 ) -> Result<PartEnd, Refusal>
-    ensures value { IfOk result (λ end. end ≡ end_with (map.from_entries records.old.entries) part.now.arch
+    ensures value { IfOk result (λ end.
+        end ≡ end_with (map.from_entries records.old.entries) part.now.arch
         (part_listing store.now sources.now part.now)) }
     ensures records { OnOk result (map.from_entries records.new.entries
         ≡ records_with (map.from_entries records.old.entries) part.now.arch
@@ -124,7 +126,8 @@ fn merge_parts(
         ≡ records_after store.now sources.now parts.now store.now.records) }
     ensures replies { IfOk result (λ made. made.replies.items
         ≡ part_replies store.now sources.now parts.now store.now.records) }
-    ensures good { IfOk result (λ made. made.is_any_good ≡ list_any (is_good store.now sources.now) parts.now) }
+    ensures good { IfOk result (λ made.
+        made.is_any_good ≡ list_any (is_good store.now sources.now) parts.now) }
     ensures refused { IfErr result (λ refusal. refusal ≡ Memory) }
 {
     let mut records = store.copy_records()?;
@@ -203,7 +206,8 @@ pub(crate) fn merge(
     sources: &Items<u8>,
     parts: &Items<Part>,
 ) -> Result<Reply, Refusal>
-    ensures reply { IfOk result (λ reply. step store.old (Merge sources.now parts.now) ≡ (Ok reply, store.new)) }
+    ensures reply { IfOk result (λ reply.
+        step store.old (Merge sources.now parts.now) ≡ (Ok reply, store.new)) }
     ensures refused { IfErr result (λ refusal. refusal ≢ Memory
         → step store.old (Merge sources.now parts.now) ≡ (Err refusal, store.old)) }
     ensures memory { IfErr result (λ refusal. refusal ≡ Memory

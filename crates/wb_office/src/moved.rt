@@ -54,7 +54,8 @@ pub(crate) fn prepare_move(
     ensures ok { OnOk result (move_refusal change.now current.now ≡ None) }
     ensures room { OnOk result (nat_le count_limit store.now.accepted ≡ false) }
     ensures refused { IfErr result (λ refusal. refusal ≢ Memory
-        → move_step store.now ((arch.now, source.now), current.now) change.now ≡ (Err refusal, store.now)) }
+        → move_step store.now ((arch.now, source.now), current.now) change.now
+        ≡ (Err refusal, store.now)) }
 {
     let after = move_checked(alloc, current, change)?;
     if is_spent(store) {
@@ -72,7 +73,9 @@ pub(crate) fn keep_move(store: &mut Store, made: Moved) -> Result<Reply, Refusal
     requires { nat_le count_limit store.old.accepted ≡ false }
     ensures reply { IfOk result (λ reply. reply ≡ Done (store.old.accepted + 1)) }
     ensures ok { OnOk result (store.new ≡ counted store.old
-        (record store.old { records = map.insert store.old.records (made.arch, made.source) made.after })) }
+        (record store.old {
+          records = map.insert store.old.records (made.arch, made.source) made.after;
+        })) }
     ensures refused { IfErr result (λ refusal. refusal ≡ Memory) }
     ensures unchanged { OnErr result (store.new ≡ store.old) }
 {

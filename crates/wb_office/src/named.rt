@@ -28,7 +28,8 @@ fn move_named(
     ensures reply { IfOk result (λ reply.
         named_step store.old arch.now source.now version.now change.now ≡ (Ok reply, store.new)) }
     ensures refused { IfErr result (λ refusal. refusal ≢ Memory
-        → named_step store.old arch.now source.now version.now change.now ≡ (Err refusal, store.old)) }
+        → named_step store.old arch.now source.now version.now change.now
+        ≡ (Err refusal, store.old)) }
     ensures unchanged { OnErr result (store.new ≡ store.old) }
 {
     if lacks_arch(store, arch) {
@@ -70,9 +71,11 @@ pub(crate) fn dep_wait(
     relations: &Text,
 ) -> Result<Reply, Refusal>
     ensures reply { IfOk result (λ reply.
-        step store.old (DepWait arch.now source.now version.now relations.now) ≡ (Ok reply, store.new)) }
+        step store.old (DepWait arch.now source.now version.now relations.now)
+        ≡ (Ok reply, store.new)) }
     ensures refused { IfErr result (λ refusal. refusal ≢ Memory
-        → step store.old (DepWait arch.now source.now version.now relations.now) ≡ (Err refusal, store.old)) }
+        → step store.old (DepWait arch.now source.now version.now relations.now)
+        ≡ (Err refusal, store.old)) }
     ensures memory { IfErr result (λ refusal. refusal ≡ Memory
         → MayWantMemory (DepWait arch.now source.now version.now relations.now)) }
     ensures unchanged { OnErr result (store.new ≡ store.old) }
@@ -103,7 +106,8 @@ pub(crate) fn fail(
     ensures reply { IfOk result (λ reply.
         step store.old (Fail arch.now source.now version.now note.now) ≡ (Ok reply, store.new)) }
     ensures refused { IfErr result (λ refusal. refusal ≢ Memory
-        → step store.old (Fail arch.now source.now version.now note.now) ≡ (Err refusal, store.old)) }
+        → step store.old (Fail arch.now source.now version.now note.now)
+        ≡ (Err refusal, store.old)) }
     ensures memory { IfErr result (λ refusal. refusal ≡ Memory
         → MayWantMemory (Fail arch.now source.now version.now note.now)) }
     ensures unchanged { OnErr result (store.new ≡ store.old) }
@@ -130,9 +134,11 @@ pub(crate) fn not_for_us(
     note: &Text,
 ) -> Result<Reply, Refusal>
     ensures reply { IfOk result (λ reply.
-        step store.old (NotForUs arch.now source.now version.now note.now) ≡ (Ok reply, store.new)) }
+        step store.old (NotForUs arch.now source.now version.now note.now)
+        ≡ (Ok reply, store.new)) }
     ensures refused { IfErr result (λ refusal. refusal ≢ Memory
-        → step store.old (NotForUs arch.now source.now version.now note.now) ≡ (Err refusal, store.old)) }
+        → step store.old (NotForUs arch.now source.now version.now note.now)
+        ≡ (Err refusal, store.old)) }
     ensures memory { IfErr result (λ refusal. refusal ≡ Memory
         → MayWantMemory (NotForUs arch.now source.now version.now note.now)) }
     ensures unchanged { OnErr result (store.new ≡ store.old) }
@@ -160,9 +166,11 @@ pub(crate) fn rebuild(
     message: &Text,
 ) -> Result<Reply, Refusal>
     ensures reply { IfOk result (λ reply.
-        step store.old (Rebuild arch.now source.now version.now number message.now) ≡ (Ok reply, store.new)) }
+        step store.old (Rebuild arch.now source.now version.now number message.now)
+        ≡ (Ok reply, store.new)) }
     ensures refused { IfErr result (λ refusal. refusal ≢ Memory
-        → step store.old (Rebuild arch.now source.now version.now number message.now) ≡ (Err refusal, store.old)) }
+        → step store.old (Rebuild arch.now source.now version.now number message.now)
+        ≡ (Err refusal, store.old)) }
     ensures memory { IfErr result (λ refusal. refusal ≡ Memory
         → MayWantMemory (Rebuild arch.now source.now version.now number message.now)) }
     ensures unchanged { OnErr result (store.new ≡ store.old) }

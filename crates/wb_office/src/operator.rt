@@ -31,13 +31,12 @@ pub(crate) fn count_done(store: &mut Store) -> Reply
     Reply::Done { accepted }
 }
 
-/// The checks of a command that adds an architecture.
+/// The checks of a command that adds an architecture. Takes no memory.
 fn check_arch(store: &Store, name: &Text, os: &Text, cpu: &Text) -> Result<(), Refusal>
     ensures ok { OnOk result (first_refusal store.now (AddArch name.now os.now cpu.now) ≡ None) }
-    ensures refused { IfErr result (λ refusal. refusal ≢ Memory
-        → first_refusal store.now (AddArch name.now os.now cpu.now) ≡ Some refusal) }
-    ensures memory { IfErr result (λ refusal. refusal ≡ Memory
-        → MayWantMemory (AddArch name.now os.now cpu.now)) }
+    ensures refused { IfErr result (λ refusal.
+        first_refusal store.now (AddArch name.now os.now cpu.now) ≡ Some refusal) }
+    ensures memory { IfErr result (λ refusal. refusal ≢ Memory) }
     ensures room { OnOk result (nat_le count_limit store.now.accepted ≡ false) }
 {
     if is_bad_arch(name, os, cpu) {
@@ -60,7 +59,8 @@ pub(crate) fn add_arch(
     os: &Text,
     cpu: &Text,
 ) -> Result<Reply, Refusal>
-    ensures reply { IfOk result (λ reply. step store.old (AddArch name.now os.now cpu.now) ≡ (Ok reply, store.new)) }
+    ensures reply { IfOk result (λ reply.
+        step store.old (AddArch name.now os.now cpu.now) ≡ (Ok reply, store.new)) }
     ensures refused { IfErr result (λ refusal. refusal ≢ Memory
         → step store.old (AddArch name.now os.now cpu.now) ≡ (Err refusal, store.old)) }
     ensures memory { IfErr result (λ refusal. refusal ≡ Memory
@@ -104,7 +104,8 @@ fn check_builder(store: &Store, name: &Text, arch: &Text) -> Result<(), Refusal>
 /// Lets a builder build for an architecture.
 #[tactic(auto, unfolding(crate::specs::Step::step))]
 pub(crate) fn add_builder(store: &mut Store, name: &Text, arch: &Text) -> Result<Reply, Refusal>
-    ensures reply { IfOk result (λ reply. step store.old (AddBuilder name.now arch.now) ≡ (Ok reply, store.new)) }
+    ensures reply { IfOk result (λ reply.
+        step store.old (AddBuilder name.now arch.now) ≡ (Ok reply, store.new)) }
     ensures refused { IfErr result (λ refusal. refusal ≢ Memory
         → step store.old (AddBuilder name.now arch.now) ≡ (Err refusal, store.old)) }
     ensures memory { IfErr result (λ refusal. refusal ≡ Memory
@@ -128,9 +129,11 @@ fn check_entry(
 ) -> Result<Version, Refusal>
     ensures value { IfOk result (λ read. read ≡ version.now) }
     ensures ok { OnOk result
-        (first_refusal store.now (Enter arch.now source.now version.now priority.now section.now) ≡ None) }
+        (first_refusal store.now (Enter arch.now source.now version.now priority.now section.now)
+        ≡ None) }
     ensures refused { IfErr result (λ refusal. refusal ≢ Memory
-        → first_refusal store.now (Enter arch.now source.now version.now priority.now section.now) ≡ Some refusal) }
+        → first_refusal store.now (Enter arch.now source.now version.now priority.now section.now)
+        ≡ Some refusal) }
     ensures memory { IfErr result (λ refusal. refusal ≡ Memory
         → MayWantMemory (Enter arch.now source.now version.now priority.now section.now)) }
     ensures room { OnOk result (nat_le count_limit store.now.accepted ≡ false) }
@@ -164,9 +167,11 @@ pub(crate) fn enter(
     section: &Text,
 ) -> Result<Reply, Refusal>
     ensures reply { IfOk result (λ reply.
-        step store.old (Enter arch.now source.now version.now priority.now section.now) ≡ (Ok reply, store.new)) }
+        step store.old (Enter arch.now source.now version.now priority.now section.now)
+        ≡ (Ok reply, store.new)) }
     ensures refused { IfErr result (λ refusal. refusal ≢ Memory
-        → step store.old (Enter arch.now source.now version.now priority.now section.now) ≡ (Err refusal, store.old)) }
+        → step store.old (Enter arch.now source.now version.now priority.now section.now)
+        ≡ (Err refusal, store.old)) }
     ensures memory { IfErr result (λ refusal. refusal ≡ Memory
         → MayWantMemory (Enter arch.now source.now version.now priority.now section.now)) }
     ensures unchanged { OnErr result (store.new ≡ store.old) }

@@ -119,7 +119,8 @@ pub(crate) fn is_long(text: &Text) -> bool
 
 /// The number of a rebuild as a record keeps it, or none where no rebuild has it.
 pub(crate) fn rebuild_number(number: u64) -> Option<u16>
-    ensures value { result ≡ (if nat_eq number 0 || nat_lt rebuild_limit number then None else Some number) }
+    ensures value { result
+        ≡ (if nat_eq number 0 || nat_lt rebuild_limit number then None else Some number) }
 {
     if number == 0 || number > REBUILD_LIMIT {
         return None;

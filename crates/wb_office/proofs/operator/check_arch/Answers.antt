@@ -3,17 +3,17 @@ use Rattle.wb_office.proofs.RefusalLemmas.{first_refusal-AddArch}
 use Rattle.wb_office.proofs.operator.check_arch.Goals as goal
 
 pub returns-then-is_bad_arch-clause-refused : goal.returns-then-is_bad_arch-clause-refused
-returns-then-is_bad_arch-clause-refused c = λ _.
+returns-then-is_bad_arch-clause-refused c =
     first_refusal-AddArch c.args.store.now c.args.name.now c.args.os.now c.args.cpu.now true _ _
     (sym c.is_bad_arch.ensures.value ∙ c.if-is_bad_arch.true) refl refl
 
 pub returns-then-has_arch-clause-refused : goal.returns-then-has_arch-clause-refused
-returns-then-has_arch-clause-refused c = λ _.
+returns-then-has_arch-clause-refused c =
     first_refusal-AddArch c.args.store.now c.args.name.now c.args.os.now c.args.cpu.now false true _
     (sym c.is_bad_arch.ensures.value ∙ c.if-is_bad_arch.false) (sym c.has_arch.ensures.value ∙ c.if-has_arch.true) refl
 
 pub returns-then-is_spent-clause-refused : goal.returns-then-is_spent-clause-refused
-returns-then-is_spent-clause-refused c = λ _.
+returns-then-is_spent-clause-refused c =
     first_refusal-AddArch c.args.store.now c.args.name.now c.args.os.now c.args.cpu.now false false true
     (sym c.is_bad_arch.ensures.value ∙ c.if-is_bad_arch.false) (sym c.has_arch.ensures.value ∙ c.if-has_arch.false)
     (sym c.is_spent.ensures.value ∙ c.if-is_spent.true)
