@@ -34,7 +34,7 @@ insert-other records key other current apart =
     ]) refl
 
 -- a part changes no record of another architecture
-part-others : (records : Records) (arch : List ℕ) (read : Result Lists Refusal) (key : List ℕ × List ℕ) → bytes_eq key.0 arch ≡ false
+pub part-others : (records : Records) (arch : List ℕ) (read : Result Lists Refusal) (key : List ℕ × List ℕ) → bytes_eq key.0 arch ≡ false
     → map.get (records_with records arch read) key ≡ map.get records key
 unfolding after_at
 part-others records arch (Err refusal) key other = refl
@@ -46,7 +46,7 @@ either-not : (a b : Bool) → ((a || b) ≡ true → ⊥) → (a ≡ false) × (
 either-not true b apart = absurd (apart refl)
 either-not false b apart = (refl, apart)
 
-parts-others : (machine : Machine) (sources : List ℕ) (parts : List Part) (records : Records) (key : List ℕ × List ℕ)
+pub parts-others : (machine : Machine) (sources : List ℕ) (parts : List Part) (records : Records) (key : List ℕ × List ℕ)
     → (list_any (λ part. bytes_eq key.0 part.arch) parts ≡ true → ⊥)
     → map.get (records_after machine sources parts records) key ≡ map.get records key
 parts-others machine sources [] records key apart = refl

@@ -1,3 +1,4 @@
+pub mod ApartPartLemmas
 pub mod AppliedLemmas
 pub mod AskedLemmas
 pub mod ChosenLemmas

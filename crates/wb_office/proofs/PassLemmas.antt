@@ -47,6 +47,7 @@ pub record Passes (machine : Machine) (command : Command) : Type 0 where
   pub relations : relation_fault command ≡ None
   pub number : has_bad_number command ≡ false
   pub short : has_long_text command ≡ false
+  pub parts : repeats_arch command ≡ false
   pub arch : lacks_arch machine command ≡ false
   pub builder : lacks_builder machine command ≡ false
   pub others : is_for_other_archs machine command ≡ false
@@ -90,6 +91,7 @@ passes machine command is =
       relations = option_map-None (λ fault. BadRelations (Some fault)) _ texts.1.1.0;
       number = when-None _ _ texts.1.1.1.0;
       short = when-None _ _ texts.1.1.1.1.0;
+      parts = when-None _ _ texts.1.1.1.1.1.0;
       arch = when-None _ _ states.0;
       builder = when-None _ _ states.1.1.0;
       others = when-None _ _ states.1.1.1.0;

@@ -1,9 +1,10 @@
 //! Laws of the definitions, each on a function that does nothing.
-ghost use Rattle.std.specs.Prelude.{◌≡◌, ℕ, ◌≤◌, false, List, ◌++◌, ◌∷◌, Option, Some, None, Ok, Err, is_ok};
+ghost use Rattle.std.specs.Prelude.{◌≡◌, ℕ, ◌≤◌, true, false, List, ◌++◌, ◌∷◌, Option, Some, None, Ok, Err, is_ok};
 ghost use Rattle.std.specs.FinMap as map;
 ghost use Rattle.wb_states.specs.Machine.{IsConsistent, Machine, empty_office};
 ghost use Rattle.wb_states.specs.declared.command.Command.{Command};
-ghost use Rattle.wb_states.specs.declared.command.Command.TheVariants.{Next, Built};
+ghost use Rattle.wb_states.specs.declared.command.Command.TheVariants.{Next, Built, Merge};
+ghost use Rattle.wb_states.specs.declared.command.Part.{Part};
 ghost use Rattle.wb_states.specs.declared.record.Record.{Record};
 ghost use Rattle.wb_states.specs.declared.refusal.Refusal.{Refusal};
 ghost use Rattle.wb_states.specs.declared.refusal.Refusal.TheVariants.{NotHeld};
@@ -14,6 +15,7 @@ ghost use Rattle.wb_states.specs.Queue.{queue_of};
 ghost use Rattle.wb_office.specs.Checks.{take_named};
 ghost use Rattle.wb_office.specs.HandOuts.{HandOut, IsBeingBuilt, HasTakesByState, Ends, Rise, hand_out, hand_outs};
 ghost use Rattle.wb_office.specs.Moving.{MayChange};
+ghost use Rattle.wb_office.specs.Parts.{part_listing, records_with};
 ghost use Rattle.wb_office.specs.Replay.{replay};
 ghost use Rattle.wb_office.specs.Step.{step};
 ghost use Rattle.wb_office.specs.Utf8.{HasUtf8Texts, HaveUtf8Texts};
@@ -122,4 +124,15 @@ pub fn next_takes_the_head()
         → (current : Record) × (queue_of machine arch
         ≡ ((arch, given.source), current)
         ∷ queue_of (step machine (Next arch builder after)).1 arch) }
+{}
+
+/// The parts of an accepted merge stand apart: the records of a part's architecture are afterwards what that
+/// part alone makes of the records before the merge, and as they were where it is refused.
+pub fn parts_are_merged_apart()
+    ensures part { (machine : Machine) (sources : List ℕ) (before : List Part) (part : Part)
+        (behind : List Part) (key : List ℕ × List ℕ)
+        → is_ok (step machine (Merge sources (before ++ part ∷ behind))).0 ≡ true
+        → key.0 ≡ part.arch
+        → map.get (step machine (Merge sources (before ++ part ∷ behind))).1.records key
+        ≡ map.get (records_with machine.records part.arch (part_listing machine sources part)) key }
 {}
