@@ -12,3 +12,4 @@ mod Sound
 mod Turns
 mod VersionForm
 pub mod PrintedLemmas
+pub mod BegunLemmas

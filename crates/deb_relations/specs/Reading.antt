@@ -1,5 +1,5 @@
 -- What a text of relations is read as: its groups, else the first fault from the left, piece by piece (Debian Policy 7.1).
-use Rattle.std.specs.Prelude.{◌≡◌, ℕ, ◌-◌, ◌+◌, ◌==◌, Bool, true, false, not, ◌&&◌, ◌||◌, List, [], ◌∷◌, ◌++◌, length, if◌then◌else◌, nat_lt, is_some}
+use Rattle.std.specs.Prelude.{◌≡◌, ℕ, ◌-◌, ◌+◌, ◌==◌, Bool, true, false, not, ◌&&◌, ◌||◌, List, [], ◌∷◌, ◌++◌, length, if◌then◌else◌, nat_lt, is_some, filter}
 use Rattle.std.specs.Prelude.{Option, None, Some, Result, Ok, Err}
 use Rattle.std.specs.List.{list_all, slice_split}
 use Rattle.deb_version.specs.declared.fault.VersionFault.{VersionFault}
@@ -10,7 +10,7 @@ use Rattle.deb_relations.specs.declared.fault.RelationFault.TheVariants.{BadName
 use Rattle.deb_relations.specs.declared.relations.Kind.TheVariants.{Arch}
 use Rattle.deb_relations.specs.declared.relations.Alternative.{Alternative}
 use Rattle.deb_relations.specs.Reduction.{is_filled}
-use Rattle.deb_relations.specs.Grammar.{is_white, is_blank, is_op_char, op_of}
+use Rattle.deb_relations.specs.Grammar.{is_white, is_blank, is_said, is_op_char, op_of}
 use Rattle.deb_relations.specs.Reader.{run, skip, strip, is_solid, between, read_name, read_qualifier, read_restriction, terms_of, read_archs, profile_of, read_alternative, read_group, read_groups}
 
 -- where a text begins that ends at the place end of the whole text (this project's own)
@@ -136,6 +136,23 @@ outcome (Some groups) fault = Ok groups
 -- the reading of a text: too long above 65536 bytes, else its groups, else its first fault (Policy 7.1, the limit this project's own)
 unfoldable pub reading_of : List ℕ → Result (List (List Alternative)) RelationFault
 reading_of text = if nat_lt 65536 (length text) then Err TooLong else outcome (read_groups text) (groups_fault text)
+
+-- whether the first of the pieces passes (this project's own)
+abbrev pub first_passes : (List ℕ → Bool) → List (List ℕ) → Bool
+first_passes passes [] = false
+first_passes passes (piece ∷ _) = passes piece
+
+-- whether an alternative begins with a package name (Policy 7.1)
+unfoldable pub begins_with_name : List ℕ → Bool
+begins_with_name text = is_some (read_name text)
+
+-- whether the first alternative of a group begins with a package name (Policy 7.1)
+unfoldable pub is_group_begun : List ℕ → Bool
+is_group_begun text = first_passes begins_with_name (slice_split (λ c. c == 124) text)
+
+-- whether the first group that is said begins with a package name, the first thing for which memory is taken (this project's own)
+unfoldable pub takes_memory : List ℕ → Bool
+takes_memory text = first_passes is_group_begun (filter is_said (slice_split (λ c. c == 44) text))
 
 -- of which the text of a version is made: neither white space nor a closing parenthesis (Policy 7.1)
 unfoldable pub is_asked_char : ℕ → Bool

@@ -4,11 +4,11 @@ ghost use Rattle.std.specs.Prelude.{◌≡◌, ◌≢◌, ◌<◌, ◌==◌, tru
 ghost use Rattle.std.specs.Option.{option_map};
 ghost use Rattle.std.specs.List.{list_all};
 ghost use Rattle.deb_version.specs.Syntax.{fault_of};
-ghost use Rattle.deb_relations.specs.Grammar.{is_blank, is_package, is_word, begins_well, op_of, words, are_alike, Reads};
+ghost use Rattle.deb_relations.specs.Grammar.{is_blank, is_package, is_word, begins_well, op_of, words, are_alike, is_said, Reads};
 ghost use Rattle.deb_relations.specs.Reader.{between, read_name, read_qualifier, is_version, restriction_of, read_restriction, signed, term_of, all_some, terms_of, with_group, archs_of, read_archs, profile_of, read_profiles, read_alternative, read_group, read_groups};
 ghost use Rattle.deb_relations.specs.Scanner.{halves_of};
 ghost use Rattle.deb_relations.specs.Faults.{told};
-ghost use Rattle.deb_relations.specs.Reading.{place_of, end_before, name_fault, version_fault, asked_fault, restriction_fault, words_fault, archs_fault, list_fault, profiles_fault, alternative_fault, group_fault, groups_fault, reading_of};
+ghost use Rattle.deb_relations.specs.Reading.{place_of, end_before, name_fault, version_fault, asked_fault, restriction_fault, words_fault, archs_fault, list_fault, profiles_fault, alternative_fault, group_fault, groups_fault, reading_of, begins_with_name, is_group_begun, takes_memory};
 ghost use Rattle.deb_relations.specs.declared.relations.Alternative.{Alternative};
 ghost use Rattle.deb_relations.specs.declared.fault.RelationFault.TheVariants.{BadName, Unclosed, TooLong, Memory};
 
@@ -62,11 +62,12 @@ fn end_before(behind: &str, end: usize) -> usize
     place_of(behind, end).saturating_sub(1)
 }
 
-#[tactic(auto, unfolding(crate::specs::Reader::read_name, crate::specs::Reading::name_fault))]
+#[tactic(auto, unfolding(crate::specs::Reader::read_name, crate::specs::Reading::name_fault, crate::specs::Reading::begins_with_name))]
 fn read_name(alloc: Global, text: &str) -> Result<(Text, &str), RelationFault>
     ensures ok { IfOk result (λ found. read_name text.now ≡ Some (found.0, found.1.now)) }
     ensures refused { IfErr result (λ fault. fault ≢ Memory → read_name text.now ≡ None) }
     ensures err { IfErr result (λ fault. fault ≢ Memory → fault ≡ name_fault text.now) }
+    ensures memory { IfErr result (λ fault. fault ≡ Memory → begins_with_name text.now ≡ true) }
 {
     let front = skip_white(text);
     let (name, rest) = run_of(Class::Package, front);
@@ -329,11 +330,12 @@ fn read_profiles(alloc: Global, text: &str, end: usize) -> Result<Items<Items<Te
     Ok(made)
 }
 
-#[tactic(auto, unfolding(crate::specs::Reader::read_alternative, crate::specs::Reading::alternative_fault))]
+#[tactic(auto, unfolding(crate::specs::Reader::read_alternative, crate::specs::Reading::alternative_fault, crate::specs::Reading::begins_with_name))]
 fn read_alternative(alloc: Global, text: &str, end: usize) -> Result<Alternative, RelationFault>
     ensures ok { IfOk result (λ a. read_alternative text.now ≡ Some a) }
     ensures refused { IfErr result (λ fault. fault ≢ Memory → read_alternative text.now ≡ None) }
     ensures err { IfErr result (λ fault. fault ≢ Memory → fault ≡ alternative_fault end text.now) }
+    ensures memory { IfErr result (λ fault. fault ≡ Memory → begins_with_name text.now ≡ true) }
 {
     let (name, after_name) = read_name(alloc, text)?;
     let (qualifier, after_qualifier) = read_qualifier(alloc, after_name)?;
@@ -353,6 +355,7 @@ fn read_group(alloc: Global, text: &str, end: usize) -> Result<Items<Alternative
     ensures ok { IfOk result (λ group. read_group text.now ≡ Some group) }
     ensures refused { IfErr result (λ fault. fault ≢ Memory → read_group text.now ≡ None) }
     ensures err { IfErr result (λ fault. fault ≢ Memory → fault ≡ group_fault end text.now) }
+    ensures memory { IfErr result (λ fault. fault ≡ Memory → is_group_begun text.now ≡ true) }
 {
     let mut made = Items::new(alloc);
     let mut rest = text;
@@ -375,6 +378,8 @@ fn add_group(
     ensures ok { IfOk result (λ _. with_group made.old piece.now ≡ Some made.new) }
     ensures refused { IfErr result (λ fault. fault ≢ Memory → with_group made.old piece.now ≡ None) }
     ensures err { IfErr result (λ fault. fault ≢ Memory → fault ≡ group_fault end piece.now) }
+    ensures memory { IfErr result (λ fault. fault ≡ Memory →
+        (is_said piece.now ≡ true) × (is_group_begun piece.now ≡ true)) }
 {
     if !is_all(Class::White, piece) {
         made.push(read_group(alloc, piece, end)?)?;
@@ -386,6 +391,7 @@ fn read_groups(alloc: Global, text: &str) -> Result<Items<Items<Alternative>>, R
     ensures ok { IfOk result (λ groups. read_groups text.now ≡ Some groups) }
     ensures refused { IfErr result (λ fault. fault ≢ Memory → read_groups text.now ≡ None) }
     ensures err { IfErr result (λ fault. fault ≢ Memory → fault ≡ groups_fault text.now) }
+    ensures memory { IfErr result (λ fault. fault ≡ Memory → takes_memory text.now ≡ true) }
 {
     let mut made = Items::new(alloc);
     let mut rest = text;
@@ -416,6 +422,7 @@ impl Relations {
         ensures value { IfOk result (λ relations. Reads text.now relations) }
         ensures ok { IfOk result (λ relations. reading_of text.now ≡ Ok relations) }
         ensures refused { IfErr result (λ fault. fault ≢ Memory → reading_of text.now ≡ Err fault) }
+        ensures memory { IfErr result (λ fault. fault ≡ Memory → takes_memory text.now ≡ true) }
         ensures first { 65536 < length text.now → result ≡ Err TooLong }
     {
         if text.len() > MAX_LEN {

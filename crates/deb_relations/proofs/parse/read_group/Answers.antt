@@ -8,6 +8,8 @@ use Rattle.std.proofs.Common.{refl}
 use Rattle.deb_relations.specs.declared.fault.RelationFault.{RelationFault}
 use Rattle.deb_relations.specs.Reading.{is_alternative, alternative_fault, group_fault}
 use Rattle.deb_relations.proofs.FaultTurns.{first-passed, first-told, last-told, is-read, not-read}
+use Rattle.std.proofs.Common.{inl, inr}
+use Rattle.deb_relations.proofs.BegunLemmas.{read-name, begun-piece, begun-last, where-wanted}
 use Rattle.deb_relations.proofs.parse.read_group.Goals as goal
 
 pub returns-in_err-read_alternative-clause-refused : goal.returns-in_err-read_alternative-clause-refused
@@ -32,6 +34,8 @@ loop-piece-preserved c =
           ∙ c.loop-piece.invariant.1,
       first-passed is_alternative alternative_fault 124 c.args.end c.loop-piece.rest.now (c.in-Some.piece.now, c.in-Some.after.now) h (is-read c.in-Some.piece.now c.in_ok-read_alternative.field-0 c.in_ok-read_alternative.ensures.ok)
           ∙ c.loop-piece.invariant.2,
+      inr (begun-piece c.loop-piece.rest.now c.args.text.now (c.in-Some.piece.now, c.in-Some.after.now) c.loop-piece.invariant.3 h
+          (read-name c.in-Some.piece.now c.in_ok-read_alternative.field-0 c.in_ok-read_alternative.ensures.ok)),
     )
 
 pub returns-in_err-read_alternative-2-clause-refused : goal.returns-in_err-read_alternative-2-clause-refused
@@ -56,6 +60,7 @@ loop-piece-init c = (
   ap (λ m. onto m (all_some read_alternative (slice_split (λ b. eqb b 124) c.args.text.now))) c.new-made.ensures
       ∙ onto-start (all_some read_alternative (slice_split (λ b. eqb b 124) c.args.text.now)),
   refl,
+  inl refl,
 )
 
 pub returns-in_err-read_alternative-clause-err : goal.returns-in_err-read_alternative-clause-err
@@ -77,3 +82,29 @@ returns-in_err-read_alternative-2-clause-err c =
     λ f r e. e ∙ sym (last-told is_alternative alternative_fault 124 c.args.end c.loop-piece.rest.now h (not-read c.loop-piece.rest.now r)) ∙ c.loop-piece.invariant.2 in
     let p = err_from_is_err_and c.from_residual-in_err-read_alternative-2.result c.from_residual-in_err-read_alternative-2.ensures.1 in
     rw (p.1, p.2) (λ n. stop _ (c.in_err-read_alternative-2.ensures.refused n) (c.in_err-read_alternative-2.ensures.err n))
+
+pub returns-in_err-read_alternative-clause-memory : goal.returns-in_err-read_alternative-clause-memory
+returns-in_err-read_alternative-clause-memory c =
+    let h : cut 124 c.loop-piece.rest.now ≡ some_pair c.in-Some.piece.now c.in-Some.after.now = search rules in
+    let p = err_from_is_err_and c.from_residual.result c.from_residual.ensures.1 in
+    rw (p.1, p.2) (λ memory.
+    begun-piece c.loop-piece.rest.now c.args.text.now (c.in-Some.piece.now, c.in-Some.after.now) c.loop-piece.invariant.3 h (c.in_err-read_alternative.ensures.memory memory))
+
+pub returns-in_err-read_alternative-2-clause-memory : goal.returns-in_err-read_alternative-2-clause-memory
+returns-in_err-read_alternative-2-clause-memory c =
+    let h : cut 124 c.loop-piece.rest.now ≡ no_pair = search rules in
+    let p = err_from_is_err_and c.from_residual-in_err-read_alternative-2.result c.from_residual-in_err-read_alternative-2.ensures.1 in
+    rw (p.1, p.2) (λ memory.
+    begun-last c.loop-piece.rest.now c.args.text.now c.loop-piece.invariant.3 h (c.in_err-read_alternative-2.ensures.memory memory))
+
+pub returns-in_err-push-clause-memory : goal.returns-in_err-push-clause-memory
+returns-in_err-push-clause-memory c =
+    let h : cut 124 c.loop-piece.rest.now ≡ some_pair c.in-Some.piece.now c.in-Some.after.now = search rules in
+    where-wanted _ (begun-piece c.loop-piece.rest.now c.args.text.now (c.in-Some.piece.now, c.in-Some.after.now) c.loop-piece.invariant.3 h
+    (read-name c.in-Some.piece.now c.in_ok-read_alternative.field-0 c.in_ok-read_alternative.ensures.ok))
+
+pub returns-in_err-push-2-clause-memory : goal.returns-in_err-push-2-clause-memory
+returns-in_err-push-2-clause-memory c =
+    let h : cut 124 c.loop-piece.rest.now ≡ no_pair = search rules in
+    where-wanted _ (begun-last c.loop-piece.rest.now c.args.text.now c.loop-piece.invariant.3 h
+    (read-name c.loop-piece.rest.now c.in_ok-read_alternative-2.field-0 c.in_ok-read_alternative-2.ensures.ok))

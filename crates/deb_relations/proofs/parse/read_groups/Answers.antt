@@ -12,6 +12,8 @@ use Rattle.std.proofs.Common.{refl, length}
 use Rattle.deb_relations.specs.declared.fault.RelationFault.{RelationFault}
 use Rattle.deb_relations.specs.Reading.{end_before, is_group_or_blank, group_fault, groups_fault}
 use Rattle.deb_relations.proofs.FaultTurns.{first-passed, first-told, last-told, is-group, no-group}
+use Rattle.std.proofs.Common.{inl}
+use Rattle.deb_relations.proofs.BegunLemmas.{groups-begun, last-begun, groups-behind}
 use Rattle.deb_relations.proofs.parse.read_groups.Goals as goal
 
 pub returns-in_err-add_group-clause-refused : goal.returns-in_err-add_group-clause-refused
@@ -35,6 +37,8 @@ loop-piece-preserved c =
           ∙ c.loop-piece.invariant.1,
       first-passed is_group_or_blank group_fault 44 (length c.args.text.now) c.loop-piece.rest.now (c.in-Some.piece.now, c.in-Some.after.now) h (is-group c.loop-piece.made c.add_group.new.made c.in-Some.piece.now c.in_ok-add_group.ensures.ok)
           ∙ c.loop-piece.invariant.2,
+      groups-behind c.loop-piece.made c.add_group.new.made c.loop-piece.rest.now c.args.text.now (c.in-Some.piece.now, c.in-Some.after.now)
+          c.loop-piece.invariant.3 h c.in_ok-add_group.ensures.ok,
     )
 
 pub returns-in_err-add_group-2-clause-refused : goal.returns-in_err-add_group-2-clause-refused
@@ -57,6 +61,7 @@ loop-piece-init c = (
   ap (λ m. onto m (all_some read_group (filter is_said (slice_split (λ b. eqb b 44) c.args.text.now)))) c.new-made.ensures
       ∙ onto-start (all_some read_group (filter is_said (slice_split (λ b. eqb b 44) c.args.text.now))),
   refl,
+  inl refl,
 )
 
 pub returns-in_err-add_group-clause-err : goal.returns-in_err-add_group-clause-err
@@ -80,3 +85,19 @@ returns-in_err-add_group-2-clause-err c =
     ∙ sym (last-told is_group_or_blank group_fault 44 (length c.args.text.now) c.loop-piece.rest.now h (no-group c.loop-piece.made c.loop-piece.rest.now r)) ∙ c.loop-piece.invariant.2 in
     let p = err_from_is_err_and c.from_residual-in_err-add_group-2.result c.from_residual-in_err-add_group-2.ensures.1 in
     rw (p.1, p.2) (λ n. stop _ (c.in_err-add_group-2.ensures.refused n) (c.in_err-add_group-2.ensures.err n))
+
+pub returns-in_err-add_group-clause-memory : goal.returns-in_err-add_group-clause-memory
+returns-in_err-add_group-clause-memory c =
+    let h : cut 44 c.loop-piece.rest.now ≡ some_pair c.in-Some.piece.now c.in-Some.after.now = search rules in
+    let p = err_from_is_err_and c.from_residual.result c.from_residual.ensures.1 in
+    rw (p.1, p.2) (λ memory.
+    let named = c.in_err-add_group.ensures.memory memory in
+    groups-begun c.loop-piece.rest.now c.args.text.now (c.in-Some.piece.now, c.in-Some.after.now) c.loop-piece.invariant.3 h named.0 named.1)
+
+pub returns-in_err-add_group-2-clause-memory : goal.returns-in_err-add_group-2-clause-memory
+returns-in_err-add_group-2-clause-memory c =
+    let h : cut 44 c.loop-piece.rest.now ≡ no_pair = search rules in
+    let p = err_from_is_err_and c.from_residual-in_err-add_group-2.result c.from_residual-in_err-add_group-2.ensures.1 in
+    rw (p.1, p.2) (λ memory.
+    let named = c.in_err-add_group-2.ensures.memory memory in
+    last-begun c.loop-piece.rest.now c.args.text.now c.loop-piece.invariant.3 h named.0 named.1)
