@@ -13,3 +13,5 @@ mod Turns
 mod VersionForm
 pub mod PrintedLemmas
 pub mod BegunLemmas
+pub mod PairLemmas
+pub mod ReducedLemmas

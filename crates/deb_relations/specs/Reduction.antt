@@ -37,6 +37,10 @@ is_kept arch a = do_archs_hold arch a.archs && do_profiles_hold a.profiles
 abbrev pub without_lists : Alternative → Alternative
 without_lists a = record a { archs = []; profiles = [] }
 
+-- whether an alternative is asked for on any architecture and under any build profile (this project's own)
+abbrev pub has_no_lists : Alternative → Bool
+has_no_lists a = not (is_filled a.archs) && not (is_filled a.profiles)
+
 -- the alternatives that are asked for, without their lists (this project's own)
 unfoldable pub reduced_group : ArchWords → List Alternative → List Alternative
 reduced_group arch group = map without_lists (filter (is_kept arch) group)

@@ -1,14 +1,16 @@
 //! Laws of the definitions, each on a function with nothing to run.
 
-ghost use Rattle.std.specs.Prelude.{◌≡◌, ◌≢◌, ◌↔◌, ◌<◌, ◌≤◌, List, ℕ, Ok, Err, length};
+ghost use Rattle.std.specs.Prelude.{◌≡◌, ◌≢◌, ◌↔◌, ◌⊎◌, ◌<◌, ◌≤◌, Contains, List, ℕ, true, Ok, Err, length};
 ghost use Rattle.deb_version.specs.declared.fault.VersionFault.{VersionFault};
 ghost use Rattle.deb_relations.specs.declared.arch.ArchWords.{ArchWords};
 ghost use Rattle.deb_relations.specs.declared.relations.Alternative.{Alternative};
 ghost use Rattle.deb_relations.specs.declared.fault.RelationFault.TheVariants.{BadVersion, TooLong, Memory};
+ghost use Rattle.std.specs.List.{list_all};
 ghost use Rattle.deb_relations.specs.Grammar.{Reads};
 ghost use Rattle.deb_relations.specs.Printing.{printed};
 ghost use Rattle.deb_relations.specs.Reading.{reading_of, HasBadVersion};
-ghost use Rattle.deb_relations.specs.Reduction.{reduced};
+ghost use Rattle.deb_relations.specs.Reduction.{has_no_lists, reduced};
+ghost use Rattle.deb_relations.specs.Satisfaction.{Pairs, no_pairs, satisfied, versions_of, with_pair};
 
 /// What is printed reads back as the same, for each reading and each reduction of one whose printed
 /// text is within the limit; and each text has at most one reading.
@@ -51,4 +53,27 @@ pub fn readings_are_of_grammar()
         → (fault : VersionFault)
         → reading_of text ≡ Err (BadVersion fault)
         → HasBadVersion text fault }
+{}
+
+/// What is available is a set of pairs of a name and a version: at first none, then one more with each that is
+/// added; and relations that were satisfied stay so.
+/// Source: Debian Policy 7.1.
+pub fn pairs_are_a_set()
+    ensures none { (name version : List ℕ) → ¬ (Contains (versions_of no_pairs name) version) }
+    ensures one { (pairs : Pairs) (name version other wanted : List ℕ)
+        → Contains (versions_of (with_pair pairs name version) other) wanted
+        ↔ (Contains (versions_of pairs other) wanted ⊎ ((other ≡ name) × (wanted ≡ version))) }
+    ensures stays { (pairs : Pairs) (name version : List ℕ) (groups : List (List Alternative))
+        → satisfied pairs groups ≡ true
+        → satisfied (with_pair pairs name version) groups ≡ true }
+{}
+
+/// What is reduced has neither architectures nor build profiles left, and reducing it again, for
+/// whichever architecture, changes nothing.
+/// Source: Debian Policy 7.1.
+pub fn reduced_is_bare()
+    ensures bare { (arch : ArchWords) (groups : List (List Alternative))
+        → list_all (λ group. list_all has_no_lists group) (reduced arch groups) ≡ true }
+    ensures again { (arch other : ArchWords) (groups : List (List Alternative))
+        → reduced other (reduced arch groups) ≡ reduced arch groups }
 {}
