@@ -20,6 +20,7 @@ use Rattle.wb_merge.specs.Merge.{after, by_order, covers, built_number, are_wait
 use Rattle.wb_merge.specs.Merged.{Records, after_at, BecomesAt}
 use Rattle.wb_merge.specs.Steps.{Key}
 use Rattle.wb_merge.proofs.MergeLemmas.{merged-get}
+use Rattle.wb_merge.proofs.NameLemmas.{bytes_eq-itself}
 
 -- ---- what a merge makes of a record at a key: it stays, or it is brought in line with its listing
 
@@ -45,6 +46,26 @@ module _ (old : Records) (arch : List ℕ) (lists : Lists) (key : Key) (current 
   at-becomes P stays merges =
       by_case P stays merges (bytes_eq key.0 arch) (finite.get lists.listed key.1) refl
       (ap (λ (o : Option Record). cond (bytes_eq key.0 arch) (after o (finite.get lists.listed key.1) built_there lists.available) o) (sym h.was)
+      ∙ sym (merged-get old arch lists key) ∙ h.is)
+
+  by_listed : (P : Record → Type 0)
+      → ((listed : Listed) → finite.get lists.listed key.1 ≡ Some listed → P (listed_record listed built_there lists.available current))
+      → (found : Option Listed) → finite.get lists.listed key.1 ≡ found
+      → after (Some current) found built_there lists.available ≡ Some new → P new
+  by_listed P merges None e is = absurd cc
+  by_listed P merges (Some listed) e is =
+      let same : listed_record listed built_there lists.available current ≡ new = cc in
+      subst P same (merges listed e)
+
+  -- at a key of the architecture no record stays unlooked at
+  pub at-listed : (P : Record → Type 0) → key.0 ≡ arch
+      → ((listed : Listed) → finite.get lists.listed key.1 ≡ Some listed → P (listed_record listed built_there lists.available current)) → P new
+  unfolding after_at
+  at-listed P here merges =
+      let same : bytes_eq key.0 arch ≡ true = ap (bytes_eq key.0) (sym here) ∙ bytes_eq-itself key.0 in
+      by_listed P merges (finite.get lists.listed key.1) refl
+      (ap (λ (b : Bool). cond b (after (Some current) (finite.get lists.listed key.1) built_there lists.available) (Some current)) (sym same)
+      ∙ ap (λ (o : Option Record). cond (bytes_eq key.0 arch) (after o (finite.get lists.listed key.1) built_there lists.available) o) (sym h.was)
       ∙ sym (merged-get old arch lists key) ∙ h.is)
 
 -- ---- versions
@@ -155,3 +176,27 @@ module _ (listed : Listed) (built : Option Built) (available : Pairs) (current :
   pub hold-forward : is_held current.state ≡ true → ends_hold listed built current ≡ false → HasSameHold current (listed_record listed built available current)
   unfolding listed_record
   hold-forward = hold-by (version_cmp current.version listed.version)
+
+  -- a record of an earlier version than is listed is held by nobody afterwards
+  newer-free : (for_us is_covered : Bool) → is_held (cond for_us NotForUs (cond is_covered Installed NeedsBuild)) ≡ false
+  newer-free true is_covered = refl
+  newer-free false true = refl
+  newer-free false false = refl
+
+  -- nor is one that is covered
+  covered-free : (for_us : Bool) (state : State) → is_held (cond for_us NotForUs (cond true Installed state)) ≡ false
+  covered-free true state = refl
+  covered-free false state = refl
+
+  ended-by : (r : Ordering) → by_order r true (covers built listed.version current.number) false ≡ true → is_held (made_by r).state ≡ false
+  unfolding newer_record same_record relisted
+  ended-by Less ends = newer-free (is_not_for_us current.state) (covers built listed.version 0)
+  ended-by Equal ends =
+      ap (λ b. is_held (cond (is_not_for_us current.state) NotForUs (cond b Installed (cond (is_installed current.state) NeedsBuild
+      (cond (is_dep_wait current.state) (cond (are_waits_met available current.waits) NeedsBuild current.state) current.state))))) ends
+      ∙ covered-free (is_not_for_us current.state) NeedsBuild
+  ended-by Greater ends = absurd cc
+
+  pub hold-ended : ends_hold listed built current ≡ true → is_held (listed_record listed built available current).state ≡ false
+  unfolding listed_record
+  hold-ended = ended-by (version_cmp current.version listed.version)

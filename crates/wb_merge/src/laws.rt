@@ -102,9 +102,9 @@ pub fn kept_records_are_equal()
 {}
 
 /// A merge never brings a record back: its version does not become an earlier one, nor, where it stays
-/// equal, its number a lower one; what was built earlier stays so, and what is Not-For-Us stays that. A
-/// hold ends only where the listing has a later version, has the same one built with at least the
-/// record's number, or has the source package no more (this project's own).
+/// equal, its number a lower one; what was built earlier stays so, and what is Not-For-Us stays that. Of
+/// a source package that is listed a hold ends exactly where the listing has a later version, or the same
+/// one built with at least the record's number (this project's own).
 pub fn merges_never_go_back()
     ensures version { (old : Records) (arch : List ℕ) (lists : Lists) (key : Key)
         (current new : Record) → BecomesAt old arch lists key current new
@@ -122,6 +122,10 @@ pub fn merges_never_go_back()
         (current new : Record) (listed : Listed) → BecomesAt old arch lists key current new
         → is_held current.state ≡ true → map.get lists.listed key.1 ≡ Some listed
         → ends_hold listed (map.get lists.built key.1) current ≡ false → HasSameHold current new }
+    ensures ended { (old : Records) (arch : List ℕ) (lists : Lists) (key : Key)
+        (current new : Record) (listed : Listed) → BecomesAt old arch lists key current new
+        → key.0 ≡ arch → map.get lists.listed key.1 ≡ Some listed
+        → ends_hold listed (map.get lists.built key.1) current ≡ true → is_held new.state ≡ false }
 {}
 
 /// The number of a binary-only rebuild is read back from the version that its binaries are given, and so

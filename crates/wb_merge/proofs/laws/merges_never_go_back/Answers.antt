@@ -1,12 +1,13 @@
-use Rattle.std.proofs.Common.{◌≡◌, ◌≢◌, ◌≤◌, Some, true, refl, sym, ap, ◌∙◌, arith}
+use Rattle.std.proofs.Common.{◌≡◌, ◌≢◌, ◌≤◌, Some, true, refl, sym, ap, ◌∙◌, arith, false}
 use Rattle.std.specs.declared.cmp.Ordering.TheVariants.{Less, Equal}
 use Rattle.std.specs.FinMap as finite
 use Rattle.deb_version.specs.Order.{version_cmp}
 use Rattle.wb_states.specs.declared.record.Record.{Record}
 use Rattle.wb_states.specs.declared.state.State.TheVariants.{NotForUs}
+use Rattle.wb_states.specs.State.{is_held}
 use Rattle.wb_merge.specs.declared.listing.Listed.{Listed}
 use Rattle.wb_merge.specs.Merge.{HasSameHold, ends_hold}
-use Rattle.wb_merge.proofs.ForwardLemmas.{at-becomes, not_back, version_itself, version-forward, number-forward, earlier-forward, not_for_us-forward, hold-forward}
+use Rattle.wb_merge.proofs.ForwardLemmas.{at-becomes, at-listed, not_back, version_itself, version-forward, number-forward, earlier-forward, not_for_us-forward, hold-forward, hold-ended}
 use Rattle.wb_merge.proofs.laws.merges_never_go_back.Goals as goal
 
 pub returns-clause-version : goal.returns-clause-version
@@ -43,3 +44,10 @@ returns-clause-hold c old arch lists key current new listed becomes held there l
     (λ other found.
     hold-forward other (finite.get lists.built key.1) lists.available current held
     (ap (λ l. ends_hold l (finite.get lists.built key.1) current) (some-is other listed (sym found ∙ there)) ∙ lasts))
+
+pub returns-clause-ended : goal.returns-clause-ended
+returns-clause-ended c old arch lists key current new listed becomes here there ends =
+    at-listed old arch lists key current new becomes (λ (r : Record). is_held r.state ≡ false) here
+    (λ other found.
+    hold-ended other (finite.get lists.built key.1) lists.available current
+    (ap (λ l. ends_hold l (finite.get lists.built key.1) current) (some-is other listed (sym found ∙ there)) ∙ ends))
