@@ -36,15 +36,16 @@ pub enum Move {
         relations: Relations,
         arch: ArchWords,
     },
-    /// Its build failed, as the note says.
+    /// Its build failed, as the note says, of at most 1000 bytes.
     Fail {
         note: Text,
     },
-    /// It is not to be built, as the note says.
+    /// It is not to be built, as the note says, of at most 1000 bytes.
     NotForUs {
         note: Text,
     },
-    /// It is built once more, as the binary-only rebuild of this number.
+    /// It is built once more, as the binary-only rebuild of this number, from 1 to 999, for the reason that
+    /// the message gives, of at most 1000 bytes.
     Rebuild {
         number: u16,
         message: Text,
