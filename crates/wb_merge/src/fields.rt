@@ -56,7 +56,8 @@ pub(crate) fn text(
 
 /// The folded value of a field that has to be there.
 fn wanted(alloc: Global, paragraph: &Paragraph<'_>, field: ListField) -> Result<Text, ListingFault>
-    ensures value { IfOk result (λ text. value_named (name_of_field field) paragraph.now ≡ Some text) }
+    ensures value { IfOk result (λ text.
+        value_named (name_of_field field) paragraph.now ≡ Some text) }
     ensures missing { IfErr result (λ fault. fault ≢ Control Memory
         → value_named (name_of_field field) paragraph.now ≡ None) }
     ensures refused { IfErr result (λ fault. fault ≢ Control Memory → fault ≡ Missing field) }
@@ -106,9 +107,11 @@ pub(crate) fn parse_version(
 ) -> Result<Version, ListingFault>
     ensures value { IfOk result (λ version. version ≡ text.now) }
     ensures ok { OnOk result (is_version_text text.now ≡ true) }
-    ensures bad { IfErr result (λ fault. fault ≢ Control Memory → is_version_text text.now ≡ false) }
+    ensures bad { IfErr result (λ fault. fault ≢ Control Memory
+        → is_version_text text.now ≡ false) }
     ensures refused { IfErr result (λ fault. fault ≢ Control Memory → fault ≡ BadValue field) }
-    ensures memory { IfErr result (λ fault. fault ≡ Control Memory → is_version_text text.now ≡ true) }
+    ensures memory { IfErr result (λ fault. fault ≡ Control Memory
+        → is_version_text text.now ≡ true) }
 {
     match Version::parse(alloc, text) {
         Ok(version) => Ok(version),

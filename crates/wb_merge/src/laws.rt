@@ -43,9 +43,11 @@ pub fn the_first_faulty_paragraph_decides()
 /// it, and of equal ones the first; nothing else is. Takes no memory (Debian Policy 5.6.12; that the first
 /// wins is this project's own).
 pub fn listed_is_greatest()
-    ensures is { (arch : ArchWords) (sources : List SourceRow) (packages : List BinaryRow) (name : List ℕ)
-        → IsGreatest listed_cmp (candidates arch sources name) (map.get (lists_of arch sources packages).listed name) }
-    ensures only { (arch : ArchWords) (sources : List SourceRow) (packages : List BinaryRow) (name : List ℕ) (found : Option Listed)
+    ensures is { (arch : ArchWords) (sources : List SourceRow) (packages : List BinaryRow)
+        (name : List ℕ) → IsGreatest listed_cmp (candidates arch sources name)
+        (map.get (lists_of arch sources packages).listed name) }
+    ensures only { (arch : ArchWords) (sources : List SourceRow) (packages : List BinaryRow)
+        (name : List ℕ) (found : Option Listed)
         → IsGreatest listed_cmp (candidates arch sources name) found
         → found ≡ map.get (lists_of arch sources packages).listed name }
 {}
@@ -54,9 +56,11 @@ pub fn listed_is_greatest()
 /// number among those of the architecture, and of equal ones the first; nothing else is. Takes no memory
 /// (Debian Policy 5.6.12; that the first wins is this project's own).
 pub fn built_is_greatest()
-    ensures is { (arch : ArchWords) (sources : List SourceRow) (packages : List BinaryRow) (name : List ℕ)
-        → IsGreatest built_cmp (builds arch packages name) (map.get (lists_of arch sources packages).built name) }
-    ensures only { (arch : ArchWords) (sources : List SourceRow) (packages : List BinaryRow) (name : List ℕ) (found : Option Built)
+    ensures is { (arch : ArchWords) (sources : List SourceRow) (packages : List BinaryRow)
+        (name : List ℕ) → IsGreatest built_cmp (builds arch packages name)
+        (map.get (lists_of arch sources packages).built name) }
+    ensures only { (arch : ArchWords) (sources : List SourceRow) (packages : List BinaryRow)
+        (name : List ℕ) (found : Option Built)
         → IsGreatest built_cmp (builds arch packages name) found
         → found ≡ map.get (lists_of arch sources packages).built name }
 {}

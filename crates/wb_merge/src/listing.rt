@@ -76,9 +76,11 @@ fn read_sources(
     sources: &[u8],
     arch: &ArchWords,
 ) -> Result<BTreeMap<Text, Listed>, Refusal>
-    ensures value { IfOk result (λ listed. after_rows (with_source arch.now) map.empty (source_rows sources.now)
+    ensures value { IfOk result (λ listed.
+        after_rows (with_source arch.now) map.empty (source_rows sources.now)
         ≡ Ok (map.from_entries {R = text_cmp} listed.entries)) }
-    ensures refused { IfErr result (λ refusal. refusal ≢ Memory → source_rows sources.now ≡ Err refusal) }
+    ensures refused { IfErr result (λ refusal. refusal ≢ Memory
+        → source_rows sources.now ≡ Err refusal) }
 {
     let mut listed = BTreeMap::new(alloc);
     let mut paragraphs = Paragraphs::of(sources);
@@ -96,9 +98,11 @@ fn read_packages(
     packages: &[u8],
     arch: &ArchWords,
 ) -> Result<(BTreeMap<Text, Built>, Available), Refusal>
-    ensures value { IfOk result (λ found. after_rows (with_binary arch.now) (map.empty, no_pairs) (binary_rows packages.now)
+    ensures value { IfOk result (λ found.
+        after_rows (with_binary arch.now) (map.empty, no_pairs) (binary_rows packages.now)
         ≡ Ok (map.from_entries {R = text_cmp} found.0.entries, found.1)) }
-    ensures refused { IfErr result (λ refusal. refusal ≢ Memory → binary_rows packages.now ≡ Err refusal) }
+    ensures refused { IfErr result (λ refusal. refusal ≢ Memory
+        → binary_rows packages.now ≡ Err refusal) }
 {
     let mut built = BTreeMap::new(alloc);
     let mut available = Available::new(alloc);
@@ -126,7 +130,8 @@ impl Listing {
         packages: &[u8],
         arch: &ArchWords,
     ) -> Result<Listing, Refusal>
-        ensures value { IfOk result (λ listing. listing_of sources.now packages.now arch.now ≡ Ok listing) }
+        ensures value { IfOk result (λ listing.
+            listing_of sources.now packages.now arch.now ≡ Ok listing) }
         ensures refused { IfErr result (λ refusal. refusal ≢ Memory
             → listing_of sources.now packages.now arch.now ≡ Err refusal) }
     {

@@ -144,7 +144,8 @@ fn names_of(
 
 /// What becomes of the record of the key where it is to be this one.
 fn change_to(records: &BTreeMap<(Text, Text), Record>, key: &(Text, Text), new: &Record) -> Change
-    ensures { result ≡ change_of (record_at (map.from_entries records.now.entries) key.now) (Some new.now) }
+    ensures { result
+        ≡ change_of (record_at (map.from_entries records.now.entries) key.now) (Some new.now) }
 {
     match record_at(records, key) {
         Some(old) if is_same_record(old, new) => Change::Kept,
@@ -187,7 +188,8 @@ fn removal(records: &BTreeMap<(Text, Text), Record>, key: &(Text, Text)) -> Chan
 fn remove(records: &mut BTreeMap<(Text, Text), Record>, key: &(Text, Text)) -> Change
     ensures value { IsSetAt (map.from_entries records.old.entries) key.now None
         (map.from_entries records.new.entries) }
-    ensures ok { result ≡ change_of (record_at (map.from_entries records.old.entries) key.now) None }
+    ensures ok { result
+        ≡ change_of (record_at (map.from_entries records.old.entries) key.now) None }
 {
     let change = removal(records, key);
     records.remove(key);

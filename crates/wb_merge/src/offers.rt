@@ -72,7 +72,9 @@ fn depends_of(alloc: Global, row: &SourceRow, arch: &ArchWords) -> Result<Option
 /// Whether the row is of a later version than what is listed of its source package so far.
 fn is_later_source(listed: &BTreeMap<Text, Listed>, row: &SourceRow) -> bool
     ensures { (arch : Arch) → result
-        ≡ is_better listed_cmp (map.get (map.from_entries {R = text_cmp} listed.now.entries) row.now.name) (listed_as arch row.now) }
+        ≡ is_better listed_cmp
+        (map.get (map.from_entries {R = text_cmp} listed.now.entries) row.now.name)
+        (listed_as arch row.now) }
 {
     match listed.get(&row.name) {
         Some(best) => compare(&row.version, &best.version).is_gt(),
@@ -112,7 +114,9 @@ pub(crate) fn offer_source(
 /// Whether the row is of a later build than what is built of its source package so far.
 fn is_later_build(built: &BTreeMap<Text, Built>, row: &BinaryRow) -> bool
     ensures { result
-        ≡ is_better built_cmp (map.get (map.from_entries {R = text_cmp} built.now.entries) row.now.source) (built_as row.now) }
+        ≡ is_better built_cmp
+        (map.get (map.from_entries {R = text_cmp} built.now.entries) row.now.source)
+        (built_as row.now) }
 {
     match built.get(row.source()) {
         Some(best) => compare(row.source_version(), &best.version)

@@ -38,7 +38,8 @@ pub(crate) fn next_source(
     requires { HasPassed paragraphs.old passed }
     ensures value { IfOk result (λ found. IfSome found (λ row.
         GivesRow source_row_of Sources paragraphs.old row paragraphs.new)) }
-    ensures ended { IfOk result (λ found. found ≡ None → rows_at source_row_of Sources paragraphs.old ≡ Ok []) }
+    ensures ended { IfOk result (λ found. found ≡ None
+        → rows_at source_row_of Sources paragraphs.old ≡ Ok []) }
     ensures refused { IfErr result (λ refusal. refusal ≢ Memory
         → rows_at source_row_of Sources paragraphs.old ≡ Err refusal) }
 {
@@ -64,7 +65,8 @@ pub(crate) fn next_binary(
     requires { HasPassed paragraphs.old passed }
     ensures value { IfOk result (λ found. IfSome found (λ row.
         GivesRow binary_row_of Packages paragraphs.old row paragraphs.new)) }
-    ensures ended { IfOk result (λ found. found ≡ None → rows_at binary_row_of Packages paragraphs.old ≡ Ok []) }
+    ensures ended { IfOk result (λ found. found ≡ None
+        → rows_at binary_row_of Packages paragraphs.old ≡ Ok []) }
     ensures refused { IfErr result (λ refusal. refusal ≢ Memory
         → rows_at binary_row_of Packages paragraphs.old ≡ Err refusal) }
 {

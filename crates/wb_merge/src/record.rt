@@ -270,7 +270,8 @@ pub fn after(
     listing: &Listing,
 ) -> Result<Option<Record>, Refusal>
     ensures value { IfOk result (λ new. new ≡ after (option_map deref current.entry)
-        (map.get listing.now.listed name.now) (map.get listing.now.built name.now) listing.now.available) }
+        (map.get listing.now.listed name.now) (map.get listing.now.built name.now)
+        listing.now.available) }
     ensures refused { IfErr result (λ refusal. refusal ≡ Memory) }
     ensures memory { IfErr result (λ refusal. IsSome (map.get listing.now.listed name.now)) }
 {

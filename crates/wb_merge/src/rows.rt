@@ -134,9 +134,11 @@ fn with_source(
 ) -> Result<BinaryRow, ListingFault>
     ensures value { IfOk result (λ row. row ≡ with_source name version arch (Some source.now)) }
     ensures ok { OnOk result (is_source_text source.now ≡ true) }
-    ensures bad { IfErr result (λ fault. fault ≢ Control Memory → is_source_text source.now ≡ false) }
+    ensures bad { IfErr result (λ fault. fault ≢ Control Memory
+        → is_source_text source.now ≡ false) }
     ensures refused { IfErr result (λ fault. fault ≢ Control Memory → fault ≡ BadValue Source) }
-    ensures memory { IfErr result (λ fault. fault ≡ Control Memory → is_source_text source.now ≡ true) }
+    ensures memory { IfErr result (λ fault. fault ≡ Control Memory
+        → is_source_text source.now ≡ true) }
 {
     let (source, source_version) = parse_source(alloc, source)?;
     let number = if source_version.is_some() {

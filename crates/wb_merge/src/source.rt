@@ -65,7 +65,8 @@ pub(crate) fn parse_source(
     ensures ok { OnOk result (is_source_text text.now ≡ true) }
     ensures bad { IfErr result (λ fault. fault ≢ Control Memory → is_source_text text.now ≡ false) }
     ensures refused { IfErr result (λ fault. fault ≢ Control Memory → fault ≡ BadValue Source) }
-    ensures memory { IfErr result (λ fault. fault ≡ Control Memory → is_source_text text.now ≡ true) }
+    ensures memory { IfErr result (λ fault. fault ≡ Control Memory
+        → is_source_text text.now ≡ true) }
 {
     let (name, rest) = cut_source(text);
     if !is_source(name) {

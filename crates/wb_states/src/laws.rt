@@ -22,7 +22,8 @@ ghost use Rattle.wb_states.specs.Table.{HasForm, row_of};
 pub fn queue_has_each_waiting_record_once()
     ensures members { (machine : Machine) (arch : List ℕ) (entry : Entry)
         → IsIn entry (queue_of machine arch) ↔ IsWaitingAt machine arch entry }
-    ensures ascending { (machine : Machine) (arch : List ℕ) → IsStrictlySortedBy entry_cmp (queue_of machine arch) }
+    ensures ascending { (machine : Machine) (arch : List ℕ)
+        → IsStrictlySortedBy entry_cmp (queue_of machine arch) }
 {}
 
 /// The head of a queue is a record that waits for a builder, and no other that waits on the architecture is

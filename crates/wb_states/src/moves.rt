@@ -146,7 +146,8 @@ impl Move {
 
     /// The note of the record in the state in which the move ends.
     fn note(&self, alloc: Global, current: &Record) -> Result<Text, AllocError>
-        ensures { IfOk result (λ note. note ≡ note_after (note_of self.now) (goal_of self.now) current.now) }
+        ensures { IfOk result (λ note.
+            note ≡ note_after (note_of self.now) (goal_of self.now) current.now) }
     {
         match self {
             Move::Fail { note } | Move::NotForUs { note } => note.clone(),
@@ -209,7 +210,8 @@ pub fn move_record(alloc: Global, current: &Record, change: &Move) -> Result<Rec
     ensures value { IfOk result (λ moved. move_of change.now current.now ≡ Ok moved) }
     ensures refused { IfErr result (λ refusal. refusal ≢ Memory
         → move_of change.now current.now ≡ Err refusal) }
-    ensures memory { IfErr result (λ refusal. refusal ≡ Memory → MayWantMemory change.now current.now) }
+    ensures memory { IfErr result (λ refusal. refusal ≡ Memory
+        → MayWantMemory change.now current.now) }
 {
     if !change.may_go(current.state) {
         return Err(Refusal::WrongState {

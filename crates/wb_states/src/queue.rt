@@ -26,7 +26,12 @@ impl<'a> Model for QueueKey<'a> {
 
     ghost Value = { Place };
 
-    ghost view = { λ k. record { is_new = k.is_new; priority = k.priority; section = k.section; name = k.name.now } };
+    ghost view = { λ k. record {
+      is_new = k.is_new;
+      priority = k.priority;
+      section = k.section;
+      name = k.name.now;
+    } };
 }
 
 impl<'a> QueueKey<'a> {
