@@ -1,5 +1,5 @@
 -- The names of a merge stand once each, and what a merge does name by name is what it does at each key.
-use Rattle.std.proofs.Common.{◌≡◌, ℕ, Bool, true, false, cond, not, ◌&&◌, ◌||◌, List, [], ◌∷◌, map, filter, bytes_eq, refl, sym, ap, ◌∙◌, Option, None}
+use Rattle.std.proofs.Common.{◌≡◌, ℕ, Bool, true, false, cond, not, ◌&&◌, ◌||◌, List, [], ◌∷◌, map, filter, bytes_eq, refl, sym, ap, ◌∙◌, Option, Some, None}
 use Rattle.std.specs.List.{list_any}
 use Rattle.std.specs.Ordering.{eq_by_cmp}
 use Rattle.std.proofs.lemmas.List.Folds.{list_any-append}
@@ -8,12 +8,15 @@ use Rattle.deb_relations.specs.Text.{text_cmp}
 use Rattle.wb_states.specs.Machine.{pair_cmp}
 use Rattle.wb_states.specs.declared.record.Record.{Record}
 use Rattle.wb_states.proofs.KeyLemmas.{pair_cmp_total, pair_cmp-same}
+use Rattle.deb_relations.specs.Satisfaction.{Pairs}
+use Rattle.wb_merge.specs.declared.listing.Listed.{Listed}
+use Rattle.wb_merge.specs.declared.listing.Built.{Built}
 use Rattle.wb_merge.specs.Listing.{Lists}
 use Rattle.wb_merge.specs.Merge.{after}
 use Rattle.wb_merge.specs.Merged.{Records, after_at, merge_keys, merged, names_of}
 use Rattle.wb_merge.specs.Steps.{Key, IsSetAt, after_named, recorded_names}
 use Rattle.wb_merge.proofs.ListingLemmas.{map_at-get}
-use Rattle.wb_merge.proofs.NameLemmas.{none-is, text_eq, bytes_eq-flip, bytes_eq-itself, bytes_eq-is, pair-eq, pair-is, IsApart, keys-apart, text_keys-apart, append-apart, filter-apart, filter-any, and-false}
+use Rattle.wb_merge.proofs.NameLemmas.{is-false, none-is, text_eq, bytes_eq-flip, bytes_eq-itself, bytes_eq-is, pair-eq, pair-is, IsApart, keys-apart, text_keys-apart, append-apart, filter-apart, filter-any, and-false}
 
 -- ---- the names
 
@@ -214,6 +217,23 @@ merged-get old arch lists key =
       | true ↦ λ _. refl
       | false ↦ λ e. sym (nowhere old arch lists key e)
     ] refl
+
+-- the records of other architectures stay
+pub merged-others : (old : Records) (arch : List ℕ) (lists : Lists) (key : Key) → (key.0 ≡ arch → ⊥) → finite.get (merged old arch lists) key ≡ finite.get old key
+merged-others old arch lists key other =
+    merged-get old arch lists key ∙ kept-elsewhere old arch lists key (is-false (bytes_eq key.0 arch) (λ e. other (bytes_eq-is key.0 arch e)))
+
+-- what is not listed has no record
+pub merged-unlisted : (old : Records) (arch : List ℕ) (lists : Lists) (name : List ℕ) → finite.get lists.listed name ≡ None
+    → finite.get (merged old arch lists) (arch, name) ≡ None
+merged-unlisted old arch lists name none =
+    merged-get old arch lists (arch, name) ∙ after-here old arch lists name
+    ∙ ap (λ (o : Option Listed). after (finite.get old (arch, name)) o (finite.get lists.built name) lists.available) none
+    ∙ nothing (finite.get old (arch, name)) (finite.get lists.built name) lists.available
+  where
+    nothing : (current : Option Record) (built : Option Built) (available : Pairs) → after current None built available ≡ None
+    nothing None built available = refl
+    nothing (Some current) built available = refl
 
 pub half-end : (old records : Records) (arch : List ℕ) (lists : Lists) → ((key : Key) → finite.get records key ≡ half_merged old arch lists [] key)
     → records ≡ merged old arch lists

@@ -53,7 +53,7 @@ abbrev pub IsApart : {K : Type 0} → (K → K → Bool) → List K → Type 0
 IsApart eq [] = Unit {0}
 IsApart eq (x ∷ xs) = (list_any (eq x) xs ≡ false) × IsApart eq xs
 
-is-false : (b : Bool) → (b ≡ true → ⊥) → b ≡ false
+pub is-false : (b : Bool) → (b ≡ true → ⊥) → b ≡ false
 is-false true f = absurd (f refl)
 is-false false f = refl
 

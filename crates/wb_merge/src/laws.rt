@@ -72,10 +72,15 @@ pub fn available_is_each_pair()
         → versions_of (available_of arch rows) name ≡ installable_versions arch rows name }
 {}
 
-/// At each key a merge makes of the record there what the cases say, whatever the other records are.
+/// At each key a merge makes of the record there what the cases say, whatever the other records are: those
+/// of other architectures stay, and a source package that is not listed has none.
 pub fn merge_is_pointwise()
     ensures at { (old : Records) (arch : List ℕ) (lists : Lists) (key : Key)
         → map.get (merged old arch lists) key ≡ after_at old arch lists key }
+    ensures others { (old : Records) (arch : List ℕ) (lists : Lists) (key : Key)
+        → key.0 ≢ arch → map.get (merged old arch lists) key ≡ map.get old key }
+    ensures unlisted { (old : Records) (arch : List ℕ) (lists : Lists) (name : List ℕ)
+        → map.get lists.listed name ≡ None → map.get (merged old arch lists) (arch, name) ≡ None }
 {}
 
 /// A merge of the listing that was merged just before changes nothing, and counts every record of the
