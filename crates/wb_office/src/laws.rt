@@ -66,7 +66,7 @@ pub fn counts_never_fall()
         → (step machine command).0 ≡ Err refusal → (step machine command).1 ≡ machine }
 {}
 
-/// What a reply hands out is held from then on: the record of the source package is being built, by the
+/// What a reply hands out is held after it: the record of the source package is being built, by the
 /// builder that was told so and under the take number that it was told.
 pub fn hand_outs_are_held()
     ensures held { (machine : Machine) (command : Command) (given : HandOut)
@@ -75,9 +75,9 @@ pub fn hand_outs_are_held()
         × IsBeingBuilt given current) }
 {}
 
-/// A builder that asks again for the head of a queue with the take number that it asked with is told of the
-/// same assignment, and nothing changes. So it is where a builder that lost the answer asks after the last
-/// number that was given before it, with or without a number the first time.
+/// A builder that asks again at once for the head of a queue, with the take number that it asked with, is
+/// told of the same assignment, and nothing changes. In a consistent office so it is where it lost the
+/// answer and asks after the last number that was given before, whatever it asked with the first time.
 pub fn retries_are_idempotent()
     ensures again { (machine : Machine) (arch builder : List ℕ) (after accepted : ℕ)
         (given : Assignment)
