@@ -15,3 +15,4 @@ pub mod PrintedLemmas
 pub mod BegunLemmas
 pub mod PairLemmas
 pub mod ReducedLemmas
+pub mod StrayTells

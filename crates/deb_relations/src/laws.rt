@@ -1,12 +1,12 @@
 //! Laws of the definitions, each on a function with nothing to run.
 
-ghost use Rattle.std.specs.Prelude.{◌≡◌, ◌≢◌, ◌↔◌, ◌⊎◌, ◌<◌, ◌≤◌, Contains, List, ℕ, true, Ok, Err, length};
+ghost use Rattle.std.specs.Prelude.{◌≡◌, ◌≢◌, ◌↔◌, ◌⊎◌, ◌<◌, ◌≤◌, Contains, List, ℕ, true, false, Ok, Err, length, slice_index};
 ghost use Rattle.deb_version.specs.declared.fault.VersionFault.{VersionFault};
 ghost use Rattle.deb_relations.specs.declared.arch.ArchWords.{ArchWords};
 ghost use Rattle.deb_relations.specs.declared.relations.Alternative.{Alternative};
-ghost use Rattle.deb_relations.specs.declared.fault.RelationFault.TheVariants.{BadVersion, TooLong, Memory};
+ghost use Rattle.deb_relations.specs.declared.fault.RelationFault.TheVariants.{BadVersion, Stray, TooLong, Memory};
 ghost use Rattle.std.specs.List.{list_all};
-ghost use Rattle.deb_relations.specs.Grammar.{Reads};
+ghost use Rattle.deb_relations.specs.Grammar.{is_white, Reads};
 ghost use Rattle.deb_relations.specs.Printing.{printed};
 ghost use Rattle.deb_relations.specs.Reading.{reading_of, HasBadVersion};
 ghost use Rattle.deb_relations.specs.Reduction.{has_no_lists, reduced};
@@ -76,4 +76,12 @@ pub fn reduced_is_bare()
         → list_all (λ group. list_all has_no_lists group) (reduced arch groups) ≡ true }
     ensures again { (arch other : ArchWords) (groups : List (List Alternative))
         → reduced other (reduced arch groups) ≡ reduced arch groups }
+{}
+
+/// What is told as stray stands at its place in the whole text, and is no white space.
+/// Source: this project's own.
+pub fn strays_stand_in_the_text()
+    ensures { (text : List ℕ) (place : ℕ)
+        → reading_of text ≡ Err (Stray place)
+        → (place < length text) × (is_white (slice_index text place) ≡ false) }
 {}
