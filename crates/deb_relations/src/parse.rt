@@ -412,10 +412,11 @@ impl Relations {
     /// a word or behind `!`. The old operators `<` and `>` are read as `<=` and `>=`.
     ///
     /// Errors: `TooLong` above 65536 bytes, and before all else; `Memory` where the growth of a text
-    /// or of a list was refused; else, where the text has no reading, the first fault from the left:
-    /// that of the first piece between commas, and in it between bars, that has none. A bracket is
-    /// closed in its own piece or not at all, and where it is not, only that is told. `BadVersion` has the fault of the text up to white
-    /// space or `)`, and `Stray` the byte offset in the whole text.
+    /// or of a list was refused, which comes behind a first package name at the earliest; else, where
+    /// the text has no reading, the first fault from the left: that of the first piece between commas,
+    /// and in it between bars, that has none. A bracket is closed in its own piece or not at all, and
+    /// where it is not, only that is told. `BadVersion` has the fault of the text up to white space or
+    /// `)`, and `Stray` the byte offset in the whole text.
     /// Source: Debian Policy 7.1; the limit, the skipping of blank groups and the order of the faults
     /// are this project's own.
     pub fn parse(alloc: Global, text: &str) -> Result<Relations, RelationFault>

@@ -8,7 +8,7 @@ use Rattle.std.proofs.lemmas.List.{get_or-drop, at_drop_more, length_push, drop_
 use Rattle.std.proofs.lemmas.List.Sums.{suffix_len_is}
 use Rattle.std.proofs.lemmas.Bool.Decides.{nat_tests}
 use Rattle.std.proofs.lemmas.Str.Pattern.{NoCharPasses-char, drop_at_char}
-use Rattle.vectors.specs.Cells.{is_tab, cells_before_last, meant_by, plain_of}
+use Rattle.vectors.specs.Cells.{is_tab, cells_before_last, meaning_of, plain_of}
 
 is_tab-not : (c : ℕ) → c ≢ 9 → not (is_tab c) ≡ true
 is_tab-not c h = grind (arith, nat_tests)
@@ -68,10 +68,10 @@ added text new rest plain whole c e so_far pushed =
     ∙ so_far
 
 pub turn-escaped : (text new whole cs yielded : List ℕ) (c : ℕ) (is_escaped : Bool) → Turn cs yielded c → is_escaped ≡ true
-    → text ++ encode_utf8_all (plain_of is_escaped (drop (length yielded) cs)) ≡ whole → new ≡ text ++ encode_utf8 (meant_by c)
+    → text ++ encode_utf8_all (plain_of is_escaped (drop (length yielded) cs)) ≡ whole → new ≡ text ++ encode_utf8 (meaning_of c)
     → new ++ encode_utf8_all (plain_of false (drop (length (yielded ++ c ∷ [])) cs)) ≡ whole
 turn-escaped text new whole cs yielded c is_escaped turn e so_far pushed =
-    added text new (plain_of false (drop (length (yielded ++ c ∷ [])) cs)) _ whole (meant_by c)
+    added text new (plain_of false (drop (length (yielded ++ c ∷ [])) cs)) _ whole (meaning_of c)
     (plain_of-next cs yielded c is_escaped turn ∙ ap (λ b. plain_of b (c ∷ drop (length (yielded ++ c ∷ [])) cs)) e) so_far pushed
 
 plain_of-first : (is_backslash : Bool) (c : ℕ) (cs : List ℕ) → eqb c 92 ≡ is_backslash

@@ -21,13 +21,13 @@ unfoldable pub cells_before_last : List ℕ → List ℕ
 cells_before_last row = before_last is_tab row
 
 -- what a character means behind a backslash: `t` a tab, `n` a line feed, `r` a carriage return, another itself (this project's own)
-abbrev pub meant_by : ℕ → ℕ
-meant_by c = if c == 116 then 9 else (if c == 110 then 10 else (if c == 114 then 13 else c))
+abbrev pub meaning_of : ℕ → ℕ
+meaning_of c = if c == 116 then 9 else (if c == 110 then 10 else (if c == 114 then 13 else c))
 
 -- the characters that are left of a cell, in plain, behind a backslash or not; a backslash at the end stands for nothing (this project's own)
 abbrev pub plain_of : Bool → List ℕ → List ℕ
 plain_of is_escaped [] = []
-plain_of true (c ∷ cs) = meant_by c ∷ plain_of false cs
+plain_of true (c ∷ cs) = meaning_of c ∷ plain_of false cs
 plain_of false (c ∷ cs) = if c == 92 then plain_of true cs else c ∷ plain_of false cs
 
 -- the text that a cell stands for (this project's own)

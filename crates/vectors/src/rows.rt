@@ -1,7 +1,7 @@
 //! The cells of a row.
 
 ghost use Rattle.std.specs.Prelude.{◌≡◌, OnOk, IfOk, string_bytes};
-ghost use Rattle.vectors.specs.Cells.{cell_of, cells_before_last, cells_behind_first, meant_by, text_of};
+ghost use Rattle.vectors.specs.Cells.{cell_of, cells_before_last, cells_behind_first, meaning_of, text_of};
 
 use std::alloc::{AllocError, Global};
 
@@ -38,7 +38,7 @@ pub fn without_last(row: &str) -> &str
 /// What a character means behind a backslash: `t` a tab, `n` a line feed, `r` a carriage return, another itself.
 /// Source: this project's own.
 fn meant(escape: char) -> char
-    ensures value { result ≡ meant_by escape }
+    ensures value { result ≡ meaning_of escape }
 {
     match escape {
         't' => '\t',
