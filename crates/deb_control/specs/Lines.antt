@@ -47,6 +47,10 @@ front_line text = take (position_or_len is_feed text + 1) text
 unfoldable pub is_separator : List ℕ → Bool
 is_separator line = list_all is_blank (body_of line)
 
+-- a text without a line feed (Policy 5.1)
+abbrev pub IsOneLine : List ℕ → Type 0
+IsOneLine text = list_any is_feed text ≡ false
+
 -- whether there is a line (Policy 5.1)
 abbrev pub has_line : List (List ℕ) → Bool
 has_line [] = false
@@ -60,6 +64,10 @@ paragraphs_in lines = filter has_line (slice_split is_separator lines)
 abbrev pub has_char : List ℕ → Bool
 has_char [] = false
 has_char (_ ∷ _) = true
+
+-- the words of a text, parted by spaces and tabs (Policy 5.6.8)
+unfoldable pub words_in : List ℕ → List (List ℕ)
+words_in text = filter has_char (slice_split is_blank text)
 
 -- whether a text begins with a separator (Policy 5.1)
 unfoldable pub begins_separator : List ℕ → Bool

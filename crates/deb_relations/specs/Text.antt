@@ -1,5 +1,6 @@
 -- Texts as the lists of their bytes, and their order, which is that of their bytes (this project's own).
-use Rattle.std.specs.Prelude.{ℕ, List}
+use Rattle.std.specs.Prelude.{ℕ, Bool, List, [], ◌∷◌, if◌then◌else◌}
+use Rattle.std.specs.Coded.{Coded, coded_ℕ, coded_list}
 use Rattle.std.specs.declared.cmp.Ordering.{Ordering}
 use Rattle.std.specs.Ordering.{nat_cmp}
 use Rattle.std.specs.Cmp.Lexicographic.{slice_cmp}
@@ -7,3 +8,12 @@ use Rattle.std.specs.Cmp.Lexicographic.{slice_cmp}
 -- the order of two texts by their bytes (this project's own)
 abbrev pub text_cmp : List ℕ → List ℕ → Ordering
 text_cmp = slice_cmp nat_cmp
+
+-- the code of a text, by which a prover tells it from others (this project's own)
+abbrev pub coded_text : Coded (List ℕ)
+coded_text = coded_list coded_ℕ
+
+-- the longest front of a text whose characters all pass a test (this project's own)
+abbrev pub leading : (ℕ → Bool) → List ℕ → List ℕ
+leading test [] = []
+leading test (c ∷ cs) = if test c then c ∷ leading test cs else []

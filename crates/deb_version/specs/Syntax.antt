@@ -1,6 +1,6 @@
 -- The text of a version: its cuts, its three parts and its faults (Debian Policy 5.6.12).
 use Rattle.std.specs.Prelude.{◌≡◌, ℕ, ◌+◌, ◌-◌, ◌*◌, Bool, not, ◌||◌, List, [], ◌∷◌, ◌++◌, length, if◌then◌else◌, nat_lt, ◌==◌}
-use Rattle.std.specs.Prelude.{Option, None, Some, Result, Ok, Err}
+use Rattle.std.specs.Prelude.{Option, None, Some, is_none, Result, Ok, Err}
 use Rattle.std.specs.Prelude.{codes}
 use Rattle.std.specs.Char.{is_ascii_alphanumeric, is_ascii_digit}
 use Rattle.std.specs.List.{list_any, list_all, fold, before_first, after_first, before_last, after_last, position}
@@ -132,6 +132,10 @@ rest_fault text = option_or (upstream_fault text) (revision_fault text)
 -- the first fault of a text in the order of the checks: its length, its epoch, its upstream version, its revision (this project's own)
 unfoldable pub fault_of : List ℕ → Option VersionFault
 fault_of text = option_or (length_fault text) (option_or (epoch_fault text) (rest_fault text))
+
+-- whether a text is a version (Policy 5.6.12)
+unfoldable pub is_version_text : List ℕ → Bool
+is_version_text text = is_none (fault_of text)
 
 -- the fault where there is one, else the parts (this project's own)
 abbrev pub outcome : Option VersionFault → Parts → Result Parts VersionFault
