@@ -13,7 +13,8 @@ use Rattle.deb_relations.specs.declared.relations.Restriction.{Restriction}
 use Rattle.deb_relations.specs.declared.relations.Alternative.{Alternative}
 use Rattle.deb_relations.specs.Printing.{term_text}
 use Rattle.deb_relations.specs.Reduction.{is_filled}
-use Rattle.deb_relations.specs.Grammar.{is_white, is_blank, is_lower_or_digit, is_package_char, is_arch_char, is_profile_char, is_op_char, begins_well, is_package, is_qualifier, is_word, is_said, op_of, words, TakesName, TakesQualifier, InBrackets, IsRestriction, TakesRestriction, ReadsTerms, TakesArchs, ReadsProfiles, ReadsAlternative, Each, ReadsGroup, Reads}
+use Rattle.deb_relations.specs.Grammar.{is_white, is_blank, is_profile_char, is_op_char, is_qualifier, is_word, is_said, op_of, words, TakesName, TakesQualifier, InBrackets, IsRestriction, TakesRestriction, ReadsTerms, TakesArchs, ReadsProfiles, ReadsAlternative, Each, ReadsGroup, Reads}
+use Rattle.deb_relations.specs.Names.{is_lower_or_digit, is_package_char, is_arch_char, begins_with_lower_or_digit, is_package_name}
 use Rattle.deb_relations.specs.Reader.{run, skip, strip, is_solid, between, between_opened, some_of, read_between, with_rest, read_name, read_behind_colon, read_qualifier, has_no_fault, is_version, asked_of, asked_behind, asked_from, restriction_of, asked_inside, read_restriction, term_behind, term_of, both, all_some, filled_only, terms_of, alike_only, archs_of, read_archs, profile_behind, profile_of, lists_of, read_profiles, with_profiles, with_archs, with_asked, with_qualifier, with_name, read_alternative, read_group, read_groups}
 use Rattle.deb_relations.proofs.Runs.{both-true, and-true, stops, opens, run-all, skip-all, opens-stops, opens-weaker, all-weaker, all-both}
 use Rattle.deb_relations.proofs.Cuts.{strip-here, cut-here, split-here, split-none}
@@ -105,14 +106,14 @@ pub lower-not-white : (c : ℕ) → is_lower_or_digit c ≡ true → is_white c 
 unfolding is_white is_lower_or_digit
 lower-not-white c h = grind (arith, nat_tests)
 
-begins-stops : (name rest : List ℕ) → begins_well name ≡ true → stops is_white (name ++ rest)
+begins-stops : (name rest : List ℕ) → begins_with_lower_or_digit name ≡ true → stops is_white (name ++ rest)
 begins-stops [] rest h = absurd (cc)
 begins-stops (c ∷ cs) rest h = lower-not-white c h
 
 pub name-complete : (t name rest : List ℕ) → TakesName t name rest → opens is_behind_name rest → read_name t ≡ Some (name, rest)
-unfolding read_name is_package
+unfolding read_name is_package_name
 name-complete t name rest h o =
-    let form : (begins_well name ≡ true) × (_ ≡ true) = both-true _ _ h.form in
+    let form : (begins_with_lower_or_digit name ≡ true) × (_ ≡ true) = both-true _ _ h.form in
     let chars : (list_all is_package_char name ≡ true) × (_ ≡ true) = both-true _ _ form.1 in
     let front : skip is_white t ≡ name ++ rest = ap (skip is_white) h.split ∙ skip-all is_white h.gap (name ++ rest) h.blank (begins-stops name rest form.0) in
     let end : stops is_package_char rest = opens-stops is_behind_name is_package_char rest behind-no-package o in

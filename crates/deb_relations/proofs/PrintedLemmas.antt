@@ -17,7 +17,8 @@ use Rattle.deb_relations.specs.declared.relations.Restriction.{Restriction}
 use Rattle.deb_relations.specs.declared.relations.Alternative.{Alternative}
 use Rattle.deb_relations.specs.Printing.{join_by, term_text, op_text, qualifier_text, restriction_text, terms_text, archs_text, profile_text, profiles_text, alternative_text, group_text, printed}
 use Rattle.deb_relations.specs.Reduction.{is_filled, reduced}
-use Rattle.deb_relations.specs.Grammar.{is_lower_or_digit, is_package_char, is_arch_char, is_profile_char, is_package, is_qualifier, is_word, begins_well, Reads}
+use Rattle.deb_relations.specs.Grammar.{is_profile_char, is_qualifier, is_word, Reads}
+use Rattle.deb_relations.specs.Names.{is_lower_or_digit, is_package_char, is_arch_char, is_package_name, begins_with_lower_or_digit}
 use Rattle.deb_relations.specs.Reading.{reading_of}
 use Rattle.deb_relations.proofs.Runs.{both-true, all-weaker, all-both}
 use Rattle.deb_relations.proofs.Complete.{word-chars}
@@ -56,10 +57,10 @@ version-low : (c : ℕ) → is_upstream_char c ≡ true → is_low c ≡ true
 unfolding is_upstream_char is_revision_char
 version-low c h = grind (arith, nat_tests)
 
-name-low : (name : List ℕ) → is_package name ≡ true → IsLow name
-unfolding is_package
+name-low : (name : List ℕ) → is_package_name name ≡ true → IsLow name
+unfolding is_package_name
 name-low name h =
-    all-weaker is_package_char is_low package-low name (both-true _ _ (both-true (begins_well name) _ h).1).0
+    all-weaker is_package_char is_low package-low name (both-true _ _ (both-true (begins_with_lower_or_digit name) _ h).1).0
 
 -- ---- the parts of an alternative
 

@@ -14,7 +14,8 @@ use Rattle.deb_relations.specs.declared.relations.Restriction.{Restriction}
 use Rattle.deb_relations.specs.declared.relations.Alternative.{Alternative}
 use Rattle.deb_relations.specs.Printing.{term_text, op_text, qualifier_text, restriction_text, terms_text, archs_text, profile_text, profiles_text, alternative_text, group_text, printed}
 use Rattle.deb_relations.specs.Reduction.{is_filled, is_kept, without_lists, reduced_group, reduced}
-use Rattle.deb_relations.specs.Grammar.{is_white, is_blank, is_lower_or_digit, is_package_char, is_arch_char, is_profile_char, begins_well, is_package, is_qualifier, is_word, is_said, op_of, words, are_alike, TakesQualifier, TakesRestriction, ReadsTerms, TakesArchs, ReadsProfiles, ReadsAlternative, Each, ReadsGroup, Reads}
+use Rattle.deb_relations.specs.Grammar.{is_white, is_blank, is_profile_char, is_qualifier, is_word, is_said, op_of, words, are_alike, TakesQualifier, TakesRestriction, ReadsTerms, TakesArchs, ReadsProfiles, ReadsAlternative, Each, ReadsGroup, Reads}
+use Rattle.deb_relations.specs.Names.{is_lower_or_digit, is_package_char, is_arch_char, begins_with_lower_or_digit, is_package_name}
 use Rattle.deb_relations.specs.Reader.{run, skip, is_solid}
 use Rattle.deb_relations.proofs.Runs.{both-true, stops, run-all, skip-all, all-weaker, all-both}
 use Rattle.deb_relations.proofs.Cuts.{split-here, split-none}
@@ -39,7 +40,7 @@ GoodProfiles [] = Unit {0}
 GoodProfiles (terms ∷ more) = (is_filled terms ≡ true) × (AreWords Profile terms × GoodProfiles more)
 
 pub record Good (a : Alternative) : Type 0 where
-  pub name : is_package a.name ≡ true
+  pub name : is_package_name a.name ≡ true
   pub qualifier : GoodQualifier a.qualifier
   pub restriction : GoodRestriction a.restriction
   pub archs : AreWords Arch a.archs
@@ -362,9 +363,9 @@ inner-profiles (terms ∷ more) h =
     all-both is_inner (profile_text terms) (profiles_text more) one (inner-profiles more h.1.1)
 
 inner-alternative : (a : Alternative) → Good a → list_all is_inner (alternative_text a) ≡ true
-unfolding alternative_text is_package
+unfolding alternative_text is_package_name
 inner-alternative a h =
-    let form = both-true (begins_well a.name) _ h.name in
+    let form = both-true (begins_with_lower_or_digit a.name) _ h.name in
     let chars : list_all is_package_char a.name ≡ true = (both-true (list_all is_package_char a.name) _ form.1).0 in
     let end : list_all is_inner (archs_text a.archs ++ profiles_text a.profiles) ≡ true = all-both is_inner (archs_text a.archs) (profiles_text a.profiles) (inner-archs a.archs h.archs) (inner-profiles a.profiles h.profiles) in
     let more : list_all is_inner (restriction_text a.restriction ++ (archs_text a.archs ++ profiles_text a.profiles)) ≡ true = all-both is_inner (restriction_text a.restriction) _ (inner-restriction a.restriction h.restriction) end in
@@ -422,16 +423,16 @@ and-false : (b : Bool) → (b && false) ≡ false
 and-false true = refl
 and-false false = refl
 
-not-blank : (xs ys zs : List ℕ) → begins_well ys ≡ true → is_blank (xs ++ (ys ++ zs)) ≡ false
+not-blank : (xs ys zs : List ℕ) → begins_with_lower_or_digit ys ≡ true → is_blank (xs ++ (ys ++ zs)) ≡ false
 not-blank [] [] zs h = absurd (cc)
 not-blank [] (c ∷ cs) zs h = ap (λ v. v && is_blank (cs ++ zs)) (lower-not-white c h)
 not-blank (x ∷ xs) ys zs h = ap (λ v. is_white x && v) (not-blank xs ys zs h) ∙ and-false (is_white x)
 
 said-alternative : (gap rest : List ℕ) (a : Alternative) → Good a → is_blank (gap ++ (alternative_text a ++ rest)) ≡ false
-unfolding alternative_text is_package
+unfolding alternative_text is_package_name
 said-alternative gap rest a h =
     let tail : List ℕ = qualifier_text a.qualifier ++ (restriction_text a.restriction ++ (archs_text a.archs ++ profiles_text a.profiles)) in
-    ap (λ x. is_blank (gap ++ x)) (append_assoc a.name tail rest) ∙ not-blank gap a.name (tail ++ rest) (both-true (begins_well a.name) _ h.name).0
+    ap (λ x. is_blank (gap ++ x)) (append_assoc a.name tail rest) ∙ not-blank gap a.name (tail ++ rest) (both-true (begins_with_lower_or_digit a.name) _ h.name).0
 
 said-group : (gap : List ℕ) (group : List Alternative) → is_filled group ≡ true → AllGood group → is_said (gap ++ group_text group) ≡ true
 unfolding is_said group_text

@@ -14,7 +14,8 @@ use Rattle.deb_relations.specs.declared.fault.RelationFault.{RelationFault}
 use Rattle.deb_relations.specs.declared.fault.RelationFault.TheVariants as relation
 use Rattle.deb_version.specs.declared.fault.VersionFault.TheVariants as version
 use Rattle.deb_relations.specs.Faults.{told}
-use Rattle.deb_relations.specs.Grammar.{is_white, is_lower_or_digit, is_package_char, is_arch_char, is_profile_char, is_op_char}
+use Rattle.deb_relations.specs.Grammar.{is_white, is_profile_char, is_op_char}
+use Rattle.deb_relations.specs.Names.{is_lower_or_digit, is_package_char, is_arch_char}
 use Rattle.deb_relations.specs.Reader.{run, skip, strip, cut, is_solid, has_no_fault, is_version}
 use Rattle.deb_relations.specs.Reading.{version_fault}
 use Rattle.deb_relations.specs.Scanner.{test_of, text_of, halves_of}

@@ -12,12 +12,13 @@ use Rattle.deb_relations.specs.declared.relations.Restriction.{Restriction}
 use Rattle.deb_relations.specs.declared.relations.Alternative.{Alternative}
 use Rattle.deb_relations.specs.Printing.{term_text}
 use Rattle.deb_relations.specs.Reduction.{is_filled}
-use Rattle.deb_relations.specs.Grammar.{is_white, is_blank, is_package_char, is_arch_char, is_op_char, is_package, is_qualifier, is_word, is_said, op_of, words, are_alike, TakesName, TakesQualifier, InBrackets, IsRestriction, TakesRestriction, ReadsTerms, TakesArchs, ReadsProfiles, ReadsAlternative, Each, ReadsGroup, Reads}
+use Rattle.deb_relations.specs.Grammar.{is_white, is_blank, is_op_char, is_qualifier, is_word, is_said, op_of, words, are_alike, TakesName, TakesQualifier, InBrackets, IsRestriction, TakesRestriction, ReadsTerms, TakesArchs, ReadsProfiles, ReadsAlternative, Each, ReadsGroup, Reads}
+use Rattle.deb_relations.specs.Names.{is_package_char, is_arch_char, is_package_name}
 use Rattle.deb_relations.specs.Reader.{run, skip, strip, cut, is_solid, between, between_opened, some_of, read_between, with_rest, read_name, read_behind_colon, read_qualifier, has_no_fault, is_version, asked_of, restriction_of, asked_inside, read_restriction, term_behind, term_of, both, all_some, filled_only, terms_of, alike_only, archs_of, read_archs, profile_behind, profile_of, lists_of, read_profiles, with_profiles, with_archs, with_asked, with_qualifier, with_name, read_alternative, read_group, read_groups}
 use Rattle.deb_relations.proofs.Runs.{both-true, and-true, run-skip, run-passes}
 use Rattle.deb_relations.proofs.Cuts.{strip-join, cut-is}
 
-name-at : (t : List ℕ) (b : Bool) → is_package (run is_package_char (skip is_white t)) ≡ b → (p : List ℕ × List ℕ)
+name-at : (t : List ℕ) (b : Bool) → is_package_name (run is_package_char (skip is_white t)) ≡ b → (p : List ℕ × List ℕ)
     → cond b (Some (run is_package_char (skip is_white t), skip is_package_char (skip is_white t))) None ≡ Some p
     → TakesName t p.0 p.1
 name-at t true e p h =
@@ -32,7 +33,7 @@ name-at t false e p h = absurd (cc)
 
 pub name-sound : (t : List ℕ) (p : List ℕ × List ℕ) → read_name t ≡ Some p → TakesName t p.0 p.1
 unfolding read_name
-name-sound t p h = name-at t (is_package (run is_package_char (skip is_white t))) refl p h
+name-sound t p h = name-at t (is_package_name (run is_package_char (skip is_white t))) refl p h
 
 abbrev pub Qualified : Type 0
 Qualified = Option (List ℕ) × List ℕ

@@ -1,7 +1,7 @@
--- The grammar of relations between packages (Debian Policy 7.1, names after 5.6.1).
-use Rattle.std.specs.Prelude.{◌≡◌, ℕ, ◌≤◌, ◌==◌, Bool, true, false, not, ◌&&◌, ◌||◌, List, [], ◌∷◌, ◌++◌, map, filter, length, nat_lt, if◌then◌else◌, bytes_eq, codes}
+-- The grammar of relations between packages (Debian Policy 7.1).
+use Rattle.std.specs.Prelude.{◌≡◌, ℕ, ◌≤◌, ◌==◌, Bool, true, not, ◌&&◌, ◌||◌, List, [], ◌∷◌, ◌++◌, map, filter, length, if◌then◌else◌, bytes_eq, codes}
 use Rattle.std.specs.Prelude.{Option, None, Some}
-use Rattle.std.specs.Char.{is_ascii_alphanumeric, is_ascii_lowercase, is_ascii_digit}
+use Rattle.std.specs.Char.{is_ascii_alphanumeric}
 use Rattle.std.specs.List.{list_all, slice_split}
 use Rattle.deb_version.specs.declared.operator.Op.{Op}
 use Rattle.deb_version.specs.declared.operator.Op.TheVariants.{Earlier, EarlierOrEqual, Equal, LaterOrEqual, Later}
@@ -11,6 +11,7 @@ use Rattle.deb_relations.specs.declared.relations.Kind.TheVariants.{Arch, Profil
 use Rattle.deb_relations.specs.declared.relations.Term.{Term}
 use Rattle.deb_relations.specs.declared.relations.Restriction.{Restriction}
 use Rattle.deb_relations.specs.declared.relations.Alternative.{Alternative}
+use Rattle.deb_relations.specs.Names.{is_arch_char, begins_with_lower_or_digit, is_package_name}
 use Rattle.deb_relations.specs.Printing.{term_text}
 use Rattle.deb_relations.specs.Reduction.{is_filled}
 
@@ -30,18 +31,6 @@ is_comma c = c == 44
 abbrev pub is_bar : ℕ → Bool
 is_bar c = c == 124
 
--- a lower-case letter or a digit (Policy 5.6.1)
-unfoldable pub is_lower_or_digit : ℕ → Bool
-is_lower_or_digit c = is_ascii_lowercase c || is_ascii_digit c
-
--- of which the name of a package is made (Policy 5.6.1)
-unfoldable pub is_package_char : ℕ → Bool
-is_package_char c = is_lower_or_digit c || (c == 43 || (c == 45 || c == 46))
-
--- of which a qualifier and an architecture word are made (Policy 11.1.1)
-unfoldable pub is_arch_char : ℕ → Bool
-is_arch_char c = is_lower_or_digit c || c == 45
-
 -- of which the name of a build profile is made (this project's own)
 unfoldable pub is_profile_char : ℕ → Bool
 is_profile_char c = is_ascii_alphanumeric c || (c == 46 || (c == 43 || (c == 45 || c == 95)))
@@ -50,22 +39,13 @@ is_profile_char c = is_ascii_alphanumeric c || (c == 46 || (c == 43 || (c == 45 
 unfoldable pub is_op_char : ℕ → Bool
 is_op_char c = c == 60 || (c == 61 || c == 62)
 
--- whether a text begins with a lower-case letter or a digit (Policy 5.6.1)
-abbrev pub begins_well : List ℕ → Bool
-begins_well [] = false
-begins_well (c ∷ cs) = is_lower_or_digit c
-
--- the name of a package, of 2 to 200 bytes (Policy 5.6.1, the upper limit this project's own)
-unfoldable pub is_package : List ℕ → Bool
-is_package name = begins_well name && (list_all is_package_char name && (nat_lt 1 (length name) && nat_lt (length name) 201))
-
 -- a qualifier (Policy 7.1)
 unfoldable pub is_qualifier : List ℕ → Bool
 is_qualifier word = is_filled word && list_all is_arch_char word
 
 -- a word of a list of either kind (Policy 7.1)
 unfoldable pub is_word : Kind → List ℕ → Bool
-is_word Arch word = begins_well word && list_all is_arch_char word
+is_word Arch word = begins_with_lower_or_digit word && list_all is_arch_char word
 is_word Profile word = is_filled word && list_all is_profile_char word
 
 -- the operator that a text writes, where `<` and `>` are the old forms of `<=` and `>=` (Policy 7.1)
@@ -84,7 +64,7 @@ pub record TakesName (text name rest : List ℕ) : Type 0 where
   pub gap : List ℕ
   pub split : text ≡ gap ++ (name ++ rest)
   pub blank : is_blank gap ≡ true
-  pub form : is_package name ≡ true
+  pub form : is_package_name name ≡ true
 
 -- nothing, or directly a colon and a qualifier, and what is left (Policy 7.1)
 abbrev pub TakesQualifier : List ℕ → Option (List ℕ) → List ℕ → Type 0

@@ -1,6 +1,7 @@
 pub mod Arch
 pub mod Faults
 pub mod Grammar
+pub mod Names
 pub mod Printing
 pub mod Reader
 pub mod Reading

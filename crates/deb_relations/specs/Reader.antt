@@ -11,7 +11,8 @@ use Rattle.deb_relations.specs.declared.relations.Term.{Term}
 use Rattle.deb_relations.specs.declared.relations.Restriction.{Restriction}
 use Rattle.deb_relations.specs.declared.relations.Alternative.{Alternative}
 use Rattle.deb_relations.specs.Reduction.{is_filled}
-use Rattle.deb_relations.specs.Grammar.{is_white, is_blank, is_package_char, is_arch_char, is_op_char, is_package, is_word, is_said, op_of, words, are_alike}
+use Rattle.deb_relations.specs.Grammar.{is_white, is_blank, is_op_char, is_word, is_said, op_of, words, are_alike}
+use Rattle.deb_relations.specs.Names.{is_package_char, is_arch_char, is_package_name}
 
 -- the longest front of a text whose characters all pass a test (this project's own)
 abbrev pub run : (ℕ → Bool) → List ℕ → List ℕ
@@ -82,7 +83,7 @@ read_between f none text (Some (Some halves)) = with_rest halves.1 (f halves.0)
 unfoldable pub read_name : List ℕ → Option (List ℕ × List ℕ)
 read_name text =
     let front = skip is_white text in
-    if is_package (run is_package_char front) then Some (run is_package_char front, skip is_package_char front) else None
+    if is_package_name (run is_package_char front) then Some (run is_package_char front, skip is_package_char front) else None
 
 -- a qualifier and what is left, of the text behind a colon, where one stands first (Policy 7.1)
 abbrev pub read_behind_colon : List ℕ → Option (List ℕ) → Option (Option (List ℕ) × List ℕ)

@@ -3,7 +3,8 @@ use Rattle.std.specs.Prelude.{ℕ, Bool, List}
 use denote.Ref.{Bor}
 use Rattle.deb_relations.specs.declared.scanner.Class.{Class}
 use Rattle.deb_relations.specs.declared.scanner.Class.TheVariants.{White, Solid, Package, Arch, Profile, Op}
-use Rattle.deb_relations.specs.Grammar.{is_white, is_package_char, is_arch_char, is_profile_char, is_op_char}
+use Rattle.deb_relations.specs.Grammar.{is_white, is_profile_char, is_op_char}
+use Rattle.deb_relations.specs.Names.{is_package_char, is_arch_char}
 use Rattle.deb_relations.specs.Reader.{is_solid}
 
 -- whether a character is of the class (this project's own)

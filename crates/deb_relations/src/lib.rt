@@ -7,6 +7,7 @@ mod available;
 mod fault;
 mod items;
 pub mod laws;
+mod names;
 mod parse;
 mod print;
 mod reduce;
@@ -18,6 +19,7 @@ pub use arch::{ArchWords, arch_matches};
 pub use available::Available;
 pub use fault::RelationFault;
 pub use items::Items;
+pub use names::is_package_name;
 pub use relations::Relations;
 pub use text::Text;
 

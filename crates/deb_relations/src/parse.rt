@@ -4,7 +4,7 @@ ghost use Rattle.std.specs.Prelude.{◌≡◌, ◌≢◌, ◌<◌, ◌==◌, tru
 ghost use Rattle.std.specs.Option.{option_map};
 ghost use Rattle.std.specs.List.{list_all};
 ghost use Rattle.deb_version.specs.Syntax.{fault_of};
-ghost use Rattle.deb_relations.specs.Grammar.{is_blank, is_package, is_word, begins_well, op_of, words, are_alike, is_said, Reads};
+ghost use Rattle.deb_relations.specs.Grammar.{is_blank, is_word, op_of, words, are_alike, is_said, Reads};
 ghost use Rattle.deb_relations.specs.Reader.{between, read_name, read_qualifier, is_version, restriction_of, read_restriction, signed, term_of, all_some, terms_of, with_group, archs_of, read_archs, profile_of, read_profiles, read_alternative, read_group, read_groups};
 ghost use Rattle.deb_relations.specs.Scanner.{halves_of};
 ghost use Rattle.deb_relations.specs.Faults.{told};
@@ -14,36 +14,21 @@ ghost use Rattle.deb_relations.specs.declared.fault.RelationFault.TheVariants.{B
 
 use crate::fault::RelationFault;
 use crate::items::Items;
+use crate::names::{begins_with_lower_or_digit, is_package_name};
 use crate::relations::{Alternative, Kind, Relations, Restriction, Term};
-use crate::scanner::{Class, cut_at, is_all, is_lower_or_digit, run_of, skip_white, strip};
+use crate::scanner::{Class, cut_at, is_all, run_of, skip_white, strip};
 use crate::text::Text;
 use deb_version::{Op, Version, VersionFault};
 use std::alloc::Global;
 
 const MAX_LEN: usize = 65536;
 
-fn begins_well(text: &str) -> bool
-    ensures { result ≡ begins_well text.now }
-{
-    match text.as_bytes() {
-        [] => false,
-        [first, ..] => is_lower_or_digit(*first),
-    }
-}
-
-#[tactic(auto, unfolding(crate::specs::Grammar::is_package))]
-fn is_package(name: &str) -> bool
-    ensures { result ≡ is_package name.now }
-{
-    begins_well(name) && is_all(Class::Package, name) && 1 < name.len() && name.len() < 201
-}
-
 #[tactic(auto, unfolding(crate::specs::Grammar::is_word))]
 fn is_word(kind: Kind, word: &str) -> bool
     ensures { result ≡ is_word kind word.now }
 {
     match kind {
-        Kind::Arch => begins_well(word) && is_all(Class::Arch, word),
+        Kind::Arch => begins_with_lower_or_digit(word) && is_all(Class::Arch, word),
         Kind::Profile => !word.is_empty() && is_all(Class::Profile, word),
     }
 }
@@ -71,7 +56,7 @@ fn read_name(alloc: Global, text: &str) -> Result<(Text, &str), RelationFault>
 {
     let front = skip_white(text);
     let (name, rest) = run_of(Class::Package, front);
-    if !is_package(name) {
+    if !is_package_name(name) {
         return Err(if front.is_empty() {
             RelationFault::EmptyAlternative
         } else {

@@ -3,9 +3,11 @@
 ghost use Rattle.std.specs.Prelude.{◌≡◌, ℕ, ◌<◌, ◌≤◌, ◌==◌, not, true, false, length, slice_index};
 ghost use Rattle.std.specs.List.{list_all};
 ghost use Rattle.std.specs.Option.{option_map};
-ghost use Rattle.deb_relations.specs.Grammar.{is_white, is_blank, is_lower_or_digit, is_package_char, is_arch_char, is_profile_char, is_op_char};
+ghost use Rattle.deb_relations.specs.Grammar.{is_white, is_blank, is_profile_char, is_op_char};
 ghost use Rattle.deb_relations.specs.Reader.{run, skip, strip, cut, is_solid};
 ghost use Rattle.deb_relations.specs.Scanner.{test_of, halves_of, text_of};
+
+use crate::names::{is_arch_char, is_package_char};
 
 /// A class of characters.
 #[derive(Clone, Copy)]
@@ -23,27 +25,6 @@ pub(crate) fn is_white(byte: u8) -> bool
     ensures { result ≡ is_white byte }
 {
     byte == b' ' || byte == b'\t' || byte == b'\n' || byte == b'\r'
-}
-
-#[tactic(auto, unfolding(crate::specs::Grammar::is_lower_or_digit))]
-pub(crate) fn is_lower_or_digit(byte: u8) -> bool
-    ensures { result ≡ is_lower_or_digit byte }
-{
-    byte.is_ascii_lowercase() || byte.is_ascii_digit()
-}
-
-#[tactic(auto, unfolding(crate::specs::Grammar::is_package_char))]
-fn is_package_char(byte: u8) -> bool
-    ensures { result ≡ is_package_char byte }
-{
-    is_lower_or_digit(byte) || byte == b'+' || byte == b'-' || byte == b'.'
-}
-
-#[tactic(auto, unfolding(crate::specs::Grammar::is_arch_char))]
-fn is_arch_char(byte: u8) -> bool
-    ensures { result ≡ is_arch_char byte }
-{
-    is_lower_or_digit(byte) || byte == b'-'
 }
 
 #[tactic(auto, unfolding(crate::specs::Grammar::is_profile_char))]

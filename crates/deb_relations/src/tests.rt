@@ -1,6 +1,6 @@
 mod reading;
 
-use crate::{ArchWords, Available, RelationFault, Relations, arch_matches};
+use crate::{ArchWords, Available, RelationFault, Relations, arch_matches, is_package_name};
 use deb_version::{Version, VersionFault};
 use std::test::Fail;
 
@@ -23,6 +23,40 @@ fn words_match_an_architecture(rt: HostRuntime) -> Result<(), Fail> {
     for (word, want) in cases {
         assert_eq!(rt; arch_matches(word, &arch), want, "at {word}");
     }
+    Ok(())
+}
+
+#[test]
+fn packages_have_names(rt: HostRuntime) -> Result<(), Fail> {
+    let cases = [
+        ("0ad", true),
+        ("g++-12", true),
+        ("libapache2-mod-wsgi-py3", true),
+        ("python3.11", true),
+        ("vi", true),
+        ("r", false),
+        ("", false),
+        (".ab", false),
+        ("+ab", false),
+        ("R-base", false),
+        ("lib_x", false),
+        ("libc6:any", false),
+    ];
+    for (text, want) in cases {
+        assert_eq!(rt; is_package_name(text), want, "at {text}");
+    }
+    Ok(())
+}
+
+#[test]
+fn the_longest_name_has_200_bytes(rt: HostRuntime) -> Result<(), Fail> {
+    let mut text = String::new(rt.alloc());
+    for _ in 0..200 {
+        text.push_str("a")?;
+    }
+    assert!(rt; is_package_name(text.as_str()));
+    text.push_str("a")?;
+    assert!(rt; !is_package_name(text.as_str()));
     Ok(())
 }
 
