@@ -9,10 +9,11 @@ use Rattle.wb_states.specs.declared.arch.OsCpu.{OsCpu}
 use Rattle.deb_relations.specs.declared.arch.ArchWords.{ArchWords}
 use Rattle.deb_relations.specs.declared.relations.Alternative.{Alternative}
 use Rattle.deb_relations.specs.Grammar.{Reads}
+use Rattle.deb_relations.specs.Names.{is_package_name}
 use Rattle.deb_relations.specs.Printing.{printed}
 use Rattle.deb_relations.specs.Reduction.{reduced}
 use Rattle.deb_relations.specs.Text.{text_cmp}
-use Rattle.wb_states.specs.Names.{is_arch_name, is_os_cpu_word, is_builder_name, is_source_name}
+use Rattle.wb_states.specs.Names.{is_arch_name, is_os_cpu_word, is_builder_name}
 use Rattle.wb_states.specs.Limits.{count_limit}
 use Rattle.wb_states.specs.Record.{IsWellFormed}
 
@@ -73,7 +74,7 @@ pub record IsBuilder (machine : Machine) (builder arch : List ℕ) : Type 0 wher
 
 -- a record has its form, its architecture is there, its holder may build for it, its waits are reduced for it, and its take number was given
 pub record IsRecord (machine : Machine) (arch source : List ℕ) (current : Record) : Type 0 where
-  pub name : IsTrue (is_source_name source)
+  pub name : IsTrue (is_package_name source)
   pub known : IsTrue (map.contains_key machine.archs arch)
   pub fields : IsWellFormed current
   pub holder : IfSome current.holder (λ builder. IsTrue (set.contains machine.builders (builder, arch)))

@@ -1,10 +1,7 @@
--- The forms of names: packages (Debian Policy 5.6.1), priorities and sections (2.5 and 2.4), and, this project's own, architectures and builders.
+-- The forms of names: priorities and sections (Debian Policy 2.5 and 2.4), and, this project's own, architectures and builders.
 use Rattle.std.specs.Prelude.{ℕ, Bool, false, not, ◌&&◌, ◌||◌, List, [], ◌∷◌, length, nat_le, nat_eq, codes, bytes_eq}
 use Rattle.std.specs.List.{list_all}
-
--- a lower-case letter or a digit (Debian Policy 5.6.1)
-abbrev pub is_lower_or_digit : ℕ → Bool
-is_lower_or_digit c = (nat_le 97 c && nat_le c 122) || (nat_le 48 c && nat_le c 57)
+use Rattle.deb_relations.specs.Names.{is_lower_or_digit, is_arch_char, begins_with_lower_or_digit}
 
 -- a letter or a digit
 abbrev pub is_letter_or_digit : ℕ → Bool
@@ -19,26 +16,14 @@ abbrev pub begins : (ℕ → Bool) → List ℕ → Bool
 begins test [] = false
 begins test (c ∷ _) = test c
 
--- a byte of a package's name: a lower-case letter, a digit, `+`, `-` or `.` (Debian Policy 5.6.1)
-abbrev pub is_source_char : ℕ → Bool
-is_source_char c = is_lower_or_digit c || (nat_eq c 43 || (nat_eq c 45 || nat_eq c 46))
-
--- the name of a source package: 2 to 200 of these bytes, the first a letter or a digit (Debian Policy 5.6.1; the upper limit is this project's own)
-unfoldable pub is_source_name : List ℕ → Bool
-is_source_name text = has_length 2 200 text && (begins is_lower_or_digit text && list_all is_source_char text)
-
--- a byte of an architecture's name: a lower-case letter, a digit or `-`
-abbrev pub is_arch_char : ℕ → Bool
-is_arch_char c = is_lower_or_digit c || nat_eq c 45
-
 -- one of the words that name no single architecture (Debian Policy 5.6.8)
 abbrev pub is_no_single_arch : List ℕ → Bool
 is_no_single_arch text = bytes_eq text (codes "all") || (bytes_eq text (codes "any") || bytes_eq text (codes "source"))
 
--- the name of an architecture: 1 to 40 of these bytes, the first a letter or a digit, and none of the words that name no single one (this project's own)
+-- the name of an architecture: 1 to 40 lower-case letters, digits and `-`, the first no `-`, and none of the words that name no single one (this project's own)
 unfoldable pub is_arch_name : List ℕ → Bool
 is_arch_name text =
-    has_length 1 40 text && (begins is_lower_or_digit text && (list_all is_arch_char text && not (is_no_single_arch text)))
+    has_length 1 40 text && (begins_with_lower_or_digit text && (list_all is_arch_char text && not (is_no_single_arch text)))
 
 -- the word of an operating system or a processor: 1 to 20 lower-case letters and digits, and not `any` (this project's own)
 unfoldable pub is_os_cpu_word : List ℕ → Bool

@@ -1,16 +1,18 @@
 //! The forms of names.
 ghost use Rattle.std.specs.Prelude.{◌≡◌};
 ghost use Rattle.std.specs.List.{list_all};
-ghost use Rattle.wb_states.specs.Names.{is_source_name, is_arch_name, is_os_cpu_word, is_builder_name, is_label_text, is_lower_or_digit, is_letter_or_digit, has_length, begins, is_source_char, is_arch_char, is_builder_char, is_visible_char};
+ghost use Rattle.deb_relations.specs.Names.{is_lower_or_digit, is_arch_char, begins_with_lower_or_digit, is_package_name};
+ghost use Rattle.wb_states.specs.Names.{is_arch_name, is_os_cpu_word, is_builder_name, is_label_text, is_letter_or_digit, has_length, begins, is_builder_char, is_visible_char};
+
+use deb_relations::is_package_name;
 
 /// Whether `text` is the name of a source package: 2 to 200 bytes, lower-case letters, digits, `+`, `-`
 /// and `.`, of which the first is a letter or a digit (Debian Policy 5.6.1; the upper limit is this
 /// project's own). Takes no memory.
-#[tactic(auto, unfolding(crate::specs::Names::is_source_name))]
 pub fn is_source(text: &str) -> bool
-    ensures value { result ≡ is_source_name text.now }
+    ensures value { result ≡ is_package_name text.now }
 {
-    is_long_between(text, 2, 200) && begins_lower(text) && is_all_source(text)
+    is_package_name(text)
 }
 
 /// Whether `text` is the name of an architecture: 1 to 40 bytes, lower-case letters, digits and `-`, of
@@ -59,10 +61,11 @@ fn is_long_between(text: &str, least: usize, most: usize) -> bool
     least <= text.len() && text.len() <= most
 }
 
+#[tactic(auto, unfolding(deb_relations::specs::Names::is_lower_or_digit))]
 fn is_lower(c: u8) -> bool
     ensures { result ≡ is_lower_or_digit c }
 {
-    (b'a' <= c && c <= b'z') || (b'0' <= c && c <= b'9')
+    c.is_ascii_lowercase() || c.is_ascii_digit()
 }
 
 fn is_letter(c: u8) -> bool
@@ -72,7 +75,7 @@ fn is_letter(c: u8) -> bool
 }
 
 fn begins_lower(text: &str) -> bool
-    ensures { result ≡ begins is_lower_or_digit text.now }
+    ensures { result ≡ begins_with_lower_or_digit text.now }
 {
     match text.as_bytes() {
         [] => false,
@@ -95,13 +98,7 @@ fn is_all_lower(text: &str) -> bool
     text.bytes().all(|c| is_lower(c))
 }
 
-fn is_all_source(text: &str) -> bool
-    ensures { result ≡ list_all is_source_char text.now }
-{
-    text.bytes()
-        .all(|c| is_lower(c) || c == b'+' || c == b'-' || c == b'.')
-}
-
+#[tactic(auto, unfolding(deb_relations::specs::Names::is_arch_char))]
 fn is_all_arch(text: &str) -> bool
     ensures { result ≡ list_all is_arch_char text.now }
 {
