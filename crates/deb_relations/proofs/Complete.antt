@@ -5,7 +5,7 @@ use Rattle.std.proofs.lemmas.Bool.Decides.{nat_tests}
 use Rattle.std.proofs.lemmas.Slice.Eq.{bytes_eq-Decides}
 use Rattle.std.specs.Prelude.{bytes_eq, codes}
 use Rattle.deb_version.specs.declared.operator.Op.{Op}
-use Rattle.deb_version.specs.Syntax.{fault_of, is_upstream_char, is_revision_char}
+use Rattle.deb_version.specs.Syntax.{fault_of, is_upstream_char, is_revision_char, is_version_text}
 use Rattle.deb_relations.specs.declared.relations.Kind.{Kind}
 use Rattle.deb_relations.specs.declared.relations.Kind.TheVariants.{Arch, Profile}
 use Rattle.deb_relations.specs.declared.relations.Term.{Term}
@@ -15,11 +15,12 @@ use Rattle.deb_relations.specs.Printing.{term_text}
 use Rattle.deb_relations.specs.Reduction.{is_filled}
 use Rattle.deb_relations.specs.Grammar.{is_white, is_blank, is_profile_char, is_op_char, is_qualifier, is_word, is_said, op_of, words, TakesName, TakesQualifier, InBrackets, IsRestriction, TakesRestriction, ReadsTerms, TakesArchs, ReadsProfiles, ReadsAlternative, Each, ReadsGroup, Reads}
 use Rattle.deb_relations.specs.Names.{is_lower_or_digit, is_package_char, is_arch_char, begins_with_lower_or_digit, is_package_name}
-use Rattle.deb_relations.specs.Reader.{run, skip, strip, is_solid, between, between_opened, some_of, read_between, with_rest, read_name, read_behind_colon, read_qualifier, has_no_fault, is_version, asked_of, asked_behind, asked_from, restriction_of, asked_inside, read_restriction, term_behind, term_of, both, all_some, filled_only, terms_of, alike_only, archs_of, read_archs, profile_behind, profile_of, lists_of, read_profiles, with_profiles, with_archs, with_asked, with_qualifier, with_name, read_alternative, read_group, read_groups}
+use Rattle.deb_relations.specs.Reader.{run, skip, strip, is_solid, between, between_opened, some_of, read_between, with_rest, read_name, read_behind_colon, read_qualifier, asked_of, asked_behind, asked_from, restriction_of, asked_inside, read_restriction, term_behind, term_of, both, all_some, filled_only, terms_of, alike_only, archs_of, read_archs, profile_behind, profile_of, lists_of, read_profiles, with_profiles, with_archs, with_asked, with_qualifier, with_name, read_alternative, read_group, read_groups}
 use Rattle.deb_relations.proofs.Runs.{both-true, and-true, stops, opens, run-all, skip-all, opens-stops, opens-weaker, all-weaker, all-both}
 use Rattle.deb_relations.proofs.Cuts.{strip-here, cut-here, split-here, split-none}
 use Rattle.deb_relations.proofs.Turns.{lists-cons, split-has}
 use Rattle.deb_relations.proofs.VersionForm.{version-form, version-filled}
+use Rattle.std.specs.Option.{is_none}
 
 -- a character that is not c
 abbrev pub other : ℕ → ℕ → Bool
@@ -232,7 +233,7 @@ restriction-inside inside asked h =
     (all-weaker is_white (other 41) white-other h.back h.back_blank)))))
 
 pub asked-complete : (inside : List ℕ) (asked : Restriction) → IsRestriction inside asked → restriction_of inside ≡ Some asked
-unfolding restriction_of is_version
+unfolding restriction_of is_version_text
 asked-complete inside asked h =
     let v : List ℕ = asked.version in
     let last : List ℕ = v ++ h.back in
@@ -255,7 +256,7 @@ asked-complete inside asked h =
     ∙ ap (asked_behind (Some asked.op)) e3
     ∙ ap (λ x. asked_of (Some asked.op) x (skip is_solid last)) e4
     ∙ ap (asked_of (Some asked.op) v) e5
-    ∙ ap (λ b. cond b (Some (record { op = asked.op; version = v })) None) (and-true (has_no_fault (fault_of v)) (is_blank h.back) (ap has_no_fault h.version) h.back_blank)
+    ∙ ap (λ b. cond b (Some (record { op = asked.op; version = v })) None) (and-true (is_none (fault_of v)) (is_blank h.back) (ap is_none h.version) h.back_blank)
 
 pub restriction-complete : (t : List ℕ) (asked : Option Restriction) (rest : List ℕ) → TakesRestriction t asked rest → opens is_square (skip is_white rest) → read_restriction t ≡ Some (asked, rest)
 unfolding read_restriction is_white

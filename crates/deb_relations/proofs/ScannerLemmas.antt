@@ -1,13 +1,13 @@
 -- The pieces that the scanner gives, as the reader's words have them.
 use Rattle.std.proofs.Common.{◌≡◌, ◌≢◌, ℕ, zero, suc, ◌<◌, ◌≤◌, ◌+◌, true, false, not, ◌&&◌, eqb, List, [], ◌∷◌, ◌++◌, length, take, drop, get_or, refl, sym, ap, subst, ◌∙◌, arith, Option, Some, None, MatchOption, Bor, IsOk, Err}
 use Rattle.std.specs.List.{list_all}
-use Rattle.std.specs.Option.{option_map}
+use Rattle.std.specs.Option.{option_map, is_none}
 use Rattle.std.specs.Str.{IsUtf8, IsCharBoundary}
 use Rattle.std.proofs.lemmas.Str.{IsCharBoundary-start, IsCharBoundary-after_ascii}
 use Rattle.std.proofs.lemmas.Bool.{false≢true}
 use Rattle.std.proofs.lemmas.Bool.Decides.{nat_tests}
 use Rattle.deb_version.specs.declared.fault.VersionFault.{VersionFault}
-use Rattle.deb_version.specs.Syntax.{Parts, parts_of, fault_of, outcome, reading_of}
+use Rattle.deb_version.specs.Syntax.{Parts, parts_of, fault_of, outcome, reading_of, is_version_text}
 use Rattle.deb_relations.specs.declared.scanner.Class.{Class}
 use Rattle.deb_relations.specs.declared.scanner.Class.TheVariants.{White, Solid, Package, Arch, Profile, Op}
 use Rattle.deb_relations.specs.declared.fault.RelationFault.{RelationFault}
@@ -16,7 +16,7 @@ use Rattle.deb_version.specs.declared.fault.VersionFault.TheVariants as version
 use Rattle.deb_relations.specs.Faults.{told}
 use Rattle.deb_relations.specs.Grammar.{is_white, is_profile_char, is_op_char}
 use Rattle.deb_relations.specs.Names.{is_lower_or_digit, is_package_char, is_arch_char}
-use Rattle.deb_relations.specs.Reader.{run, skip, strip, cut, is_solid, has_no_fault, is_version}
+use Rattle.deb_relations.specs.Reader.{run, skip, strip, cut, is_solid}
 use Rattle.deb_relations.specs.Reading.{version_fault}
 use Rattle.deb_relations.specs.Scanner.{test_of, text_of, halves_of}
 use Rattle.deb_relations.proofs.Runs.{run-is}
@@ -93,12 +93,12 @@ pub cut-parts : (c : ℕ) (t : List ℕ) (r : Option (Bor (List ℕ) × Bor (Lis
 cut-parts c t None h = sym (cut-none c t (all-not c t h))
 cut-parts c t (Some x) h = sym (ap (cut c) h.0 ∙ cut-here c x.0.now x.1.now (all-not c x.0.now h.1))
 
-version-by : (o : Option VersionFault) (parts : Parts) → IsOk (outcome o parts) → has_no_fault o ≡ true
+version-by : (o : Option VersionFault) (parts : Parts) → IsOk (outcome o parts) → is_none o ≡ true
 version-by None parts h = refl
 version-by (Some fault) parts h = absurd (false≢true h)
 
-pub version-read : (t : List ℕ) → IsOk (reading_of t) → is_version t ≡ true
-unfolding is_version reading_of
+pub version-read : (t : List ℕ) → IsOk (reading_of t) → is_version_text t ≡ true
+unfolding is_version_text reading_of
 version-read t h = version-by (fault_of t) (parts_of t) h
 
 fault-by : (o : Option VersionFault) (parts : Parts) (fault : VersionFault) → outcome o parts ≡ Err fault → o ≡ Some fault
@@ -109,14 +109,14 @@ pub fault-read : (t : List ℕ) (fault : VersionFault) → reading_of t ≡ Err 
 unfolding reading_of
 fault-read t fault h = fault-by (fault_of t) (parts_of t) fault h
 
-pub not-version : (t : List ℕ) (fault : VersionFault) → fault_of t ≡ Some fault → is_version t ≡ false
-unfolding is_version
-not-version t fault h = ap has_no_fault h
+pub not-version : (t : List ℕ) (fault : VersionFault) → fault_of t ≡ Some fault → is_version_text t ≡ false
+unfolding is_version_text
+not-version t fault h = ap is_none h
 
 pub told-memory : (fault : VersionFault) → told fault ≢ relation.Memory → fault ≢ version.Memory
 told-memory fault h e = h (ap told e)
 
-pub version-refused : (t : List ℕ) (fault : VersionFault) (r : RelationFault) → r ≡ told fault → (fault ≢ version.Memory → reading_of t ≡ Err fault) → r ≢ relation.Memory → is_version t ≡ false
+pub version-refused : (t : List ℕ) (fault : VersionFault) (r : RelationFault) → r ≡ told fault → (fault ≢ version.Memory → reading_of t ≡ Err fault) → r ≢ relation.Memory → is_version_text t ≡ false
 version-refused t fault r e h n = not-version t fault (fault-read t fault (h (told-memory fault (λ k. n (e ∙ k)))))
 
 told-bad : (fault : VersionFault) → fault ≢ version.Memory → told fault ≡ relation.BadVersion fault

@@ -4,7 +4,7 @@ use Rattle.std.specs.List.{list_all, slice_split, join_with_byte}
 use Rattle.std.proofs.lemmas.List.Splits.{join_with_byte-slice_split}
 use Rattle.deb_version.specs.declared.fault.VersionFault.{VersionFault}
 use Rattle.deb_version.specs.declared.operator.Op.{Op}
-use Rattle.deb_version.specs.Syntax.{fault_of}
+use Rattle.deb_version.specs.Syntax.{fault_of, is_version_text}
 use Rattle.deb_relations.specs.declared.relations.Kind.{Kind}
 use Rattle.deb_relations.specs.declared.relations.Kind.TheVariants.{Arch, Profile}
 use Rattle.deb_relations.specs.declared.relations.Term.{Term}
@@ -14,9 +14,10 @@ use Rattle.deb_relations.specs.Printing.{term_text}
 use Rattle.deb_relations.specs.Reduction.{is_filled}
 use Rattle.deb_relations.specs.Grammar.{is_white, is_blank, is_op_char, is_qualifier, is_word, is_said, op_of, words, are_alike, TakesName, TakesQualifier, InBrackets, IsRestriction, TakesRestriction, ReadsTerms, TakesArchs, ReadsProfiles, ReadsAlternative, Each, ReadsGroup, Reads}
 use Rattle.deb_relations.specs.Names.{is_package_char, is_arch_char, is_package_name}
-use Rattle.deb_relations.specs.Reader.{run, skip, strip, cut, is_solid, between, between_opened, some_of, read_between, with_rest, read_name, read_behind_colon, read_qualifier, has_no_fault, is_version, asked_of, restriction_of, asked_inside, read_restriction, term_behind, term_of, both, all_some, filled_only, terms_of, alike_only, archs_of, read_archs, profile_behind, profile_of, lists_of, read_profiles, with_profiles, with_archs, with_asked, with_qualifier, with_name, read_alternative, read_group, read_groups}
+use Rattle.deb_relations.specs.Reader.{run, skip, strip, cut, is_solid, between, between_opened, some_of, read_between, with_rest, read_name, read_behind_colon, read_qualifier, asked_of, restriction_of, asked_inside, read_restriction, term_behind, term_of, both, all_some, filled_only, terms_of, alike_only, archs_of, read_archs, profile_behind, profile_of, lists_of, read_profiles, with_profiles, with_archs, with_asked, with_qualifier, with_name, read_alternative, read_group, read_groups}
 use Rattle.deb_relations.proofs.Runs.{both-true, and-true, run-skip, run-passes}
 use Rattle.deb_relations.proofs.Cuts.{strip-join, cut-is}
+use Rattle.std.specs.Option.{is_none}
 
 name-at : (t : List ℕ) (b : Bool) → is_package_name (run is_package_char (skip is_white t)) ≡ b → (p : List ℕ × List ℕ)
     → cond b (Some (run is_package_char (skip is_white t), skip is_package_char (skip is_white t))) None ≡ Some p
@@ -97,12 +98,12 @@ module _ {X : Type 0} (f : List ℕ → Option X) (none : X) where
       subst (λ (y : X × List ℕ). IsPart l r t y.0 y.1) made (inl (refl, refl))
   part-by l r t (Some (Some q)) e p h = inside-by l r t q (between-sound l r t q e) (f q.0) refl p h
 
-no-fault : (t : List ℕ) (o : Option VersionFault) → fault_of t ≡ o → has_no_fault o ≡ true → fault_of t ≡ None
+no-fault : (t : List ℕ) (o : Option VersionFault) → fault_of t ≡ o → is_none o ≡ true → fault_of t ≡ None
 no-fault t None e h = e
 no-fault t (Some fault) e h = absurd (cc)
 
-pub version-sound : (t : List ℕ) → is_version t ≡ true → fault_of t ≡ None
-unfolding is_version
+pub version-sound : (t : List ℕ) → is_version_text t ≡ true → fault_of t ≡ None
+unfolding is_version_text
 version-sound t h = no-fault t (fault_of t) refl h
 
 module _ (inside : List ℕ) where
@@ -118,10 +119,10 @@ module _ (inside : List ℕ) where
   abbrev after : List ℕ
   after = skip is_solid (skip is_white behind)
 
-  asked-at : (op : Op) → op_of (run is_op_char front) ≡ Some op → (b : Bool) → (is_version version && is_blank after) ≡ b → (asked : Restriction) → cond b (Some (record { op = op; version = version })) None ≡ Some asked → IsRestriction inside asked
+  asked-at : (op : Op) → op_of (run is_op_char front) ≡ Some op → (b : Bool) → (is_version_text version && is_blank after) ≡ b → (asked : Restriction) → cond b (Some (record { op = op; version = version })) None ≡ Some asked → IsRestriction inside asked
   asked-at op o true e asked h =
       let made : ◌≡◌ {A = Restriction} (record { op = op; version = version }) asked = cc in
-      let two : (is_version version ≡ true) × (is_blank after ≡ true) = both-true _ _ e in
+      let two : (is_version_text version ≡ true) × (is_blank after ≡ true) = both-true _ _ e in
       subst (IsRestriction inside) made (record {
         front = run is_white inside;
         operator = run is_op_char front;
@@ -139,7 +140,7 @@ module _ (inside : List ℕ) where
 
   asked-by : (o : Option Op) → op_of (run is_op_char front) ≡ o → (asked : Restriction) → asked_of o version after ≡ Some asked → IsRestriction inside asked
   asked-by None e asked h = absurd (cc)
-  asked-by (Some op) e asked h = asked-at op e (is_version version && is_blank after) refl asked h
+  asked-by (Some op) e asked h = asked-at op e (is_version_text version && is_blank after) refl asked h
 
 pub asked-sound : (inside : List ℕ) (asked : Restriction) → restriction_of inside ≡ Some asked → IsRestriction inside asked
 unfolding restriction_of

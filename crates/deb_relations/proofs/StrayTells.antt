@@ -6,7 +6,7 @@ use Rattle.std.proofs.Math.Seq.{get_or-append_seam}
 use Rattle.std.proofs.lemmas.List.Splits.{join_with_byte-slice_split}
 use Rattle.deb_version.specs.declared.fault.VersionFault.{VersionFault}
 use Rattle.deb_version.specs.declared.operator.Op.{Op}
-use Rattle.deb_version.specs.Syntax.{fault_of}
+use Rattle.deb_version.specs.Syntax.{fault_of, is_version_text}
 use Rattle.deb_relations.specs.declared.fault.RelationFault.{RelationFault}
 use Rattle.deb_relations.specs.declared.fault.RelationFault.TheVariants.{BadName, Mixed, Unclosed, EmptyAlternative, Stray, TooLong}
 use Rattle.deb_relations.specs.declared.relations.Restriction.{Restriction}
@@ -15,7 +15,7 @@ use Rattle.deb_relations.specs.declared.relations.Term.{Term}
 use Rattle.deb_relations.specs.declared.relations.Alternative.{Alternative}
 use Rattle.deb_relations.specs.Reduction.{is_filled}
 use Rattle.deb_relations.specs.Grammar.{is_white, is_blank, is_op_char, op_of, TakesQualifier, TakesRestriction, TakesArchs, InBrackets}
-use Rattle.deb_relations.specs.Reader.{run, skip, strip, is_solid, is_version, asked_inside, with_rest, some_of, read_between, read_groups, restriction_of, asked_of, both, between, lists_of, with_qualifier, with_name, with_asked, with_archs, with_profiles, read_name, read_qualifier, read_restriction, terms_of, read_archs, read_profiles, profile_of, read_alternative}
+use Rattle.deb_relations.specs.Reader.{run, skip, strip, is_solid, asked_inside, with_rest, some_of, read_between, read_groups, restriction_of, asked_of, both, between, lists_of, with_qualifier, with_name, with_asked, with_archs, with_profiles, read_name, read_qualifier, read_restriction, terms_of, read_archs, read_profiles, profile_of, read_alternative}
 use Rattle.deb_relations.specs.Reading.{place_of, end_before, span, name_fault, version_fault, fault_behind_operator, operator_fault, asked_fault, bracket_fault, restriction_fault, words_fault, archs_fault, list_fault, lists_fault, profiles_fault, or_behind, fault_behind_restriction, fault_behind_qualifier, fault_behind_name, alternative_fault, first_fault, is_alternative, group_fault, is_group_or_blank, groups_fault, reading_of, outcome}
 use Rattle.deb_relations.proofs.Runs.{stops, run-skip, skip-stops}
 use Rattle.deb_relations.proofs.Sound.{between-sound, name-sound, qualifier-sound, restriction-sound, archs-sound}
@@ -181,11 +181,11 @@ none-asked true false asked h e = refl
 none-asked false b asked h e = cc
 
 -- an operator and a version, with more behind the version
-asked-none : (op : Op) (version after : List ℕ) → is_version version ≡ true → asked_of (Some op) version after ≡ None → is_blank after ≡ false
-asked-none op version after v e = none-asked (is_version version) (is_blank after) (record { op = op; version = version }) v e
+asked-none : (op : Op) (version after : List ℕ) → is_version_text version ≡ true → asked_of (Some op) version after ≡ None → is_blank after ≡ false
+asked-none op version after v e = none-asked (is_version_text version) (is_blank after) (record { op = op; version = version }) v e
 
-version-good : (version : List ℕ) → fault_of version ≡ None → is_version version ≡ true
-unfolding is_version
+version-good : (version : List ℕ) → fault_of version ≡ None → is_version_text version ≡ true
+unfolding is_version_text
 version-good version e = rw e refl
 
 version-stray : (whole : List ℕ) (op : Op) (end : ℕ) (asked : List ℕ) → EndsAt whole asked end → asked_of (Some op) (run is_solid asked) (skip is_solid asked) ≡ None

@@ -2,9 +2,8 @@
 use Rattle.std.specs.Prelude.{ℕ, ◌==◌, Bool, true, false, not, ◌&&◌, List, [], ◌∷◌, ◌++◌, filter, if◌then◌else◌}
 use Rattle.std.specs.Prelude.{Option, None, Some}
 use Rattle.std.specs.List.{slice_split}
-use Rattle.deb_version.specs.declared.fault.VersionFault.{VersionFault}
 use Rattle.deb_version.specs.declared.operator.Op.{Op}
-use Rattle.deb_version.specs.Syntax.{fault_of}
+use Rattle.deb_version.specs.Syntax.{is_version_text}
 use Rattle.deb_relations.specs.declared.relations.Kind.{Kind}
 use Rattle.deb_relations.specs.declared.relations.Kind.TheVariants.{Arch, Profile}
 use Rattle.deb_relations.specs.declared.relations.Term.{Term}
@@ -95,20 +94,11 @@ read_behind_colon text (Some behind) =
 unfoldable pub read_qualifier : List ℕ → Option (Option (List ℕ) × List ℕ)
 read_qualifier text = read_behind_colon text (strip 58 text)
 
--- whether no fault was found (this project's own)
-abbrev pub has_no_fault : Option VersionFault → Bool
-has_no_fault None = true
-has_no_fault (Some fault) = false
-
--- whether a text is a version (Policy 5.6.12)
-unfoldable pub is_version : List ℕ → Bool
-is_version text = has_no_fault (fault_of text)
-
 -- the restriction of an operator and a version, where both are there and white space alone follows (Policy 7.1)
 abbrev pub asked_of : Option Op → List ℕ → List ℕ → Option Restriction
 asked_of None version after = None
 asked_of (Some op) version after =
-    if is_version version && is_blank after then Some (record { op = op; version = version }) else None
+    if is_version_text version && is_blank after then Some (record { op = op; version = version }) else None
 
 -- the restriction of an operator and of the text behind it, which is a version up to white space (Policy 7.1)
 abbrev pub asked_behind : Option Op → List ℕ → Option Restriction

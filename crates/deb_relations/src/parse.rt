@@ -3,9 +3,9 @@
 ghost use Rattle.std.specs.Prelude.{◌≡◌, ◌≢◌, ◌<◌, ◌==◌, true, false, not, List, ℕ, Some, None, length, filter, IfOk, IfErr, if◌then◌else◌};
 ghost use Rattle.std.specs.Option.{option_map};
 ghost use Rattle.std.specs.List.{list_all};
-ghost use Rattle.deb_version.specs.Syntax.{fault_of};
+ghost use Rattle.deb_version.specs.Syntax.{fault_of, is_version_text};
 ghost use Rattle.deb_relations.specs.Grammar.{is_blank, is_word, op_of, words, are_alike, is_said, Reads};
-ghost use Rattle.deb_relations.specs.Reader.{between, read_name, read_qualifier, is_version, restriction_of, read_restriction, signed, term_of, all_some, terms_of, with_group, archs_of, read_archs, profile_of, read_profiles, read_alternative, read_group, read_groups};
+ghost use Rattle.deb_relations.specs.Reader.{between, read_name, read_qualifier, restriction_of, read_restriction, signed, term_of, all_some, terms_of, with_group, archs_of, read_archs, profile_of, read_profiles, read_alternative, read_group, read_groups};
 ghost use Rattle.deb_relations.specs.Scanner.{halves_of};
 ghost use Rattle.deb_relations.specs.Faults.{told};
 ghost use Rattle.deb_relations.specs.Reading.{place_of, end_before, name_fault, version_fault, asked_fault, restriction_fault, words_fault, archs_fault, list_fault, profiles_fault, alternative_fault, group_fault, groups_fault, reading_of, begins_with_name, is_group_begun, takes_memory};
@@ -125,8 +125,8 @@ fn told(fault: VersionFault) -> RelationFault
 
 fn read_version(alloc: Global, text: &str) -> Result<Version, RelationFault>
     ensures value { IfOk result (λ version. version ≡ text.now) }
-    ensures ok { IfOk result (λ _. is_version text.now ≡ true) }
-    ensures refused { IfErr result (λ fault. fault ≢ Memory → is_version text.now ≡ false) }
+    ensures ok { IfOk result (λ _. is_version_text text.now ≡ true) }
+    ensures refused { IfErr result (λ fault. fault ≢ Memory → is_version_text text.now ≡ false) }
     ensures err { IfErr result (λ fault. fault ≢ Memory → (place : ℕ) → fault ≡ version_fault (fault_of text.now) place) }
 {
     match Version::parse(alloc, text) {
