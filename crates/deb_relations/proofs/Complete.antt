@@ -15,12 +15,13 @@ use Rattle.deb_relations.specs.Printing.{term_text}
 use Rattle.deb_relations.specs.Reduction.{is_filled}
 use Rattle.deb_relations.specs.Grammar.{is_white, is_blank, is_profile_char, is_op_char, is_qualifier, is_word, is_said, op_of, words, TakesName, TakesQualifier, InBrackets, IsRestriction, TakesRestriction, ReadsTerms, TakesArchs, ReadsProfiles, ReadsAlternative, Each, ReadsGroup, Reads}
 use Rattle.deb_relations.specs.Names.{is_lower_or_digit, is_package_char, is_arch_char, begins_with_lower_or_digit, is_package_name}
-use Rattle.deb_relations.specs.Reader.{run, skip, strip, is_solid, between, between_opened, some_of, read_between, with_rest, read_name, read_behind_colon, read_qualifier, asked_of, asked_behind, asked_from, restriction_of, asked_inside, read_restriction, term_behind, term_of, both, all_some, filled_only, terms_of, alike_only, archs_of, read_archs, profile_behind, profile_of, lists_of, read_profiles, with_profiles, with_archs, with_asked, with_qualifier, with_name, read_alternative, read_group, read_groups}
-use Rattle.deb_relations.proofs.Runs.{both-true, and-true, stops, opens, run-all, skip-all, opens-stops, opens-weaker, all-weaker, all-both}
+use Rattle.deb_relations.specs.Reader.{skip, strip, is_solid, between, between_opened, some_of, read_between, with_rest, read_name, read_behind_colon, read_qualifier, asked_of, asked_behind, asked_from, restriction_of, asked_inside, read_restriction, term_behind, term_of, both, all_some, filled_only, terms_of, alike_only, archs_of, read_archs, profile_behind, profile_of, lists_of, read_profiles, with_profiles, with_archs, with_asked, with_qualifier, with_name, read_alternative, read_group, read_groups}
+use Rattle.deb_relations.proofs.LeadingLemmas.{both-true, and-true, stops, opens, leading-all, skip-all, opens-stops, opens-weaker, all-weaker, all-both}
 use Rattle.deb_relations.proofs.Cuts.{strip-here, cut-here, split-here, split-none}
 use Rattle.deb_relations.proofs.Turns.{lists-cons, split-has}
 use Rattle.deb_relations.proofs.VersionForm.{version-form, version-filled}
 use Rattle.std.specs.Option.{is_none}
+use Rattle.deb_relations.specs.Text.{leading}
 
 -- a character that is not c
 abbrev pub other : ℕ → ℕ → Bool
@@ -118,7 +119,7 @@ name-complete t name rest h o =
     let chars : (list_all is_package_char name ≡ true) × (_ ≡ true) = both-true _ _ form.1 in
     let front : skip is_white t ≡ name ++ rest = ap (skip is_white) h.split ∙ skip-all is_white h.gap (name ++ rest) h.blank (begins-stops name rest form.0) in
     let end : stops is_package_char rest = opens-stops is_behind_name is_package_char rest behind-no-package o in
-    let one : run is_package_char (skip is_white t) ≡ name = ap (run is_package_char) front ∙ run-all is_package_char name rest chars.0 end in
+    let one : leading is_package_char (skip is_white t) ≡ name = ap (leading is_package_char) front ∙ leading-all is_package_char name rest chars.0 end in
     let two : skip is_package_char (skip is_white t) ≡ rest = ap (skip is_package_char) front ∙ skip-all is_package_char name rest chars.0 end in
     rw (one, two, h.form) refl
 
@@ -135,7 +136,7 @@ qualifier-complete t (Some word) rest h o =
     let two : (is_filled word ≡ true) × (list_all is_arch_char word ≡ true) = both-true _ _ h.1 in
     let end : stops is_arch_char rest = opens-stops is_next is_arch_char rest next-no-arch o in
     let some : strip 58 t ≡ Some (word ++ rest) = ap (strip 58) h.0 ∙ strip-here 58 (word ++ rest) in
-    let one : run is_arch_char (word ++ rest) ≡ word = run-all is_arch_char word rest two.1 end in
+    let one : leading is_arch_char (word ++ rest) ≡ word = leading-all is_arch_char word rest two.1 end in
     let more : skip is_arch_char (word ++ rest) ≡ rest = skip-all is_arch_char word rest two.1 end in
     ap (read_behind_colon t) some ∙ rw (one, more, two.0) refl
 
@@ -247,9 +248,9 @@ asked-complete inside asked h =
     let s5 : stops is_solid h.back = opens-stops is_white is_solid h.back white-not-solid (all-opens is_white h.back h.back_blank) in
     let solid : list_all is_solid v ≡ true = all-weaker is_upstream_char is_solid version-solid v chars in
     let e1 : skip is_white inside ≡ h.operator ++ (h.middle ++ last) = ap (skip is_white) h.split ∙ skip-all is_white h.front _ h.front_blank s1 in
-    let e2 : run is_op_char (h.operator ++ (h.middle ++ last)) ≡ h.operator = run-all is_op_char h.operator _ ops s4 in
+    let e2 : leading is_op_char (h.operator ++ (h.middle ++ last)) ≡ h.operator = leading-all is_op_char h.operator _ ops s4 in
     let e3 : skip is_white (skip is_op_char (h.operator ++ (h.middle ++ last))) ≡ last = ap (skip is_white) (skip-all is_op_char h.operator _ ops s4) ∙ skip-all is_white h.middle last h.middle_blank s2 in
-    let e4 : run is_solid last ≡ v = run-all is_solid v h.back solid s5 in
+    let e4 : leading is_solid last ≡ v = leading-all is_solid v h.back solid s5 in
     let e5 : skip is_solid last ≡ h.back = skip-all is_solid v h.back solid s5 in
     ap asked_from e1
     ∙ ap (λ o. asked_behind o (skip is_white (skip is_op_char (h.operator ++ (h.middle ++ last))))) (ap op_of e2 ∙ h.means)

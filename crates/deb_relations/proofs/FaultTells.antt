@@ -13,11 +13,12 @@ use Rattle.deb_relations.specs.declared.relations.Kind.TheVariants.{Arch}
 use Rattle.deb_relations.specs.declared.relations.Term.{Term}
 use Rattle.deb_relations.specs.Reduction.{is_filled}
 use Rattle.deb_relations.specs.Grammar.{is_white, is_op_char, op_of, TakesName, TakesQualifier, InBrackets}
-use Rattle.deb_relations.specs.Reader.{run, skip, strip, cut, is_solid, some_of, between_opened, between, read_name, read_qualifier, read_restriction, terms_of, read_archs, profile_of}
+use Rattle.deb_relations.specs.Reader.{skip, strip, cut, is_solid, some_of, between_opened, between, read_name, read_qualifier, read_restriction, terms_of, read_archs, profile_of}
 use Rattle.deb_relations.specs.Reading.{place_of, end_before, span, name_fault, version_fault, fault_behind_operator, operator_fault, asked_fault, bracket_fault, restriction_fault, words_fault, archs_fault, list_fault, lists_fault, profiles_fault, or_behind, fault_behind_restriction, fault_behind_qualifier, fault_behind_name, alternative_fault, first_fault, is_alternative, group_fault, is_group_or_blank, groups_fault, is_asked_char, ends_asked, HasBadVersion}
-use Rattle.deb_relations.proofs.Runs.{stops, both-true, and-true, run-skip, run-passes, skip-stops}
+use Rattle.deb_relations.proofs.LeadingLemmas.{stops, both-true, and-true, leading-skip, leading-passes, skip-stops}
 use Rattle.deb_relations.proofs.Cuts.{cut-clear}
 use Rattle.deb_relations.proofs.Sound.{between-sound, name-sound, qualifier-sound}
+use Rattle.deb_relations.specs.Text.{leading}
 
 -- a text that stands in another
 pub record StandsIn (part text : List ℕ) : Type 0 where
@@ -111,47 +112,47 @@ module _ (text inside rest : List ℕ) (b : InBrackets 40 41 text inside rest) (
   abbrev asked : List ℕ
   asked = skip is_white behind
 
-  inside-is : inside ≡ run is_white inside ++ (run is_op_char front ++ (run is_white behind ++ (run is_solid asked ++ skip is_solid asked)))
+  inside-is : inside ≡ leading is_white inside ++ (leading is_op_char front ++ (leading is_white behind ++ (leading is_solid asked ++ skip is_solid asked)))
   inside-is =
-      run-skip is_white inside
-      ∙ ap (λ x. run is_white inside ++ x) (run-skip is_op_char front ∙ ap (λ x. run is_op_char front ++ x) (run-skip is_white behind ∙ ap (λ x. run is_white behind ++ x) (run-skip is_solid asked)))
+      leading-skip is_white inside
+      ∙ ap (λ x. leading is_white inside ++ x) (leading-skip is_op_char front ∙ ap (λ x. leading is_op_char front ++ x) (leading-skip is_white behind ∙ ap (λ x. leading is_white behind ++ x) (leading-skip is_solid asked)))
 
-  version-whole : list_all is_asked_char (run is_solid asked) ≡ true
+  version-whole : list_all is_asked_char (leading is_solid asked) ≡ true
   version-whole =
       let all = subst (λ x. list_all (λ c. not (eqb c 41)) x ≡ true) inside-is clear in
-      all-asked (run is_solid asked) (run-passes is_solid asked)
-      (all-front _ (run is_solid asked) (skip is_solid asked) (all-back _ (run is_white behind) _ (all-back _ (run is_op_char front) _ (all-back _ (run is_white inside) _ all))))
+      all-asked (leading is_solid asked) (leading-passes is_solid asked)
+      (all-front _ (leading is_solid asked) (skip is_solid asked) (all-back _ (leading is_white behind) _ (all-back _ (leading is_op_char front) _ (all-back _ (leading is_white inside) _ all))))
 
-  brackets-are : text ≡ b.gap ++ (40 ∷ (run is_white inside ++ (run is_op_char front ++ (run is_white behind ++ (run is_solid asked ++ (skip is_solid asked ++ (41 ∷ rest)))))))
+  brackets-are : text ≡ b.gap ++ (40 ∷ (leading is_white inside ++ (leading is_op_char front ++ (leading is_white behind ++ (leading is_solid asked ++ (skip is_solid asked ++ (41 ∷ rest)))))))
   brackets-are = b.split ∙ ap (λ x. b.gap ++ (40 ∷ (x ++ (41 ∷ rest)))) inside-is ∙ simp append_assoc
 
-  version-tells : (op : Op) → op_of (run is_op_char front) ≡ Some op → (o : Option VersionFault) → fault_of (run is_solid asked) ≡ o → (place : ℕ) → Tells text (version_fault o place)
+  version-tells : (op : Op) → op_of (leading is_op_char front) ≡ Some op → (o : Option VersionFault) → fault_of (leading is_solid asked) ≡ o → (place : ℕ) → Tells text (version_fault o place)
   version-tells op e None h place = tt
   version-tells op e (Some fault) h place = record {
     front = b.gap;
-    gap = run is_white inside;
-    operator = run is_op_char front;
-    middle = run is_white behind;
-    word = run is_solid asked;
+    gap = leading is_white inside;
+    operator = leading is_op_char front;
+    middle = leading is_white behind;
+    word = leading is_solid asked;
     back = skip is_solid asked ++ (41 ∷ rest);
     op = op;
     split = brackets-are;
-    gap_blank = run-passes is_white inside;
-    middle_blank = run-passes is_white behind;
+    gap_blank = leading-passes is_white inside;
+    middle_blank = leading-passes is_white behind;
     whole = version-whole;
     ended = ended-here (skip is_solid asked) rest (skip-stops is_solid asked);
     means = e;
     version = h;
   }
 
-  operator-tells : (end : ℕ) (o : Option Op) → op_of (run is_op_char front) ≡ o → Tells text (operator_fault o (fault_behind_operator end asked))
+  operator-tells : (end : ℕ) (o : Option Op) → op_of (leading is_op_char front) ≡ o → Tells text (operator_fault o (fault_behind_operator end asked))
   unfolding fault_behind_operator
   operator-tells end None e = tt
-  operator-tells end (Some op) e = version-tells op e (fault_of (run is_solid asked)) refl (place_of end (skip is_white (skip is_solid asked)))
+  operator-tells end (Some op) e = version-tells op e (fault_of (leading is_solid asked)) refl (place_of end (skip is_white (skip is_solid asked)))
 
   asked-tells : (end : ℕ) → Tells text (asked_fault end inside)
   unfolding asked_fault
-  asked-tells end = operator-tells end (op_of (run is_op_char front)) refl
+  asked-tells end = operator-tells end (op_of (leading is_op_char front)) refl
 
 clear-cut : (r : ℕ) (behind : List ℕ) (o : Option (List ℕ × List ℕ)) → cut r behind ≡ o → (p : List ℕ × List ℕ) → some_of o ≡ Some (Some p) → list_all (λ c. not (eqb c r)) p.0 ≡ true
 clear-cut r behind None e p h = absurd (cc)

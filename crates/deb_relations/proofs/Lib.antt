@@ -4,9 +4,9 @@ mod Complete
 mod Cuts
 mod FaultTells
 mod FaultTurns
+mod LeadingLemmas
 mod MapLemmas
 mod ReadsBack
-mod Runs
 mod ScannerLemmas
 mod Sound
 mod Turns

@@ -16,12 +16,13 @@ use Rattle.deb_relations.specs.Printing.{term_text, op_text, qualifier_text, res
 use Rattle.deb_relations.specs.Reduction.{is_filled, is_kept, without_lists, reduced_group, reduced}
 use Rattle.deb_relations.specs.Grammar.{is_white, is_blank, is_profile_char, is_qualifier, is_word, is_said, op_of, words, are_alike, TakesQualifier, TakesRestriction, ReadsTerms, TakesArchs, ReadsProfiles, ReadsAlternative, Each, ReadsGroup, Reads}
 use Rattle.deb_relations.specs.Names.{is_lower_or_digit, is_package_char, is_arch_char, begins_with_lower_or_digit, is_package_name}
-use Rattle.deb_relations.specs.Reader.{run, skip, is_solid}
-use Rattle.deb_relations.proofs.Runs.{both-true, stops, run-all, skip-all, all-weaker, all-both}
+use Rattle.deb_relations.specs.Reader.{skip, is_solid}
+use Rattle.deb_relations.proofs.LeadingLemmas.{both-true, stops, leading-all, skip-all, all-weaker, all-both}
 use Rattle.deb_relations.proofs.Cuts.{split-here, split-none}
 use Rattle.deb_relations.proofs.Turns.{words-first, words-skip, words-white, split-has}
 use Rattle.deb_relations.proofs.Complete.{lower-not-white, other, word-chars}
 use Rattle.deb_relations.proofs.VersionForm.{version-form}
+use Rattle.deb_relations.specs.Text.{leading}
 
 -- the forms of the parts of an alternative
 abbrev GoodQualifier : Option (List ℕ) → Type 0
@@ -158,7 +159,7 @@ behind-stops (y ∷ ys) = refl
 words-one : (kind : Kind) (term : Term) (rest : List ℕ) → is_word kind term.word ≡ true → stops is_solid rest → words (term_text term ++ rest) ≡ term_text term ∷ words rest
 words-one kind term rest h s =
     let solid : list_all is_solid (term_text term) ≡ true = term-solid kind term h in
-    let one : run is_solid (term_text term ++ rest) ≡ term_text term = run-all is_solid (term_text term) rest solid s in
+    let one : leading is_solid (term_text term ++ rest) ≡ term_text term = leading-all is_solid (term_text term) rest solid s in
     let two : skip is_solid (term_text term ++ rest) ≡ rest = skip-all is_solid (term_text term) rest solid s in
     words-first (term_text term ++ rest) (ap is_filled one ∙ term-filled kind term h)
     ∙ ap (λ x. x ∷ words (skip is_white (skip is_solid (term_text term ++ rest)))) one

@@ -7,9 +7,10 @@ use Rattle.deb_relations.specs.declared.relations.Term.{Term}
 use Rattle.deb_relations.specs.declared.relations.Alternative.{Alternative}
 use Rattle.deb_relations.specs.Reduction.{is_filled}
 use Rattle.deb_relations.specs.Grammar.{is_white, is_blank, is_said, words}
-use Rattle.deb_relations.specs.Reader.{run, skip, cut, is_solid, both, all_some, term_of, profile_of, lists_of, read_group, push_group, with_group}
-use Rattle.deb_relations.proofs.Runs.{stops, skip-stops}
+use Rattle.deb_relations.specs.Reader.{skip, cut, is_solid, both, all_some, term_of, profile_of, lists_of, read_group, push_group, with_group}
+use Rattle.deb_relations.proofs.LeadingLemmas.{stops, skip-stops}
 use Rattle.deb_relations.proofs.Cuts.{cut-is, split-last}
+use Rattle.deb_relations.specs.Text.{leading}
 
 -- two halves, and none
 abbrev pub some_pair : List ℕ → List ℕ → Option (List ℕ × List ℕ)
@@ -54,11 +55,11 @@ abbrev later : List ℕ → List (List ℕ)
 later [] = []
 later (c ∷ cs) = slice_split is_white cs
 
-split-first : (t : List ℕ) → slice_split is_white t ≡ run is_solid t ∷ later (skip is_solid t)
+split-first : (t : List ℕ) → slice_split is_white t ≡ leading is_solid t ∷ later (skip is_solid t)
 unfolding is_solid
 split-first [] = refl
 split-first (c ∷ cs) =
-    elim (is_white c) as (λ v. cond v ([] ∷ slice_split is_white cs) (onto_first c (slice_split is_white cs)) ≡ cond (not v) (c ∷ run is_solid cs) [] ∷ later (cond (not v) (skip is_solid cs) (c ∷ cs))) [
+    elim (is_white c) as (λ v. cond v ([] ∷ slice_split is_white cs) (onto_first c (slice_split is_white cs)) ≡ cond (not v) (c ∷ leading is_solid cs) [] ∷ later (cond (not v) (skip is_solid cs) (c ∷ cs))) [
       | true ↦ refl
       | false ↦ ap (onto_first c) (split-first cs)
     ]
@@ -85,17 +86,17 @@ later-words [] h = refl
 later-words (c ∷ cs) h = sym (words-white c cs (not-solid c h))
 
 -- a text that begins with a word
-pub words-first : (t : List ℕ) → is_filled (run is_solid t) ≡ true → words t ≡ run is_solid t ∷ words (skip is_white (skip is_solid t))
+pub words-first : (t : List ℕ) → is_filled (leading is_solid t) ≡ true → words t ≡ leading is_solid t ∷ words (skip is_white (skip is_solid t))
 unfolding words
 words-first t h =
     ap (filter is_filled) (split-first t)
-    ∙ ap (λ v. cond v (run is_solid t ∷ filter is_filled (later (skip is_solid t))) (filter is_filled (later (skip is_solid t)))) h
-    ∙ ap (λ ws. run is_solid t ∷ ws) (later-words (skip is_solid t) (skip-stops is_solid t) ∙ sym (words-skip (skip is_solid t)))
+    ∙ ap (λ v. cond v (leading is_solid t ∷ filter is_filled (later (skip is_solid t))) (filter is_filled (later (skip is_solid t)))) h
+    ∙ ap (λ ws. leading is_solid t ∷ ws) (later-words (skip is_solid t) (skip-stops is_solid t) ∙ sym (words-skip (skip is_solid t)))
 
-pub word-filled : (t : List ℕ) → is_filled t ≡ true → stops is_white t → is_filled (run is_solid t) ≡ true
+pub word-filled : (t : List ℕ) → is_filled t ≡ true → stops is_white t → is_filled (leading is_solid t) ≡ true
 unfolding is_solid
 word-filled [] h s = absurd (cc)
-word-filled (c ∷ cs) h s = ap (λ v. is_filled (cond (not v) (c ∷ run is_solid cs) [])) s
+word-filled (c ∷ cs) h s = ap (λ v. is_filled (cond (not v) (c ∷ leading is_solid cs) [])) s
 
 skip-shorter : (p : ℕ → Bool) (t : List ℕ) → length (skip p t) ≤ length t
 skip-shorter p [] = omega arith
@@ -110,14 +111,14 @@ turn-shorter (c ∷ cs) h s =
     subst (λ (v : Bool). length (skip is_white (cond (not v) (skip is_solid cs) (c ∷ cs))) < length (c ∷ cs)) (sym s) (omega arith)
 
 -- a word is read, or has no reading
-pub term-turn : (kind : Kind) (made : List Term) (t : List ℕ) (term : Term) → is_filled t ≡ true → stops is_white t → term_of kind (run is_solid t) ≡ Some term
+pub term-turn : (kind : Kind) (made : List Term) (t : List ℕ) (term : Term) → is_filled t ≡ true → stops is_white t → term_of kind (leading is_solid t) ≡ Some term
     → onto (made ++ term ∷ []) (all_some (term_of kind) (words (skip is_white (skip is_solid t)))) ≡ onto made (all_some (term_of kind) (words t))
 term-turn kind made t term h s e =
     onto-push made term (all_some (term_of kind) (words (skip is_white (skip is_solid t))))
     ∙ ap (λ o. onto made (both o (all_some (term_of kind) (words (skip is_white (skip is_solid t)))))) (sym e)
     ∙ ap (λ ws. onto made (all_some (term_of kind) ws)) (sym (words-first t (word-filled t h s)))
 
-pub term-refused : (kind : Kind) (made : List Term) (t : List ℕ) → is_filled t ≡ true → stops is_white t → term_of kind (run is_solid t) ≡ None
+pub term-refused : (kind : Kind) (made : List Term) (t : List ℕ) → is_filled t ≡ true → stops is_white t → term_of kind (leading is_solid t) ≡ None
     → onto made (all_some (term_of kind) (words t)) ≡ None
 term-refused kind made t h s e =
     ap (λ ws. onto made (all_some (term_of kind) ws)) (words-first t (word-filled t h s))

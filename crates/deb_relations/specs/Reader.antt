@@ -12,11 +12,7 @@ use Rattle.deb_relations.specs.declared.relations.Alternative.{Alternative}
 use Rattle.deb_relations.specs.Reduction.{is_filled}
 use Rattle.deb_relations.specs.Grammar.{is_white, is_blank, is_op_char, is_word, is_said, op_of, words, are_alike}
 use Rattle.deb_relations.specs.Names.{is_package_char, is_arch_char, is_package_name}
-
--- the longest front of a text whose characters all pass a test (this project's own)
-abbrev pub run : (ℕ → Bool) → List ℕ → List ℕ
-run test [] = []
-run test (c ∷ cs) = if test c then c ∷ run test cs else []
+use Rattle.deb_relations.specs.Text.{leading}
 
 -- what stands behind the longest front of a text whose characters all pass a test (this project's own)
 abbrev pub skip : (ℕ → Bool) → List ℕ → List ℕ
@@ -82,13 +78,13 @@ read_between f none text (Some (Some halves)) = with_rest halves.1 (f halves.0)
 unfoldable pub read_name : List ℕ → Option (List ℕ × List ℕ)
 read_name text =
     let front = skip is_white text in
-    if is_package_name (run is_package_char front) then Some (run is_package_char front, skip is_package_char front) else None
+    if is_package_name (leading is_package_char front) then Some (leading is_package_char front, skip is_package_char front) else None
 
 -- a qualifier and what is left, of the text behind a colon, where one stands first (Policy 7.1)
 abbrev pub read_behind_colon : List ℕ → Option (List ℕ) → Option (Option (List ℕ) × List ℕ)
 read_behind_colon text None = Some (None, text)
 read_behind_colon text (Some behind) =
-    if is_filled (run is_arch_char behind) then Some (Some (run is_arch_char behind), skip is_arch_char behind) else None
+    if is_filled (leading is_arch_char behind) then Some (Some (leading is_arch_char behind), skip is_arch_char behind) else None
 
 -- a qualifier, where a colon stands first, and what is left (Policy 7.1)
 unfoldable pub read_qualifier : List ℕ → Option (Option (List ℕ) × List ℕ)
@@ -102,11 +98,11 @@ asked_of (Some op) version after =
 
 -- the restriction of an operator and of the text behind it, which is a version up to white space (Policy 7.1)
 abbrev pub asked_behind : Option Op → List ℕ → Option Restriction
-asked_behind op text = asked_of op (run is_solid text) (skip is_solid text)
+asked_behind op text = asked_of op (leading is_solid text) (skip is_solid text)
 
 -- the restriction of a text that begins with its operator (Policy 7.1)
 abbrev pub asked_from : List ℕ → Option Restriction
-asked_from text = asked_behind (op_of (run is_op_char text)) (skip is_white (skip is_op_char text))
+asked_from text = asked_behind (op_of (leading is_op_char text)) (skip is_white (skip is_op_char text))
 
 -- an operator and a version, as the text inside parentheses has them (Policy 7.1)
 unfoldable pub restriction_of : List ℕ → Option Restriction

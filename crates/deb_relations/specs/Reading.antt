@@ -11,7 +11,8 @@ use Rattle.deb_relations.specs.declared.relations.Kind.TheVariants.{Arch}
 use Rattle.deb_relations.specs.declared.relations.Alternative.{Alternative}
 use Rattle.deb_relations.specs.Reduction.{is_filled}
 use Rattle.deb_relations.specs.Grammar.{is_white, is_blank, is_said, is_op_char, op_of}
-use Rattle.deb_relations.specs.Reader.{run, skip, strip, is_solid, between, read_name, read_qualifier, read_restriction, terms_of, read_archs, profile_of, read_alternative, read_group, read_groups}
+use Rattle.deb_relations.specs.Reader.{skip, strip, is_solid, between, read_name, read_qualifier, read_restriction, terms_of, read_archs, profile_of, read_alternative, read_group, read_groups}
+use Rattle.deb_relations.specs.Text.{leading}
 
 -- where a text begins that ends at the place end of the whole text (this project's own)
 abbrev pub place_of : ℕ → List ℕ → ℕ
@@ -37,7 +38,7 @@ version_fault None place = Stray place
 
 -- the fault behind an operator: of the text up to white space, which is to be a version, or of what follows it (Policy 7.1)
 unfoldable pub fault_behind_operator : ℕ → List ℕ → RelationFault
-fault_behind_operator end text = version_fault (fault_of (run is_solid text)) (place_of end (skip is_white (skip is_solid text)))
+fault_behind_operator end text = version_fault (fault_of (leading is_solid text)) (place_of end (skip is_white (skip is_solid text)))
 
 -- the fault of an operator, else that of what is behind it (Policy 7.1)
 abbrev pub operator_fault : Option Op → RelationFault → RelationFault
@@ -48,7 +49,7 @@ operator_fault (Some op) behind = behind
 unfoldable pub asked_fault : ℕ → List ℕ → RelationFault
 asked_fault end inside =
     let front = skip is_white inside in
-    operator_fault (op_of (run is_op_char front)) (fault_behind_operator end (skip is_white (skip is_op_char front)))
+    operator_fault (op_of (leading is_op_char front)) (fault_behind_operator end (skip is_white (skip is_op_char front)))
 
 -- the fault of a part in brackets: they are not closed, or that of the text inside, which may depend on what is behind (Policy 7.1)
 abbrev pub bracket_fault : (List ℕ → List ℕ → RelationFault) → Option (Option (List ℕ × List ℕ)) → RelationFault

@@ -16,7 +16,7 @@ use crate::fault::RelationFault;
 use crate::items::Items;
 use crate::names::{begins_with_lower_or_digit, is_package_name};
 use crate::relations::{Alternative, Kind, Relations, Restriction, Term};
-use crate::scanner::{Class, cut_at, is_all, run_of, skip_white, strip};
+use crate::scanner::{Class, cut_at, is_all, skip_white, split_leading, strip};
 use crate::text::Text;
 use deb_version::{Op, Version, VersionFault};
 use std::alloc::Global;
@@ -55,7 +55,7 @@ fn read_name(alloc: Global, text: &str) -> Result<(Text, &str), RelationFault>
     ensures memory { IfErr result (λ fault. fault ≡ Memory → begins_with_name text.now ≡ true) }
 {
     let front = skip_white(text);
-    let (name, rest) = run_of(Class::Package, front);
+    let (name, rest) = split_leading(Class::Package, front);
     if !is_package_name(name) {
         return Err(if front.is_empty() {
             RelationFault::EmptyAlternative
@@ -75,7 +75,7 @@ fn read_qualifier(alloc: Global, text: &str) -> Result<(Option<Text>, &str), Rel
     let Some(behind) = strip(':', text) else {
         return Ok((None, text));
     };
-    let (word, rest) = run_of(Class::Arch, behind);
+    let (word, rest) = split_leading(Class::Arch, behind);
     if word.is_empty() {
         return Err(RelationFault::BadName);
     }
@@ -141,11 +141,11 @@ fn restriction_of(alloc: Global, inside: &str, end: usize) -> Result<Restriction
     ensures refused { IfErr result (λ fault. fault ≢ Memory → restriction_of inside.now ≡ None) }
     ensures err { IfErr result (λ fault. fault ≢ Memory → fault ≡ asked_fault end inside.now) }
 {
-    let (word, behind) = run_of(Class::Op, skip_white(inside));
+    let (word, behind) = split_leading(Class::Op, skip_white(inside));
     let Some(op) = op_of(word) else {
         return Err(RelationFault::BadOperator);
     };
-    let (version, after) = run_of(Class::Solid, skip_white(behind));
+    let (version, after) = split_leading(Class::Solid, skip_white(behind));
     let version = read_version(alloc, version)?;
     if !is_all(Class::White, after) {
         return Err(RelationFault::Stray(place_of(skip_white(after), end)));
@@ -205,7 +205,7 @@ fn collect_terms(alloc: Global, kind: Kind, inside: &str) -> Result<Items<Term>,
     let mut made = Items::new(alloc);
     let mut rest = skip_white(inside);
     while !rest.is_empty() {
-        let (word, behind) = run_of(Class::Solid, rest);
+        let (word, behind) = split_leading(Class::Solid, rest);
         made.push(term_of(alloc, kind, word)?)?;
         rest = skip_white(behind);
     }

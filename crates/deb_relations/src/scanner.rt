@@ -4,8 +4,9 @@ ghost use Rattle.std.specs.Prelude.{◌≡◌, ℕ, ◌<◌, ◌≤◌, ◌==◌
 ghost use Rattle.std.specs.List.{list_all};
 ghost use Rattle.std.specs.Option.{option_map};
 ghost use Rattle.deb_relations.specs.Grammar.{is_white, is_blank, is_profile_char, is_op_char};
-ghost use Rattle.deb_relations.specs.Reader.{run, skip, strip, cut, is_solid};
+ghost use Rattle.deb_relations.specs.Reader.{skip, strip, cut, is_solid};
 ghost use Rattle.deb_relations.specs.Scanner.{test_of, halves_of, text_of};
+ghost use Rattle.deb_relations.specs.Text.{leading};
 
 use crate::names::{is_arch_char, is_package_char};
 
@@ -82,8 +83,8 @@ fn front_len(class: Class, text: &[u8]) -> usize
 }
 
 // The characters of the class that a text begins with, and what follows them.
-pub(crate) fn run_of(class: Class, text: &str) -> (&str, &str)
-    ensures front { result.0.now ≡ run (test_of class) text.now }
+pub(crate) fn split_leading(class: Class, text: &str) -> (&str, &str)
+    ensures front { result.0.now ≡ leading (test_of class) text.now }
     ensures back { result.1.now ≡ skip (test_of class) text.now }
 {
     let len = front_len(class, text.as_bytes());
@@ -94,7 +95,7 @@ pub(crate) fn run_of(class: Class, text: &str) -> (&str, &str)
 pub(crate) fn skip_white(text: &str) -> &str
     ensures { result.now ≡ skip is_white text.now }
 {
-    run_of(Class::White, text).1
+    split_leading(Class::White, text).1
 }
 
 // What follows the first character, where it is this one.

@@ -2,7 +2,7 @@ use Rattle.std.proofs.Common.{◌≡◌, ◌<◌, ◌∙◌, ap, sym, subst, rul
 use Rattle.deb_relations.specs.Reduction.{is_filled}
 use Rattle.deb_relations.specs.Grammar.{is_white, words}
 use Rattle.deb_relations.specs.Reader.{skip, all_some, term_of}
-use Rattle.deb_relations.proofs.Runs.{stops, skip-stops}
+use Rattle.deb_relations.proofs.LeadingLemmas.{stops, skip-stops}
 use Rattle.deb_relations.proofs.Turns.{onto, onto-start, words-skip, filled-from, not-filled, term-turn, term-refused, terms-end, turn-shorter}
 use Rattle.deb_relations.proofs.parse.collect_terms.Goals as goal
 
@@ -21,8 +21,8 @@ returns-in_err-term_of-clause-refused c =
     let t : List ℕ = c.loop-rest.rest.now in
     let empty : c.is_empty.result ≡ false = search rules in
     let filled : is_filled t ≡ true = filled-from t c.is_empty.result c.is_empty.ensures empty in
-    let stop : term_of c.args.kind c.run_of.result.0.now ≡ None → all_some (term_of c.args.kind) (words c.args.inside.now) ≡ None =
-    λ e. sym c.loop-rest.invariant.2 ∙ term-refused c.args.kind c.loop-rest.made t filled c.loop-rest.invariant.1 (ap (term_of c.args.kind) (sym c.run_of.ensures.front) ∙ e) in
+    let stop : term_of c.args.kind c.split_leading.result.0.now ≡ None → all_some (term_of c.args.kind) (words c.args.inside.now) ≡ None =
+    λ e. sym c.loop-rest.invariant.2 ∙ term-refused c.args.kind c.loop-rest.made t filled c.loop-rest.invariant.1 (ap (term_of c.args.kind) (sym c.split_leading.ensures.front) ∙ e) in
     search (rules, stop)
 
 pub loop-rest-smaller : goal.loop-rest-smaller
@@ -30,7 +30,7 @@ loop-rest-smaller c =
     let t : List ℕ = c.loop-rest.rest.now in
     let empty : c.is_empty.result ≡ false = search rules in
     let filled : is_filled t ≡ true = filled-from t c.is_empty.result c.is_empty.ensures empty in
-    subst (λ (x : List ℕ). length x < length t) (sym (c.skip_white-rest-in-loop-rest.ensures ∙ ap (skip is_white) c.run_of.ensures.back)) (turn-shorter t filled c.loop-rest.invariant.1)
+    subst (λ (x : List ℕ). length x < length t) (sym (c.skip_white-rest-in-loop-rest.ensures ∙ ap (skip is_white) c.split_leading.ensures.back)) (turn-shorter t filled c.loop-rest.invariant.1)
 
 pub loop-rest-preserved : goal.loop-rest-preserved
 loop-rest-preserved c =
@@ -39,10 +39,10 @@ loop-rest-preserved c =
     let filled : is_filled t ≡ true = filled-from t c.is_empty.result c.is_empty.ensures empty in
     let term = c.in_ok-term_of.field-0 in (
       search rules,
-      subst (stops is_white) (sym c.skip_white-rest-in-loop-rest.ensures) (skip-stops is_white c.run_of.result.1.now),
+      subst (stops is_white) (sym c.skip_white-rest-in-loop-rest.ensures) (skip-stops is_white c.split_leading.result.1.now),
       ap (λ m. onto m (all_some (term_of c.args.kind) (words c.skip_white-rest-in-loop-rest.result.now))) c.in_ok-push.ensures.value
-          ∙ ap (λ x. onto (c.loop-rest.made ++ term ∷ []) (all_some (term_of c.args.kind) (words x))) (c.skip_white-rest-in-loop-rest.ensures ∙ ap (skip is_white) c.run_of.ensures.back)
-          ∙ term-turn c.args.kind c.loop-rest.made t term filled c.loop-rest.invariant.1 (ap (term_of c.args.kind) (sym c.run_of.ensures.front) ∙ c.in_ok-term_of.ensures.ok)
+          ∙ ap (λ x. onto (c.loop-rest.made ++ term ∷ []) (all_some (term_of c.args.kind) (words x))) (c.skip_white-rest-in-loop-rest.ensures ∙ ap (skip is_white) c.split_leading.ensures.back)
+          ∙ term-turn c.args.kind c.loop-rest.made t term filled c.loop-rest.invariant.1 (ap (term_of c.args.kind) (sym c.split_leading.ensures.front) ∙ c.in_ok-term_of.ensures.ok)
           ∙ c.loop-rest.invariant.2,
     )
 

@@ -1,7 +1,8 @@
 -- The longest front of a text whose characters pass a test, and what follows it.
 use Rattle.std.proofs.Common.{◌≡◌, ℕ, zero, suc, ◌<◌, ◌≤◌, Bool, true, false, cond, ◌&&◌, List, [], ◌∷◌, ◌++◌, length, take, drop, get_or, refl, sym, ap, ◌∙◌, arith}
 use Rattle.std.specs.List.{list_all}
-use Rattle.deb_relations.specs.Reader.{run, skip}
+use Rattle.deb_relations.specs.Reader.{skip}
+use Rattle.deb_relations.specs.Text.{leading}
 
 -- both parts of a test
 pub both-true : (a b : Bool) → (a && b) ≡ true → (a ≡ true) × (b ≡ true)
@@ -22,25 +23,25 @@ abbrev pub opens : (ℕ → Bool) → List ℕ → Type 0
 opens t [] = Unit {0}
 opens t (c ∷ cs) = t c ≡ true
 
-run-skip-at : (t : ℕ → Bool) (c : ℕ) (cs : List ℕ) (b : Bool)
-    → cs ≡ run t cs ++ skip t cs
-    → c ∷ cs ≡ cond b (c ∷ run t cs) [] ++ cond b (skip t cs) (c ∷ cs)
-run-skip-at t c cs true h = ap (λ xs. c ∷ xs) h
-run-skip-at t c cs false h = refl
+leading-skip-at : (t : ℕ → Bool) (c : ℕ) (cs : List ℕ) (b : Bool)
+    → cs ≡ leading t cs ++ skip t cs
+    → c ∷ cs ≡ cond b (c ∷ leading t cs) [] ++ cond b (skip t cs) (c ∷ cs)
+leading-skip-at t c cs true h = ap (λ xs. c ∷ xs) h
+leading-skip-at t c cs false h = refl
 
-pub run-skip : (t : ℕ → Bool) (cs : List ℕ) → cs ≡ run t cs ++ skip t cs
-run-skip t [] = refl
-run-skip t (c ∷ cs) = run-skip-at t c cs (t c) (run-skip t cs)
+pub leading-skip : (t : ℕ → Bool) (cs : List ℕ) → cs ≡ leading t cs ++ skip t cs
+leading-skip t [] = refl
+leading-skip t (c ∷ cs) = leading-skip-at t c cs (t c) (leading-skip t cs)
 
-run-passes-at : (t : ℕ → Bool) (c : ℕ) (cs : List ℕ) (b : Bool) → t c ≡ b
-    → list_all t (run t cs) ≡ true
-    → list_all t (cond b (c ∷ run t cs) []) ≡ true
-run-passes-at t c cs true e h = and-true (t c) (list_all t (run t cs)) e h
-run-passes-at t c cs false e h = refl
+leading-passes-at : (t : ℕ → Bool) (c : ℕ) (cs : List ℕ) (b : Bool) → t c ≡ b
+    → list_all t (leading t cs) ≡ true
+    → list_all t (cond b (c ∷ leading t cs) []) ≡ true
+leading-passes-at t c cs true e h = and-true (t c) (list_all t (leading t cs)) e h
+leading-passes-at t c cs false e h = refl
 
-pub run-passes : (t : ℕ → Bool) (cs : List ℕ) → list_all t (run t cs) ≡ true
-run-passes t [] = refl
-run-passes t (c ∷ cs) = run-passes-at t c cs (t c) refl (run-passes t cs)
+pub leading-passes : (t : ℕ → Bool) (cs : List ℕ) → list_all t (leading t cs) ≡ true
+leading-passes t [] = refl
+leading-passes t (c ∷ cs) = leading-passes-at t c cs (t c) refl (leading-passes t cs)
 
 skip-stops-at : (t : ℕ → Bool) (c : ℕ) (cs : List ℕ) (b : Bool) → t c ≡ b → stops t (skip t cs) → stops t (cond b (skip t cs) (c ∷ cs))
 skip-stops-at t c cs true e h = h
@@ -50,19 +51,19 @@ pub skip-stops : (t : ℕ → Bool) (cs : List ℕ) → stops t (skip t cs)
 skip-stops t [] = tt
 skip-stops t (c ∷ cs) = skip-stops-at t c cs (t c) refl (skip-stops t cs)
 
-run-none : (t : ℕ → Bool) (cs : List ℕ) → stops t cs → run t cs ≡ []
-run-none t [] s = refl
-run-none t (c ∷ cs) s = ap (λ b. cond b (c ∷ run t cs) []) s
+leading-none : (t : ℕ → Bool) (cs : List ℕ) → stops t cs → leading t cs ≡ []
+leading-none t [] s = refl
+leading-none t (c ∷ cs) s = ap (λ b. cond b (c ∷ leading t cs) []) s
 
 pub skip-none : (t : ℕ → Bool) (cs : List ℕ) → stops t cs → skip t cs ≡ cs
 skip-none t [] s = refl
 skip-none t (c ∷ cs) s = ap (λ b. cond b (skip t cs) (c ∷ cs)) s
 
-pub run-all : (t : ℕ → Bool) (xs rest : List ℕ) → list_all t xs ≡ true → stops t rest → run t (xs ++ rest) ≡ xs
-run-all t [] rest h s = run-none t rest s
-run-all t (x ∷ xs) rest h s =
+pub leading-all : (t : ℕ → Bool) (xs rest : List ℕ) → list_all t xs ≡ true → stops t rest → leading t (xs ++ rest) ≡ xs
+leading-all t [] rest h s = leading-none t rest s
+leading-all t (x ∷ xs) rest h s =
     let two : (t x ≡ true) × (list_all t xs ≡ true) = both-true (t x) (list_all t xs) h in
-    ap (λ b. cond b (x ∷ run t (xs ++ rest)) []) two.0 ∙ ap (λ ys. x ∷ ys) (run-all t xs rest two.1 s)
+    ap (λ b. cond b (x ∷ leading t (xs ++ rest)) []) two.0 ∙ ap (λ ys. x ∷ ys) (leading-all t xs rest two.1 s)
 
 pub skip-front : (t : ℕ → Bool) (xs rest : List ℕ) → list_all t xs ≡ true → skip t (xs ++ rest) ≡ skip t rest
 skip-front t [] rest h = refl
@@ -97,16 +98,16 @@ opens-behind : (p q : ℕ → Bool) (c : ℕ) (cs : List ℕ) (b : Bool) → p c
 opens-behind p q c cs true e f h k = absurd (cc)
 opens-behind p q c cs false e f h k = h
 
--- a front of a list that passes, up to its end or to an item that does not, is the run
-pub run-is : (t : ℕ → Bool) (cs : List ℕ) (n : ℕ) → n ≤ length cs
+-- a front of a list that passes, up to its end or to an item that does not, is the leading
+pub leading-is : (t : ℕ → Bool) (cs : List ℕ) (n : ℕ) → n ≤ length cs
     → ((k : ℕ) → k < n → t (get_or cs k 0) ≡ true) → (n < length cs → t (get_or cs n 0) ≡ false)
-    → (take n cs ≡ run t cs) × (drop n cs ≡ skip t cs)
-run-is t [] zero h p s = (refl, refl)
-run-is t [] (suc n) h p s = absurd (omega arith)
-run-is t (c ∷ cs) zero h p s =
+    → (take n cs ≡ leading t cs) × (drop n cs ≡ skip t cs)
+leading-is t [] zero h p s = (refl, refl)
+leading-is t [] (suc n) h p s = absurd (omega arith)
+leading-is t (c ∷ cs) zero h p s =
     let e : t c ≡ false = s (omega arith) in
-    (sym (ap (λ b. cond b (c ∷ run t cs) []) e), sym (ap (λ b. cond b (skip t cs) (c ∷ cs)) e))
-run-is t (c ∷ cs) (suc n) h p s =
+    (sym (ap (λ b. cond b (c ∷ leading t cs) []) e), sym (ap (λ b. cond b (skip t cs) (c ∷ cs)) e))
+leading-is t (c ∷ cs) (suc n) h p s =
     let e : t c ≡ true = p 0 (omega arith) in
-    let more = run-is t cs n (omega arith) (λ k l. p (suc k) (omega arith)) (λ l. s (omega arith)) in
-    (ap (λ xs. c ∷ xs) more.0 ∙ sym (ap (λ b. cond b (c ∷ run t cs) []) e), more.1 ∙ sym (ap (λ b. cond b (skip t cs) (c ∷ cs)) e))
+    let more = leading-is t cs n (omega arith) (λ k l. p (suc k) (omega arith)) (λ l. s (omega arith)) in
+    (ap (λ xs. c ∷ xs) more.0 ∙ sym (ap (λ b. cond b (c ∷ leading t cs) []) e), more.1 ∙ sym (ap (λ b. cond b (skip t cs) (c ∷ cs)) e))

@@ -1,6 +1,6 @@
 use Rattle.std.proofs.Common.{◌∙◌}
 use Rattle.deb_relations.proofs.ScannerLemmas.{ends-at}
-use Rattle.deb_relations.proofs.scanner.run_of.Goals as goal
+use Rattle.deb_relations.proofs.scanner.split_leading.Goals as goal
 
 pub split_at-requires : goal.split_at-requires
 split_at-requires c =
