@@ -13,7 +13,7 @@ use Rattle.deb_relations.specs.declared.relations.Restriction.{Restriction}
 use Rattle.deb_relations.specs.declared.relations.Alternative.{Alternative}
 use Rattle.deb_relations.specs.Printing.{term_text}
 use Rattle.deb_relations.specs.Reduction.{is_filled}
-use Rattle.deb_relations.specs.Grammar.{is_white, is_blank, is_profile_char, is_op_char, is_qualifier, is_word, is_said, op_of, words, TakesName, TakesQualifier, InBrackets, IsRestriction, TakesRestriction, ReadsTerms, TakesArchs, ReadsProfiles, ReadsAlternative, Each, ReadsGroup, Reads}
+use Rattle.deb_relations.specs.Grammar.{is_white, is_blank_text, is_profile_char, is_op_char, is_qualifier, is_word, is_said, op_of, words, TakesName, TakesQualifier, InBrackets, IsRestriction, TakesRestriction, ReadsTerms, TakesArchs, ReadsProfiles, ReadsAlternative, Each, ReadsGroup, Reads}
 use Rattle.deb_relations.specs.Names.{is_lower_or_digit, is_package_char, is_arch_char, begins_with_lower_or_digit, is_package_name}
 use Rattle.deb_relations.specs.Reader.{skip, strip, is_solid, between, between_opened, some_of, read_between, with_rest, read_name, read_behind_colon, read_qualifier, asked_of, asked_behind, asked_from, restriction_of, asked_inside, read_restriction, term_behind, term_of, both, all_some, filled_only, terms_of, alike_only, archs_of, read_archs, profile_behind, profile_of, lists_of, read_profiles, with_profiles, with_archs, with_asked, with_qualifier, with_name, read_alternative, read_group, read_groups}
 use Rattle.deb_relations.proofs.LeadingLemmas.{both-true, and-true, stops, opens, leading-all, skip-all, opens-stops, opens-weaker, all-weaker, all-both}
@@ -65,10 +65,10 @@ bracket-opens : (p : ℕ → Bool) (l r : ℕ) (t inside rest : List ℕ) → In
 bracket-opens p l r t inside rest b w h =
     subst (opens p) (sym (ap (skip is_white) b.split ∙ skip-all is_white b.gap (l ∷ (inside ++ (r ∷ rest))) b.blank w)) h
 
-blank-skip : (t : List ℕ) → is_blank t ≡ true → skip is_white t ≡ []
+blank-skip : (t : List ℕ) → is_blank_text t ≡ true → skip is_white t ≡ []
 blank-skip [] h = refl
 blank-skip (c ∷ cs) h =
-    let two : (is_white c ≡ true) × (is_blank cs ≡ true) = both-true _ _ h in
+    let two : (is_white c ≡ true) × (is_blank_text cs ≡ true) = both-true _ _ h in
     ap (λ v. cond v (skip is_white cs) (c ∷ cs)) two.0 ∙ blank-skip cs two.1
 
 pub profiles-open : (t : List ℕ) (lists : List (List Term)) → ReadsProfiles t lists → opens is_angle (skip is_white t)
@@ -257,7 +257,7 @@ asked-complete inside asked h =
     ∙ ap (asked_behind (Some asked.op)) e3
     ∙ ap (λ x. asked_of (Some asked.op) x (skip is_solid last)) e4
     ∙ ap (asked_of (Some asked.op) v) e5
-    ∙ ap (λ b. cond b (Some (record { op = asked.op; version = v })) None) (and-true (is_none (fault_of v)) (is_blank h.back) (ap is_none h.version) h.back_blank)
+    ∙ ap (λ b. cond b (Some (record { op = asked.op; version = v })) None) (and-true (is_none (fault_of v)) (is_blank_text h.back) (ap is_none h.version) h.back_blank)
 
 pub restriction-complete : (t : List ℕ) (asked : Option Restriction) (rest : List ℕ) → TakesRestriction t asked rest → opens is_square (skip is_white rest) → read_restriction t ≡ Some (asked, rest)
 unfolding read_restriction is_white
@@ -376,12 +376,12 @@ archs-complete t (term ∷ terms) rest h o =
     ∙ ap (λ x. with_rest rest (alike_only x)) (terms-complete Arch inside (term ∷ terms) h.1.1.0)
     ∙ ap (λ v. with_rest rest (cond v (Some (term ∷ terms)) None)) h.1.1.1
 
-piece-complete : (gap inside : List ℕ) (terms : List Term) → is_blank gap ≡ true → ReadsTerms Profile inside terms → profile_of (gap ++ (60 ∷ inside)) ≡ Some terms
+piece-complete : (gap inside : List ℕ) (terms : List Term) → is_blank_text gap ≡ true → ReadsTerms Profile inside terms → profile_of (gap ++ (60 ∷ inside)) ≡ Some terms
 unfolding profile_of is_white
 piece-complete gap inside terms b h =
     ap (λ x. profile_behind (strip 60 x)) (skip-all is_white gap (60 ∷ inside) b refl) ∙ ap profile_behind (strip-here 60 inside) ∙ terms-complete Profile inside terms h
 
-piece-plain : (gap inside : List ℕ) (terms : List Term) → is_blank gap ≡ true → ReadsTerms Profile inside terms → list_all (other 62) (gap ++ (60 ∷ inside)) ≡ true
+piece-plain : (gap inside : List ℕ) (terms : List Term) → is_blank_text gap ≡ true → ReadsTerms Profile inside terms → list_all (other 62) (gap ++ (60 ∷ inside)) ≡ true
 unfolding is_profile_char
 piece-plain gap inside terms b h =
     all-both (other 62) gap (60 ∷ inside) (all-weaker is_white (other 62) white-angle gap b) (terms-inside Profile 62 refl refl white-angle inside terms h)

@@ -14,7 +14,7 @@ use Rattle.deb_relations.specs.declared.relations.Restriction.{Restriction}
 use Rattle.deb_relations.specs.declared.relations.Alternative.{Alternative}
 use Rattle.deb_relations.specs.Printing.{term_text, op_text, qualifier_text, restriction_text, terms_text, archs_text, profile_text, profiles_text, alternative_text, group_text, printed}
 use Rattle.deb_relations.specs.Reduction.{is_filled, is_kept, without_lists, reduced_group, reduced}
-use Rattle.deb_relations.specs.Grammar.{is_white, is_blank, is_profile_char, is_qualifier, is_word, is_said, op_of, words, are_alike, TakesQualifier, TakesRestriction, ReadsTerms, TakesArchs, ReadsProfiles, ReadsAlternative, Each, ReadsGroup, Reads}
+use Rattle.deb_relations.specs.Grammar.{is_white, is_blank_text, is_profile_char, is_qualifier, is_word, is_said, op_of, words, are_alike, TakesQualifier, TakesRestriction, ReadsTerms, TakesArchs, ReadsProfiles, ReadsAlternative, Each, ReadsGroup, Reads}
 use Rattle.deb_relations.specs.Names.{is_lower_or_digit, is_package_char, is_arch_char, begins_with_lower_or_digit, is_package_name}
 use Rattle.deb_relations.specs.Reader.{skip, is_solid}
 use Rattle.deb_relations.proofs.LeadingLemmas.{both-true, stops, leading-all, skip-all, all-weaker, all-both}
@@ -249,7 +249,7 @@ archs-printed (term ∷ terms) rest h k = (
   ),
 )
 
-profiles-printed : (lists : List (List Term)) (after : List ℕ) → is_blank after ≡ true → GoodProfiles lists → ReadsProfiles (profiles_text lists ++ after) lists
+profiles-printed : (lists : List (List Term)) (after : List ℕ) → is_blank_text after ≡ true → GoodProfiles lists → ReadsProfiles (profiles_text lists ++ after) lists
 unfolding is_white
 profiles-printed [] after b h = b
 profiles-printed (terms ∷ more) after b h = (
@@ -267,7 +267,7 @@ profiles-printed (terms ∷ more) after b h = (
   ),
 )
 
-alternative-printed : (gap after : List ℕ) (a : Alternative) → is_blank gap ≡ true → is_blank after ≡ true → Good a → ReadsAlternative (gap ++ (alternative_text a ++ after)) a
+alternative-printed : (gap after : List ℕ) (a : Alternative) → is_blank_text gap ≡ true → is_blank_text after ≡ true → Good a → ReadsAlternative (gap ++ (alternative_text a ++ after)) a
 unfolding alternative_text
 alternative-printed gap after a g b h =
     let pr : List ℕ = profiles_text a.profiles ++ after in
@@ -385,7 +385,7 @@ abbrev behind_alternatives : List Alternative → List ℕ
 behind_alternatives more = flat_map (λ y. codes " | " ++ alternative_text y) more
 
 -- the alternatives of a printed group
-alternatives-printed : (gap : List ℕ) (a : Alternative) (more : List Alternative) → is_blank gap ≡ true → Good a → AllGood more
+alternatives-printed : (gap : List ℕ) (a : Alternative) (more : List Alternative) → is_blank_text gap ≡ true → Good a → AllGood more
     → Each ReadsAlternative (slice_split (λ c. eqb c 124) (gap ++ (alternative_text a ++ behind_alternatives more))) (a ∷ more)
 unfolding is_white
 alternatives-printed gap a [] g h k =
@@ -404,7 +404,7 @@ alternatives-printed gap a (y ∷ ys) g h k =
     subst (λ (ps : List (List ℕ)). Each ReadsAlternative ps (a ∷ (y ∷ ys))) (sym (ap (slice_split (λ c. eqb c 124)) text ∙ split-here 124 piece rest bars))
     (alternative-printed gap (32 ∷ []) a g refl h, alternatives-printed (32 ∷ []) y ys refl k.0 k.1)
 
-group-printed : (gap : List ℕ) (group : List Alternative) → is_blank gap ≡ true → is_filled group ≡ true → AllGood group → ReadsGroup (gap ++ group_text group) group
+group-printed : (gap : List ℕ) (group : List Alternative) → is_blank_text gap ≡ true → is_filled group ≡ true → AllGood group → ReadsGroup (gap ++ group_text group) group
 unfolding group_text
 group-printed gap [] g f h = absurd (cc)
 group-printed gap (a ∷ more) g f h = alternatives-printed gap a more g h.0 h.1
@@ -424,16 +424,16 @@ and-false : (b : Bool) → (b && false) ≡ false
 and-false true = refl
 and-false false = refl
 
-not-blank : (xs ys zs : List ℕ) → begins_with_lower_or_digit ys ≡ true → is_blank (xs ++ (ys ++ zs)) ≡ false
+not-blank : (xs ys zs : List ℕ) → begins_with_lower_or_digit ys ≡ true → is_blank_text (xs ++ (ys ++ zs)) ≡ false
 not-blank [] [] zs h = absurd (cc)
-not-blank [] (c ∷ cs) zs h = ap (λ v. v && is_blank (cs ++ zs)) (lower-not-white c h)
+not-blank [] (c ∷ cs) zs h = ap (λ v. v && is_blank_text (cs ++ zs)) (lower-not-white c h)
 not-blank (x ∷ xs) ys zs h = ap (λ v. is_white x && v) (not-blank xs ys zs h) ∙ and-false (is_white x)
 
-said-alternative : (gap rest : List ℕ) (a : Alternative) → Good a → is_blank (gap ++ (alternative_text a ++ rest)) ≡ false
+said-alternative : (gap rest : List ℕ) (a : Alternative) → Good a → is_blank_text (gap ++ (alternative_text a ++ rest)) ≡ false
 unfolding alternative_text is_package_name
 said-alternative gap rest a h =
     let tail : List ℕ = qualifier_text a.qualifier ++ (restriction_text a.restriction ++ (archs_text a.archs ++ profiles_text a.profiles)) in
-    ap (λ x. is_blank (gap ++ x)) (append_assoc a.name tail rest) ∙ not-blank gap a.name (tail ++ rest) (both-true (begins_with_lower_or_digit a.name) _ h.name).0
+    ap (λ x. is_blank_text (gap ++ x)) (append_assoc a.name tail rest) ∙ not-blank gap a.name (tail ++ rest) (both-true (begins_with_lower_or_digit a.name) _ h.name).0
 
 said-group : (gap : List ℕ) (group : List Alternative) → is_filled group ≡ true → AllGood group → is_said (gap ++ group_text group) ≡ true
 unfolding is_said group_text
@@ -449,7 +449,7 @@ keep-said piece ps h = ap (λ v. cond v (piece ∷ filter is_said ps) (filter is
 white-comma : (c : ℕ) → is_white c ≡ true → other 44 c ≡ true
 white-comma c h = inner-comma c (inner-white c h)
 
-groups-printed : (gap : List ℕ) (g : List Alternative) (gs : List (List Alternative)) → is_blank gap ≡ true → AllGroups (g ∷ gs)
+groups-printed : (gap : List ℕ) (g : List Alternative) (gs : List (List Alternative)) → is_blank_text gap ≡ true → AllGroups (g ∷ gs)
     → Each ReadsGroup (filter is_said (slice_split (λ c. eqb c 44) (gap ++ (group_text g ++ behind_groups gs)))) (g ∷ gs)
 unfolding is_white
 groups-printed gap g [] b h =

@@ -12,7 +12,7 @@ use Rattle.deb_relations.specs.declared.relations.Restriction.{Restriction}
 use Rattle.deb_relations.specs.declared.relations.Alternative.{Alternative}
 use Rattle.deb_relations.specs.Printing.{term_text}
 use Rattle.deb_relations.specs.Reduction.{is_filled}
-use Rattle.deb_relations.specs.Grammar.{is_white, is_blank, is_op_char, is_qualifier, is_word, is_said, op_of, words, are_alike, TakesName, TakesQualifier, InBrackets, IsRestriction, TakesRestriction, ReadsTerms, TakesArchs, ReadsProfiles, ReadsAlternative, Each, ReadsGroup, Reads}
+use Rattle.deb_relations.specs.Grammar.{is_white, is_blank_text, is_op_char, is_qualifier, is_word, is_said, op_of, words, are_alike, TakesName, TakesQualifier, InBrackets, IsRestriction, TakesRestriction, ReadsTerms, TakesArchs, ReadsProfiles, ReadsAlternative, Each, ReadsGroup, Reads}
 use Rattle.deb_relations.specs.Names.{is_package_char, is_arch_char, is_package_name}
 use Rattle.deb_relations.specs.Reader.{skip, strip, cut, is_solid, between, between_opened, some_of, read_between, with_rest, read_name, read_behind_colon, read_qualifier, asked_of, restriction_of, asked_inside, read_restriction, term_behind, term_of, both, all_some, filled_only, terms_of, alike_only, archs_of, read_archs, profile_behind, profile_of, lists_of, read_profiles, with_profiles, with_archs, with_asked, with_qualifier, with_name, read_alternative, read_group, read_groups}
 use Rattle.deb_relations.proofs.LeadingLemmas.{both-true, and-true, leading-skip, leading-passes}
@@ -120,10 +120,10 @@ module _ (inside : List ℕ) where
   abbrev after : List ℕ
   after = skip is_solid (skip is_white behind)
 
-  asked-at : (op : Op) → op_of (leading is_op_char front) ≡ Some op → (b : Bool) → (is_version_text version && is_blank after) ≡ b → (asked : Restriction) → cond b (Some (record { op = op; version = version })) None ≡ Some asked → IsRestriction inside asked
+  asked-at : (op : Op) → op_of (leading is_op_char front) ≡ Some op → (b : Bool) → (is_version_text version && is_blank_text after) ≡ b → (asked : Restriction) → cond b (Some (record { op = op; version = version })) None ≡ Some asked → IsRestriction inside asked
   asked-at op o true e asked h =
       let made : ◌≡◌ {A = Restriction} (record { op = op; version = version }) asked = cc in
-      let two : (is_version_text version ≡ true) × (is_blank after ≡ true) = both-true _ _ e in
+      let two : (is_version_text version ≡ true) × (is_blank_text after ≡ true) = both-true _ _ e in
       subst (IsRestriction inside) made (record {
         front = leading is_white inside;
         operator = leading is_op_char front;
@@ -141,7 +141,7 @@ module _ (inside : List ℕ) where
 
   asked-by : (o : Option Op) → op_of (leading is_op_char front) ≡ o → (asked : Restriction) → asked_of o version after ≡ Some asked → IsRestriction inside asked
   asked-by None e asked h = absurd (cc)
-  asked-by (Some op) e asked h = asked-at op e (is_version_text version && is_blank after) refl asked h
+  asked-by (Some op) e asked h = asked-at op e (is_version_text version && is_blank_text after) refl asked h
 
 pub asked-sound : (inside : List ℕ) (asked : Restriction) → restriction_of inside ≡ Some asked → IsRestriction inside asked
 unfolding restriction_of
@@ -251,7 +251,7 @@ pub record IsProfile (piece : List ℕ) (terms : List Term) : Type 0 where
   pub gap : List ℕ
   pub inside : List ℕ
   pub split : piece ≡ gap ++ (60 ∷ inside)
-  pub blank : is_blank gap ≡ true
+  pub blank : is_blank_text gap ≡ true
   pub reads : ReadsTerms Profile inside terms
 
 profile-by : (piece : List ℕ) (o : Option (List ℕ)) → strip 60 (skip is_white piece) ≡ o → (terms : List Term) → profile_behind o ≡ Some terms → IsProfile piece terms
@@ -268,7 +268,7 @@ profile-sound : (piece : List ℕ) (terms : List Term) → profile_of piece ≡ 
 unfolding profile_of
 profile-sound piece terms h = profile-by piece (strip 60 (skip is_white piece)) refl terms h
 
-last-at : (t : List ℕ) (b : Bool) → is_blank t ≡ b → (lists : List (List Term)) → cond b (Some []) None ≡ Some lists → ReadsProfiles t lists
+last-at : (t : List ℕ) (b : Bool) → is_blank_text t ≡ b → (lists : List (List Term)) → cond b (Some []) None ≡ Some lists → ReadsProfiles t lists
 last-at t true e lists h =
     let made : ◌≡◌ {A = List (List Term)} [] lists = cc in subst (ReadsProfiles t) made e
 last-at t false e lists h = absurd (cc)
@@ -296,7 +296,7 @@ lists-both t piece rest j (Some x) (Some xs) p q lists h =
 
 lists-sound : (pieces : List (List ℕ)) (t : List ℕ) → t ≡ join_with_byte 62 pieces → (lists : List (List Term)) → lists_of pieces ≡ Some lists → ReadsProfiles t lists
 lists-sound [] t j lists h = absurd (cc)
-lists-sound (last ∷ []) t j lists h = subst (λ (x : List ℕ). ReadsProfiles x lists) (sym j) (last-at last (is_blank last) refl lists h)
+lists-sound (last ∷ []) t j lists h = subst (λ (x : List ℕ). ReadsProfiles x lists) (sym j) (last-at last (is_blank_text last) refl lists h)
 lists-sound (piece ∷ (next ∷ more)) t j lists h =
     lists-both t piece (join_with_byte 62 (next ∷ more)) j (profile_of piece) (lists_of (next ∷ more)) (profile-sound piece) (lists-sound (next ∷ more) (join_with_byte 62 (next ∷ more)) refl) lists h
 

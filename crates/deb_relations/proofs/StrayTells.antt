@@ -14,7 +14,7 @@ use Rattle.deb_relations.specs.declared.relations.Kind.TheVariants.{Arch}
 use Rattle.deb_relations.specs.declared.relations.Term.{Term}
 use Rattle.deb_relations.specs.declared.relations.Alternative.{Alternative}
 use Rattle.deb_relations.specs.Reduction.{is_filled}
-use Rattle.deb_relations.specs.Grammar.{is_white, is_blank, is_op_char, op_of, TakesQualifier, TakesRestriction, TakesArchs, InBrackets}
+use Rattle.deb_relations.specs.Grammar.{is_white, is_blank_text, is_op_char, op_of, TakesQualifier, TakesRestriction, TakesArchs, InBrackets}
 use Rattle.deb_relations.specs.Reader.{skip, strip, is_solid, asked_inside, with_rest, some_of, read_between, read_groups, restriction_of, asked_of, both, between, lists_of, with_qualifier, with_name, with_asked, with_archs, with_profiles, read_name, read_qualifier, read_restriction, terms_of, read_archs, read_profiles, profile_of, read_alternative}
 use Rattle.deb_relations.specs.Reading.{place_of, end_before, span, name_fault, version_fault, fault_behind_operator, operator_fault, asked_fault, bracket_fault, restriction_fault, words_fault, archs_fault, list_fault, lists_fault, profiles_fault, or_behind, fault_behind_restriction, fault_behind_qualifier, fault_behind_name, alternative_fault, first_fault, is_alternative, group_fault, is_group_or_blank, groups_fault, reading_of, outcome}
 use Rattle.deb_relations.proofs.LeadingLemmas.{stops, leading-skip, skip-stops}
@@ -60,11 +60,11 @@ blank-by : (b : Bool) (c : ℕ) (cs : List ℕ) → (list_all is_white cs ≡ fa
 blank-by true c cs f h = f h
 blank-by false c cs f h = refl
 
-blank-or : (part : List ℕ) → is_blank part ≡ false → is_filled (skip is_white part) ≡ true
+blank-or : (part : List ℕ) → is_blank_text part ≡ false → is_filled (skip is_white part) ≡ true
 blank-or [] h = cc
 blank-or (c ∷ cs) h = blank-by (is_white c) c cs (blank-or cs) h
 
-pub skipped : (whole part : List ℕ) (end : ℕ) → EndsAt whole part end → is_blank part ≡ false → StraysIn whole (Stray (place_of end (skip is_white part)))
+pub skipped : (whole part : List ℕ) (end : ℕ) → EndsAt whole part end → is_blank_text part ≡ false → StraysIn whole (Stray (place_of end (skip is_white part)))
 skipped whole part end at some =
     skipped-by whole part end (skip is_white part) (ends-skipped is_white whole part end at) (skip-stops is_white part) (blank-or part some)
 
@@ -124,7 +124,7 @@ list-first whole end piece next more at =
     (marked-by whole piece (join_with_byte 62 (next ∷ more) ++ at.back) 62 (end - span (next ∷ more)) (skip is_white piece)
     (ends-skipped is_white whole piece (end - span (next ∷ more)) first) refl other (skip-stops is_white piece))
 
-list-last : (whole : List ℕ) (end : ℕ) (last : List ℕ) → EndsAt whole last end → is_blank last ≡ false → StraysIn whole (list_fault Unclosed end last)
+list-last : (whole : List ℕ) (end : ℕ) (last : List ℕ) → EndsAt whole last end → is_blank_text last ≡ false → StraysIn whole (list_fault Unclosed end last)
 unfolding list_fault
 list-last whole end last at some =
     list-by whole (is_some (strip 60 (skip is_white last))) Unclosed (Stray (place_of end (skip is_white last))) tt (skipped whole last end at some)
@@ -135,7 +135,7 @@ lists-turn whole false fault first h k = k
 
 lists-strays : (whole : List ℕ) (end : ℕ) (ps : List (List ℕ)) → EndsAt whole (join_with_byte 62 ps) end → lists_of ps ≡ None → StraysIn whole (lists_fault end ps)
 lists-strays whole end [] at e = tt
-lists-strays whole end (last ∷ []) at e = list-last whole end last at (blank-no (is_blank last) e)
+lists-strays whole end (last ∷ []) at e = list-last whole end last at (blank-no (is_blank_text last) e)
 lists-strays whole end (piece ∷ (next ∷ more)) at e =
     lists-turn whole (is_some (profile_of piece)) (lists_fault end (next ∷ more)) (list_fault BadName (end - span (next ∷ more)) piece)
     (λ h. lists-strays whole end (next ∷ more) (ends-later 62 whole piece next more end at) (both-none (profile_of piece) (lists_of (next ∷ more)) e h))
@@ -182,8 +182,8 @@ none-asked true false asked h e = refl
 none-asked false b asked h e = cc
 
 -- an operator and a version, with more behind the version
-asked-none : (op : Op) (version after : List ℕ) → is_version_text version ≡ true → asked_of (Some op) version after ≡ None → is_blank after ≡ false
-asked-none op version after v e = none-asked (is_version_text version) (is_blank after) (record { op = op; version = version }) v e
+asked-none : (op : Op) (version after : List ℕ) → is_version_text version ≡ true → asked_of (Some op) version after ≡ None → is_blank_text after ≡ false
+asked-none op version after v e = none-asked (is_version_text version) (is_blank_text after) (record { op = op; version = version }) v e
 
 version-good : (version : List ℕ) → fault_of version ≡ None → is_version_text version ≡ true
 unfolding is_version_text

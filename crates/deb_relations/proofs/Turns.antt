@@ -6,7 +6,7 @@ use Rattle.deb_relations.specs.declared.relations.Kind.{Kind}
 use Rattle.deb_relations.specs.declared.relations.Term.{Term}
 use Rattle.deb_relations.specs.declared.relations.Alternative.{Alternative}
 use Rattle.deb_relations.specs.Reduction.{is_filled}
-use Rattle.deb_relations.specs.Grammar.{is_white, is_blank, is_said, words}
+use Rattle.deb_relations.specs.Grammar.{is_white, is_blank_text, is_said, words}
 use Rattle.deb_relations.specs.Reader.{skip, cut, is_solid, both, all_some, term_of, profile_of, lists_of, read_group, push_group, with_group}
 use Rattle.deb_relations.proofs.LeadingLemmas.{stops, skip-stops}
 use Rattle.deb_relations.proofs.Cuts.{cut-is, split-last}
@@ -154,10 +154,10 @@ list-turn made t p terms h e =
 pub list-refused : (made : List (List Term)) (t : List ℕ) (p : List ℕ × List ℕ) → cut 62 t ≡ Some p → profile_of p.0 ≡ None → onto made (lists_of (slice_split (λ c. eqb c 62) t)) ≡ None
 list-refused made t p h e = ap (onto made) (lists-step t p h) ∙ ap (λ o. onto made (both o (lists_of (slice_split (λ c. eqb c 62) p.1)))) e
 
-pub lists-end : (made : List (List Term)) (t : List ℕ) → cut 62 t ≡ None → is_blank t ≡ true → onto made (lists_of (slice_split (λ c. eqb c 62) t)) ≡ Some made
+pub lists-end : (made : List (List Term)) (t : List ℕ) → cut 62 t ≡ None → is_blank_text t ≡ true → onto made (lists_of (slice_split (λ c. eqb c 62) t)) ≡ Some made
 lists-end made t h b = ap (λ ps. onto made (lists_of ps)) (split-last 62 t h) ∙ ap (λ v. onto made (cond v (Some []) None)) b ∙ onto-end made
 
-pub lists-stray : (made : List (List Term)) (t : List ℕ) → cut 62 t ≡ None → is_blank t ≡ false → onto made (lists_of (slice_split (λ c. eqb c 62) t)) ≡ None
+pub lists-stray : (made : List (List Term)) (t : List ℕ) → cut 62 t ≡ None → is_blank_text t ≡ false → onto made (lists_of (slice_split (λ c. eqb c 62) t)) ≡ None
 lists-stray made t h b = ap (λ ps. onto made (lists_of ps)) (split-last 62 t h) ∙ ap (λ v. onto made (cond v (Some []) None)) b
 
 module _ {X : Type 0} (f : List ℕ → Option X) (c : ℕ) where

@@ -20,8 +20,8 @@ unfoldable pub is_white : ℕ → Bool
 is_white c = c == 32 || (c == 9 || (c == 10 || c == 13))
 
 -- whether a text has white space alone (this project's own)
-abbrev pub is_blank : List ℕ → Bool
-is_blank text = list_all is_white text
+abbrev pub is_blank_text : List ℕ → Bool
+is_blank_text text = list_all is_white text
 
 -- the comma between groups (Policy 7.1)
 abbrev pub is_comma : ℕ → Bool
@@ -63,7 +63,7 @@ op_of text =
 pub record TakesName (text name rest : List ℕ) : Type 0 where
   pub gap : List ℕ
   pub split : text ≡ gap ++ (name ++ rest)
-  pub blank : is_blank gap ≡ true
+  pub blank : is_blank_text gap ≡ true
   pub form : is_package_name name ≡ true
 
 -- nothing, or directly a colon and a qualifier, and what is left (Policy 7.1)
@@ -75,7 +75,7 @@ TakesQualifier text (Some word) rest = (text ≡ 58 ∷ (word ++ rest)) × (is_q
 pub record InBrackets (left right : ℕ) (text inside rest : List ℕ) : Type 0 where
   pub gap : List ℕ
   pub split : text ≡ gap ++ (left ∷ (inside ++ (right ∷ rest)))
-  pub blank : is_blank gap ≡ true
+  pub blank : is_blank_text gap ≡ true
 
 -- an operator and a version, with white space round them (Policy 7.1)
 pub record IsRestriction (inside : List ℕ) (asked : Restriction) : Type 0 where
@@ -84,9 +84,9 @@ pub record IsRestriction (inside : List ℕ) (asked : Restriction) : Type 0 wher
   pub middle : List ℕ
   pub back : List ℕ
   pub split : inside ≡ front ++ (operator ++ (middle ++ (asked.version ++ back)))
-  pub front_blank : is_blank front ≡ true
-  pub middle_blank : is_blank middle ≡ true
-  pub back_blank : is_blank back ≡ true
+  pub front_blank : is_blank_text front ≡ true
+  pub middle_blank : is_blank_text middle ≡ true
+  pub back_blank : is_blank_text back ≡ true
   pub means : op_of operator ≡ Some asked.op
   pub version : fault_of asked.version ≡ None
 
@@ -118,7 +118,7 @@ TakesArchs text (term ∷ terms) rest =
 
 -- each list of build profiles in angle brackets, and at the end white space alone (Policy 7.1)
 abbrev pub ReadsProfiles : List ℕ → List (List Term) → Type 0
-ReadsProfiles text [] = is_blank text ≡ true
+ReadsProfiles text [] = is_blank_text text ≡ true
 ReadsProfiles text (terms ∷ more) =
     (inside : List ℕ) × ((rest : List ℕ) × (InBrackets 60 62 text inside rest × (ReadsTerms Profile inside terms × ReadsProfiles rest more)))
 
@@ -147,7 +147,7 @@ ReadsGroup text group = Each ReadsAlternative (slice_split is_bar text) group
 
 -- whether a text has more than white space (this project's own)
 unfoldable pub is_said : List ℕ → Bool
-is_said text = not (is_blank text)
+is_said text = not (is_blank_text text)
 
 -- a text of at most 65536 bytes with its groups between commas, where blank groups are skipped (Policy 7.1, the limit and the skipping this project's own)
 unfoldable pub Reads : List ℕ → List (List Alternative) → Type 0

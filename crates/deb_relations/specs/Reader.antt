@@ -10,7 +10,7 @@ use Rattle.deb_relations.specs.declared.relations.Term.{Term}
 use Rattle.deb_relations.specs.declared.relations.Restriction.{Restriction}
 use Rattle.deb_relations.specs.declared.relations.Alternative.{Alternative}
 use Rattle.deb_relations.specs.Reduction.{is_filled}
-use Rattle.deb_relations.specs.Grammar.{is_white, is_blank, is_op_char, is_word, is_said, op_of, words, are_alike}
+use Rattle.deb_relations.specs.Grammar.{is_white, is_blank_text, is_op_char, is_word, is_said, op_of, words, are_alike}
 use Rattle.deb_relations.specs.Names.{is_package_char, is_arch_char, is_package_name}
 use Rattle.deb_relations.specs.Text.{leading}
 
@@ -94,7 +94,7 @@ read_qualifier text = read_behind_colon text (strip 58 text)
 abbrev pub asked_of : Option Op → List ℕ → List ℕ → Option Restriction
 asked_of None version after = None
 asked_of (Some op) version after =
-    if is_version_text version && is_blank after then Some (record { op = op; version = version }) else None
+    if is_version_text version && is_blank_text after then Some (record { op = op; version = version }) else None
 
 -- the restriction of an operator and of the text behind it, which is a version up to white space (Policy 7.1)
 abbrev pub asked_behind : Option Op → List ℕ → Option Restriction
@@ -164,7 +164,7 @@ profile_of piece = profile_behind (strip 60 (skip is_white piece))
 -- the lists of build profiles, each before a closing bracket, and white space at the end (Policy 7.1)
 abbrev pub lists_of : List (List ℕ) → Option (List (List Term))
 lists_of [] = None
-lists_of (last ∷ []) = if is_blank last then Some [] else None
+lists_of (last ∷ []) = if is_blank_text last then Some [] else None
 lists_of (piece ∷ (next ∷ more)) = both (profile_of piece) (lists_of (next ∷ more))
 
 -- the lists of build profiles of a text, each in angle brackets (Policy 7.1)

@@ -10,7 +10,7 @@ use Rattle.deb_relations.specs.declared.fault.RelationFault.TheVariants.{BadName
 use Rattle.deb_relations.specs.declared.relations.Kind.TheVariants.{Arch}
 use Rattle.deb_relations.specs.declared.relations.Alternative.{Alternative}
 use Rattle.deb_relations.specs.Reduction.{is_filled}
-use Rattle.deb_relations.specs.Grammar.{is_white, is_blank, is_said, is_op_char, op_of}
+use Rattle.deb_relations.specs.Grammar.{is_white, is_blank_text, is_said, is_op_char, op_of}
 use Rattle.deb_relations.specs.Reader.{skip, strip, is_solid, between, read_name, read_qualifier, read_restriction, terms_of, read_archs, profile_of, read_alternative, read_group, read_groups}
 use Rattle.deb_relations.specs.Text.{leading}
 
@@ -123,7 +123,7 @@ group_fault end text = first_fault is_alternative alternative_fault end (slice_s
 
 -- whether a text is blank, or has a reading as a group (this project's own)
 unfoldable pub is_group_or_blank : List ℕ → Bool
-is_group_or_blank piece = is_blank piece || is_some (read_group piece)
+is_group_or_blank piece = is_blank_text piece || is_some (read_group piece)
 
 -- the fault of a whole text: of its first group that is not blank and has no reading (Policy 7.1)
 unfoldable pub groups_fault : List ℕ → RelationFault
@@ -174,8 +174,8 @@ pub record HasBadVersion (text : List ℕ) (fault : VersionFault) : Type 0 where
   pub back : List ℕ
   pub op : Op
   pub split : text ≡ front ++ (40 ∷ (gap ++ (operator ++ (middle ++ (word ++ back)))))
-  pub gap_blank : is_blank gap ≡ true
-  pub middle_blank : is_blank middle ≡ true
+  pub gap_blank : is_blank_text gap ≡ true
+  pub middle_blank : is_blank_text middle ≡ true
   pub whole : list_all is_asked_char word ≡ true
   pub ended : ends_asked back ≡ true
   pub means : op_of operator ≡ Some op

@@ -3,7 +3,7 @@
 ghost use Rattle.std.specs.Prelude.{◌≡◌, ℕ, ◌<◌, ◌≤◌, ◌==◌, not, true, false, length, slice_index};
 ghost use Rattle.std.specs.List.{list_all};
 ghost use Rattle.std.specs.Option.{option_map};
-ghost use Rattle.deb_relations.specs.Grammar.{is_white, is_blank, is_profile_char, is_op_char};
+ghost use Rattle.deb_relations.specs.Grammar.{is_white, is_blank_text, is_profile_char, is_op_char};
 ghost use Rattle.deb_relations.specs.Reader.{skip, strip, cut, is_solid};
 ghost use Rattle.deb_relations.specs.Scanner.{test_of, halves_of, text_of};
 ghost use Rattle.deb_relations.specs.Text.{leading};

@@ -1,7 +1,7 @@
 use Rattle.std.proofs.lemmas.Result.{err_from_is_err_and}
 use Rattle.std.proofs.Common.{◌≡◌, ◌∙◌, ap, sym, rules, eqb, false, true, None}
 use Rattle.std.specs.List.{slice_split}
-use Rattle.deb_relations.specs.Grammar.{is_blank}
+use Rattle.deb_relations.specs.Grammar.{is_blank_text}
 use Rattle.deb_relations.specs.Reader.{cut, lists_of, profile_of, read_profiles}
 use Rattle.deb_relations.proofs.Cuts.{cut-shorter}
 use Rattle.deb_relations.proofs.Turns.{onto, some_pair, no_pair, list-turn, list-refused, lists-end, lists-stray}
@@ -39,14 +39,14 @@ pub returns-then-not-is_all-clause-refused : goal.returns-then-not-is_all-clause
 unfolding read_profiles
 returns-then-not-is_all-clause-refused c =
     let h : cut 62 c.loop-piece.rest.now ≡ no_pair = search rules in
-    let b : is_blank c.loop-piece.rest.now ≡ false = search rules in
+    let b : is_blank_text c.loop-piece.rest.now ≡ false = search rules in
     λ _. sym c.loop-piece.invariant.1 ∙ lists-stray c.loop-piece.made c.loop-piece.rest.now h b
 
 pub returns-clause-ok : goal.returns-clause-ok
 unfolding read_profiles
 returns-clause-ok c =
     let h : cut 62 c.loop-piece.rest.now ≡ no_pair = search rules in
-    let b : is_blank c.loop-piece.rest.now ≡ true = search rules in
+    let b : is_blank_text c.loop-piece.rest.now ≡ true = search rules in
     sym c.loop-piece.invariant.1 ∙ lists-end c.loop-piece.made c.loop-piece.rest.now h b
 
 pub returns-in_err-profile_of-clause-err : goal.returns-in_err-profile_of-clause-err
