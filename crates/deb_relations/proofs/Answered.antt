@@ -4,7 +4,7 @@ use Rattle.std.proofs.lemmas.Bool.Decides.{nat_tests}
 use Rattle.deb_relations.specs.declared.fault.RelationFault.{RelationFault}
 use Rattle.deb_relations.specs.declared.fault.RelationFault.TheVariants.{TooLong}
 use Rattle.deb_relations.specs.declared.relations.Alternative.{Alternative}
-use Rattle.deb_relations.specs.Grammar.{Reads}
+use Rattle.deb_relations.specs.Grammar.{Reads, relations_limit}
 use Rattle.deb_relations.specs.Reader.{read_groups}
 use Rattle.deb_relations.specs.Reading.{groups_fault, outcome, reading_of}
 use Rattle.deb_relations.proofs.Complete.{reads-complete}
@@ -17,49 +17,49 @@ Groups = List (List Alternative)
 abbrev Answer : Type 0
 Answer = Result Groups RelationFault
 
-is-long : (n : ℕ) → 65536 < n → ltb 65536 n ≡ true
+is-long : (n : ℕ) → relations_limit < n → ltb relations_limit n ≡ true
 is-long n h = grind (arith, nat_tests)
 
-is-short : (n : ℕ) → n ≤ 65536 → ltb 65536 n ≡ false
+is-short : (n : ℕ) → n ≤ relations_limit → ltb relations_limit n ≡ false
 is-short n h = grind (arith, nat_tests)
 
-long-is : (n : ℕ) → ltb 65536 n ≡ true → 65536 < n
+long-is : (n : ℕ) → ltb relations_limit n ≡ true → relations_limit < n
 long-is n h = grind (arith, nat_tests)
 
-short-is : (n : ℕ) → ltb 65536 n ≡ false → n ≤ 65536
+short-is : (n : ℕ) → ltb relations_limit n ≡ false → n ≤ relations_limit
 short-is n h = grind (arith, nat_tests)
 
-pub reading-long : (t : List ℕ) → 65536 < length t → reading_of t ≡ Err TooLong
+pub reading-long : (t : List ℕ) → relations_limit < length t → reading_of t ≡ Err TooLong
 unfolding reading_of
 reading-long t l = ap (λ b. cond b (Err TooLong) (outcome (read_groups t) (groups_fault t))) (is-long (length t) l)
 
-reading-short : (t : List ℕ) → length t ≤ 65536 → reading_of t ≡ outcome (read_groups t) (groups_fault t)
+reading-short : (t : List ℕ) → length t ≤ relations_limit → reading_of t ≡ outcome (read_groups t) (groups_fault t)
 unfolding reading_of
 reading-short t l = ap (λ b. cond b (Err TooLong) (outcome (read_groups t) (groups_fault t))) (is-short (length t) l)
 
-pub reading-groups : (t : List ℕ) (groups : Groups) → length t ≤ 65536 → read_groups t ≡ Some groups → reading_of t ≡ Ok groups
+pub reading-groups : (t : List ℕ) (groups : Groups) → length t ≤ relations_limit → read_groups t ≡ Some groups → reading_of t ≡ Ok groups
 reading-groups t groups l h = reading-short t l ∙ ap (λ o. outcome o (groups_fault t)) h
 
-pub reading-fault : (t : List ℕ) (fault : RelationFault) → length t ≤ 65536 → read_groups t ≡ None → fault ≡ groups_fault t → reading_of t ≡ Err fault
+pub reading-fault : (t : List ℕ) (fault : RelationFault) → length t ≤ relations_limit → read_groups t ≡ None → fault ≡ groups_fault t → reading_of t ≡ Err fault
 reading-fault t fault l h e = reading-short t l ∙ ap (λ o. outcome o (groups_fault t)) h ∙ ap Err (sym e)
 
 -- the three readings of a text: too long, its groups, or the fault of a text without a reading
 pub data Read (t : List ℕ) (answer : Answer) : Type 0 where
-  long : 65536 < length t → answer ≡ Err TooLong → Read t answer
-  whole : (made : Groups) → length t ≤ 65536 → read_groups t ≡ Some made → answer ≡ Ok made → Read t answer
-  faulty : length t ≤ 65536 → answer ≡ Err (groups_fault t) → Read t answer
+  long : relations_limit < length t → answer ≡ Err TooLong → Read t answer
+  whole : (made : Groups) → length t ≤ relations_limit → read_groups t ≡ Some made → answer ≡ Ok made → Read t answer
+  faulty : length t ≤ relations_limit → answer ≡ Err (groups_fault t) → Read t answer
 
-read-by : (t : List ℕ) → length t ≤ 65536 → (o : Option Groups) → read_groups t ≡ o → Read t (outcome o (groups_fault t))
+read-by : (t : List ℕ) → length t ≤ relations_limit → (o : Option Groups) → read_groups t ≡ o → Read t (outcome o (groups_fault t))
 read-by t l None e = faulty l refl
 read-by t l (Some made) e = whole made l e refl
 
-read-at : (t : List ℕ) (b : Bool) → ltb 65536 (length t) ≡ b → Read t (cond b (Err TooLong) (outcome (read_groups t) (groups_fault t)))
+read-at : (t : List ℕ) (b : Bool) → ltb relations_limit (length t) ≡ b → Read t (cond b (Err TooLong) (outcome (read_groups t) (groups_fault t)))
 read-at t true e = long (long-is (length t) e) refl
 read-at t false e = read-by t (short-is (length t) e) (read_groups t) refl
 
 pub read-of : (t : List ℕ) → Read t (reading_of t)
 unfolding reading_of
-read-of t = read-at t (ltb 65536 (length t)) refl
+read-of t = read-at t (ltb relations_limit (length t)) refl
 
 ok-same : (a b : Groups) (answer : Answer) → answer ≡ Ok a → answer ≡ Ok b → a ≡ b
 ok-same a b answer h k = let same : ◌≡◌ {A = Answer} (Ok a) (Ok b) = sym h ∙ k in cc
@@ -72,7 +72,7 @@ reads-by t gs answer (faulty l e) h = absurd (cc)
 pub reading-reads : (t : List ℕ) (groups : Groups) → reading_of t ≡ Ok groups → Reads t groups
 reading-reads t groups h = reads-by t groups (reading_of t) (read-of t) h
 
-short-enough : (t : List ℕ) (groups : Groups) → Reads t groups → length t ≤ 65536
+short-enough : (t : List ℕ) (groups : Groups) → Reads t groups → length t ≤ relations_limit
 unfolding Reads
 short-enough t groups h = h.0
 
@@ -96,10 +96,10 @@ tells-by t fault answer (faulty l e) h n = subst (Tells t) (err-same (groups_fau
 pub reading-tells : (t : List ℕ) (fault : RelationFault) → reading_of t ≡ Err fault → fault ≢ TooLong → Tells t fault
 reading-tells t fault h n = tells-by t fault (reading_of t) (read-of t) h n
 
-long-by : (t : List ℕ) (answer : Answer) → Read t answer → answer ≡ Err TooLong → 65536 < length t
+long-by : (t : List ℕ) (answer : Answer) → Read t answer → answer ≡ Err TooLong → relations_limit < length t
 long-by t answer (long l e) h = l
 long-by t answer (whole made l r e) h = absurd (not-both TooLong made answer e h)
 long-by t answer (faulty l e) h = absurd (subst (Tells t) (err-same (groups_fault t) TooLong answer e h) (groups-tell t))
 
-pub reading-is_long : (t : List ℕ) → reading_of t ≡ Err TooLong → 65536 < length t
+pub reading-is_long : (t : List ℕ) → reading_of t ≡ Err TooLong → relations_limit < length t
 reading-is_long t h = long-by t (reading_of t) (read-of t) h

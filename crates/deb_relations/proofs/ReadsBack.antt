@@ -14,7 +14,7 @@ use Rattle.deb_relations.specs.declared.relations.Restriction.{Restriction}
 use Rattle.deb_relations.specs.declared.relations.Alternative.{Alternative}
 use Rattle.deb_relations.specs.Printing.{term_text, op_text, qualifier_text, restriction_text, terms_text, archs_text, profile_text, profiles_text, alternative_text, group_text, printed}
 use Rattle.deb_relations.specs.Reduction.{is_filled, is_kept, without_lists, reduced_group, reduced}
-use Rattle.deb_relations.specs.Grammar.{is_white, is_blank_text, is_profile_char, is_qualifier, is_word, is_said, op_of, words, are_alike, TakesQualifier, TakesRestriction, ReadsTerms, TakesArchs, ReadsProfiles, ReadsAlternative, Each, ReadsGroup, Reads}
+use Rattle.deb_relations.specs.Grammar.{is_white, is_blank_text, is_profile_char, is_qualifier, is_word, is_said, op_of, words, are_alike, TakesQualifier, TakesRestriction, ReadsTerms, TakesArchs, ReadsProfiles, ReadsAlternative, Each, ReadsGroup, Reads, relations_limit}
 use Rattle.deb_relations.specs.Names.{is_lower_or_digit, is_package_char, is_arch_char, begins_with_lower_or_digit, is_package_name}
 use Rattle.deb_relations.specs.Reader.{skip, is_solid}
 use Rattle.deb_relations.proofs.LeadingLemmas.{both-true, stops, leading-all, skip-all, all-weaker, all-both}
@@ -467,7 +467,7 @@ groups-printed gap g (y ∷ ys) b h =
     ap (λ x. filter is_said (slice_split (λ c. eqb c 44) x)) text ∙ ap (filter is_said) (split-here 44 piece rest commas) ∙ keep-said piece (slice_split (λ c. eqb c 44) rest) (said-group gap g h.0 h.1.0) in
     subst (λ (ps : List (List ℕ)). Each ReadsGroup ps (g ∷ (y ∷ ys))) (sym pieces) (group-printed gap g b h.0 h.1.0, groups-printed (32 ∷ []) y ys refl h.1.1)
 
-pub printed-reads : (groups : List (List Alternative)) → AllGroups groups → length (printed groups) ≤ 65536 → Reads (printed groups) groups
+pub printed-reads : (groups : List (List Alternative)) → AllGroups groups → length (printed groups) ≤ relations_limit → Reads (printed groups) groups
 unfolding Reads printed is_said
 printed-reads [] h l = (l, tt)
 printed-reads (g ∷ gs) h l = (l, groups-printed [] g gs refl h)

@@ -12,7 +12,7 @@ use Rattle.deb_relations.specs.declared.relations.Restriction.{Restriction}
 use Rattle.deb_relations.specs.declared.relations.Alternative.{Alternative}
 use Rattle.deb_relations.specs.Printing.{term_text}
 use Rattle.deb_relations.specs.Reduction.{is_filled}
-use Rattle.deb_relations.specs.Grammar.{is_white, is_blank_text, is_op_char, is_qualifier, is_word, is_said, op_of, words, are_alike, TakesName, TakesQualifier, InBrackets, IsRestriction, TakesRestriction, ReadsTerms, TakesArchs, ReadsProfiles, ReadsAlternative, Each, ReadsGroup, Reads}
+use Rattle.deb_relations.specs.Grammar.{is_white, is_blank_text, is_op_char, is_qualifier, is_word, is_said, op_of, words, are_alike, TakesName, TakesQualifier, InBrackets, IsRestriction, TakesRestriction, ReadsTerms, TakesArchs, ReadsProfiles, ReadsAlternative, Each, ReadsGroup, Reads, relations_limit}
 use Rattle.deb_relations.specs.Names.{is_package_char, is_arch_char, is_package_name}
 use Rattle.deb_relations.specs.Reader.{skip, strip, cut, is_solid, between, between_opened, some_of, read_between, with_rest, read_name, read_behind_colon, read_qualifier, asked_of, restriction_of, asked_inside, read_restriction, term_behind, term_of, both, all_some, filled_only, terms_of, alike_only, archs_of, read_archs, profile_behind, profile_of, lists_of, read_profiles, with_profiles, with_archs, with_asked, with_qualifier, with_name, read_alternative, read_group, read_groups}
 use Rattle.deb_relations.proofs.LeadingLemmas.{both-true, and-true, leading-skip, leading-passes}
@@ -345,6 +345,6 @@ pub group-sound : (t : List ℕ) (group : List Alternative) → read_group t ≡
 unfolding read_group
 group-sound t group h = each-sound read_alternative ReadsAlternative alternative-sound (slice_split (λ c. eqb c 124) t) group h
 
-pub reads-sound : (t : List ℕ) (groups : List (List Alternative)) → length t ≤ 65536 → read_groups t ≡ Some groups → Reads t groups
+pub reads-sound : (t : List ℕ) (groups : List (List Alternative)) → length t ≤ relations_limit → read_groups t ≡ Some groups → Reads t groups
 unfolding read_groups Reads
 reads-sound t groups l h = (l, each-sound read_group ReadsGroup group-sound (filter is_said (slice_split (λ c. eqb c 44) t)) groups h)

@@ -14,7 +14,7 @@ use Rattle.deb_relations.specs.declared.relations.Kind.TheVariants.{Arch}
 use Rattle.deb_relations.specs.declared.relations.Term.{Term}
 use Rattle.deb_relations.specs.declared.relations.Alternative.{Alternative}
 use Rattle.deb_relations.specs.Reduction.{is_filled}
-use Rattle.deb_relations.specs.Grammar.{is_white, is_blank_text, is_op_char, op_of, TakesQualifier, TakesRestriction, TakesArchs, InBrackets}
+use Rattle.deb_relations.specs.Grammar.{is_white, is_blank_text, is_op_char, op_of, TakesQualifier, TakesRestriction, TakesArchs, InBrackets, relations_limit}
 use Rattle.deb_relations.specs.Reader.{skip, strip, is_solid, asked_inside, with_rest, some_of, read_between, read_groups, restriction_of, asked_of, both, between, lists_of, with_qualifier, with_name, with_asked, with_archs, with_profiles, read_name, read_qualifier, read_restriction, terms_of, read_archs, read_profiles, profile_of, read_alternative}
 use Rattle.deb_relations.specs.Reading.{place_of, end_before, span, name_fault, version_fault, fault_behind_operator, operator_fault, asked_fault, bracket_fault, restriction_fault, words_fault, archs_fault, list_fault, lists_fault, profiles_fault, or_behind, fault_behind_restriction, fault_behind_qualifier, fault_behind_name, alternative_fault, first_fault, is_alternative, group_fault, is_group_or_blank, groups_fault, reading_of, outcome}
 use Rattle.deb_relations.proofs.LeadingLemmas.{stops, leading-skip, skip-stops}
@@ -308,4 +308,4 @@ strays-by false text place e = strays-end text place (read_groups text) e
 
 pub strays-stand : (text : List ℕ) (place : ℕ) → reading_of text ≡ Err (Stray place) → (place < length text) × (is_white (get_or text place 0) ≡ false)
 unfolding reading_of
-strays-stand text place e = subst (StraysIn text) (strays-by (nat_lt 65536 (length text)) text place e) (groups-stray text)
+strays-stand text place e = subst (StraysIn text) (strays-by (nat_lt relations_limit (length text)) text place e) (groups-stray text)

@@ -149,6 +149,10 @@ ReadsGroup text group = Each ReadsAlternative (slice_split is_bar text) group
 unfoldable pub is_said : List ℕ → Bool
 is_said text = not (is_blank_text text)
 
--- a text of at most 65536 bytes with its groups between commas, where blank groups are skipped (Policy 7.1, the limit and the skipping this project's own)
+-- the most bytes of relations (this project's own)
+abbrev pub relations_limit : ℕ
+relations_limit = 65536
+
+-- a text within the limit with its groups between commas, where blank groups are skipped (Policy 7.1, the limit and the skipping this project's own)
 unfoldable pub Reads : List ℕ → List (List Alternative) → Type 0
-Reads text groups = (length text ≤ 65536) × Each ReadsGroup (filter is_said (slice_split is_comma text)) groups
+Reads text groups = (length text ≤ relations_limit) × Each ReadsGroup (filter is_said (slice_split is_comma text)) groups

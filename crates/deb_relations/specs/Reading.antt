@@ -10,7 +10,7 @@ use Rattle.deb_relations.specs.declared.fault.RelationFault.TheVariants.{BadName
 use Rattle.deb_relations.specs.declared.relations.Kind.TheVariants.{Arch}
 use Rattle.deb_relations.specs.declared.relations.Alternative.{Alternative}
 use Rattle.deb_relations.specs.Reduction.{is_filled}
-use Rattle.deb_relations.specs.Grammar.{is_white, is_blank_text, is_said, is_op_char, op_of}
+use Rattle.deb_relations.specs.Grammar.{is_white, is_blank_text, is_said, is_op_char, op_of, relations_limit}
 use Rattle.deb_relations.specs.Reader.{skip, strip, is_solid, between, read_name, read_qualifier, read_restriction, terms_of, read_archs, profile_of, read_alternative, read_group, read_groups}
 use Rattle.deb_relations.specs.Text.{leading}
 
@@ -134,9 +134,9 @@ abbrev pub outcome : {X : Type 0} → Option X → RelationFault → Result X Re
 outcome None fault = Err fault
 outcome (Some groups) fault = Ok groups
 
--- the reading of a text: too long above 65536 bytes, else its groups, else its first fault (Policy 7.1, the limit this project's own)
+-- the reading of a text: too long above the limit, else its groups, else its first fault (Policy 7.1, the limit this project's own)
 unfoldable pub reading_of : List ℕ → Result (List (List Alternative)) RelationFault
-reading_of text = if nat_lt 65536 (length text) then Err TooLong else outcome (read_groups text) (groups_fault text)
+reading_of text = if nat_lt relations_limit (length text) then Err TooLong else outcome (read_groups text) (groups_fault text)
 
 -- whether the first of the pieces passes (this project's own)
 abbrev pub first_passes : (List ℕ → Bool) → List (List ℕ) → Bool

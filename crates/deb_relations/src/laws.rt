@@ -6,7 +6,7 @@ ghost use Rattle.deb_relations.specs.declared.arch.ArchWords.{ArchWords};
 ghost use Rattle.deb_relations.specs.declared.relations.Alternative.{Alternative};
 ghost use Rattle.deb_relations.specs.declared.fault.RelationFault.TheVariants.{BadVersion, Stray, TooLong, Memory};
 ghost use Rattle.std.specs.List.{list_all};
-ghost use Rattle.deb_relations.specs.Grammar.{is_white, Reads};
+ghost use Rattle.deb_relations.specs.Grammar.{is_white, Reads, relations_limit};
 ghost use Rattle.deb_relations.specs.Printing.{printed};
 ghost use Rattle.deb_relations.specs.Reading.{reading_of, HasBadVersion};
 ghost use Rattle.deb_relations.specs.Reduction.{has_no_lists, reduced};
@@ -19,13 +19,13 @@ pub fn printed_reads()
     ensures same { (text : List ℕ)
         → (groups : List (List Alternative))
         → Reads text groups
-        → length (printed groups) ≤ 65536
+        → length (printed groups) ≤ relations_limit
         → Reads (printed groups) groups }
     ensures reduced { (text : List ℕ)
         → (groups : List (List Alternative))
         → (arch : ArchWords)
         → Reads text groups
-        → length (printed (reduced arch groups)) ≤ 65536
+        → length (printed (reduced arch groups)) ≤ relations_limit
         → Reads (printed (reduced arch groups)) (reduced arch groups) }
     ensures one { (text : List ℕ)
         → (a b : List (List Alternative))
@@ -47,7 +47,7 @@ pub fn readings_are_of_grammar()
         → (groups : List (List Alternative))
         → Reads text groups
         → reading_of text ≡ Ok groups }
-    ensures long { (text : List ℕ) → (reading_of text ≡ Err TooLong) ↔ (65536 < length text) }
+    ensures long { (text : List ℕ) → (reading_of text ≡ Err TooLong) ↔ (relations_limit < length text) }
     ensures memory { (text : List ℕ) → reading_of text ≢ Err Memory }
     ensures version { (text : List ℕ)
         → (fault : VersionFault)

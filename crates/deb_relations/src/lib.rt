@@ -20,7 +20,7 @@ pub use available::Available;
 pub use fault::RelationFault;
 pub use items::Items;
 pub use names::is_package_name;
-pub use relations::Relations;
+pub use relations::{RELATIONS_LIMIT, Relations};
 pub use text::Text;
 
 #[cfg(test)]

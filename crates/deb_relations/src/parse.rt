@@ -4,7 +4,7 @@ ghost use Rattle.std.specs.Prelude.{◌≡◌, ◌≢◌, ◌<◌, ◌==◌, tru
 ghost use Rattle.std.specs.Option.{option_map};
 ghost use Rattle.std.specs.List.{list_all};
 ghost use Rattle.deb_version.specs.Syntax.{fault_of, is_version_text};
-ghost use Rattle.deb_relations.specs.Grammar.{is_blank_text, is_word, op_of, words, are_alike, is_said, Reads};
+ghost use Rattle.deb_relations.specs.Grammar.{is_blank_text, is_word, op_of, words, are_alike, is_said, Reads, relations_limit};
 ghost use Rattle.deb_relations.specs.Reader.{between, read_name, read_qualifier, restriction_of, read_restriction, signed, term_of, all_some, terms_of, with_group, archs_of, read_archs, profile_of, read_profiles, read_alternative, read_group, read_groups};
 ghost use Rattle.deb_relations.specs.Scanner.{halves_of};
 ghost use Rattle.deb_relations.specs.Faults.{told};
@@ -15,13 +15,11 @@ ghost use Rattle.deb_relations.specs.declared.fault.RelationFault.TheVariants.{B
 use crate::fault::RelationFault;
 use crate::items::Items;
 use crate::names::{begins_with_lower_or_digit, is_package_name};
-use crate::relations::{Alternative, Kind, Relations, Restriction, Term};
+use crate::relations::{Alternative, Kind, RELATIONS_LIMIT, Relations, Restriction, Term};
 use crate::scanner::{Class, cut_at, is_all, skip_white, split_leading, strip};
 use crate::text::Text;
 use deb_version::{Op, Version, VersionFault};
 use std::alloc::Global;
-
-const MAX_LEN: usize = 65536;
 
 #[tactic(auto, unfolding(crate::specs::Grammar::is_word))]
 fn is_word(kind: Kind, word: &str) -> bool
@@ -409,9 +407,9 @@ impl Relations {
         ensures ok { IfOk result (λ relations. reading_of text.now ≡ Ok relations) }
         ensures refused { IfErr result (λ fault. fault ≢ Memory → reading_of text.now ≡ Err fault) }
         ensures memory { IfErr result (λ fault. fault ≡ Memory → takes_memory text.now ≡ true) }
-        ensures first { 65536 < length text.now → result ≡ Err TooLong }
+        ensures first { relations_limit < length text.now → result ≡ Err TooLong }
     {
-        if text.len() > MAX_LEN {
+        if text.len() > RELATIONS_LIMIT {
             return Err(RelationFault::TooLong);
         }
         Ok(Relations {

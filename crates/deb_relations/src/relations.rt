@@ -5,6 +5,10 @@ use crate::text::Text;
 use deb_version::{Op, Version};
 use std::marker::Model;
 
+/// The most bytes that the text of relations has.
+/// Source: this project's own.
+pub const RELATIONS_LIMIT: usize = 65536;
+
 /// Which words a list has: those of architectures, or build profiles.
 /// Source: Debian Policy 7.1.
 #[derive(Clone, Copy, Debug)]

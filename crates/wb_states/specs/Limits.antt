@@ -1,4 +1,5 @@
 -- The limits of what is kept (this project's own).
+pub use Rattle.deb_relations.specs.Grammar.{relations_limit}
 use Rattle.std.specs.Prelude.{ℕ}
 
 -- the greatest count
@@ -12,7 +13,3 @@ rebuild_limit = 999
 -- the most bytes of a note or a message
 abbrev pub note_limit : ℕ
 note_limit = 1000
-
--- the most bytes of relations
-abbrev pub relations_limit : ℕ
-relations_limit = 65536

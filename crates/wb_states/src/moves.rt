@@ -4,11 +4,8 @@ ghost use Rattle.wb_states.specs.declared.refusal.Refusal.TheVariants.{Memory};
 ghost use Rattle.wb_states.specs.Moves.{may_go, goal_of, set_by, note_of, note_after, settled_in, waits_for, waits_refusal, value_refusal, has_higher_number, MayWantMemory, move_refusal, moved, move_of, build_text_of};
 
 use crate::{Record, Refusal, State};
-use deb_relations::{ArchWords, RelationFault, Relations, Text};
+use deb_relations::{ArchWords, RELATIONS_LIMIT, RelationFault, Relations, Text};
 use std::alloc::{AllocError, Global};
-
-/// The greatest length of the waits of a record, in bytes (this project's own).
-const RELATIONS_LIMIT: usize = 65536;
 
 /// A move of a record, with what it brings. The names are those of the commands that ask for it.
 #[derive(Debug, Drop)]

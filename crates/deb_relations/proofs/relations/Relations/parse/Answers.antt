@@ -6,13 +6,14 @@ use Rattle.deb_relations.specs.Reading.{groups_fault, reading_of}
 use Rattle.deb_relations.proofs.Answered.{reading-long, reading-groups, reading-fault}
 use Rattle.deb_relations.proofs.Sound.{reads-sound}
 use Rattle.deb_relations.proofs.relations.Relations.parse.Goals as goal
+use Rattle.deb_relations.specs.Grammar.{relations_limit}
 
-pub returns-then-text-gt-MAX_LEN-clause-refused : goal.returns-then-text-gt-MAX_LEN-clause-refused
-returns-then-text-gt-MAX_LEN-clause-refused c = λ _. reading-long c.args.text.now (omega arith)
+pub returns-then-text-gt-RELATIONS_LIMIT-clause-refused : goal.returns-then-text-gt-RELATIONS_LIMIT-clause-refused
+returns-then-text-gt-RELATIONS_LIMIT-clause-refused c = λ _. reading-long c.args.text.now (omega arith)
 
 pub returns-in_err-read_groups-clause-refused : goal.returns-in_err-read_groups-clause-refused
 returns-in_err-read_groups-clause-refused c =
-    let short : length c.args.text.now ≤ 65536 = omega arith in
+    let short : length c.args.text.now ≤ relations_limit = omega arith in
     let stop : (fault : RelationFault) → read_groups c.args.text.now ≡ None → fault ≡ groups_fault c.args.text.now → reading_of c.args.text.now ≡ Err fault =
     λ fault h e. reading-fault c.args.text.now fault short h e in
     let p = err_from_is_err_and c.from_residual.result c.from_residual.ensures.1 in
