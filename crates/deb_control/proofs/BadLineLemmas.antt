@@ -7,12 +7,13 @@ use Rattle.std.proofs.lemmas.Bool.{cases_Bool, cond-true, cond-false, false_from
 use Rattle.std.proofs.lemmas.Bool.Decides.{nat_tests}
 use Rattle.std.proofs.lemmas.List.{append-nil}
 use Rattle.std.proofs.lemmas.Str.{IsUtf8-from_is_utf8, is_utf8-from_IsUtf8}
+use Rattle.std.specs.Option.{option_or}
 use Rattle.deb_control.specs.declared.fault.ControlFaultKind.{ControlFaultKind}
 use Rattle.deb_control.specs.declared.fault.ControlFaultKind.TheVariants.{TooLarge, NotUtf8, Orphan, NoColon, BadName, Duplicate, Memory, Ended}
 use Rattle.deb_control.specs.Lines.{is_continuation, body_of}
-use Rattle.deb_control.specs.Fields.{Entry, Reads, HaveDistinctNames, IsLineFault, HasBadLine, IsFault, has_colon, is_name, name_of, field_of, fields_of, lower, is_among, names_in, or_fault, form_fault, line_fault, names_after, first_fault, largest_paragraph, fault_of, outcome, reading_of}
+use Rattle.deb_control.specs.Fields.{Entry, Reads, HaveDistinctNames, IsLineFault, HasBadLine, IsFault, has_colon, is_name, name_of, field_of, fields_of, lower, is_among, names_in, form_fault, line_fault, names_after, first_fault, largest_paragraph, fault_of, outcome, reading_of}
 use Rattle.deb_control.proofs.NameLemmas.{is_among-names_in}
-use Rattle.deb_control.proofs.FormLemmas.{or_fault-none}
+use Rattle.deb_control.proofs.FormLemmas.{option_or-none}
 use Rattle.deb_control.proofs.GrammarLemmas.{Reads-first_fault, first_fault-Reads}
 
 -- what a fault says of the tests of a line
@@ -25,7 +26,7 @@ FaultByTests _ continues none colon name among = ⊥
 
 -- the fault of a line, by tests, and what the relation says of it
 line_cases : (continues none colon name among : Bool) (kind : ControlFaultKind)
-    → (if continues then (if none then Some Orphan else None) else or_fault (if colon then (if name then None else Some BadName) else Some NoColon) (if among then Some Duplicate else None)) ≡ Some kind
+    → (if continues then (if none then Some Orphan else None) else option_or (if colon then (if name then None else Some BadName) else Some NoColon) (if among then Some Duplicate else None)) ≡ Some kind
     → FaultByTests kind continues none colon name among
 line_cases true true colon name among kind is = let same : Orphan ≡ kind = cc in subst (λ (k : ControlFaultKind). FaultByTests k true true colon name among) same (refl, refl)
 line_cases true false colon name among kind is = cc
@@ -35,7 +36,7 @@ line_cases false none true true true kind is = let same : Duplicate ≡ kind = c
 line_cases false none true true false kind is = cc
 
 tests_fault : (kind : ControlFaultKind) (continues none colon name among : Bool) → FaultByTests kind continues none colon name among
-    → (if continues then (if none then Some Orphan else None) else or_fault (if colon then (if name then None else Some BadName) else Some NoColon) (if among then Some Duplicate else None)) ≡ Some kind
+    → (if continues then (if none then Some Orphan else None) else option_or (if colon then (if name then None else Some BadName) else Some NoColon) (if among then Some Duplicate else None)) ≡ Some kind
 tests_fault Orphan continues none colon name among f = rw f.0 (rw f.1 refl)
 tests_fault NoColon continues none colon name among f = rw f.0 (rw f.1 refl)
 tests_fault BadName continues none colon name among f = rw f.0 (rw f.1 (rw f.2 refl))
@@ -102,8 +103,8 @@ names_behind names line lines = elim (cases_Bool (is_continuation line)) [
 first_fault-append : (names good more : List (List ℕ)) → first_fault names good ≡ None → first_fault names (good ++ more) ≡ first_fault (names ++ names_in (fields_of good)) more
 first_fault-append names [] more none = ap (λ (v : List (List ℕ)). first_fault v more) (sym (append-nil names))
 first_fault-append names (line ∷ good) more none =
-    let parts : (line_fault names line ≡ None) × (first_fault (names_after names line) good ≡ None) = or_fault-none _ _ none in
-    ap (λ (v : Option ControlFaultKind). or_fault v (first_fault (names_after names line) (good ++ more))) parts.0
+    let parts : (line_fault names line ≡ None) × (first_fault (names_after names line) good ≡ None) = option_or-none _ _ none in
+    ap (λ (v : Option ControlFaultKind). option_or v (first_fault (names_after names line) (good ++ more))) parts.0
     ∙ first_fault-append (names_after names line) good more parts.1
     ∙ ap (λ (v : List (List ℕ)). first_fault v more) (sym (names_behind names line good))
 
@@ -125,14 +126,14 @@ first_bad names [] kind is = cc
 first_bad names (line ∷ lines) kind is = elim (none_or_some (line_fault names line)) [
   | inl good ↦
       let later : first_fault (names_after names line) lines ≡ Some kind =
-      sym (ap (λ (v : Option ControlFaultKind). or_fault v (first_fault (names_after names line) lines)) good) ∙ is in
+      sym (ap (λ (v : Option ControlFaultKind). option_or v (first_fault (names_after names line) lines)) good) ∙ is in
       let found : FirstBad (names_after names line) lines kind = first_bad (names_after names line) lines kind later in
       record {
         good = line ∷ found.good;
         bad = found.bad;
         rest = found.rest;
         cut = ap (λ (v : List (List ℕ)). line ∷ v) found.cut;
-        none = ap (λ (v : Option ControlFaultKind). or_fault v (first_fault (names_after names line) found.good)) good ∙ found.none;
+        none = ap (λ (v : Option ControlFaultKind). option_or v (first_fault (names_after names line) found.good)) good ∙ found.none;
         fault = ap (λ (v : List (List ℕ)). line_fault v found.bad) (names_behind names line found.good) ∙ found.fault;
       }
   | inr bad ↦
@@ -145,7 +146,7 @@ first_bad names (line ∷ lines) kind is = elim (none_or_some (line_fault names 
         fault =
             ap (λ (v : List (List ℕ)). line_fault v line) (append-nil names)
             ∙ bad.1
-            ∙ (sym (ap (λ (v : Option ControlFaultKind). or_fault v (first_fault (names_after names line) lines)) bad.1) ∙ is);
+            ∙ (sym (ap (λ (v : Option ControlFaultKind). option_or v (first_fault (names_after names line) lines)) bad.1) ∙ is);
       }
 ]
 
@@ -170,7 +171,7 @@ first_fault-HasBadLine lines kind h =
     ap (first_fault []) h.cut
     ∙ first_fault-append [] h.good (h.bad ∷ h.rest) read.0
     ∙ ap (λ (v : List Entry). first_fault (names_in v) (h.bad ∷ h.rest)) read.1
-    ∙ ap (λ (v : Option ControlFaultKind). or_fault v (first_fault (names_after (names_in h.fields) h.bad) h.rest)) (line_fault-from kind h.fields h.bad h.fault)
+    ∙ ap (λ (v : Option ControlFaultKind). option_or v (first_fault (names_after (names_in h.fields) h.bad) h.rest)) (line_fault-from kind h.fields h.bad h.fault)
 
 -- a number is below another or not, as a test
 below_test : (a b : ℕ) → a < b → nat_lt a b ≡ true

@@ -2,7 +2,7 @@
 use Rattle.std.proofs.Common.{◌≡◌, ◌∙◌, ap, refl, ℕ, true, false, map, List, [], ◌∷◌, ◌++◌, append_assoc}
 use Rattle.std.specs.Prelude.{filter, fold}
 use Rattle.std.specs.List.{before_first, after_first, join_with_byte}
-use Rattle.deb_control.specs.Lines.{is_feed, is_continuation, lines_in, has_char, trim}
+use Rattle.deb_control.specs.Lines.{is_feed, is_continuation, lines_in, trim, is_filled}
 use Rattle.deb_control.specs.Fields.{Entry, more_of, continued, continuations, folded_onto, folded_of}
 use Rattle.deb_control.proofs.LineLemmas.{lines_in-front}
 
@@ -35,14 +35,14 @@ join-onto text piece [] = refl
 join-onto text piece (x ∷ xs) = append_assoc text (32 ∷ piece) (32 ∷ join_with_byte 32 (x ∷ xs))
 
 -- folding line by line gives the pieces that are not empty, joined
-fold-folded_onto : (text : List ℕ) (pieces : List (List ℕ)) → fold folded_onto text pieces ≡ join_with_byte 32 (filter has_char (text ∷ pieces))
+fold-folded_onto : (text : List ℕ) (pieces : List (List ℕ)) → fold folded_onto text pieces ≡ join_with_byte 32 (filter is_filled (text ∷ pieces))
 fold-folded_onto [] [] = refl
 fold-folded_onto (c ∷ cs) [] = refl
 fold-folded_onto [] ([] ∷ pieces) = fold-folded_onto [] pieces
 fold-folded_onto (c ∷ cs) ([] ∷ pieces) = fold-folded_onto (c ∷ cs) pieces
 fold-folded_onto [] ((d ∷ ds) ∷ pieces) = fold-folded_onto (d ∷ ds) pieces
 fold-folded_onto (c ∷ cs) ((d ∷ ds) ∷ pieces) =
-    fold-folded_onto ((c ∷ cs) ++ (32 ∷ d ∷ ds)) pieces ∙ join-onto (c ∷ cs) (d ∷ ds) (filter has_char pieces)
+    fold-folded_onto ((c ∷ cs) ++ (32 ∷ d ∷ ds)) pieces ∙ join-onto (c ∷ cs) (d ∷ ds) (filter is_filled pieces)
 
 pub folded_of-fold : (field : Entry) → fold folded_onto (trim field.first) (map trim field.lines) ≡ folded_of field
 unfolding folded_of

@@ -6,10 +6,11 @@ use Rattle.std.proofs.lemmas.Bool.{and_parts}
 use Rattle.std.proofs.lemmas.Bool.Decides.{nat_tests}
 use Rattle.std.proofs.lemmas.List.{take_at, drop_at, length_push, length-append}
 use Rattle.std.proofs.lemmas.List.Sums.{split_at_first, prefix_len_stops}
+use Rattle.std.specs.Option.{option_or}
 use Rattle.deb_control.specs.declared.fault.ControlFaultKind.{ControlFaultKind}
 use Rattle.deb_control.specs.declared.fault.ControlFaultKind.TheVariants.{NoColon, BadName, Duplicate}
 use Rattle.deb_control.specs.Lines.{is_blank, is_continuation, trim}
-use Rattle.deb_control.specs.Fields.{is_colon, is_name_char, begins_name, is_name, has_colon, name_of, first_of, lower, is_among, or_fault, form_fault, line_fault, names_after}
+use Rattle.deb_control.specs.Fields.{is_colon, is_name_char, begins_name, is_name, has_colon, name_of, first_of, lower, is_among, form_fault, line_fault, names_after}
 
 one_more : (n : ℕ) → 1 + n ≡ suc n
 one_more n = omega arith
@@ -80,12 +81,12 @@ named (c ∷ cs) value first line form is trimmed =
           ∙ sym trimmed;
     }
 
-pub or_fault-none : (a b : Option ControlFaultKind) → or_fault a b ≡ None → (a ≡ None) × (b ≡ None)
-or_fault-none None b none = (refl, none)
-or_fault-none (Some kind) b none = cc
+pub option_or-none : (a b : Option ControlFaultKind) → option_or a b ≡ None → (a ≡ None) × (b ≡ None)
+option_or-none None b none = (refl, none)
+option_or-none (Some kind) b none = cc
 
 line_cases : (colon name among : Bool)
-    → or_fault (if colon then (if name then None else Some BadName) else Some NoColon) (if among then Some Duplicate else None) ≡ None
+    → option_or (if colon then (if name then None else Some BadName) else Some NoColon) (if among then Some Duplicate else None) ≡ None
     → (colon ≡ true) × (name ≡ true) × (among ≡ false)
 line_cases true true false none = (refl, refl, refl)
 line_cases true true true none = cc

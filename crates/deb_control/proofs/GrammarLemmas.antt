@@ -6,12 +6,13 @@ use Rattle.std.specs.Str.{is_utf8}
 use Rattle.std.proofs.lemmas.Bool.{cases_Bool, and_parts, cond-true, cond-false}
 use Rattle.std.proofs.lemmas.Bool.Decides.{nat_tests}
 use Rattle.std.proofs.lemmas.List.{length_push}
+use Rattle.std.specs.Option.{option_or}
 use Rattle.deb_control.specs.declared.fault.ControlFaultKind.{ControlFaultKind}
 use Rattle.deb_control.specs.declared.fault.ControlFaultKind.TheVariants.{TooLarge, NotUtf8}
 use Rattle.deb_control.specs.Lines.{body_of, is_continuation}
-use Rattle.deb_control.specs.Fields.{Entry, IsField, Reads, HaveDistinctNames, is_colon, is_name, has_colon, name_of, first_of, lower, is_among, more_of, continued, field_of, fields_of, or_fault, line_fault, names_after, first_fault, largest_paragraph, fault_of, outcome, reading_of, IsReading}
+use Rattle.deb_control.specs.Fields.{Entry, IsField, Reads, HaveDistinctNames, is_colon, is_name, has_colon, name_of, first_of, lower, is_among, more_of, continued, field_of, fields_of, line_fault, names_after, first_fault, largest_paragraph, fault_of, outcome, reading_of, IsReading}
 use Rattle.std.proofs.lemmas.Str.{IsUtf8-from_is_utf8, is_utf8-from_IsUtf8}
-use Rattle.deb_control.proofs.FormLemmas.{Named, named, line-name, or_fault-none, good_line, line_good, continuation_good, names_after-continuation, names_after-other}
+use Rattle.deb_control.proofs.FormLemmas.{Named, named, line-name, option_or-none, good_line, line_good, continuation_good, names_after-continuation, names_after-other}
 use Rattle.deb_control.proofs.ApartLemmas.{Apart, none_among_nil, apart_from, apart_to}
 
 -- the lines behind the continuation lines that come first
@@ -68,7 +69,7 @@ fields_of-other line lines other = (rw other refl, rw other refl)
 read_behind : (names lines : List (List ℕ)) → 0 < length names → first_fault names lines ≡ None → Reads (less_of lines) (fields_of lines) × Apart names (fields_of lines)
 read_behind names [] some good = (refl, tt)
 read_behind names (line ∷ lines) some good =
-    let parts : (line_fault names line ≡ None) × (first_fault (names_after names line) lines ≡ None) = or_fault-none _ _ good in
+    let parts : (line_fault names line ≡ None) × (first_fault (names_after names line) lines ≡ None) = option_or-none _ _ good in
     elim (cases_Bool (is_continuation line)) [
       | inl is ↦
           let same : (less_of (line ∷ lines) ≡ less_of lines) × (fields_of (line ∷ lines) ≡ fields_of lines) = fields_of-continuation line lines is in
@@ -87,7 +88,7 @@ read_first : (lines : List (List ℕ)) → first_fault [] lines ≡ None → Rea
 unfolding line_fault
 read_first [] good = (refl, tt)
 read_first (line ∷ lines) good =
-    let parts : (line_fault [] line ≡ None) × (first_fault (names_after [] line) lines ≡ None) = or_fault-none _ _ good in
+    let parts : (line_fault [] line ≡ None) × (first_fault (names_after [] line) lines ≡ None) = option_or-none _ _ good in
     elim (cases_Bool (is_continuation line)) [
       | inl is ↦ absurd (cc (rw is at parts.0))
       | inr other ↦
@@ -102,7 +103,7 @@ skip_fault : (names more rest : List (List ℕ)) → 0 < length names → list_a
 skip_fault names [] rest some all = refl
 skip_fault names (line ∷ more) rest some all =
     let parts : (is_continuation line ≡ true) × (list_all is_continuation more ≡ true) = and_parts _ _ all in
-    ap (λ (v : Option ControlFaultKind). or_fault v (first_fault (names_after names line) (more ++ rest))) (continuation_good names line some parts.0)
+    ap (λ (v : Option ControlFaultKind). option_or v (first_fault (names_after names line) (more ++ rest))) (continuation_good names line some parts.0)
     ∙ ap (λ (v : List (List ℕ)). first_fault v (more ++ rest)) (names_after-continuation names line parts.0)
     ∙ skip_fault names more rest some parts.1
 
@@ -150,7 +151,7 @@ read_only names lines (field ∷ fields) (line, more, rest, is, f, behind) apart
     let longer : 0 < length (names ++ lower field.name ∷ []) = omega (arith, length_push names (lower field.name)) in
     let later : (first_fault (names ++ lower field.name ∷ []) rest ≡ None) × (fields_of rest ≡ fields) = read_only (names ++ lower field.name ∷ []) rest fields behind apart.1 in (
       ap (first_fault names) is
-          ∙ ap (λ (v : Option ControlFaultKind). or_fault v (first_fault (names_after names line) (more ++ rest))) good
+          ∙ ap (λ (v : Option ControlFaultKind). option_or v (first_fault (names_after names line) (more ++ rest))) good
           ∙ ap (λ (v : List (List ℕ)). first_fault v (more ++ rest)) after
           ∙ skip_fault (names ++ lower field.name ∷ []) more rest longer f.continues
           ∙ later.0,

@@ -4,13 +4,14 @@ use Rattle.std.specs.Prelude.{nat_lt, if◌then◌else◌, IsUtf8}
 use Rattle.std.specs.Str.{is_utf8}
 use Rattle.std.proofs.lemmas.Str.{IsUtf8-from_is_utf8, is_utf8-from_IsUtf8}
 use Rattle.std.proofs.lemmas.Bool.Decides.{nat_tests}
+use Rattle.std.specs.Option.{option_or}
 use Rattle.deb_control.specs.declared.fault.ControlFaultKind.TheVariants.{TooLarge, NotUtf8}
 use Rattle.std.specs.List.{before_first, after_first}
 use Rattle.std.proofs.lemmas.Bool.{cases_Bool, cond-true, cond-false, false_from_ne_true}
 use Rattle.std.proofs.lemmas.List.{append-nil, map-append}
 use Rattle.deb_control.specs.declared.fault.ControlFaultKind.{ControlFaultKind}
 use Rattle.deb_control.specs.Lines.{is_feed, is_continuation, lines_of, body_of, lines_in}
-use Rattle.deb_control.specs.Fields.{Entry, lower, field_of, fields_of, fields_at, names_in, names_after, line_fault, first_fault, or_fault, largest_paragraph, fault_of, outcome, reading_of}
+use Rattle.deb_control.specs.Fields.{Entry, lower, field_of, fields_of, fields_at, names_in, names_after, line_fault, first_fault, largest_paragraph, fault_of, outcome, reading_of}
 use Rattle.deb_control.proofs.LineLemmas.{lines_in-front, concat-lines_of}
 
 -- the lines of a text that is not empty
@@ -40,7 +41,7 @@ pub first_fault-line : (names : List (List ℕ)) (text line rest : List ℕ) (ki
     → line_fault names line ≡ Some kind → first_fault names (lines_in text) ≡ Some kind
 first_fault-line names text line rest kind some front behind fault =
     ap (first_fault names) (lines_in-split text line rest some front behind)
-    ∙ ap (λ (v : Option ControlFaultKind). or_fault v (first_fault (names_after names line) (lines_in rest))) fault
+    ∙ ap (λ (v : Option ControlFaultKind). option_or v (first_fault (names_after names line) (lines_in rest))) fault
 
 -- a good first line leaves the fault to what stands behind it
 pub first_fault-behind : (fields after : List Entry) (text line rest : List ℕ) → 0 < length text → line ≡ before_first is_feed text → rest ≡ after_first is_feed text
@@ -49,7 +50,7 @@ pub first_fault-behind : (fields after : List Entry) (text line rest : List ℕ)
 first_fault-behind fields after text line rest some front behind good is =
     ap (λ (v : List (List ℕ)). first_fault v (lines_in rest)) (ap names_in is ∙ names_in-fields_at fields line rest)
     ∙ sym (ap (first_fault (names_in fields)) (lines_in-split text line rest some front behind)
-    ∙ ap (λ (v : Option ControlFaultKind). or_fault v (first_fault (names_after (names_in fields) line) (lines_in rest))) good)
+    ∙ ap (λ (v : Option ControlFaultKind). option_or v (first_fault (names_after (names_in fields) line) (lines_in rest))) good)
 
 pub fields_of-behind : (fields after : List Entry) (text line rest : List ℕ) → 0 < length text → line ≡ before_first is_feed text → rest ≡ after_first is_feed text
     → after ≡ fields ++ fields_at line rest

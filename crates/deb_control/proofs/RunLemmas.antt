@@ -3,7 +3,7 @@ use Rattle.std.proofs.Common.{◌≡◌, ◌∙◌, sym, ap, refl, ℕ, ◌<◌,
 use Rattle.std.proofs.lemmas.Bool.{cases_Bool, not-true, not-false}
 use Rattle.std.proofs.lemmas.List.{length-append, take_at, append-nil}
 use Rattle.std.specs.List.{before_first, after_first, slice_split, onto_first, list_any, list_all, filter}
-use Rattle.deb_control.specs.Lines.{is_feed, is_blank, lines_of, is_separator, has_line, front_line, paragraphs_in, begin_no_paragraph, begins_separator, begins_paragraph, IsFirstParagraph}
+use Rattle.deb_control.specs.Lines.{is_feed, is_blank, lines_of, is_separator, front_line, paragraphs_in, begin_no_paragraph, begins_separator, begins_paragraph, IsFirstParagraph, is_filled}
 use Rattle.deb_control.proofs.LineLemmas.{lines_of-front, lines_of-front_line, lines_of-behind, front_line-rest, length-after_line, body_of-front}
 
 -- whether a text begins with a separator is a test of its first line
@@ -124,15 +124,15 @@ slice_split-end (x ∷ xs) none = elim (cases_Bool (is_separator x)) [
 ]
 
 -- the paragraphs where such a run comes first
-pub paragraphs_in-run : (run after : List (List ℕ)) → has_line run ≡ true → list_any is_separator run ≡ false → begin_no_paragraph after ≡ true
+pub paragraphs_in-run : (run after : List (List ℕ)) → is_filled run ≡ true → list_any is_separator run ≡ false → begin_no_paragraph after ≡ true
     → paragraphs_in (run ++ after) ≡ run ∷ paragraphs_in after
 unfolding paragraphs_in
 paragraphs_in-run run [] some plain stops =
-    ap (λ (v : List (List ℕ)). filter has_line (slice_split is_separator v)) (append-nil run)
-    ∙ ap (filter has_line) (slice_split-end run plain)
+    ap (λ (v : List (List ℕ)). filter is_filled (slice_split is_separator v)) (append-nil run)
+    ∙ ap (filter is_filled) (slice_split-end run plain)
     ∙ rw some refl
 paragraphs_in-run run (line ∷ lines) some plain stops =
-    ap (filter has_line) (slice_split-run run line lines plain stops)
+    ap (filter is_filled) (slice_split-run run line lines plain stops)
     ∙ rw some refl
     ∙ ap (λ (v : List (List (List ℕ))). run ∷ v) (sym (paragraphs_in-separator line lines stops))
 
@@ -143,8 +143,8 @@ begin_no_paragraph-lines_of [] stops = refl
 begin_no_paragraph-lines_of (c ∷ cs) stops = ap begin_no_paragraph (lines_of-front c cs) ∙ not-false (is_separator (front_line (c ∷ cs))) stops
 
 -- a text with characters has a line
-has_line-lines_of : (c : ℕ) (cs : List ℕ) → has_line (lines_of (c ∷ cs)) ≡ true
-has_line-lines_of c cs = ap has_line (lines_of-front c cs)
+is_filled-lines_of : (c : ℕ) (cs : List ℕ) → is_filled (lines_of (c ∷ cs)) ≡ true
+is_filled-lines_of c cs = ap is_filled (lines_of-front c cs)
 
 front_is : (start left front : List ℕ) → front ++ left ≡ start → take (length start - length left) start ≡ front
 front_is start left front joined =
@@ -161,7 +161,7 @@ first_paragraph start left begins stops p = from p.front p.joined p.lines p.plai
     from [] joined lines plain = absurd (cc (sym begins ∙ ap begins_paragraph (sym joined) ∙ stops))
     from (c ∷ cs) joined lines plain =
         ap paragraphs_in lines
-        ∙ paragraphs_in-run (lines_of (c ∷ cs)) (lines_of left) (has_line-lines_of c cs) plain (begin_no_paragraph-lines_of left stops)
+        ∙ paragraphs_in-run (lines_of (c ∷ cs)) (lines_of left) (is_filled-lines_of c cs) plain (begin_no_paragraph-lines_of left stops)
         ∙ ap (λ (v : List ℕ). lines_of v ∷ paragraphs_in (lines_of left)) (sym (front_is start left (c ∷ cs) joined))
 
 -- nothing that is left is longer than the whole

@@ -3,9 +3,10 @@ use Rattle.std.specs.Prelude.{◌≡◌, ℕ, Bool, true, false, not, ◌&&◌, 
 use Rattle.std.specs.List.{before_first, after_first, position_or_len, list_all, list_any, concat, join_with_byte}
 use Rattle.std.specs.Char.{to_ascii_lowercase, is_ascii_graphic}
 use Rattle.std.specs.Str.{is_utf8, bytes_eq}
+use Rattle.std.specs.Option.{option_or}
 use Rattle.deb_control.specs.declared.fault.ControlFaultKind.{ControlFaultKind}
 use Rattle.deb_control.specs.declared.fault.ControlFaultKind.TheVariants.{TooLarge, NotUtf8, Orphan, NoColon, BadName, Duplicate}
-use Rattle.deb_control.specs.Lines.{has_char, is_continuation, body_of, lines_in, trim_end, trim}
+use Rattle.deb_control.specs.Lines.{is_continuation, body_of, lines_in, trim_end, trim, is_filled}
 
 -- a field with its name, what stands behind the colon, and its continuation lines (Policy 5.1)
 pub record Entry : Type 0 where
@@ -64,11 +65,6 @@ abbrev pub fields_of : List (List ℕ) → List Entry
 fields_of [] = []
 fields_of (line ∷ lines) = if is_continuation line then fields_of lines else field_of line lines ∷ fields_of lines
 
--- the first fault, or else the second (this project's own)
-abbrev pub or_fault : Option ControlFaultKind → Option ControlFaultKind → Option ControlFaultKind
-or_fault (Some kind) later = Some kind
-or_fault None later = later
-
 -- what is wrong with a line that is no continuation, by itself (Policy 5.1)
 unfoldable pub form_fault : List ℕ → Option ControlFaultKind
 form_fault line = if has_colon line then (if is_name (name_of line) then None else Some BadName) else Some NoColon
@@ -85,7 +81,7 @@ names_in fields = map (λ field. lower field.name) fields
 unfoldable pub line_fault : List (List ℕ) → List ℕ → Option ControlFaultKind
 line_fault names line =
     if is_continuation line then (if length names == 0 then Some Orphan else None)
-    else or_fault (form_fault line) (if is_among (lower (name_of line)) names then Some Duplicate else None)
+    else option_or (form_fault line) (if is_among (lower (name_of line)) names then Some Duplicate else None)
 
 -- the names in lower case once a line was read (Policy 5.1)
 unfoldable pub names_after : List (List ℕ) → List ℕ → List (List ℕ)
@@ -102,7 +98,7 @@ fields_at line rest = if is_continuation line then [] else field_of line (lines_
 -- what is wrong with the first bad line, behind lines that gave these names (this project's own order)
 abbrev pub first_fault : List (List ℕ) → List (List ℕ) → Option ControlFaultKind
 first_fault names [] = None
-first_fault names (line ∷ lines) = or_fault (line_fault names line) (first_fault (names_after names line) lines)
+first_fault names (line ∷ lines) = option_or (line_fault names line) (first_fault (names_after names line) lines)
 
 -- the greatest number of bytes of a paragraph, line feeds included (this project's own)
 abbrev pub largest_paragraph : ℕ
@@ -157,7 +153,7 @@ folded_onto text line = text ++ (32 ∷ line)
 
 -- the folded value: the lines that are not blank, trimmed and joined by one space (Policy 5.1)
 unfoldable pub folded_of : Entry → List ℕ
-folded_of field = join_with_byte 32 (filter has_char (map trim (field.first ∷ field.lines)))
+folded_of field = join_with_byte 32 (filter is_filled (map trim (field.first ∷ field.lines)))
 
 -- a line and continuation lines that are a field: a name, a colon and a value, and what the others add (Policy 5.1)
 pub record IsField (field : Entry) (line : List ℕ) (more : List (List ℕ)) : Type 0 where

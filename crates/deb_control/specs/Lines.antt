@@ -51,23 +51,18 @@ is_separator line = list_all is_blank (body_of line)
 abbrev pub IsOneLine : List ℕ → Type 0
 IsOneLine text = list_any is_feed text ≡ false
 
--- whether there is a line (Policy 5.1)
-abbrev pub has_line : List (List ℕ) → Bool
-has_line [] = false
-has_line (_ ∷ _) = true
+-- whether a list has an item, or a text a character (this project's own)
+abbrev pub is_filled : {X : Type 0} → List X → Bool
+is_filled [] = false
+is_filled (_ ∷ _) = true
 
 -- the paragraphs, which are the longest runs of lines that are no separators (Policy 5.1)
 unfoldable pub paragraphs_in : List (List ℕ) → List (List (List ℕ))
-paragraphs_in lines = filter has_line (slice_split is_separator lines)
-
--- whether a text has a character (this project's own)
-abbrev pub has_char : List ℕ → Bool
-has_char [] = false
-has_char (_ ∷ _) = true
+paragraphs_in lines = filter is_filled (slice_split is_separator lines)
 
 -- the words of a text, parted by spaces and tabs (Policy 5.6.8)
 unfoldable pub words_in : List ℕ → List (List ℕ)
-words_in text = filter has_char (slice_split is_blank text)
+words_in text = filter is_filled (slice_split is_blank text)
 
 -- whether a text begins with a separator (Policy 5.1)
 unfoldable pub begins_separator : List ℕ → Bool
@@ -93,7 +88,7 @@ abbrev pub HaveParagraphs : List (List ℕ) → List (List (List ℕ)) → Type 
 HaveParagraphs lines [] = list_all is_separator lines ≡ true
 HaveParagraphs lines (paragraph ∷ paragraphs) =
     (before : List (List ℕ)) × (after : List (List ℕ)) × (lines ≡ before ++ (paragraph ++ after)) × (list_all is_separator before ≡ true)
-    × (has_line paragraph ≡ true) × (list_any is_separator paragraph ≡ false) × (begin_no_paragraph after ≡ true) × HaveParagraphs after paragraphs
+    × (is_filled paragraph ≡ true) × (list_any is_separator paragraph ≡ false) × (begin_no_paragraph after ≡ true) × HaveParagraphs after paragraphs
 
 -- a text without the spaces and tabs at its start (Policy 5.1)
 abbrev pub trim_start : List ℕ → List ℕ

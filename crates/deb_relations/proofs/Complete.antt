@@ -4,6 +4,7 @@ use Rattle.std.specs.List.{list_all, slice_split, onto_first}
 use Rattle.std.proofs.lemmas.Bool.Decides.{nat_tests}
 use Rattle.std.proofs.lemmas.Slice.Eq.{bytes_eq-Decides}
 use Rattle.std.specs.Prelude.{bytes_eq, codes}
+use Rattle.std.specs.Option.{is_none}
 use Rattle.deb_version.specs.declared.operator.Op.{Op}
 use Rattle.deb_version.specs.Syntax.{fault_of, is_upstream_char, is_revision_char, is_version_text}
 use Rattle.deb_relations.specs.declared.relations.Kind.{Kind}
@@ -20,7 +21,6 @@ use Rattle.deb_relations.proofs.LeadingLemmas.{both-true, and-true, stops, opens
 use Rattle.deb_relations.proofs.Cuts.{strip-here, cut-here, split-here, split-none}
 use Rattle.deb_relations.proofs.Turns.{lists-cons, split-has}
 use Rattle.deb_relations.proofs.VersionForm.{version-form, version-filled}
-use Rattle.std.specs.Option.{is_none}
 use Rattle.deb_relations.specs.Text.{leading}
 
 -- a character that is not c
