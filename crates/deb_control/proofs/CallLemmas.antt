@@ -7,19 +7,19 @@ use Rattle.std.proofs.lemmas.List.{append-nil}
 use Rattle.deb_control.specs.declared.fault.ControlFaultKind.{ControlFaultKind}
 use Rattle.deb_control.specs.declared.fault.ControlFaultKind.TheVariants.{Ended}
 use Rattle.deb_control.specs.Fields.{Entry, reading_of}
-use Rattle.deb_control.specs.Paragraphs.{Place, begun, ended_at, told, step, after_calls, answer_after, answer_for, has_reading}
+use Rattle.deb_control.specs.Paragraphs.{Place, begun, ended_at, answered, step, after_calls, answer_after, answer_for, has_reading}
 
-told-ok : (number : ℕ) (later : List (List (List ℕ))) (reading : Result (List Entry) ControlFaultKind) → is_ok reading ≡ true → (told number later reading).1 ≡ record { passed = number; ahead = Some later }
-told-ok number later (Ok fields) ok = refl
-told-ok number later (Err kind) ok = cc
+answered-ok : (number : ℕ) (later : List (List (List ℕ))) (reading : Result (List Entry) ControlFaultKind) → is_ok reading ≡ true → (answered number later reading).1 ≡ record { passed = number; ahead = Some later }
+answered-ok number later (Ok fields) ok = refl
+answered-ok number later (Err kind) ok = cc
 
-told-err : (number : ℕ) (later : List (List (List ℕ))) (reading : Result (List Entry) ControlFaultKind) → is_ok reading ≡ false → (told number later reading).1 ≡ ended_at number
-told-err number later (Ok fields) err = cc
-told-err number later (Err kind) err = refl
+answered-err : (number : ℕ) (later : List (List (List ℕ))) (reading : Result (List Entry) ControlFaultKind) → is_ok reading ≡ false → (answered number later reading).1 ≡ ended_at number
+answered-err number later (Ok fields) err = cc
+answered-err number later (Err kind) err = refl
 
-told-answer : (number : ℕ) (later : List (List (List ℕ))) (reading : Result (List Entry) ControlFaultKind) → (told number later reading).0 ≡ (told number [] reading).0
-told-answer number later (Ok fields) = refl
-told-answer number later (Err kind) = refl
+answered-answer : (number : ℕ) (later : List (List (List ℕ))) (reading : Result (List Entry) ControlFaultKind) → (answered number later reading).0 ≡ (answered number [] reading).0
+answered-answer number later (Ok fields) = refl
+answered-answer number later (Err kind) = refl
 
 one_past : (passed n : ℕ) → (passed + 1) + n ≡ passed + suc n
 one_past passed n = omega arith
@@ -33,7 +33,7 @@ passes passed [] later all = ap (λ (k : ℕ). record { passed = k; ahead = Some
     zero_more k = omega arith
 passes passed (lines ∷ before) later all =
     let parts : (has_reading lines ≡ true) × (list_all has_reading before ≡ true) = and_parts _ _ all in
-    ap (after_calls (length before)) (told-ok (passed + 1) (before ++ later) (reading_of lines) parts.0)
+    ap (after_calls (length before)) (answered-ok (passed + 1) (before ++ later) (reading_of lines) parts.0)
     ∙ passes (passed + 1) before later parts.1
     ∙ ap (λ (k : ℕ). record { passed = k; ahead = Some later }) (one_past passed (length before))
 
@@ -63,7 +63,7 @@ from_begun before later all = passes 0 before later all ∙ ap (λ (k : ℕ). re
 pub answer_after-paragraph : (before : List (List (List ℕ))) (lines : List (List ℕ)) (later : List (List (List ℕ))) → list_all has_reading before ≡ true
     → answer_after (length before) (begun (before ++ lines ∷ later)) ≡ answer_for (length before + 1) lines
 answer_after-paragraph before lines later all =
-    ap (λ (p : Place). (step p).0) (from_begun before (lines ∷ later) all) ∙ told-answer (length before + 1) later (reading_of lines)
+    ap (λ (p : Place). (step p).0) (from_begun before (lines ∷ later) all) ∙ answered-answer (length before + 1) later (reading_of lines)
 
 pub answer_after-end : (paragraphs : List (List (List ℕ))) (more : ℕ) → list_all has_reading paragraphs ≡ true
     → answer_after (length paragraphs + more) (begun paragraphs) ≡ Ok None
@@ -82,5 +82,5 @@ answer_after-ended before lines later more all bad =
     ∙ ap (after_calls more)
     (after_calls-add (length before) 1 (begun (before ++ lines ∷ later))
     ∙ ap (after_calls 1) (from_begun before (lines ∷ later) all)
-    ∙ told-err (length before + 1) later (reading_of lines) bad)
+    ∙ answered-err (length before + 1) later (reading_of lines) bad)
     ∙ stays_ended more (length before + 1))

@@ -23,15 +23,15 @@ abbrev pub ended_at : ℕ → Place
 ended_at number = record { passed = number; ahead = None }
 
 -- the answer for the paragraph of this number, by its reading, and the place behind it (Policy 5.1)
-abbrev pub told : ℕ → List (List (List ℕ)) → Result (List Entry) ControlFaultKind → Answer × Place
-told number later (Ok fields) = (Ok (Some fields), record { passed = number; ahead = Some later })
-told number later (Err kind) = (Err (record { paragraph = number; kind = kind }), ended_at number)
+abbrev pub answered : ℕ → List (List (List ℕ)) → Result (List Entry) ControlFaultKind → Answer × Place
+answered number later (Ok fields) = (Ok (Some fields), record { passed = number; ahead = Some later })
+answered number later (Err kind) = (Err (record { paragraph = number; kind = kind }), ended_at number)
 
 -- the answer behind so many paragraphs where these are ahead, and the place then (this project's own)
 abbrev pub step_over : ℕ → Option (List (List (List ℕ))) → Answer × Place
 step_over passed None = (Err (record { paragraph = passed; kind = Ended }), ended_at passed)
 step_over passed (Some []) = (Ok None, record { passed = passed; ahead = Some [] })
-step_over passed (Some (lines ∷ later)) = told (passed + 1) later (reading_of lines)
+step_over passed (Some (lines ∷ later)) = answered (passed + 1) later (reading_of lines)
 
 -- what one call answers at a place, and the place then, memory aside (this project's own)
 abbrev pub step : Place → Answer × Place
@@ -60,7 +60,7 @@ answer_after n place = (step (after_calls n place)).0
 
 -- the answer for the paragraph of this number: its fields or its fault (Policy 5.1)
 abbrev pub answer_for : ℕ → List (List ℕ) → Answer
-answer_for number lines = (told number [] (reading_of lines)).0
+answer_for number lines = (answered number [] (reading_of lines)).0
 
 -- whether a paragraph has a reading (Policy 5.1)
 abbrev pub has_reading : List (List ℕ) → Bool

@@ -13,7 +13,7 @@ use Rattle.deb_relations.specs.declared.scanner.Class.TheVariants.{White, Solid,
 use Rattle.deb_relations.specs.declared.fault.RelationFault.{RelationFault}
 use Rattle.deb_relations.specs.declared.fault.RelationFault.TheVariants as relation
 use Rattle.deb_version.specs.declared.fault.VersionFault.TheVariants as version
-use Rattle.deb_relations.specs.Faults.{told}
+use Rattle.deb_relations.specs.Faults.{fault_from_version}
 use Rattle.deb_relations.specs.Grammar.{is_white, is_profile_char, is_op_char}
 use Rattle.deb_relations.specs.Names.{is_lower_or_digit, is_package_char, is_arch_char}
 use Rattle.deb_relations.specs.Reader.{skip, strip, cut, is_solid}
@@ -114,17 +114,17 @@ pub not-version : (t : List ℕ) (fault : VersionFault) → fault_of t ≡ Some 
 unfolding is_version_text
 not-version t fault h = ap is_none h
 
-pub told-memory : (fault : VersionFault) → told fault ≢ relation.Memory → fault ≢ version.Memory
-told-memory fault h e = h (ap told e)
+pub fault_from_version-memory : (fault : VersionFault) → fault_from_version fault ≢ relation.Memory → fault ≢ version.Memory
+fault_from_version-memory fault h e = h (ap fault_from_version e)
 
-pub version-refused : (t : List ℕ) (fault : VersionFault) (r : RelationFault) → r ≡ told fault → (fault ≢ version.Memory → reading_of t ≡ Err fault) → r ≢ relation.Memory → is_version_text t ≡ false
-version-refused t fault r e h n = not-version t fault (fault-read t fault (h (told-memory fault (λ k. n (e ∙ k)))))
+pub version-refused : (t : List ℕ) (fault : VersionFault) (r : RelationFault) → r ≡ fault_from_version fault → (fault ≢ version.Memory → reading_of t ≡ Err fault) → r ≢ relation.Memory → is_version_text t ≡ false
+version-refused t fault r e h n = not-version t fault (fault-read t fault (h (fault_from_version-memory fault (λ k. n (e ∙ k)))))
 
-told-bad : (fault : VersionFault) → fault ≢ version.Memory → told fault ≡ relation.BadVersion fault
-told-bad version.Memory h = absurd (h refl)
-told-bad _ h = refl
+fault_from_version-bad : (fault : VersionFault) → fault ≢ version.Memory → fault_from_version fault ≡ relation.BadVersion fault
+fault_from_version-bad version.Memory h = absurd (h refl)
+fault_from_version-bad _ h = refl
 
-pub version-told : (t : List ℕ) (fault : VersionFault) (r : RelationFault) → r ≡ told fault → (fault ≢ version.Memory → reading_of t ≡ Err fault) → r ≢ relation.Memory → (place : ℕ) → r ≡ version_fault (fault_of t) place
+pub version-told : (t : List ℕ) (fault : VersionFault) (r : RelationFault) → r ≡ fault_from_version fault → (fault ≢ version.Memory → reading_of t ≡ Err fault) → r ≢ relation.Memory → (place : ℕ) → r ≡ version_fault (fault_of t) place
 version-told t fault r e h n place =
-    let kept : fault ≢ version.Memory = told-memory fault (λ k. n (e ∙ k)) in
-    e ∙ told-bad fault kept ∙ sym (ap (λ o. version_fault o place) (fault-read t fault (h kept)))
+    let kept : fault ≢ version.Memory = fault_from_version-memory fault (λ k. n (e ∙ k)) in
+    e ∙ fault_from_version-bad fault kept ∙ sym (ap (λ o. version_fault o place) (fault-read t fault (h kept)))

@@ -18,10 +18,10 @@ name_of (Stray place) = codes "Stray"
 name_of TooLong = codes "TooLong"
 name_of Memory = codes "Memory"
 
--- how the fault of a version is told: as that, and want of memory as want of memory (this project's own)
-abbrev pub told : VersionFault → RelationFault
-told version.Memory = Memory
-told fault = BadVersion fault
+-- the fault of a version as a fault of relations, where want of memory is want of memory (this project's own)
+abbrev pub fault_from_version : VersionFault → RelationFault
+fault_from_version version.Memory = Memory
+fault_from_version fault = BadVersion fault
 
 -- what is printed of a fault, for a person to read (this project's own)
 abbrev pub fault_text : RelationFault → List ℕ

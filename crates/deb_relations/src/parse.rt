@@ -7,7 +7,7 @@ ghost use Rattle.deb_version.specs.Syntax.{fault_of, is_version_text};
 ghost use Rattle.deb_relations.specs.Grammar.{is_blank_text, is_word, op_of, words, are_alike, is_said, Reads, relations_limit};
 ghost use Rattle.deb_relations.specs.Reader.{between, read_name, read_qualifier, restriction_of, read_restriction, signed, term_of, all_some, terms_of, with_group, archs_of, read_archs, profile_of, read_profiles, read_alternative, read_group, read_groups};
 ghost use Rattle.deb_relations.specs.Scanner.{halves_of};
-ghost use Rattle.deb_relations.specs.Faults.{told};
+ghost use Rattle.deb_relations.specs.Faults.{fault_from_version};
 ghost use Rattle.deb_relations.specs.Reading.{place_of, end_before, name_fault, version_fault, asked_fault, restriction_fault, words_fault, archs_fault, list_fault, profiles_fault, alternative_fault, group_fault, groups_fault, reading_of, begins_with_name, is_group_begun, takes_memory};
 ghost use Rattle.deb_relations.specs.declared.relations.Alternative.{Alternative};
 ghost use Rattle.deb_relations.specs.declared.fault.RelationFault.TheVariants.{BadName, Unclosed, TooLong, Memory};
@@ -112,8 +112,8 @@ fn op_of(word: &str) -> Option<Op>
     }
 }
 
-fn told(fault: VersionFault) -> RelationFault
-    ensures { result ≡ told fault }
+fn fault_from_version(fault: VersionFault) -> RelationFault
+    ensures { result ≡ fault_from_version fault }
 {
     match fault {
         VersionFault::Memory => RelationFault::Memory,
@@ -129,7 +129,7 @@ fn read_version(alloc: Global, text: &str) -> Result<Version, RelationFault>
 {
     match Version::parse(alloc, text) {
         Ok(version) => Ok(version),
-        Err(fault) => Err(told(fault)),
+        Err(fault) => Err(fault_from_version(fault)),
     }
 }
 

@@ -5,7 +5,7 @@ pub returns-in-Ok-clause-ok : goal.returns-in-Ok-clause-ok
 returns-in-Ok-clause-ok c = version-read c.args.text.now c.in-Ok.ensures.ok
 
 pub returns-in-Err-clause-refused : goal.returns-in-Err-clause-refused
-returns-in-Err-clause-refused c = version-refused c.args.text.now c.in-Err.fault c.told.result c.told.ensures c.in-Err.ensures.refused
+returns-in-Err-clause-refused c = version-refused c.args.text.now c.in-Err.fault c.fault_from_version.result c.fault_from_version.ensures c.in-Err.ensures.refused
 
 pub returns-in-Err-clause-err : goal.returns-in-Err-clause-err
-returns-in-Err-clause-err c = version-told c.args.text.now c.in-Err.fault c.told.result c.told.ensures c.in-Err.ensures.refused
+returns-in-Err-clause-err c = version-told c.args.text.now c.in-Err.fault c.fault_from_version.result c.fault_from_version.ensures c.in-Err.ensures.refused
