@@ -1,16 +1,11 @@
 -- How relations are printed (Debian Policy 7.1).
 use Rattle.std.specs.Prelude.{ℕ, List, [], ◌∷◌, ◌++◌, Option, None, Some, if◌then◌else◌, codes}
-use Rattle.std.specs.List.{flat_map}
+use Rattle.std.specs.List.{flat_map, join_by}
 use Rattle.deb_version.specs.declared.operator.Op.{Op}
 use Rattle.deb_version.specs.declared.operator.Op.TheVariants.{Earlier, EarlierOrEqual, Equal, LaterOrEqual, Later}
 use Rattle.deb_relations.specs.declared.relations.Term.{Term}
 use Rattle.deb_relations.specs.declared.relations.Restriction.{Restriction}
 use Rattle.deb_relations.specs.declared.relations.Alternative.{Alternative}
-
--- the texts of a list, with a text between each two (this project's own)
-abbrev pub join_by : {X : Type 0} → (X → List ℕ) → List ℕ → List X → List ℕ
-join_by text between [] = []
-join_by text between (x ∷ xs) = text x ++ flat_map (λ y. between ++ text y) xs
 
 -- a word, after `!` where it is negated (Policy 7.1)
 abbrev pub term_text : Term → List ℕ
