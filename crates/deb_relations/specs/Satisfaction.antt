@@ -3,7 +3,7 @@ use Rattle.std.specs.Prelude.{ℕ, Bool, true, List, [], ◌∷◌, ◌++◌, Op
 use Rattle.std.specs.List.{list_any, list_all}
 use Rattle.std.specs.Coded.{Coded, coded_ℕ, coded_list}
 use Rattle.std.specs.FinMap as map
-use Rattle.deb_version.specs.Operator.{met}
+use Rattle.deb_version.specs.Operator.{meets}
 use Rattle.deb_relations.specs.Text.{text_cmp}
 use Rattle.deb_relations.specs.declared.relations.Restriction.{Restriction}
 use Rattle.deb_relations.specs.declared.relations.Alternative.{Alternative}
@@ -31,7 +31,7 @@ with_pair pairs name version = map.insert pairs name (versions_of pairs name ++ 
 -- whether a version is one that is asked for (Policy 7.1)
 abbrev pub meets_restriction : Option Restriction → List ℕ → Bool
 meets_restriction None version = true
-meets_restriction (Some asked) version = met asked.op version asked.version
+meets_restriction (Some asked) version = meets asked.op version asked.version
 
 -- whether a package of the alternative's name is available in a version that it asks for (Policy 7.1)
 unfoldable pub is_alternative_met : Pairs → Alternative → Bool

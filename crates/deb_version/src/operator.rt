@@ -1,7 +1,7 @@
 //! The comparisons that a relation between packages may ask for.
 
 ghost use Rattle.std.specs.Prelude.{◌≡◌};
-ghost use Rattle.deb_version.specs.Operator.{met};
+ghost use Rattle.deb_version.specs.Operator.{meets};
 
 use crate::order::compare;
 use crate::version::Version;
@@ -24,9 +24,9 @@ pub enum Op {
 
 /// Whether the version at hand is, to the one asked for, as the operator says. It takes no memory.
 /// Source: Debian Policy 7.1, and 5.6.12 for the order.
-#[tactic(auto, unfolding(crate::specs::Operator::met))]
+#[tactic(auto, unfolding(crate::specs::Operator::meets))]
 pub fn meets(op: Op, have: &Version, want: &Version) -> bool
-    ensures { result ≡ met op have.now want.now }
+    ensures { result ≡ meets op have.now want.now }
 {
     let order = compare(have, want);
     match op {
