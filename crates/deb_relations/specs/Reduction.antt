@@ -15,23 +15,23 @@ is_filled (x ∷ xs) = true
 unfoldable pub has_match : ArchWords → List Term → Bool
 has_match arch terms = list_any (λ term. matches_arch term.word arch) terms
 
--- no list, a list of plain words of which one matches, or a list of negated words of which none does (Policy 7.1)
-abbrev pub do_archs_hold : ArchWords → List Term → Bool
-do_archs_hold arch [] = true
-do_archs_hold arch (term ∷ terms) = if term.negated then not (has_match arch (term ∷ terms)) else has_match arch (term ∷ terms)
+-- whether a list is for an architecture: it has no words, plain ones of which one matches, or negated ones of which none does (Policy 7.1)
+abbrev pub is_for_arch : ArchWords → List Term → Bool
+is_for_arch arch [] = true
+is_for_arch arch (term ∷ terms) = if term.negated then not (has_match arch (term ∷ terms)) else has_match arch (term ∷ terms)
 
--- a list of build profiles holds where all its words are negated, since none is active (Policy 7.1)
-unfoldable pub does_profile_hold : List Term → Bool
-does_profile_hold terms = list_all (λ term. term.negated) terms
+-- whether a list of build profiles holds where none is active: all its words are negated (Policy 7.1)
+unfoldable pub holds_without_profiles : List Term → Bool
+holds_without_profiles terms = list_all (λ term. term.negated) terms
 
--- no lists of build profiles, or one that holds (Policy 7.1)
-abbrev pub do_profiles_hold : List (List Term) → Bool
-do_profiles_hold [] = true
-do_profiles_hold (terms ∷ more) = list_any does_profile_hold (terms ∷ more)
+-- whether lists of build profiles are for builds under none: there are no lists, or one of them holds (Policy 7.1)
+abbrev pub is_for_no_profile : List (List Term) → Bool
+is_for_no_profile [] = true
+is_for_no_profile (terms ∷ more) = list_any holds_without_profiles (terms ∷ more)
 
 -- whether an alternative is asked for on the architecture (Policy 7.1)
 unfoldable pub is_kept : ArchWords → Alternative → Bool
-is_kept arch a = do_archs_hold arch a.archs && do_profiles_hold a.profiles
+is_kept arch a = is_for_arch arch a.archs && is_for_no_profile a.profiles
 
 -- an alternative that is asked for on any architecture and under any build profile (this project's own)
 abbrev pub without_lists : Alternative → Alternative

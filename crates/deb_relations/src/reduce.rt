@@ -2,7 +2,7 @@
 
 ghost use Rattle.std.specs.Prelude.{◌≡◌, ◌++◌, [], map, filter, IfOk};
 ghost use Rattle.std.specs.List.{list_any, list_all};
-ghost use Rattle.deb_relations.specs.Reduction.{has_match, do_archs_hold, does_profile_hold, do_profiles_hold, is_kept, without_lists, reduced_group, reduced};
+ghost use Rattle.deb_relations.specs.Reduction.{has_match, is_for_arch, holds_without_profiles, is_for_no_profile, is_kept, without_lists, reduced_group, reduced};
 
 use crate::arch::{ArchWords, arch_matches};
 use crate::items::Items;
@@ -22,8 +22,8 @@ fn has_match(arch: &ArchWords, terms: &[Term]) -> bool
     false
 }
 
-fn do_archs_hold(arch: &ArchWords, terms: &[Term]) -> bool
-    ensures { result ≡ do_archs_hold arch.now terms.now }
+fn is_for_arch(arch: &ArchWords, terms: &[Term]) -> bool
+    ensures { result ≡ is_for_arch arch.now terms.now }
 {
     match terms {
         [] => true,
@@ -31,9 +31,9 @@ fn do_archs_hold(arch: &ArchWords, terms: &[Term]) -> bool
     }
 }
 
-#[tactic(auto, unfolding(crate::specs::Reduction::does_profile_hold))]
-fn does_profile_hold(terms: &[Term]) -> bool
-    ensures { result ≡ does_profile_hold terms.now }
+#[tactic(auto, unfolding(crate::specs::Reduction::holds_without_profiles))]
+fn holds_without_profiles(terms: &[Term]) -> bool
+    ensures { result ≡ holds_without_profiles terms.now }
 {
     for term in terms {
         if !term.negated {
@@ -44,18 +44,18 @@ fn does_profile_hold(terms: &[Term]) -> bool
 }
 
 fn has_held(lists: &[Items<Term>]) -> bool
-    ensures { result ≡ list_any does_profile_hold lists.now }
+    ensures { result ≡ list_any holds_without_profiles lists.now }
 {
     for terms in lists {
-        if does_profile_hold(terms.as_slice()) {
+        if holds_without_profiles(terms.as_slice()) {
             return true;
         }
     }
     false
 }
 
-fn do_profiles_hold(lists: &[Items<Term>]) -> bool
-    ensures { result ≡ do_profiles_hold lists.now }
+fn is_for_no_profile(lists: &[Items<Term>]) -> bool
+    ensures { result ≡ is_for_no_profile lists.now }
 {
     lists.is_empty() || has_held(lists)
 }
@@ -64,7 +64,7 @@ fn do_profiles_hold(lists: &[Items<Term>]) -> bool
 fn is_kept(arch: &ArchWords, a: &Alternative) -> bool
     ensures { result ≡ is_kept arch.now a.now }
 {
-    do_archs_hold(arch, a.archs.as_slice()) && do_profiles_hold(a.profiles.as_slice())
+    is_for_arch(arch, a.archs.as_slice()) && is_for_no_profile(a.profiles.as_slice())
 }
 
 fn copy_qualifier(qualifier: &Option<Text>) -> Result<Option<Text>, AllocError>
