@@ -5,7 +5,6 @@ mod Cuts
 mod FaultTells
 mod FaultTurns
 mod LeadingLemmas
-mod MapLemmas
 mod ReadsBack
 mod ScannerLemmas
 mod Sound
@@ -13,6 +12,7 @@ mod Turns
 mod VersionForm
 pub mod PrintedLemmas
 pub mod BegunLemmas
+pub mod MapLemmas
 pub mod PairLemmas
 pub mod ReducedLemmas
 pub mod StrayTells
