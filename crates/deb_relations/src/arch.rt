@@ -23,7 +23,8 @@ impl ArchWords {
     /// no memory for them.
     /// Source: Debian Policy 11.1.1.
     pub fn new(alloc: Global, name: &str, os: &str, cpu: &str) -> Result<ArchWords, AllocError>
-        ensures value { IfOk result (λ a. a ≡ record { name = name.now; os = os.now; cpu = cpu.now }) }
+        ensures value { IfOk result (λ a.
+            a ≡ record { name = name.now; os = os.now; cpu = cpu.now }) }
     {
         Ok(ArchWords {
             name: Text::copied(alloc, name)?,

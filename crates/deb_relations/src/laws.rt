@@ -47,7 +47,8 @@ pub fn readings_are_of_grammar()
         → (groups : List (List Alternative))
         → Reads text groups
         → reading_of text ≡ Ok groups }
-    ensures long { (text : List ℕ) → (reading_of text ≡ Err TooLong) ↔ (relations_limit < length text) }
+    ensures long { (text : List ℕ)
+        → (reading_of text ≡ Err TooLong) ↔ (relations_limit < length text) }
     ensures memory { (text : List ℕ) → reading_of text ≢ Err Memory }
     ensures version { (text : List ℕ)
         → (fault : VersionFault)

@@ -85,7 +85,8 @@ fn read_qualifier(alloc: Global, text: &str) -> Result<(Option<Text>, &str), Rel
 fn between(left: char, right: char, text: &str) -> Result<Option<(&str, &str)>, RelationFault>
     requires left { left < 128 }
     requires right { right < 128 }
-    ensures ok { IfOk result (λ found. between left right text.now ≡ Some (option_map halves_of found)) }
+    ensures ok { IfOk result (λ found.
+        between left right text.now ≡ Some (option_map halves_of found)) }
     ensures refused { IfErr result (λ fault. between left right text.now ≡ None) }
     ensures err { IfErr result (λ fault. fault ≡ Unclosed) }
 {
@@ -125,7 +126,8 @@ fn read_version(alloc: Global, text: &str) -> Result<Version, RelationFault>
     ensures value { IfOk result (λ version. version ≡ text.now) }
     ensures ok { IfOk result (λ _. is_version_text text.now ≡ true) }
     ensures refused { IfErr result (λ fault. fault ≢ Memory → is_version_text text.now ≡ false) }
-    ensures err { IfErr result (λ fault. fault ≢ Memory → (place : ℕ) → fault ≡ version_fault (fault_of text.now) place) }
+    ensures err { IfErr result (λ fault. fault ≢ Memory
+        → (place : ℕ) → fault ≡ version_fault (fault_of text.now) place) }
 {
     match Version::parse(alloc, text) {
         Ok(version) => Ok(version),
@@ -197,7 +199,8 @@ fn term_of(alloc: Global, kind: Kind, word: &str) -> Result<Term, RelationFault>
 // The words of a list, of which there may be none.
 fn collect_terms(alloc: Global, kind: Kind, inside: &str) -> Result<Items<Term>, RelationFault>
     ensures ok { IfOk result (λ terms. all_some (term_of kind) (words inside.now) ≡ Some terms) }
-    ensures refused { IfErr result (λ fault. fault ≢ Memory → all_some (term_of kind) (words inside.now) ≡ None) }
+    ensures refused { IfErr result (λ fault. fault ≢ Memory
+        → all_some (term_of kind) (words inside.now) ≡ None) }
     ensures err { IfErr result (λ fault. fault ≢ Memory → fault ≡ BadName) }
 {
     let mut made = Items::new(alloc);
@@ -225,7 +228,8 @@ fn terms_of(alloc: Global, kind: Kind, inside: &str) -> Result<Items<Term>, Rela
 
 // Whether all words are negated, or none is, as this says.
 fn are_signed(negated: bool, terms: &[Term]) -> bool
-    ensures { result ≡ list_all (λ other. if negated then other.negated else not other.negated) terms.now }
+    ensures { result
+        ≡ list_all (λ other. if negated then other.negated else not other.negated) terms.now }
 {
     for term in terms {
         if term.negated != negated {
@@ -274,7 +278,8 @@ fn read_archs(alloc: Global, text: &str) -> Result<(Items<Term>, &str), Relation
 fn profile_of(alloc: Global, piece: &str, end: usize) -> Result<Items<Term>, RelationFault>
     ensures ok { IfOk result (λ terms. profile_of piece.now ≡ Some terms) }
     ensures refused { IfErr result (λ fault. fault ≢ Memory → profile_of piece.now ≡ None) }
-    ensures err { IfErr result (λ fault. fault ≢ Memory → fault ≡ list_fault BadName end piece.now) }
+    ensures err { IfErr result (λ fault. fault ≢ Memory
+        → fault ≡ list_fault BadName end piece.now) }
 {
     let front = skip_white(piece);
     match strip('<', front) {
@@ -359,7 +364,8 @@ fn add_group(
     end: usize,
 ) -> Result<(), RelationFault>
     ensures ok { IfOk result (λ _. with_group made.old piece.now ≡ Some made.new) }
-    ensures refused { IfErr result (λ fault. fault ≢ Memory → with_group made.old piece.now ≡ None) }
+    ensures refused { IfErr result (λ fault. fault ≢ Memory
+        → with_group made.old piece.now ≡ None) }
     ensures err { IfErr result (λ fault. fault ≢ Memory → fault ≡ group_fault end piece.now) }
     ensures memory { IfErr result (λ fault. fault ≡ Memory →
         (is_said piece.now ≡ true) × (is_group_begun piece.now ≡ true)) }

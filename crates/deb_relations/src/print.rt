@@ -47,7 +47,8 @@ fn op_str(op: Op) -> &'static str
 }
 
 fn write_qualifier(out: &mut String, qualifier: &Option<Text>) -> Result<(), AllocError>
-    ensures { OnOk result (string_bytes out.new ≡ string_bytes out.old ++ qualifier_text qualifier.now) }
+    ensures { OnOk result (string_bytes out.new
+        ≡ string_bytes out.old ++ qualifier_text qualifier.now) }
 {
     if let Some(word) = qualifier {
         out.push_str(":")?;
@@ -57,7 +58,8 @@ fn write_qualifier(out: &mut String, qualifier: &Option<Text>) -> Result<(), All
 }
 
 fn write_restriction(out: &mut String, asked: &Option<Restriction>) -> Result<(), AllocError>
-    ensures { OnOk result (string_bytes out.new ≡ string_bytes out.old ++ restriction_text asked.now) }
+    ensures { OnOk result (string_bytes out.new
+        ≡ string_bytes out.old ++ restriction_text asked.now) }
 {
     if let Some(asked) = asked {
         out.push_str(" (")?;

@@ -72,7 +72,8 @@ pub(crate) fn is_all(class: Class, text: &str) -> bool
 fn front_len(class: Class, text: &[u8]) -> usize
     ensures inside { result ≤ length text.now }
     ensures passed { (k : ℕ) → k < result → test_of class (slice_index text.now k) ≡ true }
-    ensures stopped { result < length text.now → test_of class (slice_index text.now result) ≡ false }
+    ensures stopped { result < length text.now
+        → test_of class (slice_index text.now result) ≡ false }
 {
     for (n, byte) in text.iter().enumerate() {
         if !passes(class, *byte) {
