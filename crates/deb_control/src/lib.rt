@@ -5,7 +5,7 @@
 
 mod fault;
 mod field;
-mod laws;
+pub mod laws;
 mod lines;
 mod paragraph;
 mod paragraphs;
@@ -14,9 +14,5 @@ mod tests;
 
 pub use fault::{ControlFault, ControlFaultKind};
 pub use field::{Field, Lines};
-pub use laws::{
-    calls_give_paragraphs, faults_are_of_text, fields_are_found, paragraph_has_fault,
-    paragraph_is_fields, paragraphs_are_runs, texts_are_lines,
-};
 pub use paragraph::Paragraph;
 pub use paragraphs::Paragraphs;
