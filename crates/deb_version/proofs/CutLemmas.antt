@@ -78,7 +78,7 @@ no_epoch t e =
     let n = has_epoch-none t e in record { number = rw n refl; start = rw n refl; fault = rw n refl }
 
 -- where it has one
-some-from_cond : (b : Bool) (m i : ℕ) → cond b (Some m) None ≡ Some i → (b ≡ true) × (m ≡ i)
+pub some-from_cond : (b : Bool) (m i : ℕ) → cond b (Some m) None ≡ Some i → (b ≡ true) × (m ≡ i)
 some-from_cond true m i e = (refl, cc)
 some-from_cond false m i e = cc
 

@@ -1,3 +1,4 @@
+pub mod BadPlaceLemmas
 pub mod CutLemmas
 pub mod LawLemmas
 pub mod NumberLemmas

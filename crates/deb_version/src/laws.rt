@@ -1,8 +1,9 @@
 //! Laws of the definitions, each on a function with nothing to run.
 
-ghost use Rattle.std.specs.Prelude.{◌≡◌, List, Ok, ℕ};
+ghost use Rattle.std.specs.Prelude.{◌≡◌, ◌<◌, Err, List, Ok, false, length, slice_index, ℕ};
+ghost use Rattle.deb_version.specs.declared.fault.VersionFault.TheVariants.{RevisionBad, UpstreamBad};
 ghost use Rattle.deb_version.specs.Grammar.{IsVersion};
-ghost use Rattle.deb_version.specs.Syntax.{Parts, TextIsItsParts, reading_of};
+ghost use Rattle.deb_version.specs.Syntax.{Parts, TextIsItsParts, is_revision_char, is_upstream_char, reading_of};
 ghost use Rattle.deb_version.specs.OrderLaws.{KeyIsByRuns, LettersAreEarlier, PartsCompareByRuns, TildeIsEarlier, ZerosKeepTheOrder, ZerosSayNothing};
 
 /// A text is its parts, joined by the colon and the hyphen that cut them: `[epoch:]upstream[-revision]`.
@@ -18,6 +19,18 @@ pub fn versions_are_read()
         → reading_of text ≡ Ok parts → IsVersion text parts }
     ensures only { (text : List ℕ) (parts : Parts)
         → IsVersion text parts → reading_of text ≡ Ok parts }
+{}
+
+/// The character for which an upstream version or a revision is refused stands at the place of the fault in
+/// the whole text, and is none that may stand there.
+/// Source: Debian Policy 5.6.12.
+pub fn bad_characters_stand_in_the_text()
+    ensures upstream { (text : List ℕ) (place : ℕ)
+        → reading_of text ≡ Err (UpstreamBad place)
+        → (place < length text) × (is_upstream_char (slice_index text place) ≡ false) }
+    ensures revision { (text : List ℕ) (place : ℕ)
+        → reading_of text ≡ Err (RevisionBad place)
+        → (place < length text) × (is_revision_char (slice_index text place) ≡ false) }
 {}
 
 /// A part is compared as a run of non-digits, then a run of digits as one number, and so on.
