@@ -1,11 +1,11 @@
-mod Answered
+pub mod Answered
 mod ArchLemmas
 mod Complete
 mod Cuts
 mod FaultTells
 mod FaultTurns
 mod LeadingLemmas
-mod ReadsBack
+pub mod ReadsBack
 mod ScannerLemmas
 mod Sound
 mod Turns

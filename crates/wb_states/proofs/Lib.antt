@@ -5,3 +5,4 @@ pub mod MapLemmas
 pub mod MoveFormLemmas
 pub mod MoveRowLemmas
 pub mod QueueLemmas
+pub mod WaitLemmas

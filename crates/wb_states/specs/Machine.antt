@@ -1,5 +1,5 @@
 -- The state of the office, and its invariant (this project's own).
-use Rattle.std.specs.Prelude.{◌≡◌, ℕ, ◌≤◌, ◌⊎◌, IsTrue, List, [], filter, IfSome, Some, unwrap_or}
+use Rattle.std.specs.Prelude.{◌≡◌, ℕ, ◌≤◌, ◌⊎◌, IsTrue, List, [], filter, IfSome, Some, unwrap_or, Ok}
 use Rattle.std.specs.declared.cmp.Ordering.{Ordering}
 use Rattle.std.specs.Ordering.{on, then_cmp}
 use Rattle.std.specs.FinMap as map
@@ -11,6 +11,7 @@ use Rattle.deb_relations.specs.declared.relations.Alternative.{Alternative}
 use Rattle.deb_relations.specs.Grammar.{Reads}
 use Rattle.deb_relations.specs.Names.{is_package_name}
 use Rattle.deb_relations.specs.Printing.{printed}
+use Rattle.deb_relations.specs.Reading.{reading_of}
 use Rattle.deb_relations.specs.Reduction.{reduced}
 use Rattle.deb_relations.specs.Text.{text_cmp}
 use Rattle.wb_states.specs.Names.{is_arch_name, is_os_cpu_word, is_builder_name}
@@ -60,6 +61,13 @@ abbrev pub AreWaits : ArchWords → List ℕ → Type 0
 AreWaits arch waits =
     (waits ≡ [])
     ⊎ ((text : List ℕ) × ((relations : List (List Alternative)) × (Reads text relations × (waits ≡ printed (reduced arch relations)))))
+
+-- waits that can be read: as relations that are reduced for the architecture already, and that print as the waits
+pub record AreRelations (arch : ArchWords) (waits : List ℕ) : Type 0 where
+  pub relations : List (List Alternative)
+  pub read : reading_of waits ≡ Ok relations
+  pub bare : reduced arch relations ≡ relations
+  pub kept : printed relations ≡ waits
 
 -- an architecture and its words have their forms
 pub record IsArch (arch : List ℕ) (words : OsCpu) : Type 0 where

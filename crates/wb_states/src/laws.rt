@@ -9,7 +9,7 @@ ghost use Rattle.wb_states.specs.declared.moves.Move.{Move};
 ghost use Rattle.wb_states.specs.declared.refusal.Refusal.{Refusal};
 ghost use Rattle.wb_states.specs.declared.state.State.{State};
 ghost use Rattle.wb_states.specs.Holds.{IsBuildingAfter, building_after, held_of, take_cmp, take_of, taken_as};
-ghost use Rattle.wb_states.specs.Machine.{HasDistinctTakes, IsConsistent, Machine};
+ghost use Rattle.wb_states.specs.Machine.{AreRelations, HasDistinctTakes, IsConsistent, Machine, arch_words};
 ghost use Rattle.wb_states.specs.Moves.{may_go, move_of};
 ghost use Rattle.wb_states.specs.Queue.{Entry, IsIn, IsWaitingAt, entry_cmp, head_of, queue_of, place_cmp, place_of};
 ghost use Rattle.wb_states.specs.Record.{IsWellFormed};
@@ -43,6 +43,15 @@ pub fn places_differ()
     ensures total { IsTotalOrder place_cmp }
     ensures names { (one other : Record) (name another : List ℕ)
         → place_cmp (place_of one name) (place_of other another) ≡ Equal → name ≡ another }
+{}
+
+/// What a record of a consistent office waits for can be read again: as relations that are reduced for its
+/// architecture already, and that print as they are kept. So no record waits for a text that nobody can read.
+/// Source: this project's own.
+pub fn kept_waits_are_read()
+    ensures { (machine : Machine) (arch source : List ℕ) (current : Record)
+        → IsConsistent machine → map.get machine.records (arch, source) ≡ Some current
+        → AreRelations (arch_words machine arch) current.waits }
 {}
 
 /// A move that is not refused goes from a state that its row of the table names, and makes of a record
