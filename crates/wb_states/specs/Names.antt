@@ -1,11 +1,8 @@
 -- The forms of names: priorities and sections (Debian Policy 2.5 and 2.4), and, this project's own, architectures and builders.
 use Rattle.std.specs.Prelude.{ℕ, Bool, false, not, ◌&&◌, ◌||◌, List, [], ◌∷◌, length, nat_le, nat_eq, codes, bytes_eq}
+use Rattle.std.specs.Char.{is_ascii_alphanumeric, is_ascii_graphic}
 use Rattle.std.specs.List.{list_all}
 use Rattle.deb_relations.specs.Names.{is_lower_or_digit, is_arch_char, begins_with_lower_or_digit}
-
--- a letter or a digit
-abbrev pub is_letter_or_digit : ℕ → Bool
-is_letter_or_digit c = (nat_le 65 c && nat_le c 90) || is_lower_or_digit c
 
 -- a text of this many bytes, both ends included
 abbrev pub has_length : ℕ → ℕ → List ℕ → Bool
@@ -31,16 +28,12 @@ is_os_cpu_word text = has_length 1 20 text && (list_all is_lower_or_digit text &
 
 -- a byte of a builder's name: a letter, a digit, `.`, `_` or `-`
 abbrev pub is_builder_char : ℕ → Bool
-is_builder_char c = is_letter_or_digit c || (nat_eq c 46 || (nat_eq c 95 || nat_eq c 45))
+is_builder_char c = is_ascii_alphanumeric c || (nat_eq c 46 || (nat_eq c 95 || nat_eq c 45))
 
 -- the name of a builder: 1 to 64 of these bytes, the first a letter or a digit (this project's own)
 unfoldable pub is_builder_name : List ℕ → Bool
-is_builder_name text = has_length 1 64 text && (begins is_letter_or_digit text && list_all is_builder_char text)
+is_builder_name text = has_length 1 64 text && (begins is_ascii_alphanumeric text && list_all is_builder_char text)
 
--- a byte that can be seen, from `!` to `~`
-abbrev pub is_visible_char : ℕ → Bool
-is_visible_char c = nat_le 33 c && nat_le c 126
-
--- a priority or a section: 1 to 64 bytes that can be seen (Debian Policy 2.5 and 2.4; the form is this project's own)
+-- a priority or a section: 1 to 64 bytes that can be seen, from `!` to `~` (Debian Policy 2.5 and 2.4; the form is this project's own)
 unfoldable pub is_label_text : List ℕ → Bool
-is_label_text text = has_length 1 64 text && list_all is_visible_char text
+is_label_text text = has_length 1 64 text && list_all is_ascii_graphic text

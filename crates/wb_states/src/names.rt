@@ -1,8 +1,9 @@
 //! The forms of names.
 ghost use Rattle.std.specs.Prelude.{◌≡◌};
+ghost use Rattle.std.specs.Char.{is_ascii_alphanumeric, is_ascii_graphic};
 ghost use Rattle.std.specs.List.{list_all};
 ghost use Rattle.deb_relations.specs.Names.{is_lower_or_digit, is_arch_char, begins_with_lower_or_digit, is_package_name};
-ghost use Rattle.wb_states.specs.Names.{is_arch_name, is_os_cpu_word, is_builder_name, is_label_text, is_letter_or_digit, has_length, begins, is_builder_char, is_visible_char};
+ghost use Rattle.wb_states.specs.Names.{is_arch_name, is_os_cpu_word, is_builder_name, is_label_text, has_length, begins, is_builder_char};
 
 use deb_relations::is_package_name;
 
@@ -68,12 +69,6 @@ fn is_lower(c: u8) -> bool
     c.is_ascii_lowercase() || c.is_ascii_digit()
 }
 
-fn is_letter(c: u8) -> bool
-    ensures { result ≡ is_letter_or_digit c }
-{
-    (b'A' <= c && c <= b'Z') || is_lower(c)
-}
-
 fn begins_lower(text: &str) -> bool
     ensures { result ≡ begins_with_lower_or_digit text.now }
 {
@@ -84,11 +79,11 @@ fn begins_lower(text: &str) -> bool
 }
 
 fn begins_letter(text: &str) -> bool
-    ensures { result ≡ begins is_letter_or_digit text.now }
+    ensures { result ≡ begins is_ascii_alphanumeric text.now }
 {
     match text.as_bytes() {
         [] => false,
-        [first, ..] => is_letter(*first),
+        [first, ..] => first.is_ascii_alphanumeric(),
     }
 }
 
@@ -108,12 +103,11 @@ fn is_all_arch(text: &str) -> bool
 fn is_all_builder(text: &str) -> bool
     ensures { result ≡ list_all is_builder_char text.now }
 {
-    text.bytes()
-        .all(|c| is_letter(c) || c == b'.' || c == b'_' || c == b'-')
+    text.bytes().all(|c| c.is_ascii_alphanumeric() || c == b'.' || c == b'_' || c == b'-')
 }
 
 fn is_all_visible(text: &str) -> bool
-    ensures { result ≡ list_all is_visible_char text.now }
+    ensures { result ≡ list_all is_ascii_graphic text.now }
 {
-    text.bytes().all(|c| b'!' <= c && c <= b'~')
+    text.bytes().all(|c| c.is_ascii_graphic())
 }
