@@ -6,8 +6,10 @@ use Rattle.std.proofs.lemmas.Bool.{eqb-true}
 use Rattle.std.proofs.lemmas.List.{take_all}
 use Rattle.std.proofs.lemmas.List.Folds.{list_any-append}
 use Rattle.std.proofs.Math.Seq.{take-append_seam, drop-append-add}
+use Rattle.deb_version.specs.Syntax.{is_version_text}
+use Rattle.wb_states.specs.Holds.{has_value}
 use Rattle.wb_states.specs.Names.{is_source_char, is_source_name}
-use Rattle.wb_merge.specs.Lists.{is_space, in_brackets, is_version_text, passes, source_name, has_source_version, source_version, is_source_text, with_version, NamesSource}
+use Rattle.wb_merge.specs.Lists.{is_space, in_brackets, source_name, has_source_version, source_version, is_source_text, with_version, NamesSource}
 use Rattle.wb_merge.proofs.NameLemmas.{bytes_eq-is}
 use Rattle.wb_merge.proofs.SourceLemmas.{closed, last_is}
 
@@ -61,7 +63,7 @@ name-alone name h =
     let none = no_space-name name h in
     let named : source_name name ≡ name = ap (λ (n : ℕ). take n name) (place-none name none) ∙ take_all (length name) name (omega arith) in
     record {
-      good = λ i. (ap is_source_name named ∙ h) i && (not (none i) || passes is_version_text (source_version name));
+      good = λ i. (ap is_source_name named ∙ h) i && (not (none i) || has_value is_version_text (source_version name));
       named = named;
       written = ap (λ (b : Bool). cond b (source_version name) None) none;
     }
@@ -87,7 +89,7 @@ name-with_version name version h v =
     ∙ ap in_brackets (drop-append-add name (32 ∷ rest) 1)
     ∙ closed (version ++ 41 ∷ []) version refl in
     record {
-      good = λ i. (ap is_source_name named ∙ h) i && (not (spaced i) || (ap (passes is_version_text) inner ∙ v) i);
+      good = λ i. (ap is_source_name named ∙ h) i && (not (spaced i) || (ap (has_value is_version_text) inner ∙ v) i);
       named = named;
       written = (λ i. cond (spaced i) (inner i) None);
     }
@@ -132,18 +134,18 @@ space-split (c ∷ cs) h =
           ap (λ (xs : List ℕ). c ∷ xs) (rest later) ∙ (λ i. take (one i) (c ∷ cs) ++ 32 ∷ drop (two i) (c ∷ cs))
     ]) refl h
 
-passes-some : (test : List ℕ → Bool) (o : Option (List ℕ)) → passes test o ≡ true → (text : List ℕ) × (o ≡ Some text)
-passes-some test None h = absurd cc
-passes-some test (Some text) h = (text, refl)
+has_value-some : (test : List ℕ → Bool) (o : Option (List ℕ)) → has_value test o ≡ true → (text : List ℕ) × (o ≡ Some text)
+has_value-some test None h = absurd cc
+has_value-some test (Some text) h = (text, refl)
 
 pub source_text-is : (text : List ℕ) → is_source_text text ≡ true
     → (text ≡ source_name text) ⊎ ((version : List ℕ) × (text ≡ with_version (source_name text) version))
 unfolding is_source_text source_name has_source_version source_version
 source_text-is text h =
-    (elim (list_any is_space text) as (λ b. list_any is_space text ≡ b → (not b || passes is_version_text (source_version text)) ≡ true
+    (elim (list_any is_space text) as (λ b. list_any is_space text ≡ b → (not b || has_value is_version_text (source_version text)) ≡ true
     → (text ≡ source_name text) ⊎ ((version : List ℕ) × (text ≡ with_version (source_name text) version))) [
       | true ↦ λ spaced good.
-          let there = passes-some is_version_text (source_version text) good in
+          let there = has_value-some is_version_text (source_version text) good in
           inr (
             there.0,
             space-split text spaced

@@ -1,12 +1,13 @@
 -- The rows that a merge reads from the archive's lists, and their faults (Debian Policy 5.3 and 5.6; this project's own where a line says so).
-use Rattle.std.specs.Prelude.{◌≡◌, IsOk, IsTrue, ℕ, ◌+◌, Bool, true, false, not, ◌&&◌, ◌||◌, ◌==◌, nat_le, List, [], ◌∷◌, ◌++◌, length, filter, reverse, codes, bytes_eq, Option, Some, None, Result, Ok, Err, if◌then◌else◌}
-use Rattle.std.specs.Option.{option_map, unwrap_or}
-use Rattle.std.specs.List.{AllByRecursion, AllZip, list_any, slice_split, before_first, after_first}
+use Rattle.std.specs.Prelude.{◌≡◌, IsOk, IsTrue, ℕ, ◌+◌, Bool, true, false, not, ◌&&◌, ◌||◌, ◌==◌, nat_le, List, [], ◌∷◌, ◌++◌, length, reverse, codes, bytes_eq, Option, Some, None, Result, Ok, Err, if◌then◌else◌}
+use Rattle.std.specs.Option.{option_map, option_or, unwrap_or}
+use Rattle.std.specs.List.{AllByRecursion, AllZip, list_any, before_first, after_first}
 use Rattle.std.specs.Char.{is_ascii_digit}
-use Rattle.deb_version.specs.Syntax.{fault_of, value_of}
+use Rattle.deb_version.specs.Syntax.{is_version_text, value_of}
 use Rattle.deb_control.specs.declared.fault.ControlFaultKind.{ControlFaultKind}
-use Rattle.deb_control.specs.Lines.{is_blank, lines_of, paragraphs_in}
+use Rattle.deb_control.specs.Lines.{lines_of, paragraphs_in, words_in}
 use Rattle.deb_control.specs.Fields.{Entry, field_named, folded_of, reading_of}
+use Rattle.deb_relations.specs.Text.{leading}
 use Rattle.wb_states.specs.declared.refusal.Refusal.{Refusal}
 use Rattle.wb_states.specs.declared.refusal.Refusal.TheVariants.{BadListing}
 use Rattle.wb_states.specs.declared.refusal.ListKind.{ListKind}
@@ -15,6 +16,7 @@ use Rattle.wb_states.specs.declared.refusal.ListField.{ListField}
 use Rattle.wb_states.specs.declared.refusal.ListField.TheVariants.{Package, Version, Architecture, Priority, Section, Source}
 use Rattle.wb_states.specs.declared.refusal.ListingFault.{ListingFault}
 use Rattle.wb_states.specs.declared.refusal.ListingFault.TheVariants.{Control, Missing, BadValue}
+use Rattle.wb_states.specs.Holds.{has_value}
 use Rattle.wb_states.specs.Names.{is_source_name, is_label_text}
 use Rattle.wb_states.specs.Record.{is_empty_text}
 use Rattle.wb_states.specs.Refusals.{name_of_field}
@@ -28,19 +30,6 @@ value_named name fields = option_map folded_of (field_named name fields)
 -- the folded text of a field, empty where the paragraph lacks the field
 abbrev pub text_named : List ℕ → List Entry → List ℕ
 text_named name fields = unwrap_or (value_named name fields) []
-
--- the words of a text, parted by spaces and tabs (Debian Policy 5.6.8)
-unfoldable pub words_in : List ℕ → List (List ℕ)
-words_in text = filter (λ word. not (is_empty_text word)) (slice_split is_blank text)
-
--- whether no fault was found
-abbrev pub is_faultless : {F : Type 0} → Option F → Bool
-is_faultless None = true
-is_faultless (Some fault) = false
-
--- whether a text is a version (Debian Policy 5.6.12)
-unfoldable pub is_version_text : List ℕ → Bool
-is_version_text text = is_faultless (fault_of text)
 
 -- whether a text is a priority or a section, which a list may leave empty (Debian Policy 2.5 and 2.4)
 unfoldable pub is_label_or_empty : List ℕ → Bool
@@ -74,15 +63,10 @@ in_brackets (c ∷ cs) = if bytes_eq (c ∷ []) (codes "(") then unclosed (rever
 unfoldable pub source_version : List ℕ → Option (List ℕ)
 source_version text = in_brackets (after_first is_space text)
 
--- whether a text passes a test, where there is one
-abbrev pub passes : (List ℕ → Bool) → Option (List ℕ) → Bool
-passes test None = false
-passes test (Some text) = test text
-
 -- whether a text names a source: a name, and perhaps a version in brackets (Debian Policy 5.6.1; exactly one space parts them, this project's own)
 unfoldable pub is_source_text : List ℕ → Bool
 is_source_text text =
-    is_source_name (source_name text) && (not (has_source_version text) || passes is_version_text (source_version text))
+    is_source_name (source_name text) && (not (has_source_version text) || has_value is_version_text (source_version text))
 
 -- a name with a version in brackets behind it (Debian Policy 5.6.1)
 abbrev pub with_version : List ℕ → List ℕ → List ℕ
@@ -95,11 +79,6 @@ pub record NamesSource (text name : List ℕ) (version : Option (List ℕ)) : Ty
   pub written : (if has_source_version text then source_version text else None) ≡ version
 
 -- ---- the number of a binary-only rebuild: N where a version ends in `+bN` (Debian Policy 5.6.12.2)
-
--- the longest front of a text whose characters all pass a test
-abbrev pub leading : (ℕ → Bool) → List ℕ → List ℕ
-leading test [] = []
-leading test (c ∷ cs) = if test c then c ∷ leading test cs else []
 
 -- the digits at the end of a text
 unfoldable pub last_digits : List ℕ → List ℕ
@@ -140,15 +119,10 @@ spare_form_fault field has_form (Some text) = if has_form text then None else So
 unfoldable pub spare_fault : ListField → (List ℕ → Bool) → List Entry → Option ListingFault
 spare_fault field has_form fields = spare_form_fault field has_form (value_named (name_of_field field) fields)
 
--- this fault, or else that one
-abbrev pub or_fault : Option ListingFault → Option ListingFault → Option ListingFault
-or_fault (Some fault) later = Some fault
-or_fault None later = later
-
 -- the first fault of some
 abbrev pub first_fault : List (Option ListingFault) → Option ListingFault
 first_fault [] = None
-first_fault (fault ∷ later) = or_fault fault (first_fault later)
+first_fault (fault ∷ later) = option_or fault (first_fault later)
 
 -- what is wrong with a paragraph of a Sources list: its fields in their order (Debian Policy 5.3)
 unfoldable pub source_fault : List Entry → Option ListingFault

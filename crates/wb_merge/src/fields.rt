@@ -1,12 +1,13 @@
 //! The fields of a paragraph of the archive's lists.
 ghost use Rattle.std.specs.Prelude.{◌≡◌, ◌≢◌, Some, None, true, false, codes, IsSome, IfOk, IfErr, OnOk, OnErr, not};
 ghost use Rattle.deb_control.specs.declared.fault.ControlFaultKind.TheVariants.{Memory};
+ghost use Rattle.deb_version.specs.Syntax.{is_version_text};
 ghost use Rattle.wb_states.specs.declared.refusal.ListingFault.TheVariants.{Control, Missing, BadValue};
 ghost use Rattle.wb_states.specs.declared.refusal.ListField.TheVariants.{Package, Version as VersionField, Architecture};
 ghost use Rattle.wb_states.specs.Names.{is_source_name};
 ghost use Rattle.wb_states.specs.Record.{is_empty_text};
 ghost use Rattle.wb_states.specs.Refusals.{name_of_field};
-ghost use Rattle.wb_merge.specs.Lists.{value_named, text_named, is_version_text, is_label_or_empty, wanted_fault, spare_fault};
+ghost use Rattle.wb_merge.specs.Lists.{value_named, text_named, is_label_or_empty, wanted_fault, spare_fault};
 
 use deb_control::{ControlFaultKind, Paragraph};
 use deb_relations::Text;
@@ -99,7 +100,7 @@ pub(crate) fn package_name(alloc: Global, paragraph: &Paragraph<'_>) -> Result<T
 }
 
 /// The version that a text of the field is.
-#[tactic(auto, unfolding(crate::specs::Lists::is_version_text, deb_version::specs::Syntax::reading_of))]
+#[tactic(auto, unfolding(deb_version::specs::Syntax::is_version_text, deb_version::specs::Syntax::reading_of))]
 pub(crate) fn parse_version(
     alloc: Global,
     text: &str,

@@ -2,12 +2,13 @@
 ghost use Rattle.std.specs.Prelude.{◌≡◌, ◌≢◌, Ok, Err, Some, None, not, ◌&&◌, true, false, IfOk, IfErr, OnOk, codes};
 ghost use Rattle.std.specs.List.{list_any};
 ghost use Rattle.deb_control.specs.declared.fault.ControlFaultKind.TheVariants.{Memory};
+ghost use Rattle.deb_control.specs.Lines.{words_in};
 ghost use Rattle.deb_relations.specs.Arch.{matches_arch};
 ghost use Rattle.wb_states.specs.declared.refusal.ListingFault.TheVariants.{Control, BadValue};
 ghost use Rattle.wb_states.specs.declared.refusal.ListField.TheVariants.{Source};
 ghost use Rattle.wb_states.specs.Record.{is_empty_text};
 ghost use Rattle.wb_merge.specs.Offers.{is_listed};
-ghost use Rattle.wb_merge.specs.Lists.{value_named, words_in, is_source_text, spare_fault, source_row_of, binary_row_of, with_source};
+ghost use Rattle.wb_merge.specs.Lists.{value_named, is_source_text, spare_fault, source_row_of, binary_row_of, with_source};
 
 use crate::fields::{architectures, label, package_name, package_version, text, value};
 use crate::source::{parse_source, rebuild_number};
@@ -49,7 +50,8 @@ pub(crate) struct SourceRow {
 }
 
 impl Model for SourceRow {
-    ghost use Rattle.wb_merge.specs.Lists.{SourceRow, words_in};
+    ghost use Rattle.deb_control.specs.Lines.{words_in};
+    ghost use Rattle.wb_merge.specs.Lists.{SourceRow};
 
     ghost Value = { SourceRow };
 

@@ -4,9 +4,11 @@ ghost use Rattle.std.specs.Option.{option_copied};
 ghost use Rattle.std.specs.Char.{is_ascii_digit};
 ghost use Rattle.std.specs.List.{after_first};
 ghost use Rattle.deb_control.specs.declared.fault.ControlFaultKind.TheVariants.{Memory};
+ghost use Rattle.deb_version.specs.Syntax.{is_version_text};
 ghost use Rattle.wb_states.specs.declared.refusal.ListingFault.TheVariants.{Control, BadValue};
 ghost use Rattle.wb_states.specs.declared.refusal.ListField.TheVariants.{Source};
-ghost use Rattle.wb_merge.specs.Lists.{source_name, has_source_version, in_brackets, is_space, passes, is_version_text, source_version, is_source_text, rebuild_number};
+ghost use Rattle.wb_states.specs.Holds.{has_value};
+ghost use Rattle.wb_merge.specs.Lists.{source_name, has_source_version, in_brackets, is_space, source_version, is_source_text, rebuild_number};
 ghost use Rattle.wb_merge.specs.Backwards.{begins_digit, begins_plus_b};
 
 use crate::fields::parse_version;
@@ -38,12 +40,12 @@ fn in_brackets(text: &str) -> Option<&str>
 /// The version in brackets.
 fn bracketed_version(alloc: Global, text: &str) -> Result<Version, ListingFault>
     ensures value { IfOk result (λ version. in_brackets text.now ≡ Some version) }
-    ensures ok { OnOk result (passes is_version_text (in_brackets text.now) ≡ true) }
+    ensures ok { OnOk result (has_value is_version_text (in_brackets text.now) ≡ true) }
     ensures bad { IfErr result (λ fault. fault ≢ Control Memory
-        → passes is_version_text (in_brackets text.now) ≡ false) }
+        → has_value is_version_text (in_brackets text.now) ≡ false) }
     ensures refused { IfErr result (λ fault. fault ≢ Control Memory → fault ≡ BadValue Source) }
     ensures memory { IfErr result (λ fault. fault ≡ Control Memory
-        → passes is_version_text (in_brackets text.now) ≡ true) }
+        → has_value is_version_text (in_brackets text.now) ≡ true) }
 {
     let field = ListField::Source;
     match in_brackets(text) {

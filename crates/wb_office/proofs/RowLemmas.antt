@@ -1,14 +1,15 @@
 -- The rows of the archive's lists have names, versions and labels of their forms, and small numbers.
 use Rattle.std.proofs.Common.{◌≡◌, ℕ, ◌+◌, ◌≤◌, Bool, true, false, cond, not, ◌&&◌, ◌||◌, nat_le, List, [], ◌∷◌, length, reverse, Option, Some, None, Result, Ok, Err, IsTrue, refl, subst, arith, unwrap_or}
-use Rattle.std.specs.Prelude.{codes}
+use Rattle.std.specs.Prelude.{codes, is_none}
 use Rattle.std.specs.List.{list_all, AllByRecursion}
+use Rattle.std.specs.Option.{option_or}
 use Rattle.std.specs.Char.{is_ascii_digit}
 use Rattle.std.proofs.lemmas.Bool.Decides.{nat_tests}
 use Rattle.std.proofs.lemmas.List.{length-reverse}
 use Rattle.deb_control.specs.declared.fault.ControlFaultKind.{ControlFaultKind}
 use Rattle.deb_control.specs.Fields.{Entry}
 use Rattle.deb_version.specs.declared.fault.VersionFault.{VersionFault}
-use Rattle.deb_version.specs.Syntax.{fault_of, value_of, with_digit}
+use Rattle.deb_version.specs.Syntax.{fault_of, is_version_text, value_of, with_digit}
 use Rattle.wb_states.specs.declared.refusal.ListField.{ListField}
 use Rattle.wb_states.specs.declared.refusal.ListField.TheVariants.{Package, Version, Architecture, Priority, Section}
 use Rattle.wb_states.specs.declared.refusal.ListKind.{ListKind}
@@ -19,7 +20,7 @@ use Rattle.wb_states.specs.declared.refusal.Refusal.TheVariants.{BadListing}
 use Rattle.wb_states.specs.Names.{is_source_name, is_label_text}
 use Rattle.wb_states.specs.Record.{is_empty_text}
 use Rattle.wb_states.specs.Refusals.{name_of_field}
-use Rattle.wb_merge.specs.Lists.{SourceRow, BinaryRow, value_named, text_named, is_version_text, is_label_or_empty, is_faultless, has_source_version, last_digits, rebuild_number, wanted_fault, spare_fault, or_fault, first_fault, source_fault, source_row, with_source, binary_row, unless_faulty, source_row_of, binary_row_of, row_in, onto_rows, rows_behind, source_rows, binary_rows}
+use Rattle.wb_merge.specs.Lists.{SourceRow, BinaryRow, value_named, text_named, is_label_or_empty, has_source_version, last_digits, rebuild_number, wanted_fault, spare_fault, first_fault, source_fault, source_row, with_source, binary_row, unless_faulty, source_row_of, binary_row_of, row_in, onto_rows, rows_behind, source_rows, binary_rows}
 use Rattle.wb_office.proofs.PassLemmas.{both-true}
 
 -- ---- rows that were read are those of paragraphs without a fault
@@ -59,13 +60,13 @@ module _ {X : Type 0} (Q : X → Type 0) (read : List Entry → Result X Listing
 
 -- ---- the faults of a paragraph
 
-or_fault-None : (one later : Option ListingFault) → or_fault one later ≡ None → (one ≡ None) × (later ≡ None)
-or_fault-None None later is = (refl, is)
-or_fault-None (Some fault) later is = cc
+option_or-None : (one later : Option ListingFault) → option_or one later ≡ None → (one ≡ None) × (later ≡ None)
+option_or-None None later is = (refl, is)
+option_or-None (Some fault) later is = cc
 
 first_fault-None : (faults : List (Option ListingFault)) → first_fault faults ≡ None → AllByRecursion (λ fault. fault ≡ None) faults
 first_fault-None [] is = tt
-first_fault-None (fault ∷ later) is = let both = or_fault-None fault (first_fault later) is in (both.0, first_fault-None later both.1)
+first_fault-None (fault ∷ later) is = let both = option_or-None fault (first_fault later) is in (both.0, first_fault-None later both.1)
 
 passed : (test : Bool) (fault : ListingFault) → cond test None (Some fault) ≡ None → IsTrue test
 passed true fault is = refl
@@ -95,7 +96,7 @@ spare-is field test fields empty is = at (value_named (name_of_field field) fiel
   at None is = empty
   at (Some text) is = passed (test text) (BadValue field) is
 
-faultless : (fault : Option VersionFault) → IsTrue (is_faultless fault) → fault ≡ None
+faultless : (fault : Option VersionFault) → IsTrue (is_none fault) → fault ≡ None
 faultless None is = refl
 faultless (Some fault) is = cc
 
