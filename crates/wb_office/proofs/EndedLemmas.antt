@@ -19,7 +19,7 @@ use Rattle.wb_states.proofs.QueueLemmas.{IsIn-filter, IsIn-find}
 use Rattle.wb_merge.specs.declared.listing.Listed.{Listed}
 use Rattle.wb_merge.specs.declared.listing.Built.{Built as WasBuilt}
 use Rattle.wb_merge.specs.Merge.{after}
-use Rattle.wb_office.specs.Checks.{first_refusal, has, is_not_held, refused_move, take_named}
+use Rattle.wb_office.specs.Checks.{first_refusal, is_not_held, refused_move, take_named}
 use Rattle.wb_office.specs.Moving.{again_of, move_asked, moving}
 use Rattle.wb_office.specs.Replay.{replay}
 use Rattle.wb_office.specs.Step.{after_move, change, entered, outcome, step}
@@ -216,7 +216,7 @@ ended-refused machine commands take_number command below none named =
     last = replay machine commands
 
     not_held : is_not_held last command ≡ true
-    not_held = ap (has (λ number. is_none (taken_as last number))) named ∙ ap is_none (ended machine commands take_number below none)
+    not_held = ap (has_value (λ number. is_none (taken_as last number))) named ∙ ap is_none (ended machine commands take_number below none)
 
     clash : true ≡ false → ⊥
     clash e = cc

@@ -1,4 +1,5 @@
 -- What the commands answer that move a record by its take number.
+use Rattle.std.specs.Option.{option_or}
 use Rattle.std.proofs.Common.{◌≡◌, ℕ, ◌+◌, List, [], ◌∷◌, Option, Some, None, Ok, Err, refl, sym, ap, ◌∙◌, nat_le, is_none, option_and_then, option_map}
 use Rattle.deb_relations.specs.declared.arch.ArchWords.{ArchWords}
 use Rattle.deb_relations.specs.declared.relations.Alternative.{Alternative}
@@ -14,7 +15,7 @@ use Rattle.wb_states.specs.Limits.{count_limit}
 use Rattle.wb_states.specs.Machine.{Machine, arch_words}
 use Rattle.wb_states.specs.Moves.{move_refusal}
 use Rattle.wb_states.specs.Queue.{Entry}
-use Rattle.wb_office.specs.Checks.{first_some, or_refusal, when, fault_in, text_refusal, state_refusal}
+use Rattle.wb_office.specs.Checks.{first_some, when, fault_in, text_refusal, state_refusal}
 use Rattle.wb_office.specs.Found.{unless_refused, move_step, relations_refusal, taken_at, taken_step}
 use Rattle.wb_office.specs.Moving.{groups_in, moving}
 use Rattle.wb_office.specs.Step.{step, counted, after_move}
@@ -54,7 +55,7 @@ waits-text : (take_number : ℕ) (relations : List ℕ) (groups : List (List Alt
     → text_refusal (Waits take_number relations) ≡ None
 unfolding text_refusal
 waits-text take_number relations groups reads =
-    ap (λ reading. or_refusal (option_map (λ fault. BadRelations (Some fault)) (fault_in reading)) None) reads
+    ap (λ reading. option_or (option_map (λ fault. BadRelations (Some fault)) (fault_in reading)) None) reads
 
 step-Waits : (machine : Machine) (take_number : ℕ) (relations : List ℕ) (groups : List (List Alternative)) → reading_of relations ≡ Ok groups
     → step machine (Waits take_number relations) ≡ taken_step machine take_number (waits_move machine relations)
@@ -67,7 +68,7 @@ pub waits-BadRelations : (machine : Machine) (take_number : ℕ) (relations : Li
     → step machine (Waits take_number relations) ≡ (Err refusal, machine)
 unfolding text_refusal relations_refusal
 waits-BadRelations machine take_number relations refusal is =
-    step-text machine (Waits take_number relations) refusal (ap (λ first. or_refusal first None) is)
+    step-text machine (Waits take_number relations) refusal (ap (λ first. option_or first None) is)
 
 pub waits-NotHeld : (machine : Machine) (take_number : ℕ) (relations : List ℕ) (groups : List (List Alternative)) → reading_of relations ≡ Ok groups
     → taken_as machine take_number ≡ None → step machine (Waits take_number relations) ≡ (Err NotHeld, machine)

@@ -1,6 +1,7 @@
 -- A record that was found is handed to a builder, or the builder is refused.
 use Rattle.std.proofs.Common.{◌≡◌, ℕ, ◌+◌, ◌||◌, Bool, true, false, List, Some, None, Ok, Err, refl, sym, ◌∙◌, nat_le}
 use Rattle.std.specs.FinMap as map
+use Rattle.std.specs.Option.{option_or}
 use Rattle.wb_states.specs.declared.moves.Move.TheVariants as to
 use Rattle.wb_states.specs.declared.record.Record.{Record}
 use Rattle.wb_states.specs.declared.refusal.Refusal.{Refusal}
@@ -12,7 +13,7 @@ use Rattle.wb_states.specs.Limits.{count_limit}
 use Rattle.wb_states.specs.Machine.{Machine}
 use Rattle.wb_states.specs.Moves.{move_refusal, moved, may_go}
 use Rattle.wb_states.specs.Queue.{Entry}
-use Rattle.wb_office.specs.Checks.{or_refusal, when}
+use Rattle.wb_office.specs.Checks.{when}
 use Rattle.wb_office.specs.Found.{unless_refused, job_step, take_move}
 use Rattle.wb_office.specs.Step.{assignment_of, counted, after_take, job_of}
 
@@ -26,7 +27,7 @@ pub job_step-refused : (machine : Machine) (builder : List ℕ) (entry : Entry) 
     → move_refusal (take_move machine builder) entry.1 ≡ Some refusal → job_step machine builder entry ≡ (Err refusal, machine)
 unfolding job_step
 job_step-refused machine builder entry refusal is =
-    λ i. unless_refused (or_refusal (is i) (or_refusal (when (nat_le count_limit machine.accepted || nat_le count_limit machine.handed) Spent) None)) machine
+    λ i. unless_refused (option_or (is i) (option_or (when (nat_le count_limit machine.accepted || nat_le count_limit machine.handed) Spent) None)) machine
     (Ok (job_of machine (Some entry)), counted machine (after_take machine (Some (entry, take_move machine builder))))
 
 pub job_step-Spent : (machine : Machine) (builder : List ℕ) (entry : Entry)
@@ -34,7 +35,7 @@ pub job_step-Spent : (machine : Machine) (builder : List ℕ) (entry : Entry)
     → job_step machine builder entry ≡ (Err Spent, machine)
 unfolding job_step
 job_step-Spent machine builder entry is full =
-    λ i. unless_refused (or_refusal (is i) (or_refusal (when (full i) Spent) None)) machine
+    λ i. unless_refused (option_or (is i) (option_or (when (full i) Spent) None)) machine
     (Ok (job_of machine (Some entry)), counted machine (after_take machine (Some (entry, take_move machine builder))))
 
 pub job_step-Ok : (machine new : Machine) (builder : List ℕ) (entry : Entry) (assignment : Assignment) (reply : Reply)
@@ -49,7 +50,7 @@ pub job_step-Ok : (machine new : Machine) (builder : List ℕ) (entry : Entry) (
     → job_step machine builder entry ≡ (Ok reply, new)
 unfolding job_step
 job_step-Ok machine new builder entry assignment reply is room told replied left =
-    (λ i. unless_refused (or_refusal (is i) (or_refusal (when (room i) Spent) None)) machine
+    (λ i. unless_refused (option_or (is i) (option_or (when (room i) Spent) None)) machine
     (Ok (job_of machine (Some entry)), counted machine (after_take machine (Some (entry, take_move machine builder)))))
     ∙ (λ i. (Ok (Job (machine.accepted + 1) (sym told i)), sym left i))
     ∙ (λ i. (Ok (sym replied i), new))

@@ -1,4 +1,5 @@
 -- What the commands that name a source package answer to their texts.
+use Rattle.std.specs.Option.{option_or}
 use Rattle.std.proofs.Common.{◌≡◌, ◌≢◌, ℕ, ◌||◌, Bool, true, false, List, Some, None, Ok, Err, refl, sym, ap, ◌∙◌, nat_eq, nat_lt, length, option_map, if◌then◌else◌}
 use Rattle.deb_version.specs.Syntax.{fault_of}
 use Rattle.deb_relations.specs.declared.arch.ArchWords.{ArchWords}
@@ -10,7 +11,7 @@ use Rattle.wb_states.specs.declared.refusal.Refusal.{Refusal}
 use Rattle.wb_states.specs.declared.refusal.Refusal.TheVariants.{BadName, BadVersion, BadRelations, BadNumber, TextTooLong, Memory}
 use Rattle.wb_states.specs.Limits.{note_limit, rebuild_limit}
 use Rattle.wb_states.specs.Machine.{Machine, arch_words}
-use Rattle.wb_office.specs.Checks.{or_refusal, when, fault_in, has_bad_key, text_refusal}
+use Rattle.wb_office.specs.Checks.{when, fault_in, has_bad_key, text_refusal}
 use Rattle.wb_office.specs.Found.{key_refusal, named_step, relations_refusal}
 use Rattle.wb_office.specs.Moving.{groups_in}
 use Rattle.wb_office.specs.Step.{step}
@@ -32,22 +33,22 @@ pub dep_wait-refused : (machine : Machine) (arch source version relations : List
     → step machine (DepWait arch source version relations) ≡ (Err refusal, machine)
 unfolding text_refusal key_refusal
 dep_wait-refused machine arch source version relations refusal is =
-    step-text machine (DepWait arch source version relations) refusal (two-Some (when (has_bad_key arch source) BadName) (option_map BadVersion (fault_of version)) (or_refusal (option_map (λ fault. BadRelations (Some fault)) (fault_in (reading_of relations))) None) refusal is)
+    step-text machine (DepWait arch source version relations) refusal (two-Some (when (has_bad_key arch source) BadName) (option_map BadVersion (fault_of version)) (option_or (option_map (λ fault. BadRelations (Some fault)) (fault_in (reading_of relations))) None) refusal is)
 
 pub dep_wait-BadRelations : (machine : Machine) (arch source version relations : List ℕ) (later refusal : Refusal)
-    → or_refusal (key_refusal arch source version) (Some later) ≡ Some refusal → relations_refusal relations ≡ Some later
+    → option_or (key_refusal arch source version) (Some later) ≡ Some refusal → relations_refusal relations ≡ Some later
     → step machine (DepWait arch source version relations) ≡ (Err refusal, machine)
 unfolding text_refusal key_refusal relations_refusal
 dep_wait-BadRelations machine arch source version relations later refusal is bad =
-    step-text machine (DepWait arch source version relations) refusal (two-later (when (has_bad_key arch source) BadName) (option_map BadVersion (fault_of version)) (or_refusal (option_map (λ fault. BadRelations (Some fault)) (fault_in (reading_of relations))) None) later refusal is
-    (ap (λ first. or_refusal first None) bad))
+    step-text machine (DepWait arch source version relations) refusal (two-later (when (has_bad_key arch source) BadName) (option_map BadVersion (fault_of version)) (option_or (option_map (λ fault. BadRelations (Some fault)) (fault_in (reading_of relations))) None) later refusal is
+    (ap (λ first. option_or first None) bad))
 
 -- the same where the relations may be refused for want of memory, which is never told of a key that is refused
 pub dep_wait-either : (machine : Machine) (arch source version relations : List ℕ) (later refusal : Refusal)
-    → or_refusal (key_refusal arch source version) (Some later) ≡ Some refusal → (later ≢ Memory → relations_refusal relations ≡ Some later) → refusal ≢ Memory
+    → option_or (key_refusal arch source version) (Some later) ≡ Some refusal → (later ≢ Memory → relations_refusal relations ≡ Some later) → refusal ≢ Memory
     → step machine (DepWait arch source version relations) ≡ (Err refusal, machine)
 dep_wait-either machine arch source version relations later refusal is bad differs =
-    (elim (key_refusal arch source version) as (λ key. key_refusal arch source version ≡ key → or_refusal key (Some later) ≡ Some refusal
+    (elim (key_refusal arch source version) as (λ key. key_refusal arch source version ≡ key → option_or key (Some later) ≡ Some refusal
     → step machine (DepWait arch source version relations) ≡ (Err refusal, machine)) [
       | None ↦ λ good same.
           let one : later ≡ refusal = only later refusal same in
@@ -63,66 +64,66 @@ pub dep_wait-is : (machine : Machine) (arch source version relations : List ℕ)
     → step machine (DepWait arch source version relations) ≡ named_step machine arch source version (to.DepWait groups words)
 unfolding text_refusal key_refusal
 dep_wait-is machine arch source version relations groups words is reads named =
-    step-DepWait machine arch source version relations (two-None (when (has_bad_key arch source) BadName) (option_map BadVersion (fault_of version)) (or_refusal (option_map (λ fault. BadRelations (Some fault)) (fault_in (reading_of relations))) None) is
-    ∙ ap (λ reading. or_refusal (option_map (λ fault. BadRelations (Some fault)) (fault_in reading)) None) reads)
+    step-DepWait machine arch source version relations (two-None (when (has_bad_key arch source) BadName) (option_map BadVersion (fault_of version)) (option_or (option_map (λ fault. BadRelations (Some fault)) (fault_in (reading_of relations))) None) is
+    ∙ ap (λ reading. option_or (option_map (λ fault. BadRelations (Some fault)) (fault_in reading)) None) reads)
     ∙ (λ i. named_step machine arch source version (to.DepWait (groups_in (reads i)) (sym named i)))
 
 pub fail-refused : (machine : Machine) (arch source version note : List ℕ) (refusal : Refusal) → key_refusal arch source version ≡ Some refusal
     → step machine (Fail arch source version note) ≡ (Err refusal, machine)
 unfolding text_refusal key_refusal
 fail-refused machine arch source version note refusal is =
-    step-text machine (Fail arch source version note) refusal (two-Some (when (has_bad_key arch source) BadName) (option_map BadVersion (fault_of version)) (or_refusal (when (nat_lt note_limit (length note)) TextTooLong) None) refusal is)
+    step-text machine (Fail arch source version note) refusal (two-Some (when (has_bad_key arch source) BadName) (option_map BadVersion (fault_of version)) (option_or (when (nat_lt note_limit (length note)) TextTooLong) None) refusal is)
 
 pub fail-long : (machine : Machine) (arch source version note : List ℕ) (refusal : Refusal)
-    → or_refusal (key_refusal arch source version) (Some TextTooLong) ≡ Some refusal → nat_lt note_limit (length note) ≡ true
+    → option_or (key_refusal arch source version) (Some TextTooLong) ≡ Some refusal → nat_lt note_limit (length note) ≡ true
     → step machine (Fail arch source version note) ≡ (Err refusal, machine)
 unfolding text_refusal key_refusal
 fail-long machine arch source version note refusal is long =
-    step-text machine (Fail arch source version note) refusal (two-later (when (has_bad_key arch source) BadName) (option_map BadVersion (fault_of version)) (or_refusal (when (nat_lt note_limit (length note)) TextTooLong) None) TextTooLong refusal is
-    (ap (λ b. or_refusal (when b TextTooLong) None) long))
+    step-text machine (Fail arch source version note) refusal (two-later (when (has_bad_key arch source) BadName) (option_map BadVersion (fault_of version)) (option_or (when (nat_lt note_limit (length note)) TextTooLong) None) TextTooLong refusal is
+    (ap (λ b. option_or (when b TextTooLong) None) long))
 
 pub fail-is : (machine : Machine) (arch source version note : List ℕ) (own : List ℕ) → key_refusal arch source version ≡ None → nat_lt note_limit (length note) ≡ false → own ≡ note
     → step machine (Fail arch source version note) ≡ named_step machine arch source version (to.Fail own)
 unfolding text_refusal key_refusal
 fail-is machine arch source version note own is long same =
-    step-Fail machine arch source version note (two-None (when (has_bad_key arch source) BadName) (option_map BadVersion (fault_of version)) (or_refusal (when (nat_lt note_limit (length note)) TextTooLong) None) is ∙ ap (λ b. or_refusal (when b TextTooLong) None) long)
+    step-Fail machine arch source version note (two-None (when (has_bad_key arch source) BadName) (option_map BadVersion (fault_of version)) (option_or (when (nat_lt note_limit (length note)) TextTooLong) None) is ∙ ap (λ b. option_or (when b TextTooLong) None) long)
     ∙ ap (λ (text : List ℕ). named_step machine arch source version (to.Fail text)) (sym same)
 
 pub not_for_us-refused : (machine : Machine) (arch source version note : List ℕ) (refusal : Refusal) → key_refusal arch source version ≡ Some refusal
     → step machine (NotForUs arch source version note) ≡ (Err refusal, machine)
 unfolding text_refusal key_refusal
 not_for_us-refused machine arch source version note refusal is =
-    step-text machine (NotForUs arch source version note) refusal (two-Some (when (has_bad_key arch source) BadName) (option_map BadVersion (fault_of version)) (or_refusal (when (nat_lt note_limit (length note)) TextTooLong) None) refusal is)
+    step-text machine (NotForUs arch source version note) refusal (two-Some (when (has_bad_key arch source) BadName) (option_map BadVersion (fault_of version)) (option_or (when (nat_lt note_limit (length note)) TextTooLong) None) refusal is)
 
 pub not_for_us-long : (machine : Machine) (arch source version note : List ℕ) (refusal : Refusal)
-    → or_refusal (key_refusal arch source version) (Some TextTooLong) ≡ Some refusal → nat_lt note_limit (length note) ≡ true
+    → option_or (key_refusal arch source version) (Some TextTooLong) ≡ Some refusal → nat_lt note_limit (length note) ≡ true
     → step machine (NotForUs arch source version note) ≡ (Err refusal, machine)
 unfolding text_refusal key_refusal
 not_for_us-long machine arch source version note refusal is long =
-    step-text machine (NotForUs arch source version note) refusal (two-later (when (has_bad_key arch source) BadName) (option_map BadVersion (fault_of version)) (or_refusal (when (nat_lt note_limit (length note)) TextTooLong) None) TextTooLong refusal is
-    (ap (λ b. or_refusal (when b TextTooLong) None) long))
+    step-text machine (NotForUs arch source version note) refusal (two-later (when (has_bad_key arch source) BadName) (option_map BadVersion (fault_of version)) (option_or (when (nat_lt note_limit (length note)) TextTooLong) None) TextTooLong refusal is
+    (ap (λ b. option_or (when b TextTooLong) None) long))
 
 pub not_for_us-is : (machine : Machine) (arch source version note : List ℕ) (own : List ℕ) → key_refusal arch source version ≡ None → nat_lt note_limit (length note) ≡ false → own ≡ note
     → step machine (NotForUs arch source version note) ≡ named_step machine arch source version (to.NotForUs own)
 unfolding text_refusal key_refusal
 not_for_us-is machine arch source version note own is long same =
-    step-NotForUs machine arch source version note (two-None (when (has_bad_key arch source) BadName) (option_map BadVersion (fault_of version)) (or_refusal (when (nat_lt note_limit (length note)) TextTooLong) None) is ∙ ap (λ b. or_refusal (when b TextTooLong) None) long)
+    step-NotForUs machine arch source version note (two-None (when (has_bad_key arch source) BadName) (option_map BadVersion (fault_of version)) (option_or (when (nat_lt note_limit (length note)) TextTooLong) None) is ∙ ap (λ b. option_or (when b TextTooLong) None) long)
     ∙ ap (λ (text : List ℕ). named_step machine arch source version (to.NotForUs text)) (sym same)
 
 pub rebuild-refused : (machine : Machine) (arch source version : List ℕ) (number : ℕ) (message : List ℕ) (refusal : Refusal) → key_refusal arch source version ≡ Some refusal
     → step machine (Rebuild arch source version number message) ≡ (Err refusal, machine)
 unfolding text_refusal key_refusal
 rebuild-refused machine arch source version number message refusal is =
-    step-text machine (Rebuild arch source version number message) refusal (two-Some (when (has_bad_key arch source) BadName) (option_map BadVersion (fault_of version)) (or_refusal (when (nat_eq number 0 || nat_lt rebuild_limit number) BadNumber) (or_refusal (when (nat_lt note_limit (length message)) TextTooLong) None)) refusal is)
+    step-text machine (Rebuild arch source version number message) refusal (two-Some (when (has_bad_key arch source) BadName) (option_map BadVersion (fault_of version)) (option_or (when (nat_eq number 0 || nat_lt rebuild_limit number) BadNumber) (option_or (when (nat_lt note_limit (length message)) TextTooLong) None)) refusal is)
 
 pub rebuild-BadNumber : (machine : Machine) (arch source version : List ℕ) (number : ℕ) (message : List ℕ) (refusal : Refusal)
-    → or_refusal (key_refusal arch source version) (Some BadNumber) ≡ Some refusal
+    → option_or (key_refusal arch source version) (Some BadNumber) ≡ Some refusal
     → None ≡ (if nat_eq number 0 || nat_lt rebuild_limit number then None else Some number)
     → step machine (Rebuild arch source version number message) ≡ (Err refusal, machine)
 unfolding text_refusal key_refusal
 rebuild-BadNumber machine arch source version number message refusal is none =
-    step-text machine (Rebuild arch source version number message) refusal (two-later (when (has_bad_key arch source) BadName) (option_map BadVersion (fault_of version)) (or_refusal (when (nat_eq number 0 || nat_lt rebuild_limit number) BadNumber) (or_refusal (when (nat_lt note_limit (length message)) TextTooLong) None)) BadNumber refusal is
-    (ap (λ b. or_refusal (when b BadNumber) (or_refusal (when (nat_lt note_limit (length message)) TextTooLong) None)) (bad (nat_eq number 0 || nat_lt rebuild_limit number) none)))
+    step-text machine (Rebuild arch source version number message) refusal (two-later (when (has_bad_key arch source) BadName) (option_map BadVersion (fault_of version)) (option_or (when (nat_eq number 0 || nat_lt rebuild_limit number) BadNumber) (option_or (when (nat_lt note_limit (length message)) TextTooLong) None)) BadNumber refusal is
+    (ap (λ b. option_or (when b BadNumber) (option_or (when (nat_lt note_limit (length message)) TextTooLong) None)) (bad (nat_eq number 0 || nat_lt rebuild_limit number) none)))
   where
     bad : (b : Bool) → None ≡ (if b then None else Some number) → b ≡ true
     bad true e = refl
@@ -135,19 +136,19 @@ numbered number kept false e = (refl, only kept number e) where
   only x y e = cc
 
 pub rebuild-long : (machine : Machine) (arch source version : List ℕ) (number : ℕ) (message : List ℕ) (refusal : Refusal)
-    → or_refusal (key_refusal arch source version) (Some TextTooLong) ≡ Some refusal
+    → option_or (key_refusal arch source version) (Some TextTooLong) ≡ Some refusal
     → (nat_eq number 0 || nat_lt rebuild_limit number) ≡ false → nat_lt note_limit (length message) ≡ true
     → step machine (Rebuild arch source version number message) ≡ (Err refusal, machine)
 unfolding text_refusal key_refusal
 rebuild-long machine arch source version number message refusal is good long =
-    step-text machine (Rebuild arch source version number message) refusal (two-later (when (has_bad_key arch source) BadName) (option_map BadVersion (fault_of version)) (or_refusal (when (nat_eq number 0 || nat_lt rebuild_limit number) BadNumber) (or_refusal (when (nat_lt note_limit (length message)) TextTooLong) None)) TextTooLong refusal is
-    (λ i. or_refusal (when (good i) BadNumber) (or_refusal (when (long i) TextTooLong) None)))
+    step-text machine (Rebuild arch source version number message) refusal (two-later (when (has_bad_key arch source) BadName) (option_map BadVersion (fault_of version)) (option_or (when (nat_eq number 0 || nat_lt rebuild_limit number) BadNumber) (option_or (when (nat_lt note_limit (length message)) TextTooLong) None)) TextTooLong refusal is
+    (λ i. option_or (when (good i) BadNumber) (option_or (when (long i) TextTooLong) None)))
 
 pub rebuild-is : (machine : Machine) (arch source version : List ℕ) (number : ℕ) (message : List ℕ) (kept : ℕ) (own : List ℕ) → key_refusal arch source version ≡ None
     → (nat_eq number 0 || nat_lt rebuild_limit number) ≡ false → nat_lt note_limit (length message) ≡ false → kept ≡ number → own ≡ message
     → step machine (Rebuild arch source version number message) ≡ named_step machine arch source version (to.Rebuild kept own)
 unfolding text_refusal key_refusal
 rebuild-is machine arch source version number message kept own is good long same told =
-    step-Rebuild machine arch source version number message (two-None (when (has_bad_key arch source) BadName) (option_map BadVersion (fault_of version)) (or_refusal (when (nat_eq number 0 || nat_lt rebuild_limit number) BadNumber) (or_refusal (when (nat_lt note_limit (length message)) TextTooLong) None)) is
-    ∙ (λ i. or_refusal (when (good i) BadNumber) (or_refusal (when (long i) TextTooLong) None)))
+    step-Rebuild machine arch source version number message (two-None (when (has_bad_key arch source) BadName) (option_map BadVersion (fault_of version)) (option_or (when (nat_eq number 0 || nat_lt rebuild_limit number) BadNumber) (option_or (when (nat_lt note_limit (length message)) TextTooLong) None)) is
+    ∙ (λ i. option_or (when (good i) BadNumber) (option_or (when (long i) TextTooLong) None)))
     ∙ (λ i. named_step machine arch source version (to.Rebuild (sym same i) (sym told i)))

@@ -1,6 +1,7 @@
 -- A record that was found is moved, or the move is refused.
 use Rattle.std.proofs.Common.{◌≡◌, ℕ, ◌+◌, true, false, List, Option, Some, None, Result, Ok, Err, refl, sym, ◌∙◌, nat_le}
 use Rattle.std.specs.FinMap as map
+use Rattle.std.specs.Option.{option_or}
 use Rattle.wb_states.specs.declared.moves.Move.{Move}
 use Rattle.wb_states.specs.declared.record.Record.{Record}
 use Rattle.wb_states.specs.declared.refusal.Refusal.{Refusal}
@@ -12,7 +13,7 @@ use Rattle.wb_states.specs.Machine.{Machine}
 use Rattle.wb_states.specs.Moves.{move_refusal, move_of, moved, unless_refused as unless_move_refused}
 use Rattle.wb_states.specs.Queue.{Entry}
 use Rattle.wb_office.specs.declared.moved.Moved.{Moved}
-use Rattle.wb_office.specs.Checks.{or_refusal, when}
+use Rattle.wb_office.specs.Checks.{when}
 use Rattle.wb_office.specs.Found.{unless_refused, move_step}
 use Rattle.wb_office.specs.Step.{counted, after_move}
 
@@ -38,14 +39,14 @@ pub move_step-refused : (machine : Machine) (entry : Entry) (move : Move) (refus
     → move_refusal move entry.1 ≡ Some refusal → move_step machine entry move ≡ (Err refusal, machine)
 unfolding move_step
 move_step-refused machine entry move refusal is =
-    λ i. unless_refused (or_refusal (is i) (or_refusal (when (nat_le count_limit machine.accepted) Spent) None)) machine
+    λ i. unless_refused (option_or (is i) (option_or (when (nat_le count_limit machine.accepted) Spent) None)) machine
     (Ok (Done (machine.accepted + 1)), counted machine (after_move machine (Some (entry, move))))
 
 pub move_step-Spent : (machine : Machine) (entry : Entry) (move : Move)
     → move_refusal move entry.1 ≡ None → nat_le count_limit machine.accepted ≡ true → move_step machine entry move ≡ (Err Spent, machine)
 unfolding move_step
 move_step-Spent machine entry move is full =
-    λ i. unless_refused (or_refusal (is i) (or_refusal (when (full i) Spent) None)) machine
+    λ i. unless_refused (option_or (is i) (option_or (when (full i) Spent) None)) machine
     (Ok (Done (machine.accepted + 1)), counted machine (after_move machine (Some (entry, move))))
 
 pub move_step-Ok : (machine new : Machine) (entry : Entry) (move : Move) (reply : Reply)
@@ -55,7 +56,7 @@ pub move_step-Ok : (machine new : Machine) (entry : Entry) (move : Move) (reply 
     → move_step machine entry move ≡ (Ok reply, new)
 unfolding move_step
 move_step-Ok machine new entry move reply is room replied left =
-    (λ i. unless_refused (or_refusal (is i) (or_refusal (when (room i) Spent) None)) machine
+    (λ i. unless_refused (option_or (is i) (option_or (when (room i) Spent) None)) machine
     (Ok (Done (machine.accepted + 1)), counted machine (after_move machine (Some (entry, move)))))
     ∙ (λ i. (Ok (sym replied i), sym left i))
 

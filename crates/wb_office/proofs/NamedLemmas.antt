@@ -17,7 +17,7 @@ use Rattle.wb_office.specs.Checks.{first_some, when, differing, text_refusal, st
 use Rattle.wb_office.specs.Found.{unless_refused, move_step, found_refusal, named_at, named_step}
 use Rattle.wb_office.specs.Moving.{groups_in, moving, record_named, with_move}
 use Rattle.wb_office.specs.Step.{step, counted, after_move}
-use Rattle.wb_office.proofs.StepLemmas.{step-state, unless_refused-or_refusal, unless_refused-last}
+use Rattle.wb_office.proofs.StepLemmas.{step-state, unless_refused-option_or, unless_refused-last}
 
 named-answer : (machine : Machine) (arch source version : List ℕ) (move : Move) (is_unknown : Bool) (found : Option Record)
     → unless_refused (first_some (
@@ -34,10 +34,10 @@ named-answer : (machine : Machine) (arch source version : List ℕ) (move : Move
     )
     ≡ unless_refused (when is_unknown UnknownArch) machine (named_at machine (arch, source) version move found)
 unfolding move_step
-named-answer machine arch source version move is_unknown None = unless_refused-or_refusal (when is_unknown UnknownArch) _ machine _
+named-answer machine arch source version move is_unknown None = unless_refused-option_or (when is_unknown UnknownArch) _ machine _
 named-answer machine arch source version move is_unknown (Some current) =
-    unless_refused-or_refusal (when is_unknown UnknownArch) _ machine _
-    ∙ ap (unless_refused (when is_unknown UnknownArch) machine) (unless_refused-or_refusal (differing version current) _ machine _)
+    unless_refused-option_or (when is_unknown UnknownArch) _ machine _
+    ∙ ap (unless_refused (when is_unknown UnknownArch) machine) (unless_refused-option_or (differing version current) _ machine _)
 
 pub step-GiveBack : (machine : Machine) (arch source version : List ℕ) → text_refusal (GiveBack arch source version) ≡ None
     → step machine (GiveBack arch source version) ≡ named_step machine arch source version to.GiveBack

@@ -1,4 +1,5 @@
 -- What a builder's command for the head of a queue answers.
+use Rattle.std.specs.Option.{option_or}
 use Rattle.std.proofs.Common.{◌≡◌, ℕ, ◌||◌, ◌&&◌, Bool, true, false, List, [], ◌∷◌, Option, Some, None, Ok, Err, refl, sym, ap, ◌∙◌, nat_le, is_none, option_and_then, option_map}
 use Rattle.wb_states.specs.declared.command.Command.TheVariants.{Next}
 use Rattle.wb_states.specs.declared.refusal.Refusal.{Refusal}
@@ -14,7 +15,7 @@ use Rattle.wb_states.specs.Moves.{move_refusal, may_go}
 use Rattle.wb_states.specs.Queue.{Entry, head_of}
 use Rattle.wb_states.proofs.QueueLemmas.{head_of-waits}
 use Rattle.wb_store.specs.Lookups.{named}
-use Rattle.wb_office.specs.Checks.{first_some, or_refusal, when, has_bad_name, is_ahead, is_for_other_archs, lacks_arch, lacks_builder, text_refusal, state_refusal, first_refusal}
+use Rattle.wb_office.specs.Checks.{first_some, when, has_bad_name, is_ahead, is_for_other_archs, lacks_arch, lacks_builder, text_refusal, state_refusal, first_refusal}
 use Rattle.wb_office.specs.Found.{unless_refused, builder_refusal, head_at, head_step, job_step, take_move, told_of}
 use Rattle.wb_office.specs.Moving.{again_of, moving}
 use Rattle.wb_office.specs.Step.{outcome, step, reply_to, change, counted, after_take, job_of}
@@ -23,9 +24,9 @@ use Rattle.wb_office.proofs.StepLemmas.{step-refused, outcome-None, three-None, 
 -- the checks of the builder before others
 builder_first : Machine → List ℕ → List ℕ → Option ℕ → Option Refusal → Option Refusal
 builder_first machine arch builder after rest =
-    or_refusal (when (lacks_arch machine (Next arch builder after)) UnknownArch)
-    (or_refusal (when (lacks_builder machine (Next arch builder after)) UnknownBuilder)
-    (or_refusal (when (is_for_other_archs machine (Next arch builder after)) WrongArch) rest))
+    option_or (when (lacks_arch machine (Next arch builder after)) UnknownArch)
+    (option_or (when (lacks_builder machine (Next arch builder after)) UnknownBuilder)
+    (option_or (when (is_for_other_archs machine (Next arch builder after)) WrongArch) rest))
 
 builder_first-None : (machine : Machine) (arch builder : List ℕ) (after : Option ℕ) (rest : Option Refusal)
     → builder_refusal machine arch builder ≡ None → builder_first machine arch builder after rest ≡ rest
@@ -46,20 +47,20 @@ builder_first-Some machine arch builder after rest refusal is = three-Some
 -- the checks of the queue: none where the builder is told again
 queue_checks : Machine → List ℕ → Bool → Option Entry → Option Refusal
 queue_checks machine builder is_new head =
-    or_refusal (option_and_then (λ (asked : Entry × Move). move_refusal asked.1 asked.0.1)
+    option_or (option_and_then (λ (asked : Entry × Move). move_refusal asked.1 asked.0.1)
     (option_and_then (λ (entry : Entry). Some (entry, take_move machine builder)) head))
-    (or_refusal (when (is_new && is_none head) QueueEmpty)
-    (or_refusal (when (is_new && (nat_le count_limit machine.accepted || nat_le count_limit machine.handed)) Spent) None))
+    (option_or (when (is_new && is_none head) QueueEmpty)
+    (option_or (when (is_new && (nat_le count_limit machine.accepted || nat_le count_limit machine.handed)) Spent) None))
 
 next-checks : (machine : Machine) (arch builder : List ℕ) (after : Option ℕ) (is_bad is_later : Bool) (again : Option Entry)
     → has_bad_name (Next arch builder after) ≡ is_bad → is_ahead machine (Next arch builder after) ≡ is_later
     → again_of machine (Next arch builder after) ≡ again
-    → first_refusal machine (Next arch builder after) ≡ or_refusal (first_some (when is_bad BadName ∷ [])) (builder_first machine arch builder after
-    (or_refusal (when is_later (AfterAhead machine.handed)) (queue_checks machine builder (is_none again) (head_of machine arch))))
+    → first_refusal machine (Next arch builder after) ≡ option_or (first_some (when is_bad BadName ∷ [])) (builder_first machine arch builder after
+    (option_or (when is_later (AfterAhead machine.handed)) (queue_checks machine builder (is_none again) (head_of machine arch))))
 unfolding first_refusal text_refusal state_refusal moving builder_first queue_checks
 next-checks machine arch builder after is_bad is_later again bad later told =
-    λ i. or_refusal (first_some (when (bad i) BadName ∷ [])) (builder_first machine arch builder after
-    (or_refusal (when (later i) (AfterAhead machine.handed)) (queue_checks machine builder (is_none (told i)) (head_of machine arch))))
+    λ i. option_or (first_some (when (bad i) BadName ∷ [])) (builder_first machine arch builder after
+    (option_or (when (later i) (AfterAhead machine.handed)) (queue_checks machine builder (is_none (told i)) (head_of machine arch))))
 
 pub next-BadName : (machine : Machine) (arch builder : List ℕ) (after : Option ℕ) → has_bad_name (Next arch builder after) ≡ true
     → step machine (Next arch builder after) ≡ (Err BadName, machine)
@@ -93,7 +94,7 @@ unfolding queue_checks
 queue_checks-again machine arch builder =
     elim (head_of machine arch) as (λ head. head_of machine arch ≡ head → queue_checks machine builder false head ≡ None) [
       | None ↦ λ at. refl
-      | Some entry ↦ λ at. ap (λ first. or_refusal first None) (head-taken machine arch builder entry at)
+      | Some entry ↦ λ at. ap (λ first. option_or first None) (head-taken machine arch builder entry at)
     ] refl
 
 pub next-Again : (machine : Machine) (arch builder : List ℕ) (after : Option ℕ) (entry : Entry) → has_bad_name (Next arch builder after) ≡ false
@@ -115,10 +116,10 @@ head-answer : (machine : Machine) (arch builder : List ℕ) (after : Option ℕ)
 unfolding queue_checks job_step moving
 head-answer machine arch builder after = found (head_of machine arch) where
   found : (head : Option Entry)
-      → unless_refused (or_refusal (option_and_then (λ (asked : Entry × Move). move_refusal asked.1 asked.0.1)
+      → unless_refused (option_or (option_and_then (λ (asked : Entry × Move). move_refusal asked.1 asked.0.1)
       (option_and_then (λ (entry : Entry). Some (entry, take_move machine builder)) head))
-      (or_refusal (when (is_none head) QueueEmpty)
-      (or_refusal (when (nat_le count_limit machine.accepted || nat_le count_limit machine.handed) Spent) None))) machine
+      (option_or (when (is_none head) QueueEmpty)
+      (option_or (when (nat_le count_limit machine.accepted || nat_le count_limit machine.handed) Spent) None))) machine
       (Ok (job_of machine head), counted machine (after_take machine (option_and_then (λ (entry : Entry). Some (entry, take_move machine builder)) head)))
       ≡ head_at machine builder head
   found None = refl

@@ -1,6 +1,7 @@
 -- The refusal of a merge, and its parts one by one.
 use Rattle.std.proofs.Common.{◌≡◌, ℕ, Bool, true, false, List, [], ◌∷◌, Option, Some, None, Result, Ok, Err, is_ok, refl, ap, cond, nat_le, not}
 use Rattle.std.specs.List.{list_any}
+use Rattle.std.specs.Option.{option_or}
 use Rattle.wb_states.specs.declared.command.Command.TheVariants.{Merge}
 use Rattle.wb_states.specs.declared.command.Part.{Part}
 use Rattle.wb_states.specs.declared.refusal.Refusal.{Refusal}
@@ -10,13 +11,13 @@ use Rattle.wb_states.specs.Machine.{Machine}
 use Rattle.wb_states.specs.Names.{is_arch_name}
 use Rattle.wb_merge.specs.Listing.{Lists}
 use Rattle.wb_merge.specs.Merged.{Records}
-use Rattle.wb_office.specs.Checks.{first_refusal, first_some, has_repeated_arch, or_refusal, state_refusal, text_refusal, when}
+use Rattle.wb_office.specs.Checks.{first_refusal, first_some, has_repeated_arch, state_refusal, text_refusal, when}
 use Rattle.wb_office.specs.Found.{refused_merge}
 use Rattle.wb_office.specs.Moving.{moving}
 use Rattle.wb_office.specs.Parts.{end_with, is_good, is_merged, parts_refusal, part_listing, refusal_in}
 
 joined : (is_bad is_repeated : Bool) (refused : Option Refusal) (is_full : Bool) (handed : ℕ)
-    → or_refusal (first_some (when is_bad BadName ∷ None ∷ None ∷ when false BadNumber ∷ when false TextTooLong ∷ when is_repeated RepeatedArch ∷ []))
+    → option_or (first_some (when is_bad BadName ∷ None ∷ None ∷ when false BadNumber ∷ when false TextTooLong ∷ when is_repeated RepeatedArch ∷ []))
     (first_some (when false UnknownArch ∷ refused ∷ when false UnknownBuilder ∷ when false WrongArch ∷ when false (AfterAhead handed)
     ∷ when false NotHeld ∷ when false UnknownSource ∷ None ∷ None ∷ when false QueueEmpty ∷ when false AlreadyThere ∷ when is_full Spent ∷ []))
     ≡ first_some (when is_bad BadName ∷ when is_repeated RepeatedArch ∷ refused ∷ when is_full Spent ∷ [])

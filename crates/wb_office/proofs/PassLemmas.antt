@@ -1,24 +1,25 @@
 -- What is known of a command that no check refuses, and what a step then does.
 use Rattle.std.proofs.Common.{◌≡◌, Bool, true, false, not, ◌&&◌, ◌||◌, List, [], ◌∷◌, Option, Some, None, IsTrue, refl, sym, option_map}
 use Rattle.std.specs.List.{AllByRecursion}
+use Rattle.std.specs.Option.{option_or}
 use Rattle.wb_states.specs.declared.command.Command.{Command}
 use Rattle.wb_states.specs.declared.refusal.Refusal.{Refusal}
 use Rattle.wb_states.specs.declared.refusal.Refusal.TheVariants.{UnknownArch, UnknownBuilder, WrongArch, UnknownSource, QueueEmpty, NotHeld, AfterAhead, AlreadyThere, BadName, BadVersion, BadRelations, BadNumber, TextTooLong, Spent, RepeatedArch}
 use Rattle.wb_states.specs.Machine.{Machine}
-use Rattle.wb_office.specs.Checks.{when, or_refusal, first_some, text_refusal, state_refusal, first_refusal, has_bad_name, version_fault, relation_fault, has_bad_number, has_long_text, repeats_arch, lacks_arch, merge_refusal, lacks_builder, is_for_other_archs, is_ahead, is_not_held, lacks_source, other_version, refused_move, has_empty_queue, is_there_already, is_spent}
+use Rattle.wb_office.specs.Checks.{when, first_some, text_refusal, state_refusal, first_refusal, has_bad_name, version_fault, relation_fault, has_bad_number, has_long_text, repeats_arch, lacks_arch, merge_refusal, lacks_builder, is_for_other_archs, is_ahead, is_not_held, lacks_source, other_version, refused_move, has_empty_queue, is_there_already, is_spent}
 use Rattle.wb_office.specs.Moving.{again_of}
 use Rattle.wb_office.specs.Step.{outcome, step, change, counted}
 
 -- where neither refuses, neither does alone
-pub or_refusal-None : (one other : Option Refusal) → or_refusal one other ≡ None → (one ≡ None) × (other ≡ None)
-or_refusal-None None other is = (refl, is)
-or_refusal-None (Some refusal) other is = cc
+pub option_or-None : {X : Type 0} (one other : Option X) → option_or one other ≡ None → (one ≡ None) × (other ≡ None)
+option_or-None None other is = (refl, is)
+option_or-None (Some x) other is = cc
 
 -- where none refuses, each does not
 pub first_some-None : (checks : List (Option Refusal)) → first_some checks ≡ None → AllByRecursion (λ check. check ≡ None) checks
 first_some-None [] is = tt
 first_some-None (check ∷ checks) is =
-    let both = or_refusal-None check (first_some checks) is in (both.0, first_some-None checks both.1)
+    let both = option_or-None check (first_some checks) is in (both.0, first_some-None checks both.1)
 
 pub when-None : (test : Bool) (refusal : Refusal) → when test refusal ≡ None → test ≡ false
 when-None true refusal is = cc
@@ -61,7 +62,7 @@ pub record Passes (machine : Machine) (command : Command) : Type 0 where
 pub passes : (machine : Machine) (command : Command) → first_refusal machine command ≡ None → Passes machine command
 unfolding first_refusal text_refusal state_refusal
 passes machine command is =
-    let both = or_refusal-None (text_refusal command) (state_refusal machine command) is in
+    let both = option_or-None (text_refusal command) (state_refusal machine command) is in
     let texts = first_some-None (
     when (has_bad_name command) BadName
     ∷ option_map BadVersion (version_fault command)

@@ -2,7 +2,6 @@
 use Rattle.std.proofs.Common.{◌≡◌, ℕ, ◌+◌, ◌≤◌, Bool, true, false, cond, not, ◌&&◌, ◌||◌, nat_le, List, [], ◌∷◌, length, reverse, Option, Some, None, Result, Ok, Err, IsTrue, refl, subst, arith, unwrap_or}
 use Rattle.std.specs.Prelude.{codes, is_none}
 use Rattle.std.specs.List.{list_all, AllByRecursion}
-use Rattle.std.specs.Option.{option_or}
 use Rattle.std.specs.Char.{is_ascii_digit}
 use Rattle.std.proofs.lemmas.Bool.Decides.{nat_tests}
 use Rattle.std.proofs.lemmas.List.{length-reverse}
@@ -21,7 +20,7 @@ use Rattle.wb_states.specs.Names.{is_source_name, is_label_text}
 use Rattle.wb_states.specs.Record.{is_empty_text}
 use Rattle.wb_states.specs.Refusals.{name_of_field}
 use Rattle.wb_merge.specs.Lists.{SourceRow, BinaryRow, value_named, text_named, is_label_or_empty, has_source_version, last_digits, rebuild_number, wanted_fault, spare_fault, first_fault, source_fault, source_row, with_source, binary_row, unless_faulty, source_row_of, binary_row_of, row_in, onto_rows, rows_behind, source_rows, binary_rows}
-use Rattle.wb_office.proofs.PassLemmas.{both-true}
+use Rattle.wb_office.proofs.PassLemmas.{both-true, option_or-None}
 
 -- ---- rows that were read are those of paragraphs without a fault
 
@@ -59,10 +58,6 @@ module _ {X : Type 0} (Q : X → Type 0) (read : List Entry → Result X Listing
       subst (AllByRecursion Q) onto.whole (row-good (passed + 1) _ onto.row onto.head, rows-good (passed + 1) later onto.later onto.tail)
 
 -- ---- the faults of a paragraph
-
-option_or-None : (one later : Option ListingFault) → option_or one later ≡ None → (one ≡ None) × (later ≡ None)
-option_or-None None later is = (refl, is)
-option_or-None (Some fault) later is = cc
 
 first_fault-None : (faults : List (Option ListingFault)) → first_fault faults ≡ None → AllByRecursion (λ fault. fault ≡ None) faults
 first_fault-None [] is = tt

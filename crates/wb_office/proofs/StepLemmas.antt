@@ -1,9 +1,10 @@
 -- The step of a command, by what its texts and what the office has refuse.
+use Rattle.std.specs.Option.{option_or}
 use Rattle.std.proofs.Common.{◌≡◌, [], ◌∷◌, Option, Some, None, Ok, Err, refl, ap, ◌∙◌}
 use Rattle.wb_states.specs.declared.command.Command.{Command}
 use Rattle.wb_states.specs.declared.refusal.Refusal.{Refusal}
 use Rattle.wb_states.specs.Machine.{Machine}
-use Rattle.wb_office.specs.Checks.{first_some, or_refusal, text_refusal, state_refusal, first_refusal}
+use Rattle.wb_office.specs.Checks.{first_some, text_refusal, state_refusal, first_refusal}
 use Rattle.wb_office.specs.Found.{unless_refused}
 use Rattle.wb_office.specs.Moving.{again_of}
 use Rattle.wb_office.specs.Step.{Outcome, outcome, step, reply_to, change, counted}
@@ -16,7 +17,7 @@ step-refused machine command refusal is = ap (λ first. outcome first (again_of 
 pub step-text : (machine : Machine) (command : Command) (refusal : Refusal) → text_refusal command ≡ Some refusal
     → step machine command ≡ (Err refusal, machine)
 unfolding step first_refusal
-step-text machine command refusal is = ap (λ text. outcome (or_refusal text (state_refusal machine command)) (again_of machine command) machine command) is
+step-text machine command refusal is = ap (λ text. outcome (option_or text (state_refusal machine command)) (again_of machine command) machine command) is
 
 -- where nothing is told again, a command is refused, or it is accepted
 pub outcome-None : (first : Option Refusal) (machine : Machine) (command : Command)
@@ -29,46 +30,46 @@ pub step-state : (machine : Machine) (command : Command) → text_refusal comman
     → step machine command ≡ unless_refused (state_refusal machine command) machine (Ok (reply_to machine command), counted machine (change machine command))
 unfolding step first_refusal
 step-state machine command text again =
-    (λ i. outcome (or_refusal (text i) (state_refusal machine command)) (again i) machine command)
+    (λ i. outcome (option_or (text i) (state_refusal machine command)) (again i) machine command)
     ∙ outcome-None (state_refusal machine command) machine command
 
-pub unless_refused-or_refusal : (one rest : Option Refusal) (machine : Machine) (accepted : Outcome)
-    → unless_refused (or_refusal one rest) machine accepted ≡ unless_refused one machine (unless_refused rest machine accepted)
-unless_refused-or_refusal None rest machine accepted = refl
-unless_refused-or_refusal (Some refusal) rest machine accepted = refl
+pub unless_refused-option_or : (one rest : Option Refusal) (machine : Machine) (accepted : Outcome)
+    → unless_refused (option_or one rest) machine accepted ≡ unless_refused one machine (unless_refused rest machine accepted)
+unless_refused-option_or None rest machine accepted = refl
+unless_refused-option_or (Some refusal) rest machine accepted = refl
 
 pub unless_refused-last : (one : Option Refusal) (machine : Machine) (accepted : Outcome) (refusal : Refusal)
-    → or_refusal one None ≡ Some refusal → unless_refused one machine accepted ≡ (Err refusal, machine)
+    → option_or one None ≡ Some refusal → unless_refused one machine accepted ≡ (Err refusal, machine)
 unless_refused-last None machine accepted refusal is = cc
 unless_refused-last (Some other) machine accepted refusal is =
     let same : Some other ≡ Some refusal = is in ap (λ first. unless_refused first machine accepted) same
 
-pub two-None : (a b rest : Option Refusal) → first_some (a ∷ b ∷ []) ≡ None → or_refusal a (or_refusal b rest) ≡ rest
+pub two-None : (a b rest : Option Refusal) → first_some (a ∷ b ∷ []) ≡ None → option_or a (option_or b rest) ≡ rest
 two-None None None rest is = refl
 two-None None (Some b) rest is = cc
 two-None (Some a) b rest is = cc
 
 pub two-Some : (a b rest : Option Refusal) (refusal : Refusal) → first_some (a ∷ b ∷ []) ≡ Some refusal
-    → or_refusal a (or_refusal b rest) ≡ Some refusal
+    → option_or a (option_or b rest) ≡ Some refusal
 two-Some None None rest refusal is = cc
 two-Some None (Some b) rest refusal is = is
 two-Some (Some a) b rest refusal is = is
 
 -- two checks before a third that refuses
-pub two-later : (a b rest : Option Refusal) (later refusal : Refusal) → or_refusal (first_some (a ∷ b ∷ [])) (Some later) ≡ Some refusal → rest ≡ Some later
-    → or_refusal a (or_refusal b rest) ≡ Some refusal
+pub two-later : (a b rest : Option Refusal) (later refusal : Refusal) → option_or (first_some (a ∷ b ∷ [])) (Some later) ≡ Some refusal → rest ≡ Some later
+    → option_or a (option_or b rest) ≡ Some refusal
 two-later None None rest later refusal is same = same ∙ is
 two-later None (Some b) rest later refusal is same = is
 two-later (Some a) b rest later refusal is same = is
 
-pub three-None : (a b c rest : Option Refusal) → first_some (a ∷ b ∷ c ∷ []) ≡ None → or_refusal a (or_refusal b (or_refusal c rest)) ≡ rest
+pub three-None : (a b c rest : Option Refusal) → first_some (a ∷ b ∷ c ∷ []) ≡ None → option_or a (option_or b (option_or c rest)) ≡ rest
 three-None None None None rest is = refl
 three-None None None (Some c) rest is = cc
 three-None None (Some b) c rest is = cc
 three-None (Some a) b c rest is = cc
 
 pub three-Some : (a b c rest : Option Refusal) (refusal : Refusal) → first_some (a ∷ b ∷ c ∷ []) ≡ Some refusal
-    → or_refusal a (or_refusal b (or_refusal c rest)) ≡ Some refusal
+    → option_or a (option_or b (option_or c rest)) ≡ Some refusal
 three-Some None None None rest refusal is = cc
 three-Some None None (Some c) rest refusal is = is
 three-Some None (Some b) c rest refusal is = is

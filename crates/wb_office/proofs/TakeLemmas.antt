@@ -1,6 +1,7 @@
 -- What a builder's command for a source package answers.
 use Rattle.std.proofs.Common.{◌≡◌, ℕ, ◌||◌, true, false, not, List, [], ◌∷◌, Option, Some, None, Ok, Err, refl, ap, ◌∙◌, nat_le, is_some, option_and_then, option_map}
 use Rattle.std.specs.FinMap as map
+use Rattle.std.specs.Option.{option_or}
 use Rattle.deb_version.specs.Syntax.{fault_of}
 use Rattle.wb_states.specs.declared.command.Command.TheVariants.{Take}
 use Rattle.wb_states.specs.declared.moves.Move.{Move}
@@ -11,14 +12,14 @@ use Rattle.wb_states.specs.Limits.{count_limit}
 use Rattle.wb_states.specs.Machine.{Machine}
 use Rattle.wb_states.specs.Moves.{move_refusal}
 use Rattle.wb_states.specs.Queue.{Entry}
-use Rattle.wb_office.specs.Checks.{first_some, or_refusal, when, differing, has_bad_name, lacks_arch, lacks_builder, is_for_other_archs, text_refusal, state_refusal}
+use Rattle.wb_office.specs.Checks.{first_some, when, differing, has_bad_name, lacks_arch, lacks_builder, is_for_other_archs, text_refusal, state_refusal}
 use Rattle.wb_office.specs.Found.{unless_refused, builder_refusal, found_refusal, job_step, take_at, take_move, take_step}
 use Rattle.wb_office.specs.Moving.{moving, record_named}
 use Rattle.wb_office.specs.Step.{Outcome, step, counted, after_take, job_of}
-use Rattle.wb_office.proofs.StepLemmas.{step-state, step-text, unless_refused-or_refusal, unless_refused-last}
+use Rattle.wb_office.proofs.StepLemmas.{step-state, step-text, unless_refused-option_or, unless_refused-last}
 
 unless_refused-three : (a b c rest : Option Refusal) (machine : Machine) (accepted : Outcome)
-    → unless_refused (or_refusal a (or_refusal b (or_refusal c rest))) machine accepted
+    → unless_refused (option_or a (option_or b (option_or c rest))) machine accepted
     ≡ unless_refused (first_some (a ∷ b ∷ c ∷ [])) machine (unless_refused rest machine accepted)
 unless_refused-three None None None rest machine accepted = refl
 unless_refused-three None None (Some c) rest machine accepted = refl
@@ -40,7 +41,7 @@ take-answer : (machine : Machine) (arch builder source version : List ℕ) (foun
     ≡ take_at machine builder (arch, source) version found
 unfolding job_step
 take-answer machine arch builder source version None = refl
-take-answer machine arch builder source version (Some current) = unless_refused-or_refusal (differing version current) _ machine _
+take-answer machine arch builder source version (Some current) = unless_refused-option_or (differing version current) _ machine _
 
 step-Take : (machine : Machine) (arch builder source version : List ℕ) → text_refusal (Take arch builder source version) ≡ None
     → step machine (Take arch builder source version) ≡ take_step machine arch builder source version

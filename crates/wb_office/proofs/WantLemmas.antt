@@ -1,4 +1,5 @@
 -- What is known of a command for which memory is wanted.
+use Rattle.std.specs.Option.{option_or}
 use Rattle.std.proofs.Common.{◌≡◌, ℕ, ◌||◌, Bool, true, false, nat_eq, nat_lt, length, List, [], ◌∷◌, Option, Some, None, Result, Ok, Err, IfErr, refl, ap, ◌∙◌, option_map}
 use Rattle.deb_version.specs.declared.fault.VersionFault.{VersionFault}
 use Rattle.deb_version.specs.Syntax.{fault_of}
@@ -7,7 +8,7 @@ use Rattle.wb_states.specs.declared.refusal.Refusal.{Refusal}
 use Rattle.wb_states.specs.declared.refusal.Refusal.TheVariants.{Memory, BadName, BadVersion}
 use Rattle.wb_states.specs.Limits.{note_limit, rebuild_limit, relations_limit}
 use Rattle.wb_states.specs.Machine.{Machine}
-use Rattle.wb_office.specs.Checks.{MayWantMemory, first_refusal, first_some, has_bad_key, or_refusal, when}
+use Rattle.wb_office.specs.Checks.{MayWantMemory, first_refusal, first_some, has_bad_key, when}
 use Rattle.wb_office.specs.Found.{key_refusal}
 use Rattle.wb_office.proofs.PassLemmas.{passes, first_some-None, when-None, option_map-None}
 
@@ -24,12 +25,12 @@ key-good arch source version is =
     (when-None _ _ both.0, option_map-None BadVersion _ both.1.0)
 
 -- such a package is known where memory is what is wanted in the end
-pub key-wanted : (arch source version : List ℕ) (later refusal : Refusal) → or_refusal (key_refusal arch source version) (Some later) ≡ Some refusal → refusal ≡ Memory
+pub key-wanted : (arch source version : List ℕ) (later refusal : Refusal) → option_or (key_refusal arch source version) (Some later) ≡ Some refusal → refusal ≡ Memory
     → key_refusal arch source version ≡ None
 unfolding key_refusal
 key-wanted arch source version later refusal is none = either (has_bad_key arch source) (fault_of version) (is ∙ ap Some none) where
   either : (b : Bool) (fault : Option VersionFault)
-      → or_refusal (first_some (when b BadName ∷ option_map BadVersion fault ∷ [])) (Some later) ≡ Some Memory
+      → option_or (first_some (when b BadName ∷ option_map BadVersion fault ∷ [])) (Some later) ≡ Some Memory
       → first_some (when b BadName ∷ option_map BadVersion fault ∷ []) ≡ None
   either true fault e = cc
   either false None e = refl

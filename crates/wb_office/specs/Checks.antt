@@ -1,6 +1,6 @@
 -- The checks of a command, in the one order in which they are answered (this project's own).
 use Rattle.std.specs.Prelude.{◌≡◌, ℕ, Bool, true, false, not, ◌||◌, ◌&&◌, nat_le, nat_lt, nat_eq, List, [], ◌∷◌, length, bytes_eq, Option, Some, None, is_none, Result, Ok, Err, option_and_then, if◌then◌else◌}
-use Rattle.std.specs.Option.{option_map}
+use Rattle.std.specs.Option.{option_map, option_or}
 use Rattle.std.specs.List.{list_any}
 use Rattle.std.specs.Ordering.{is_eq}
 use Rattle.std.specs.FinMap as map
@@ -11,13 +11,14 @@ use Rattle.deb_version.specs.Syntax.{fault_of}
 use Rattle.deb_version.specs.declared.fault.VersionFault.TheVariants.{Empty, EpochEmpty, EpochNotNumber, EpochTooLarge, UpstreamEmpty, UpstreamBad, RevisionEmpty, RevisionBad, TooLong, Memory as NoMemory}
 use Rattle.deb_relations.specs.declared.fault.RelationFault.{RelationFault}
 use Rattle.deb_relations.specs.Reading.{reading_of}
+use Rattle.deb_relations.specs.Reduction.{is_filled}
 use Rattle.wb_states.specs.declared.command.Command.{Command}
 use Rattle.wb_states.specs.declared.command.Command.TheVariants.{AddArch, AddBuilder, Enter, Next, Take, Built, Uploaded, Waits, PutBack, GiveBack, DepWait, Fail, NotForUs, Rebuild, Merge}
 use Rattle.wb_states.specs.declared.command.Part.{Part}
 use Rattle.wb_states.specs.declared.record.Record.{Record}
 use Rattle.wb_states.specs.declared.refusal.Refusal.{Refusal}
 use Rattle.wb_states.specs.declared.refusal.Refusal.TheVariants.{UnknownArch, UnknownBuilder, WrongArch, UnknownSource, OtherVersion, QueueEmpty, NotHeld, AfterAhead, AlreadyThere, BadName, BadVersion, BadRelations, BadNumber, TextTooLong, Spent, RepeatedArch, Memory}
-use Rattle.wb_states.specs.Holds.{taken_as}
+use Rattle.wb_states.specs.Holds.{has_value, taken_as}
 use Rattle.wb_states.specs.Limits.{count_limit, note_limit, rebuild_limit, relations_limit}
 use Rattle.wb_states.specs.Machine.{Machine, archs_of}
 use Rattle.wb_states.specs.Moves.{move_refusal}
@@ -31,15 +32,10 @@ abbrev pub when : Bool → Refusal → Option Refusal
 when true refusal = Some refusal
 when false refusal = None
 
--- this refusal, or else that one
-abbrev pub or_refusal : Option Refusal → Option Refusal → Option Refusal
-or_refusal (Some refusal) other = Some refusal
-or_refusal None other = other
-
 -- the first refusal of a list of checks
 abbrev pub first_some : List (Option Refusal) → Option Refusal
 first_some [] = None
-first_some (check ∷ checks) = or_refusal check (first_some checks)
+first_some (check ∷ checks) = option_or check (first_some checks)
 
 -- ---- the forms of a command's texts
 
@@ -127,24 +123,14 @@ arch_named (NotForUs arch source version note) = Some arch
 arch_named (Rebuild arch source version number message) = Some arch
 arch_named _ = None
 
--- whether a value is there and passes the test
-abbrev pub has : {X : Type 0} → (X → Bool) → Option X → Bool
-has test None = false
-has test (Some x) = test x
-
 -- it names an architecture that was never added
 abbrev pub lacks_arch : Machine → Command → Bool
-lacks_arch machine command = has (λ arch. not (map.contains_key machine.archs arch)) (arch_named command)
+lacks_arch machine command = has_value (λ arch. not (map.contains_key machine.archs arch)) (arch_named command)
 
 -- no part of a merge can be merged
 abbrev pub merge_refusal : Machine → Command → Option Refusal
 merge_refusal machine (Merge sources parts) = parts_refusal machine sources parts
 merge_refusal machine _ = None
-
--- whether a list has no item
-abbrev pub is_empty_list : {X : Type 0} → List X → Bool
-is_empty_list [] = true
-is_empty_list (_ ∷ _) = false
 
 -- the architecture and the builder that is to build for it
 abbrev pub builder_named : Command → Option (List ℕ × List ℕ)
@@ -154,12 +140,12 @@ builder_named _ = None
 
 -- its builder was added for no architecture
 abbrev pub lacks_builder : Machine → Command → Bool
-lacks_builder machine command = has (λ named. is_empty_list (archs_of machine named.1)) (builder_named command)
+lacks_builder machine command = has_value (λ named. not (is_filled (archs_of machine named.1))) (builder_named command)
 
 -- its builder was not added for its architecture
 abbrev pub is_for_other_archs : Machine → Command → Bool
 is_for_other_archs machine command =
-    has (λ named. not (set.contains machine.builders (named.1, named.0))) (builder_named command)
+    has_value (λ named. not (set.contains machine.builders (named.1, named.0))) (builder_named command)
 
 -- it asks after a take number that was not given yet
 abbrev pub is_ahead : Machine → Command → Bool
@@ -176,7 +162,7 @@ take_named _ = None
 
 -- no record is held under its take number
 abbrev pub is_not_held : Machine → Command → Bool
-is_not_held machine command = has (λ take_number. is_none (taken_as machine take_number)) (take_named command)
+is_not_held machine command = has_value (λ take_number. is_none (taken_as machine take_number)) (take_named command)
 
 -- the source package that the command moves, by name
 abbrev pub source_named : Command → Option (List ℕ × List ℕ)
@@ -190,7 +176,7 @@ source_named _ = None
 
 -- the source package that it moves has no record
 abbrev pub lacks_source : Machine → Command → Bool
-lacks_source machine command = has (λ key. not (map.contains_key machine.records key)) (source_named command)
+lacks_source machine command = has_value (λ key. not (map.contains_key machine.records key)) (source_named command)
 
 -- a refusal where a record is of a version that differs in the order of versions (Debian Policy 5.6.12)
 abbrev pub differing : List ℕ → Record → Option Refusal
@@ -261,7 +247,7 @@ state_refusal machine command = first_some (
 
 -- the refusal of a command, the first in the one order, or none where it is accepted
 unfoldable pub first_refusal : Machine → Command → Option Refusal
-first_refusal machine command = or_refusal (text_refusal command) (state_refusal machine command)
+first_refusal machine command = option_or (text_refusal command) (state_refusal machine command)
 
 -- the relations that the command brings are longer than any that are read
 abbrev pub has_long_relations : Command → Bool

@@ -6,6 +6,7 @@ use Rattle.std.specs.FinMap as map
 use Rattle.std.specs.FinSet as set
 use Rattle.deb_version.specs.Syntax.{fault_of}
 use Rattle.deb_relations.specs.Reading.{reading_of}
+use Rattle.deb_relations.specs.Reduction.{is_filled}
 use Rattle.wb_states.specs.declared.command.Part.{Part}
 use Rattle.wb_states.specs.declared.moves.Move.{Move}
 use Rattle.wb_states.specs.declared.moves.Move.TheVariants as to
@@ -20,7 +21,7 @@ use Rattle.wb_states.specs.Machine.{Machine, archs_of}
 use Rattle.wb_states.specs.Moves.{move_refusal}
 use Rattle.wb_states.specs.Names.{is_arch_name}
 use Rattle.wb_states.specs.Queue.{Entry, head_of}
-use Rattle.wb_office.specs.Checks.{differing, fault_in, first_some, has_bad_key, has_repeated_arch, is_empty_list, when}
+use Rattle.wb_office.specs.Checks.{differing, fault_in, first_some, has_bad_key, has_repeated_arch, when}
 use Rattle.wb_office.specs.Parts.{parts_refusal}
 use Rattle.wb_office.specs.Step.{Outcome, assignment_of, counted, after_move, after_take, job_of}
 
@@ -46,7 +47,7 @@ relations_refusal relations = option_map (λ fault. BadRelations (Some fault)) (
 unfoldable pub builder_refusal : Machine → List ℕ → List ℕ → Option Refusal
 builder_refusal machine arch builder = first_some (
     when (not (map.contains_key machine.archs arch)) UnknownArch
-    ∷ when (is_empty_list (archs_of machine builder)) UnknownBuilder
+    ∷ when (not (is_filled (archs_of machine builder))) UnknownBuilder
     ∷ when (not (set.contains machine.builders (builder, arch))) WrongArch
     ∷ [])
 

@@ -2,11 +2,12 @@
 ghost use Rattle.std.specs.Prelude.{◌≡◌, ◌≢◌, [], None, Some, not, nat_le, ◌||◌, IfOk, IfErr};
 ghost use Rattle.std.specs.FinMap as map;
 ghost use Rattle.std.specs.FinSet as set;
+ghost use Rattle.deb_relations.specs.Reduction.{is_filled};
 ghost use Rattle.wb_states.specs.declared.command.Command.TheVariants.{Next};
 ghost use Rattle.wb_states.specs.Limits.{count_limit};
 ghost use Rattle.wb_states.specs.declared.refusal.Refusal.TheVariants.{Memory};
 ghost use Rattle.wb_states.specs.Machine.{archs_of, arch_words};
-ghost use Rattle.wb_office.specs.Checks.{differing, is_ahead, is_empty_list};
+ghost use Rattle.wb_office.specs.Checks.{differing, is_ahead};
 ghost use Rattle.wb_office.specs.Found.{found_refusal};
 
 use deb_relations::{ArchWords, Text};
@@ -39,7 +40,8 @@ pub(crate) fn has_record(store: &Store, arch: &Text, source: &Text) -> Result<bo
 
 /// Whether the builder was added for no architecture.
 pub(crate) fn lacks_builder(store: &Store, builder: &Text) -> Result<bool, AllocError>
-    ensures value { IfOk result (λ lacks. lacks ≡ is_empty_list (archs_of store.now builder.now)) }
+    ensures value { IfOk result (λ lacks.
+        lacks ≡ not (is_filled (archs_of store.now builder.now))) }
 {
     Ok(store.archs_of(builder)?.is_empty())
 }

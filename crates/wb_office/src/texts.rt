@@ -1,6 +1,6 @@
 //! The texts of commands, each read once.
 ghost use Rattle.std.specs.Prelude.{◌≡◌, ◌≢◌, ◌||◌, false, Option, None, Some, Ok, nat_eq, nat_lt, length, OnOk, IfOk, IfErr, if◌then◌else◌};
-ghost use Rattle.std.specs.Option.{option_map};
+ghost use Rattle.std.specs.Option.{option_map, option_or};
 ghost use Rattle.std.specs.Str.{IsUtf8};
 ghost use Rattle.deb_version.specs.Syntax.{fault_of};
 ghost use Rattle.deb_relations.specs.declared.fault.RelationFault.TheVariants.{Memory as NoMemory};
@@ -8,7 +8,7 @@ ghost use Rattle.deb_relations.specs.Reading.{reading_of};
 ghost use Rattle.wb_states.specs.declared.refusal.Refusal.{Refusal};
 ghost use Rattle.wb_states.specs.declared.refusal.Refusal.TheVariants.{Memory, BadVersion, BadRelations};
 ghost use Rattle.wb_states.specs.Limits.{note_limit, rebuild_limit, relations_limit};
-ghost use Rattle.wb_office.specs.Checks.{or_refusal, refusal_of_fault};
+ghost use Rattle.wb_office.specs.Checks.{refusal_of_fault};
 ghost use Rattle.wb_office.specs.Found.{key_refusal, relations_refusal};
 
 use crate::forms::is_bad_key;
@@ -100,7 +100,7 @@ pub(crate) fn or_later(read: Result<Version, Refusal>, later: Refusal) -> Refusa
     ensures value { (first : Option Refusal) → OnOk read (first ≡ None)
         → IfErr read (λ refusal. refusal ≢ Memory → first ≡ Some refusal)
         → IfErr read (λ refusal. refusal ≡ Memory → first ≡ None)
-        → or_refusal first (Some later) ≡ Some result }
+        → option_or first (Some later) ≡ Some result }
     ensures memory { result ≡ Memory → later ≡ Memory }
 {
     match read {
