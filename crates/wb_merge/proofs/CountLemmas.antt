@@ -5,10 +5,10 @@ use Rattle.std.specs.FinMap as finite
 use Rattle.wb_states.specs.declared.record.Record.{Record}
 use Rattle.wb_states.specs.declared.reply.MergeCounts.{MergeCounts}
 use Rattle.wb_merge.specs.Listing.{Lists}
-use Rattle.wb_merge.specs.Merged.{Records, after_at, merged, names_of, is_added, is_changed, is_kept, is_removed, is_same_record, counts_over, merge_counts}
+use Rattle.wb_merge.specs.Merged.{Records, after_at, merged, names_of, is_added, is_changed, is_kept, is_removed, is_same_record, number_where, counts_over, merge_counts, after_named}
 use Rattle.wb_merge.specs.declared.merge.Change.{Change}
 use Rattle.wb_merge.specs.declared.merge.Change.TheVariants.{Absent, Added, Changed, Kept, Removed}
-use Rattle.wb_merge.specs.Steps.{Key, record_at, IsSetAt, AreWithin, after_named, change_of, counted, no_counts}
+use Rattle.wb_merge.specs.Steps.{Key, record_at, IsSetAt, AreWithin, change_of, counted, no_counts}
 use Rattle.wb_merge.proofs.NameLemmas.{IsApart}
 use Rattle.wb_merge.proofs.MergeLemmas.{half_merged, names-apart, half-start, half-here, named-here, half-next, half-end}
 
@@ -78,9 +78,6 @@ counted-next counts (Some old) (Some new) added changed kept removed =
       }
     ]
 
-abbrev number : (Option Record → Option Record → Bool) → Records → List ℕ → Lists → List (List ℕ) → ℕ
-number test old arch lists names = length (filter (λ name. test (finite.get old (arch, name)) (after_at old arch lists (arch, name))) names)
-
 counts-next : (counts : MergeCounts) (old : Records) (arch : List ℕ) (lists : Lists) (name : List ℕ) (names : List (List ℕ))
     → plus counts (counts_over old arch lists (name ∷ names))
     ≡ plus (counted counts (change_of (finite.get old (arch, name)) (after_at old arch lists (arch, name)))) (counts_over old arch lists names)
@@ -94,7 +91,7 @@ counts-next counts old arch lists name names =
       kept = length-more (is_kept before new) name (filter (λ name. is_kept (finite.get old (arch, name)) (after_at old arch lists (arch, name))) names) i;
       removed = length-more (is_removed before new) name (filter (λ name. is_removed (finite.get old (arch, name)) (after_at old arch lists (arch, name))) names) i;
     }))
-    ∙ counted-next counts before new (number is_added old arch lists names) (number is_changed old arch lists names) (number is_kept old arch lists names) (number is_removed old arch lists names)
+    ∙ counted-next counts before new (number_where is_added old arch lists names) (number_where is_changed old arch lists names) (number_where is_kept old arch lists names) (number_where is_removed old arch lists names)
 
 none-plus : (n : ℕ) → 0 + n ≡ n
 none-plus n = omega arith
@@ -148,8 +145,8 @@ half_merged-start old arch lists = record {
 
 pub half_merged-next : (old records new : Records) (arch : List ℕ) (lists : Lists) (counts : MergeCounts) (name : List ℕ) (left : List (List ℕ))
     → IsHalfMerged old records arch lists counts (name ∷ left)
-    → IsSetAt records (arch, name) (after_named records arch lists name) new
-    → IsHalfMerged old new arch lists (counted counts (change_of (record_at records (arch, name)) (after_named records arch lists name))) left
+    → IsSetAt records (arch, name) (after_named lists name (finite.get records (arch, name))) new
+    → IsHalfMerged old new arch lists (counted counts (change_of (record_at records (arch, name)) (after_named lists name (finite.get records (arch, name))))) left
 half_merged-next old records new arch lists counts name left h step = record {
   apart = h.apart.1;
   half = half-next old records new arch lists name left h.apart.0 h.half step;
@@ -162,8 +159,8 @@ half_merged-next old records new arch lists counts name left h step = record {
 pub half_merged-step : (old records new : Records) (arch : List ℕ) (lists : Lists) (counts : MergeCounts) (names : List (List ℕ)) (at : ℕ) (name : List ℕ)
     → at < length names → name ≡ get_or names at name
     → IsHalfMerged old records arch lists counts (drop at names)
-    → IsSetAt records (arch, name) (after_named records arch lists name) new
-    → (made : Change) → made ≡ change_of (record_at records (arch, name)) (after_named records arch lists name)
+    → IsSetAt records (arch, name) (after_named lists name (finite.get records (arch, name))) new
+    → (made : Change) → made ≡ change_of (record_at records (arch, name)) (after_named lists name (finite.get records (arch, name)))
     → IsHalfMerged old new arch lists (counted counts made) (drop (at + 1) names)
 half_merged-step old records new arch lists counts names at name lt is h step made e =
     let left : drop at names ≡ name ∷ drop (at + 1) names =

@@ -13,8 +13,8 @@ use Rattle.wb_merge.specs.declared.listing.Listed.{Listed}
 use Rattle.wb_merge.specs.declared.listing.Built.{Built}
 use Rattle.wb_merge.specs.Listing.{Lists}
 use Rattle.wb_merge.specs.Merge.{after}
-use Rattle.wb_merge.specs.Merged.{Records, after_at, merge_keys, merged, names_of}
-use Rattle.wb_merge.specs.Steps.{Key, IsSetAt, after_named, recorded_names}
+use Rattle.wb_merge.specs.Merged.{Records, after_at, merge_keys, merged, names_of, recorded_names, after_named}
+use Rattle.wb_merge.specs.Steps.{Key, IsSetAt}
 use Rattle.wb_merge.proofs.ListingLemmas.{map_at-get}
 use Rattle.wb_merge.proofs.NameLemmas.{is-false, none-is, text_eq, bytes_eq-flip, bytes_eq-itself, bytes_eq-is, pair-eq, pair-is, IsApart, keys-apart, text_keys-apart, append-apart, filter-apart, filter-any, and-false}
 
@@ -135,14 +135,14 @@ half-here old records arch lists name names half =
     half (arch, name)
     ∙ (λ i. cond (bytes_eq-itself arch i && (bytes_eq-itself name i || list_any (bytes_eq name) names)) (finite.get old (arch, name)) (after_at old arch lists (arch, name)))
 
-after-here : (old : Records) (arch : List ℕ) (lists : Lists) (name : List ℕ) → after_at old arch lists (arch, name) ≡ after_named old arch lists name
+after-here : (old : Records) (arch : List ℕ) (lists : Lists) (name : List ℕ) → after_at old arch lists (arch, name) ≡ after_named lists name (finite.get old (arch, name))
 unfolding after_at
 after-here old arch lists name =
-    ap (λ b. cond b (after_named old arch lists name) (finite.get old (arch, name))) (bytes_eq-itself arch)
+    ap (λ b. cond b (after_named lists name (finite.get old (arch, name))) (finite.get old (arch, name))) (bytes_eq-itself arch)
 
 -- after a name no more name is left of it
 pub named-here : (old records : Records) (arch : List ℕ) (lists : Lists) (name : List ℕ) (names : List (List ℕ))
-    → ((key : Key) → finite.get records key ≡ half_merged old arch lists (name ∷ names) key) → after_named records arch lists name ≡ after_at old arch lists (arch, name)
+    → ((key : Key) → finite.get records key ≡ half_merged old arch lists (name ∷ names) key) → after_named lists name (finite.get records (arch, name)) ≡ after_at old arch lists (arch, name)
 named-here old records arch lists name names half =
     ap (λ current. after current (finite.get lists.listed name) (finite.get lists.built name) lists.available) (half-here old records arch lists name names half)
     ∙ sym (after-here old arch lists name)
@@ -161,12 +161,12 @@ half-other old arch lists name names key =
 pub half-next : (old records new : Records) (arch : List ℕ) (lists : Lists) (name : List ℕ) (names : List (List ℕ))
     → list_any (bytes_eq name) names ≡ false
     → ((key : Key) → finite.get records key ≡ half_merged old arch lists (name ∷ names) key)
-    → IsSetAt records (arch, name) (after_named records arch lists name) new
+    → IsSetAt records (arch, name) (after_named lists name (finite.get records (arch, name))) new
     → (key : Key) → finite.get new key ≡ half_merged old arch lists names key
 unfolding IsSetAt
 half-next old records new arch lists name names apart half step key =
     step key
-    ∙ elim (eq_by_cmp pair_cmp (arch, name) key) as (λ b. eq_by_cmp pair_cmp (arch, name) key ≡ b → cond b (after_named records arch lists name) (finite.get records key) ≡ half_merged old arch lists names key) [
+    ∙ elim (eq_by_cmp pair_cmp (arch, name) key) as (λ b. eq_by_cmp pair_cmp (arch, name) key ≡ b → cond b (after_named lists name (finite.get records (arch, name))) (finite.get records key) ≡ half_merged old arch lists names key) [
       | true ↦ λ e. let same : (arch, name) ≡ key = pair-is (arch, name) key e in
           named-here old records arch lists name names half
           ∙ (λ i. cond (sym (and-false (bytes_eq arch arch)) i) (finite.get old (arch, name)) (after_at old arch lists (arch, name)))

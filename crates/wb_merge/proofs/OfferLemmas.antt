@@ -12,8 +12,8 @@ use Rattle.wb_states.proofs.MapLemmas.{get-lookup}
 use Rattle.wb_merge.specs.declared.listing.Listed.{Listed}
 use Rattle.wb_merge.specs.declared.listing.Built.{Built}
 use Rattle.wb_merge.specs.Lists.{SourceRow, BinaryRow}
-use Rattle.wb_merge.specs.Listing.{listed_cmp, listed_as, built_cmp, built_as}
-use Rattle.wb_merge.specs.Offers.{is_better, is_listed, with_source, with_build}
+use Rattle.wb_merge.specs.Listing.{listed_cmp, listed_as, built_cmp, built_as, is_listed, is_better}
+use Rattle.wb_merge.specs.Offers.{with_listed, with_build}
 
 pub differ : (b r : Bool) → r ≡ not b → r ≡ true → b ≡ false
 differ true r e t = cc
@@ -34,17 +34,17 @@ module _ {X : Type 0} (R : X → X → Ordering) where
   better-none es name next found = ap (λ o. is_better R o next) (found ∙ sym (get-lookup text_cmp_total es name))
 
 module _ (arch : ArchWords) (m : finite.FinMap text_cmp Listed) (row : SourceRow) where
-  pub source-other : is_listed arch row ≡ false → m ≡ with_source arch m row
-  unfolding with_source
+  pub source-other : is_listed arch row ≡ false → m ≡ with_listed arch m row
+  unfolding with_listed
   source-other other = rw other refl
 
-  pub source-kept : is_listed arch row ≡ true → is_better listed_cmp (finite.get m row.name) (listed_as arch row) ≡ false → m ≡ with_source arch m row
-  unfolding with_source
+  pub source-kept : is_listed arch row ≡ true → is_better listed_cmp (finite.get m row.name) (listed_as arch row) ≡ false → m ≡ with_listed arch m row
+  unfolding with_listed
   source-kept listed earlier = rw (listed, earlier) refl
 
   pub source-new : is_listed arch row ≡ true → is_better listed_cmp (finite.get m row.name) (listed_as arch row) ≡ true
-      → finite.insert m row.name (listed_as arch row) ≡ with_source arch m row
-  unfolding with_source
+      → finite.insert m row.name (listed_as arch row) ≡ with_listed arch m row
+  unfolding with_listed
   source-new listed later = rw (listed, later) refl
 
 module _ (arch : ArchWords) (m : finite.FinMap text_cmp Built) (row : BinaryRow) where

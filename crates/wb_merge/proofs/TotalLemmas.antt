@@ -4,8 +4,8 @@ use Rattle.std.specs.List.{list_any}
 use Rattle.std.specs.FinMap as finite
 use Rattle.wb_states.specs.declared.record.Record.{Record}
 use Rattle.wb_merge.specs.Listing.{Lists}
-use Rattle.wb_merge.specs.Merged.{Records, after_at, merged, names_of, is_added, is_changed, is_kept, is_removed, is_same_record, number_where, counts_over, merge_counts, all_kept}
-use Rattle.wb_merge.specs.Steps.{Key, recorded_names}
+use Rattle.wb_merge.specs.Merged.{Records, after_at, merged, names_of, is_added, is_changed, is_kept, is_removed, is_same_record, number_where, counts_over, merge_counts, all_kept, recorded_names}
+use Rattle.wb_merge.specs.Steps.{Key}
 use Rattle.wb_merge.proofs.NameLemmas.{IsApart, bytes_eq-flip, bytes_eq-is, bytes_eq-itself, filter-any, filter-apart, keys-apart}
 use Rattle.wb_merge.proofs.MergeLemmas.{merged-get, names-any, names-apart, recorded-apart, recorded-names-any, kept-unnamed, unnamed}
 use Rattle.wb_merge.proofs.RecordLemmas.{same-record-is}

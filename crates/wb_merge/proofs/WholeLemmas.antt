@@ -1,22 +1,21 @@
 -- The listing that rows give which are offered one after another.
-use Rattle.std.proofs.Common.{◌≡◌, ℕ, Bool, true, false, cond, not, ◌&&◌, None, bytes_eq, List, [], ◌∷◌, map, filter, Result, Ok, Err, refl, sym, ◌∙◌}
-use Rattle.std.specs.List.{fold, list_any}
+use Rattle.std.proofs.Common.{◌≡◌, ℕ, Bool, true, false, cond, None, bytes_eq, List, [], ◌∷◌, map, filter, Result, Ok, Err, refl, sym, ◌∙◌}
+use Rattle.std.specs.List.{fold}
 use Rattle.std.specs.FinMap as finite
 use Rattle.deb_relations.specs.declared.arch.ArchWords.{ArchWords}
-use Rattle.deb_relations.specs.Arch.{matches_arch}
 use Rattle.deb_relations.specs.Text.{text_cmp}
 use Rattle.deb_relations.specs.Satisfaction.{Pairs, no_pairs, with_pair}
 use Rattle.wb_states.specs.declared.refusal.Refusal.{Refusal}
 use Rattle.wb_merge.specs.declared.listing.Listed.{Listed}
 use Rattle.wb_merge.specs.declared.listing.Built.{Built}
 use Rattle.wb_merge.specs.Lists.{SourceRow, BinaryRow, source_rows, binary_rows}
-use Rattle.wb_merge.specs.Listing.{map_at, listed_cmp, listed_as, is_candidate, candidates, listed_of, built_cmp, built_as, is_built_from, builds, built_of, is_installable_on, available_of, lists_of, best_from, lists_in, listing_of}
-use Rattle.wb_merge.specs.Offers.{after_rows, is_listed, with_source, with_build, with_package, with_binary}
+use Rattle.wb_merge.specs.Listing.{map_at, listed_cmp, listed_as, is_candidate, candidates, listed_of, built_cmp, built_as, is_built_from, builds, built_of, is_installable_on, available_of, lists_of, best_from, lists_in, listing_of, is_listed}
+use Rattle.wb_merge.specs.Offers.{after_rows, with_listed, with_build, with_package, with_binary}
 use Rattle.wb_merge.proofs.FoldLemmas.{fold-map, map-get}
 
 -- what is listed
-sources-map : (arch : ArchWords) (rows : List SourceRow) → fold (with_source arch) finite.empty rows ≡ map_at {R = text_cmp} (listed_of arch rows) (map (λ row. row.name) rows)
-unfolding with_source is_listed listed_of candidates is_candidate
+sources-map : (arch : ArchWords) (rows : List SourceRow) → fold (with_listed arch) finite.empty rows ≡ map_at {R = text_cmp} (listed_of arch rows) (map (λ row. row.name) rows)
+unfolding with_listed listed_of candidates is_candidate
 sources-map arch rows = fold-map listed_cmp (is_listed arch) (λ row. row.name) (listed_as arch) rows
 
 -- what is built
@@ -62,20 +61,20 @@ not-ok r s e = cc
 -- the listing of rows
 lists-are : (arch : ArchWords) (sources : Result (List SourceRow) Refusal) (packages : Result (List BinaryRow) Refusal)
     (listed : finite.FinMap text_cmp Listed) (built : finite.FinMap text_cmp Built) (available : Pairs)
-    → after_rows (with_source arch) finite.empty sources ≡ Ok listed
+    → after_rows (with_listed arch) finite.empty sources ≡ Ok listed
     → after_rows (with_binary arch) (finite.empty, no_pairs) packages ≡ Ok (built, available)
     → lists_in arch sources packages ≡ Ok (record { listed = listed; built = built; available = available })
 unfolding lists_of
 lists-are arch (Err refusal) packages listed built available s p = absurd (not-ok refusal listed s)
 lists-are arch (Ok sources) (Err refusal) listed built available s p = absurd (not-ok refusal (built, available) p)
 lists-are arch (Ok sources) (Ok packages) listed built available s p =
-    let one = sym (sources-map arch sources) ∙ ok-same _ listed (after_rows (with_source arch) finite.empty (Ok sources)) refl s in
+    let one = sym (sources-map arch sources) ∙ ok-same _ listed (after_rows (with_listed arch) finite.empty (Ok sources)) refl s in
     let two = sym (found-is arch packages) ∙ ok-same _ (built, available) (after_rows (with_binary arch) (finite.empty, no_pairs) (Ok packages)) refl p in
     λ i. Ok (record { listed = one i; built = (two i).0; available = (two i).1 })
 
 pub listing-is : (arch : ArchWords) (sources packages : List ℕ)
     (listed : finite.FinMap text_cmp Listed) (built : finite.FinMap text_cmp Built) (available : Pairs)
-    → after_rows (with_source arch) finite.empty (source_rows sources) ≡ Ok listed
+    → after_rows (with_listed arch) finite.empty (source_rows sources) ≡ Ok listed
     → after_rows (with_binary arch) (finite.empty, no_pairs) (binary_rows packages) ≡ Ok (built, available)
     → listing_of sources packages arch ≡ Ok (record { listed = listed; built = built; available = available })
 unfolding listing_of
@@ -87,24 +86,21 @@ unfolding listing_of
 sources-refused arch sources packages refusal s = rw s refl
 
 packages-bad : (arch : ArchWords) (sources : Result (List SourceRow) Refusal) (listed : finite.FinMap text_cmp Listed) (refusal : Refusal)
-    → after_rows (with_source arch) finite.empty sources ≡ Ok listed → lists_in arch sources (Err refusal) ≡ Err refusal
+    → after_rows (with_listed arch) finite.empty sources ≡ Ok listed → lists_in arch sources (Err refusal) ≡ Err refusal
 packages-bad arch (Err other) listed refusal s = absurd (not-ok other listed s)
 packages-bad arch (Ok rows) listed refusal s = refl
 
 pub packages-refused : (arch : ArchWords) (sources packages : List ℕ) (listed : finite.FinMap text_cmp Listed) (refusal : Refusal)
-    → after_rows (with_source arch) finite.empty (source_rows sources) ≡ Ok listed → binary_rows packages ≡ Err refusal → listing_of sources packages arch ≡ Err refusal
+    → after_rows (with_listed arch) finite.empty (source_rows sources) ≡ Ok listed → binary_rows packages ≡ Err refusal → listing_of sources packages arch ≡ Err refusal
 unfolding listing_of
 packages-refused arch sources packages listed refusal s p = rw p (packages-bad arch (source_rows sources) listed refusal s)
 
 -- ---- what a listing has at a name
 
-abbrev listable : ArchWords → SourceRow → Bool
-listable arch row = list_any (λ word. matches_arch word arch) row.archs && not row.is_extra
-
 pub listed-get : (arch : ArchWords) (sources : List SourceRow) (packages : List BinaryRow) (name : List ℕ)
     → finite.get (lists_of arch sources packages).listed name ≡ best_from listed_cmp None (candidates arch sources name)
 unfolding lists_of listed_of candidates is_candidate
-listed-get arch sources packages name = map-get listed_cmp (listable arch) (λ row. row.name) (listed_as arch) sources name
+listed-get arch sources packages name = map-get listed_cmp (is_listed arch) (λ row. row.name) (listed_as arch) sources name
 
 pub built-get : (arch : ArchWords) (sources : List SourceRow) (packages : List BinaryRow) (name : List ℕ)
     → finite.get (lists_of arch sources packages).built name ≡ best_from built_cmp None (builds arch packages name)

@@ -1,5 +1,5 @@
 -- What the archive lists for an architecture: each source package, what was built of it, and what is available (this project's own).
-use Rattle.std.specs.Prelude.{◌≡◌, ◌≢◌, ℕ, Bool, not, ◌&&◌, ◌||◌, nat_lt, List, [], ◌∷◌, ◌++◌, length, filter, map, codes, bytes_eq, Option, Some, None, Result, Ok, Err, if◌then◌else◌}
+use Rattle.std.specs.Prelude.{◌≡◌, ◌≢◌, ℕ, Bool, true, not, ◌&&◌, ◌||◌, nat_lt, List, [], ◌∷◌, ◌++◌, length, filter, map, codes, bytes_eq, Option, Some, None, unwrap_or, Result, Ok, Err, if◌then◌else◌}
 use Rattle.std.specs.List.{list_any, fold, AllByRecursion}
 use Rattle.std.specs.declared.cmp.Ordering.{Ordering}
 use Rattle.std.specs.declared.cmp.Ordering.TheVariants.{Less, Greater}
@@ -36,10 +36,14 @@ abbrev pub IsGreatest : {X : Type 0} → (X → X → Ordering) → List X → O
 IsGreatest R items None = items ≡ []
 IsGreatest R items (Some item) = IsFirstGreatest R items item
 
+-- whether the next is better than the best so far: it is greater, or the first
+abbrev pub is_better : {X : Type 0} → (X → X → Ordering) → Option X → X → Bool
+is_better R None next = true
+is_better R (Some best) next = is_gt (R next best)
+
 -- the better of the best so far and the next: the next only where it is greater
 abbrev pub better : {X : Type 0} → (X → X → Ordering) → Option X → X → X
-better R None next = next
-better R (Some best) next = if is_gt (R next best) then next else best
+better R best next = if is_better R best next then next else unwrap_or best next
 
 -- the best of those so far and of a list
 abbrev pub best_from : {X : Type 0} → (X → X → Ordering) → Option X → List X → Option X
@@ -85,10 +89,13 @@ listed_as arch row = record {
   depends = depends_of arch row;
 }
 
+-- whether a row lists its source package for the architecture (Debian Policy 5.6.8)
+unfoldable pub is_listed : ArchWords → SourceRow → Bool
+is_listed arch row = list_any (λ word. matches_arch word arch) row.archs && not row.is_extra
+
 -- whether a row lists the source package of this name for the architecture (Debian Policy 5.6.8)
 unfoldable pub is_candidate : ArchWords → List ℕ → SourceRow → Bool
-is_candidate arch name row =
-    bytes_eq name row.name && (list_any (λ word. matches_arch word arch) row.archs && not row.is_extra)
+is_candidate arch name row = bytes_eq name row.name && is_listed arch row
 
 -- the versions of what is listed are compared as versions are (Debian Policy 5.6.12)
 abbrev pub listed_cmp : Listed → Listed → Ordering

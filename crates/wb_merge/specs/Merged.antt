@@ -12,12 +12,14 @@ use Rattle.wb_merge.specs.Merge.{after}
 abbrev pub Records : Type 0
 Records = finite.FinMap pair_cmp Record
 
+-- the record of a source package after a merge of a listing, from the one that it had
+abbrev pub after_named : Lists → List ℕ → Option Record → Option Record
+after_named lists name current = after current (finite.get lists.listed name) (finite.get lists.built name) lists.available
+
 -- the record at a key after the merge of an architecture: other architectures keep theirs
 unfoldable pub after_at : Records → List ℕ → Lists → List ℕ × List ℕ → Option Record
 after_at old arch lists key =
-    if bytes_eq key.0 arch
-    then after (finite.get old key) (finite.get lists.listed key.1) (finite.get lists.built key.1) lists.available
-    else finite.get old key
+    if bytes_eq key.0 arch then after_named lists key.1 (finite.get old key) else finite.get old key
 
 -- the keys at which there may be a record after the merge
 abbrev pub merge_keys : Records → List ℕ → Lists → List (List ℕ × List ℕ)
@@ -88,11 +90,14 @@ abbrev pub is_changed : Option Record → Option Record → Bool
 is_changed (Some old) (Some new) = not (is_same_record old new)
 is_changed old new = false
 
+-- the source packages of the architecture that have a record, by name
+abbrev pub recorded_names : Records → List ℕ → List (List ℕ)
+recorded_names records arch = map (λ key. key.1) (filter (λ key. bytes_eq key.0 arch) (finite.keys records))
+
 -- the source packages of the architecture that have a record, and then those that are listed and have none
 unfoldable pub names_of : Records → List ℕ → Lists → List (List ℕ)
 names_of old arch lists =
-    map (λ key. key.1) (filter (λ key. bytes_eq key.0 arch) (finite.keys old))
-    ++ filter (λ name. not (finite.contains_key old (arch, name))) (finite.keys lists.listed)
+    recorded_names old arch ++ filter (λ name. not (finite.contains_key old (arch, name))) (finite.keys lists.listed)
 
 -- how many source packages pass a test of the record before and the record after
 abbrev pub number_where : (Option Record → Option Record → Bool) → Records → List ℕ → Lists → List (List ℕ) → ℕ

@@ -1,14 +1,12 @@
 -- What the rows of the archive's lists add to a listing, one after another (this project's own).
-use Rattle.std.specs.Prelude.{◌≡◌, ℕ, ◌+◌, ◌<◌, ◌^◌, Bool, true, not, ◌&&◌, List, [], length, bytes_eq, Option, Some, None, is_some, Result, Ok, Err, if◌then◌else◌}
-use Rattle.std.specs.List.{list_any, fold}
+use Rattle.std.specs.Prelude.{◌≡◌, ℕ, ◌+◌, ◌<◌, ◌^◌, true, List, [], length, bytes_eq, Option, Some, None, is_some, Result, Ok, Err, if◌then◌else◌}
+use Rattle.std.specs.List.{fold}
 use Rattle.std.specs.declared.cmp.Ordering.{Ordering}
-use Rattle.std.specs.Ordering.{is_gt}
 use Rattle.std.specs.FinMap as finite
 use Rattle.deb_control.specs.Fields.{Entry}
 use Rattle.deb_control.specs.Paragraphs.{Place}
 use Rattle.deb_relations.specs.declared.arch.ArchWords.{ArchWords}
 use Rattle.deb_relations.specs.Text.{text_cmp}
-use Rattle.deb_relations.specs.Arch.{matches_arch}
 use Rattle.deb_relations.specs.Satisfaction.{Pairs, with_pair}
 use Rattle.wb_states.specs.declared.refusal.Refusal.{Refusal}
 use Rattle.wb_states.specs.declared.refusal.ListKind.{ListKind}
@@ -16,26 +14,17 @@ use Rattle.wb_states.specs.declared.refusal.ListingFault.{ListingFault}
 use Rattle.wb_merge.specs.declared.listing.Listed.{Listed}
 use Rattle.wb_merge.specs.declared.listing.Built.{Built}
 use Rattle.wb_merge.specs.Lists.{SourceRow, BinaryRow, rows_behind, onto_rows}
-use Rattle.wb_merge.specs.Listing.{listed_cmp, listed_as, built_cmp, built_as, is_installable_on}
+use Rattle.wb_merge.specs.Listing.{is_better, is_listed, listed_cmp, listed_as, built_cmp, built_as, is_installable_on}
 
 -- ---- what a row adds
-
--- whether the next is better than the best so far: it is greater, or the first
-abbrev pub is_better : {X : Type 0} → (X → X → Ordering) → Option X → X → Bool
-is_better R None next = true
-is_better R (Some best) next = is_gt (R next best)
 
 -- the values at names, to which one more is offered: it is kept where it is better than what is there
 abbrev pub offered : {X : Type 0} → (X → X → Ordering) → finite.FinMap text_cmp X → List ℕ → X → finite.FinMap text_cmp X
 offered R best name next = if is_better R (finite.get best name) next then finite.insert best name next else best
 
--- whether a row lists its source package for the architecture (Debian Policy 5.6.8)
-unfoldable pub is_listed : ArchWords → SourceRow → Bool
-is_listed arch row = list_any (λ word. matches_arch word arch) row.archs && not row.is_extra
-
 -- what is listed, with a row more
-unfoldable pub with_source : ArchWords → finite.FinMap text_cmp Listed → SourceRow → finite.FinMap text_cmp Listed
-with_source arch listed row = if is_listed arch row then offered listed_cmp listed row.name (listed_as arch row) else listed
+unfoldable pub with_listed : ArchWords → finite.FinMap text_cmp Listed → SourceRow → finite.FinMap text_cmp Listed
+with_listed arch listed row = if is_listed arch row then offered listed_cmp listed row.name (listed_as arch row) else listed
 
 -- what is built, with a row more
 unfoldable pub with_build : ArchWords → finite.FinMap text_cmp Built → BinaryRow → finite.FinMap text_cmp Built

@@ -1,5 +1,5 @@
 -- One step of a merge: the record of one source package, what became of it, and the counts with it (this project's own).
-use Rattle.std.specs.Prelude.{◌≡◌, ℕ, ◌+◌, ◌≤◌, List, filter, map, bytes_eq, Option, Some, None, if◌then◌else◌}
+use Rattle.std.specs.Prelude.{◌≡◌, ℕ, ◌+◌, ◌≤◌, List, Option, Some, None, if◌then◌else◌}
 use Rattle.std.specs.Ordering.{eq_by_cmp}
 use Rattle.std.specs.FinMap as finite
 use Rattle.wb_states.specs.Machine.{pair_cmp}
@@ -7,8 +7,6 @@ use Rattle.wb_states.specs.declared.record.Record.{Record}
 use Rattle.wb_states.specs.declared.reply.MergeCounts.{MergeCounts}
 use Rattle.wb_merge.specs.declared.merge.Change.{Change}
 use Rattle.wb_merge.specs.declared.merge.Change.TheVariants.{Absent, Added, Changed, Kept, Removed}
-use Rattle.wb_merge.specs.Listing.{Lists}
-use Rattle.wb_merge.specs.Merge.{after}
 use Rattle.wb_merge.specs.Merged.{Records, is_same_record}
 
 -- an architecture and a source package
@@ -19,19 +17,10 @@ Key = List ℕ × List ℕ
 abbrev pub record_at : Records → Key → Option Record
 record_at records key = finite.get records key
 
--- the source packages of the architecture that have a record, by name
-abbrev pub recorded_names : Records → List ℕ → List (List ℕ)
-recorded_names records arch = map (λ key. key.1) (filter (λ key. bytes_eq key.0 arch) (finite.keys records))
-
 -- the second records have this one, or none, at the key, and at all others what the first have
 unfoldable pub IsSetAt : Records → Key → Option Record → Records → Type 0
 IsSetAt old key value new =
     (other : Key) → record_at new other ≡ (if eq_by_cmp pair_cmp key other then value else record_at old other)
-
--- the record of a source package of the architecture after a merge
-abbrev pub after_named : Records → List ℕ → Lists → List ℕ → Option Record
-after_named old arch lists name =
-    after (finite.get old (arch, name)) (finite.get lists.listed name) (finite.get lists.built name) lists.available
 
 -- what became of the record of a source package
 abbrev pub change_of : Option Record → Option Record → Change

@@ -22,8 +22,8 @@ ghost use Rattle.wb_states.specs.Moves.{build_text_of};
 ghost use Rattle.wb_states.specs.Names.{is_source_name};
 ghost use Rattle.wb_states.specs.State.{is_held};
 ghost use Rattle.wb_merge.specs.Merge.{ends_hold, HasSameHold};
-ghost use Rattle.wb_merge.specs.Merged.{Records, BecomesAt, after_at, all_kept, is_same_record, merge_counts, merged};
-ghost use Rattle.wb_merge.specs.Steps.{Key, recorded_names};
+ghost use Rattle.wb_merge.specs.Merged.{Records, BecomesAt, after_at, all_kept, is_same_record, merge_counts, merged, recorded_names};
+ghost use Rattle.wb_merge.specs.Steps.{Key};
 
 /// A list is read as the rows of its paragraphs, one of each, or else refused for the first paragraph
 /// that has a fault, with its number from 1: that of its lines, or else the first of its fields (Debian

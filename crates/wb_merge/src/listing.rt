@@ -7,7 +7,7 @@ ghost use Rattle.deb_relations.specs.Text.{text_cmp};
 ghost use Rattle.deb_relations.specs.Satisfaction.{no_pairs};
 ghost use Rattle.wb_merge.specs.Lists.{source_rows, binary_rows};
 ghost use Rattle.wb_merge.specs.Listing.{listing_of};
-ghost use Rattle.wb_merge.specs.Offers.{after_rows, with_source, with_binary};
+ghost use Rattle.wb_merge.specs.Offers.{after_rows, with_listed, with_binary};
 
 use crate::offers::{offer_build, offer_package, offer_source};
 use crate::reader::{next_binary, next_source};
@@ -77,7 +77,7 @@ fn read_sources(
     arch: &ArchWords,
 ) -> Result<BTreeMap<Text, Listed>, Refusal>
     ensures value { IfOk result (λ listed.
-        after_rows (with_source arch.now) map.empty (source_rows sources.now)
+        after_rows (with_listed arch.now) map.empty (source_rows sources.now)
         ≡ Ok (map.from_entries {R = text_cmp} listed.entries)) }
     ensures refused { IfErr result (λ refusal. refusal ≢ Memory
         → source_rows sources.now ≡ Err refusal) }

@@ -4,8 +4,8 @@ ghost use Rattle.std.specs.Option.{option_map};
 ghost use Rattle.std.specs.Map.Iter.{deref};
 ghost use Rattle.std.specs.FinMap as map;
 ghost use Rattle.wb_states.specs.declared.refusal.Refusal.TheVariants.{Memory};
-ghost use Rattle.wb_merge.specs.Merged.{merged, merge_counts, names_of, is_same_option, has_same_source, has_same_place, has_same_texts, is_same_record};
-ghost use Rattle.wb_merge.specs.Steps.{record_at, recorded_names, IsSetAt, AreWithin, after_named, change_of, counted};
+ghost use Rattle.wb_merge.specs.Merged.{merged, merge_counts, names_of, is_same_option, has_same_source, has_same_place, has_same_texts, is_same_record, recorded_names, after_named};
+ghost use Rattle.wb_merge.specs.Steps.{record_at, IsSetAt, AreWithin, change_of, counted};
 
 use crate::Listing;
 use crate::record::after;
@@ -205,11 +205,13 @@ fn merge_one(
     listing: &Listing,
 ) -> Result<Change, Refusal>
     ensures value { OnOk result (IsSetAt (map.from_entries records.old.entries) (arch.now, name.now)
-        (after_named (map.from_entries records.old.entries) arch.now listing.now name.now)
+        (after_named listing.now name.now
+        (record_at (map.from_entries records.old.entries) (arch.now, name.now)))
         (map.from_entries records.new.entries)) }
     ensures ok { IfOk result (λ change. change
         ≡ change_of (record_at (map.from_entries records.old.entries) (arch.now, name.now))
-        (after_named (map.from_entries records.old.entries) arch.now listing.now name.now)) }
+        (after_named listing.now name.now
+        (record_at (map.from_entries records.old.entries) (arch.now, name.now)))) }
     ensures refused { IfErr result (λ refusal. refusal ≡ Memory) }
 {
     let key = key_of(arch, name)?;

@@ -4,8 +4,8 @@ ghost use Rattle.std.specs.FinMap as map;
 ghost use Rattle.deb_relations.specs.declared.arch.ArchWords.{ArchWords as Arch};
 ghost use Rattle.deb_relations.specs.Text.{text_cmp};
 ghost use Rattle.wb_states.specs.declared.refusal.Refusal.TheVariants.{Memory};
-ghost use Rattle.wb_merge.specs.Listing.{printed_for, joined, depends_of, listed_as, listed_cmp, built_as, built_cmp};
-ghost use Rattle.wb_merge.specs.Offers.{is_better, with_source, with_build, with_package};
+ghost use Rattle.wb_merge.specs.Listing.{printed_for, joined, depends_of, listed_as, listed_cmp, built_as, built_cmp, is_better};
+ghost use Rattle.wb_merge.specs.Offers.{with_listed, with_build, with_package};
 
 use crate::rows::{BinaryRow, SourceRow};
 use crate::{Built, Listed};
@@ -91,7 +91,7 @@ pub(crate) fn offer_source(
     row: SourceRow,
 ) -> Result<(), Refusal>
     ensures value { OnOk result (map.from_entries {R = text_cmp} listed.new.entries
-        ≡ with_source arch.now (map.from_entries {R = text_cmp} listed.old.entries) row) }
+        ≡ with_listed arch.now (map.from_entries {R = text_cmp} listed.old.entries) row) }
     ensures refused { IfErr result (λ refusal. refusal ≡ Memory) }
 {
     if !row.is_listed(arch) {

@@ -7,8 +7,8 @@ ghost use Rattle.deb_relations.specs.Arch.{matches_arch};
 ghost use Rattle.wb_states.specs.declared.refusal.ListingFault.TheVariants.{Control, BadValue};
 ghost use Rattle.wb_states.specs.declared.refusal.ListField.TheVariants.{Source};
 ghost use Rattle.wb_states.specs.Record.{is_empty_text};
-ghost use Rattle.wb_merge.specs.Offers.{is_listed};
 ghost use Rattle.wb_merge.specs.Lists.{value_named, is_source_text, spare_fault, source_row_of, binary_row_of, with_source};
+ghost use Rattle.wb_merge.specs.Listing.{is_listed};
 
 use crate::fields::{architectures, label, package_name, package_version, text, value};
 use crate::source::{parse_source, rebuild_number};
@@ -90,7 +90,7 @@ impl SourceRow {
 
 impl SourceRow {
     /// Whether the row lists its source package for the architecture (Debian Policy 5.6.8).
-    #[tactic(auto, unfolding(crate::specs::Offers::is_listed))]
+    #[tactic(auto, unfolding(crate::specs::Listing::is_listed))]
     pub(crate) fn is_listed(&self, arch: &ArchWords) -> bool
         ensures { result ≡ is_listed arch.now self.now }
     {

@@ -1,6 +1,7 @@
 use Rattle.std.proofs.Common.{◌≡◌, ◌++◌, bytes_eq, filter, map}
 use Rattle.std.specs.FinMap as finite
-use Rattle.wb_merge.specs.Steps.{Key, recorded_names}
+use Rattle.wb_merge.specs.Steps.{Key}
+use Rattle.wb_merge.specs.Merged.{recorded_names}
 use Rattle.wb_merge.proofs.merge.recorded_names.Given as goal
 
 abbrev pub invariant-loop-key : goal.invariant-loop-key
