@@ -4,7 +4,7 @@ use Rattle.std.proofs.lemmas.List.{drop_all}
 use Rattle.std.specs.FinMap as finite
 use Rattle.wb_states.specs.declared.record.Record.{Record}
 use Rattle.wb_states.specs.declared.reply.MergeCounts.{MergeCounts}
-use Rattle.wb_merge.specs.Listing.{Lists}
+use Rattle.wb_merge.specs.Listing.{ArchiveListing}
 use Rattle.wb_merge.specs.Merged.{Records, after_at, merged, names_of, is_added, is_changed, is_kept, is_removed, is_same_record, number_where, counts_over, merge_counts, after_named}
 use Rattle.wb_merge.specs.declared.merge.Change.{Change}
 use Rattle.wb_merge.specs.declared.merge.Change.TheVariants.{Absent, Added, Changed, Kept, Removed}
@@ -78,20 +78,20 @@ counted-next counts (Some old) (Some new) added changed kept removed =
       }
     ]
 
-counts-next : (counts : MergeCounts) (old : Records) (arch : List ℕ) (lists : Lists) (name : List ℕ) (names : List (List ℕ))
-    → plus counts (counts_over old arch lists (name ∷ names))
-    ≡ plus (counted counts (change_of (finite.get old (arch, name)) (after_at old arch lists (arch, name)))) (counts_over old arch lists names)
+counts-next : (counts : MergeCounts) (old : Records) (arch : List ℕ) (listing : ArchiveListing) (name : List ℕ) (names : List (List ℕ))
+    → plus counts (counts_over old arch listing (name ∷ names))
+    ≡ plus (counted counts (change_of (finite.get old (arch, name)) (after_at old arch listing (arch, name)))) (counts_over old arch listing names)
 unfolding counts_over
-counts-next counts old arch lists name names =
+counts-next counts old arch listing name names =
     let before = finite.get old (arch, name) in
-    let new = after_at old arch lists (arch, name) in
+    let new = after_at old arch listing (arch, name) in
     (λ i. plus counts (record {
-      added = length-more (is_added before new) name (filter (λ name. is_added (finite.get old (arch, name)) (after_at old arch lists (arch, name))) names) i;
-      changed = length-more (is_changed before new) name (filter (λ name. is_changed (finite.get old (arch, name)) (after_at old arch lists (arch, name))) names) i;
-      kept = length-more (is_kept before new) name (filter (λ name. is_kept (finite.get old (arch, name)) (after_at old arch lists (arch, name))) names) i;
-      removed = length-more (is_removed before new) name (filter (λ name. is_removed (finite.get old (arch, name)) (after_at old arch lists (arch, name))) names) i;
+      added = length-more (is_added before new) name (filter (λ name. is_added (finite.get old (arch, name)) (after_at old arch listing (arch, name))) names) i;
+      changed = length-more (is_changed before new) name (filter (λ name. is_changed (finite.get old (arch, name)) (after_at old arch listing (arch, name))) names) i;
+      kept = length-more (is_kept before new) name (filter (λ name. is_kept (finite.get old (arch, name)) (after_at old arch listing (arch, name))) names) i;
+      removed = length-more (is_removed before new) name (filter (λ name. is_removed (finite.get old (arch, name)) (after_at old arch listing (arch, name))) names) i;
     }))
-    ∙ counted-next counts before new (number_where is_added old arch lists names) (number_where is_changed old arch lists names) (number_where is_kept old arch lists names) (number_where is_removed old arch lists names)
+    ∙ counted-next counts before new (number_where is_added old arch listing names) (number_where is_changed old arch listing names) (number_where is_kept old arch listing names) (number_where is_removed old arch listing names)
 
 none-plus : (n : ℕ) → 0 + n ≡ n
 none-plus n = omega arith
@@ -107,9 +107,9 @@ plus-no_counts counts = λ i. record {
   removed = none-plus counts.removed i;
 }
 
-counts-end : (counts : MergeCounts) (old : Records) (arch : List ℕ) (lists : Lists) → plus counts (counts_over old arch lists []) ≡ counts
+counts-end : (counts : MergeCounts) (old : Records) (arch : List ℕ) (listing : ArchiveListing) → plus counts (counts_over old arch listing []) ≡ counts
 unfolding counts_over
-counts-end counts old arch lists = λ i. record {
+counts-end counts old arch listing = λ i. record {
   added = plus-none counts.added i;
   changed = plus-none counts.changed i;
   kept = plus-none counts.kept i;
@@ -130,54 +130,54 @@ within-more limit more counts le h = record { added = omega arith; changed = ome
 -- ---- the loop over the names
 
 -- the records and the counts while these names are left
-pub record IsHalfMerged (old records : Records) (arch : List ℕ) (lists : Lists) (counts : MergeCounts) (left : List (List ℕ)) : Type 0 where
+pub record IsHalfMerged (old records : Records) (arch : List ℕ) (listing : ArchiveListing) (counts : MergeCounts) (left : List (List ℕ)) : Type 0 where
   pub apart : IsApart bytes_eq left
-  pub half : (key : Key) → finite.get records key ≡ half_merged old arch lists left key
-  pub so_far : plus counts (counts_over old arch lists left) ≡ merge_counts old arch lists
+  pub half : (key : Key) → finite.get records key ≡ half_merged old arch listing left key
+  pub so_far : plus counts (counts_over old arch listing left) ≡ merge_counts old arch listing
 
-pub half_merged-start : (old : Records) (arch : List ℕ) (lists : Lists) → IsHalfMerged old old arch lists no_counts (names_of old arch lists)
+pub half_merged-start : (old : Records) (arch : List ℕ) (listing : ArchiveListing) → IsHalfMerged old old arch listing no_counts (names_of old arch listing)
 unfolding merge_counts
-half_merged-start old arch lists = record {
-  apart = names-apart old arch lists;
-  half = half-start old arch lists;
-  so_far = plus-no_counts (counts_over old arch lists (names_of old arch lists));
+half_merged-start old arch listing = record {
+  apart = names-apart old arch listing;
+  half = half-start old arch listing;
+  so_far = plus-no_counts (counts_over old arch listing (names_of old arch listing));
 }
 
-pub half_merged-next : (old records new : Records) (arch : List ℕ) (lists : Lists) (counts : MergeCounts) (name : List ℕ) (left : List (List ℕ))
-    → IsHalfMerged old records arch lists counts (name ∷ left)
-    → IsSetAt records (arch, name) (after_named lists name (finite.get records (arch, name))) new
-    → IsHalfMerged old new arch lists (counted counts (change_of (record_at records (arch, name)) (after_named lists name (finite.get records (arch, name))))) left
-half_merged-next old records new arch lists counts name left h step = record {
+pub half_merged-next : (old records new : Records) (arch : List ℕ) (listing : ArchiveListing) (counts : MergeCounts) (name : List ℕ) (left : List (List ℕ))
+    → IsHalfMerged old records arch listing counts (name ∷ left)
+    → IsSetAt records (arch, name) (after_named listing name (finite.get records (arch, name))) new
+    → IsHalfMerged old new arch listing (counted counts (change_of (record_at records (arch, name)) (after_named listing name (finite.get records (arch, name))))) left
+half_merged-next old records new arch listing counts name left h step = record {
   apart = h.apart.1;
-  half = half-next old records new arch lists name left h.apart.0 h.half step;
-  so_far = (λ i. plus (counted counts (change_of (half-here old records arch lists name left h.half i) (named-here old records arch lists name left h.half i))) (counts_over old arch lists left))
-      ∙ sym (counts-next counts old arch lists name left)
+  half = half-next old records new arch listing name left h.apart.0 h.half step;
+  so_far = (λ i. plus (counted counts (change_of (half-here old records arch listing name left h.half i) (named-here old records arch listing name left h.half i))) (counts_over old arch listing left))
+      ∙ sym (counts-next counts old arch listing name left)
       ∙ h.so_far;
 }
 
 -- the same at a place among the names
-pub half_merged-step : (old records new : Records) (arch : List ℕ) (lists : Lists) (counts : MergeCounts) (names : List (List ℕ)) (at : ℕ) (name : List ℕ)
+pub half_merged-step : (old records new : Records) (arch : List ℕ) (listing : ArchiveListing) (counts : MergeCounts) (names : List (List ℕ)) (at : ℕ) (name : List ℕ)
     → at < length names → name ≡ get_or names at name
-    → IsHalfMerged old records arch lists counts (drop at names)
-    → IsSetAt records (arch, name) (after_named lists name (finite.get records (arch, name))) new
-    → (made : Change) → made ≡ change_of (record_at records (arch, name)) (after_named lists name (finite.get records (arch, name)))
-    → IsHalfMerged old new arch lists (counted counts made) (drop (at + 1) names)
-half_merged-step old records new arch lists counts names at name lt is h step made e =
+    → IsHalfMerged old records arch listing counts (drop at names)
+    → IsSetAt records (arch, name) (after_named listing name (finite.get records (arch, name))) new
+    → (made : Change) → made ≡ change_of (record_at records (arch, name)) (after_named listing name (finite.get records (arch, name)))
+    → IsHalfMerged old new arch listing (counted counts made) (drop (at + 1) names)
+half_merged-step old records new arch listing counts names at name lt is h step made e =
     let left : drop at names ≡ name ∷ drop (at + 1) names =
     drop-cons names at name lt ∙ (λ i. sym is i ∷ drop (one_after at i) names) in
-    let next = half_merged-next old records new arch lists counts name (drop (at + 1) names) (subst (IsHalfMerged old records arch lists counts) left h) step in
-    subst (λ (c : Change). IsHalfMerged old new arch lists (counted counts c) (drop (at + 1) names)) (sym e) next
+    let next = half_merged-next old records new arch listing counts name (drop (at + 1) names) (subst (IsHalfMerged old records arch listing counts) left h) step in
+    subst (λ (c : Change). IsHalfMerged old new arch listing (counted counts c) (drop (at + 1) names)) (sym e) next
   where
     one_after : (n : ℕ) → suc n ≡ n + 1
     one_after n = omega arith
 
-pub half_merged-end : (old records : Records) (arch : List ℕ) (lists : Lists) (counts : MergeCounts)
-    → IsHalfMerged old records arch lists counts [] → (records ≡ merged old arch lists) × (counts ≡ merge_counts old arch lists)
-half_merged-end old records arch lists counts h =
-    (half-end old records arch lists h.half, sym (counts-end counts old arch lists) ∙ h.so_far)
+pub half_merged-end : (old records : Records) (arch : List ℕ) (listing : ArchiveListing) (counts : MergeCounts)
+    → IsHalfMerged old records arch listing counts [] → (records ≡ merged old arch listing) × (counts ≡ merge_counts old arch listing)
+half_merged-end old records arch listing counts h =
+    (half-end old records arch listing h.half, sym (counts-end counts old arch listing) ∙ h.so_far)
 
 -- the same behind the last of the names
-pub half_merged-done : (old records : Records) (arch : List ℕ) (lists : Lists) (counts : MergeCounts) (names : List (List ℕ)) (at : ℕ)
-    → length names ≤ at → IsHalfMerged old records arch lists counts (drop at names) → (records ≡ merged old arch lists) × (counts ≡ merge_counts old arch lists)
-half_merged-done old records arch lists counts names at le h =
-    half_merged-end old records arch lists counts (subst (IsHalfMerged old records arch lists counts) (drop_all at names le) h)
+pub half_merged-done : (old records : Records) (arch : List ℕ) (listing : ArchiveListing) (counts : MergeCounts) (names : List (List ℕ)) (at : ℕ)
+    → length names ≤ at → IsHalfMerged old records arch listing counts (drop at names) → (records ≡ merged old arch listing) × (counts ≡ merge_counts old arch listing)
+half_merged-done old records arch listing counts names at le h =
+    half_merged-end old records arch listing counts (subst (IsHalfMerged old records arch listing counts) (drop_all at names le) h)

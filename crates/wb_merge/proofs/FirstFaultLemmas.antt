@@ -9,7 +9,7 @@ use Rattle.wb_states.specs.declared.refusal.Refusal.TheVariants.{BadListing}
 use Rattle.wb_states.specs.declared.refusal.ListKind.{ListKind}
 use Rattle.wb_states.specs.declared.refusal.ListKind.TheVariants.{Sources, Packages}
 use Rattle.wb_states.specs.declared.refusal.ListingFault.{ListingFault}
-use Rattle.wb_merge.specs.Lists.{SourceRow, BinaryRow, of_fields, onto_rows, row_in, rows_behind, source_row_of, binary_row_of, source_paragraph, binary_paragraph, source_rows, binary_rows, AreRows, IsFirstFault}
+use Rattle.wb_merge.specs.Rows.{SourceRow, BinaryRow, of_fields, onto_rows, row_in, rows_behind, source_row_of, binary_row_of, source_paragraph, binary_paragraph, source_rows, binary_rows, AreRows, IsFirstFault}
 
 module _ {X : Type 0} (read : List Entry → Result X ListingFault) (which : ListKind) where
   -- the row of a paragraph, or its fault

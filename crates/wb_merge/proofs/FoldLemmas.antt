@@ -8,7 +8,7 @@ use Rattle.std.proofs.lemmas.Map.Text.{is_eq-slice_cmp}
 use Rattle.deb_relations.specs.Text.{text_cmp}
 use Rattle.wb_states.proofs.KeyLemmas.{text_cmp_total, text_cmp-same, eq_by_cmp-same}
 use Rattle.wb_states.specs.declared.refusal.Refusal.{Refusal}
-use Rattle.wb_merge.specs.Lists.{onto_rows}
+use Rattle.wb_merge.specs.Rows.{onto_rows}
 use Rattle.wb_merge.specs.Listing.{better, best_from, map_at, is_better}
 use Rattle.wb_merge.specs.Offers.{offered, after_rows}
 use Rattle.wb_merge.proofs.ListingLemmas.{map_at-get}

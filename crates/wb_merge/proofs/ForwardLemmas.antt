@@ -15,7 +15,7 @@ use Rattle.wb_states.specs.declared.state.State.TheVariants.{NeedsBuild, Buildin
 use Rattle.wb_states.specs.State.{is_held, is_not_for_us, is_installed, is_dep_wait}
 use Rattle.wb_merge.specs.declared.listing.Listed.{Listed}
 use Rattle.wb_merge.specs.declared.listing.Built.{Built}
-use Rattle.wb_merge.specs.Listing.{Lists}
+use Rattle.wb_merge.specs.Listing.{ArchiveListing}
 use Rattle.wb_merge.specs.Merge.{after, by_order, covers, built_number, are_waits_met, relisted, newer_record, same_record, same_state, newer_state, listed_record, ends_hold, HasSameHold}
 use Rattle.wb_merge.specs.Merged.{Records, after_at, BecomesAt}
 use Rattle.wb_merge.specs.Steps.{Key}
@@ -24,49 +24,49 @@ use Rattle.wb_merge.proofs.NameLemmas.{bytes_eq-itself}
 
 -- ---- what a merge makes of a record at a key: it stays, or it is brought in line with its listing
 
-module _ (old : Records) (arch : List ℕ) (lists : Lists) (key : Key) (current new : Record) (h : BecomesAt old arch lists key current new) where
+module _ (old : Records) (arch : List ℕ) (listing : ArchiveListing) (key : Key) (current new : Record) (h : BecomesAt old arch listing key current new) where
   abbrev built_there : Option Built
-  built_there = finite.get lists.built key.1
+  built_there = finite.get listing.built key.1
 
   by_case : (P : Record → Type 0) → P current
-      → ((listed : Listed) → finite.get lists.listed key.1 ≡ Some listed → P (listed_record listed built_there lists.available current))
-      → (is_of : Bool) (found : Option Listed) → finite.get lists.listed key.1 ≡ found
-      → cond is_of (after (Some current) found built_there lists.available) (Some current) ≡ Some new → P new
+      → ((listed : Listed) → finite.get listing.listed key.1 ≡ Some listed → P (listed_record listed built_there listing.available current))
+      → (is_of : Bool) (found : Option Listed) → finite.get listing.listed key.1 ≡ found
+      → cond is_of (after (Some current) found built_there listing.available) (Some current) ≡ Some new → P new
   by_case P stays merges false found e is =
       let same : current ≡ new = cc in
       subst P same stays
   by_case P stays merges true None e is = absurd cc
   by_case P stays merges true (Some listed) e is =
-      let same : listed_record listed built_there lists.available current ≡ new = cc in
+      let same : listed_record listed built_there listing.available current ≡ new = cc in
       subst P same (merges listed e)
 
   pub at-becomes : (P : Record → Type 0) → P current
-      → ((listed : Listed) → finite.get lists.listed key.1 ≡ Some listed → P (listed_record listed built_there lists.available current)) → P new
+      → ((listed : Listed) → finite.get listing.listed key.1 ≡ Some listed → P (listed_record listed built_there listing.available current)) → P new
   unfolding after_at
   at-becomes P stays merges =
-      by_case P stays merges (bytes_eq key.0 arch) (finite.get lists.listed key.1) refl
-      (ap (λ (o : Option Record). cond (bytes_eq key.0 arch) (after o (finite.get lists.listed key.1) built_there lists.available) o) (sym h.was)
-      ∙ sym (merged-get old arch lists key) ∙ h.is)
+      by_case P stays merges (bytes_eq key.0 arch) (finite.get listing.listed key.1) refl
+      (ap (λ (o : Option Record). cond (bytes_eq key.0 arch) (after o (finite.get listing.listed key.1) built_there listing.available) o) (sym h.was)
+      ∙ sym (merged-get old arch listing key) ∙ h.is)
 
   by_listed : (P : Record → Type 0)
-      → ((listed : Listed) → finite.get lists.listed key.1 ≡ Some listed → P (listed_record listed built_there lists.available current))
-      → (found : Option Listed) → finite.get lists.listed key.1 ≡ found
-      → after (Some current) found built_there lists.available ≡ Some new → P new
+      → ((listed : Listed) → finite.get listing.listed key.1 ≡ Some listed → P (listed_record listed built_there listing.available current))
+      → (found : Option Listed) → finite.get listing.listed key.1 ≡ found
+      → after (Some current) found built_there listing.available ≡ Some new → P new
   by_listed P merges None e is = absurd cc
   by_listed P merges (Some listed) e is =
-      let same : listed_record listed built_there lists.available current ≡ new = cc in
+      let same : listed_record listed built_there listing.available current ≡ new = cc in
       subst P same (merges listed e)
 
   -- at a key of the architecture no record stays unlooked at
   pub at-listed : (P : Record → Type 0) → key.0 ≡ arch
-      → ((listed : Listed) → finite.get lists.listed key.1 ≡ Some listed → P (listed_record listed built_there lists.available current)) → P new
+      → ((listed : Listed) → finite.get listing.listed key.1 ≡ Some listed → P (listed_record listed built_there listing.available current)) → P new
   unfolding after_at
   at-listed P here merges =
       let same : bytes_eq key.0 arch ≡ true = ap (bytes_eq key.0) (sym here) ∙ bytes_eq-itself key.0 in
-      by_listed P merges (finite.get lists.listed key.1) refl
-      (ap (λ (b : Bool). cond b (after (Some current) (finite.get lists.listed key.1) built_there lists.available) (Some current)) (sym same)
-      ∙ ap (λ (o : Option Record). cond (bytes_eq key.0 arch) (after o (finite.get lists.listed key.1) built_there lists.available) o) (sym h.was)
-      ∙ sym (merged-get old arch lists key) ∙ h.is)
+      by_listed P merges (finite.get listing.listed key.1) refl
+      (ap (λ (b : Bool). cond b (after (Some current) (finite.get listing.listed key.1) built_there listing.available) (Some current)) (sym same)
+      ∙ ap (λ (o : Option Record). cond (bytes_eq key.0 arch) (after o (finite.get listing.listed key.1) built_there listing.available) o) (sym h.was)
+      ∙ sym (merged-get old arch listing key) ∙ h.is)
 
 -- ---- versions
 

@@ -11,7 +11,7 @@ use Rattle.wb_states.proofs.KeyLemmas.{pair_cmp_total, pair_cmp-same}
 use Rattle.deb_relations.specs.Satisfaction.{Pairs}
 use Rattle.wb_merge.specs.declared.listing.Listed.{Listed}
 use Rattle.wb_merge.specs.declared.listing.Built.{Built}
-use Rattle.wb_merge.specs.Listing.{Lists}
+use Rattle.wb_merge.specs.Listing.{ArchiveListing}
 use Rattle.wb_merge.specs.Merge.{after}
 use Rattle.wb_merge.specs.Merged.{Records, after_at, merge_keys, merged, names_of, recorded_names, after_named}
 use Rattle.wb_merge.specs.Steps.{Key, IsSetAt}
@@ -53,24 +53,24 @@ listed-any listed name =
     ap (λ (eq : List ℕ → Bool). list_any eq (finite.keys listed)) (λ i other. sym (text_eq name other) i) ∙ sym (finite.contains_key-keys listed name)
 
 -- whether a source package is named
-pub names-any : (old : Records) (arch : List ℕ) (lists : Lists) (name : List ℕ)
-    → list_any (bytes_eq name) (names_of old arch lists) ≡ (finite.contains_key old (arch, name) || (not (finite.contains_key old (arch, name)) && finite.contains_key lists.listed name))
+pub names-any : (old : Records) (arch : List ℕ) (listing : ArchiveListing) (name : List ℕ)
+    → list_any (bytes_eq name) (names_of old arch listing) ≡ (finite.contains_key old (arch, name) || (not (finite.contains_key old (arch, name)) && finite.contains_key listing.listed name))
 unfolding names_of
-names-any old arch lists name =
+names-any old arch listing name =
     list_any-append (bytes_eq name) (recorded_names old arch) _
-    ∙ (λ i. recorded-names-any old arch name i || filter-any (λ name. not (finite.contains_key old (arch, name))) name (finite.keys lists.listed) i)
-    ∙ (λ i. finite.contains_key old (arch, name) || (not (finite.contains_key old (arch, name)) && listed-any lists.listed name i))
+    ∙ (λ i. recorded-names-any old arch name i || filter-any (λ name. not (finite.contains_key old (arch, name))) name (finite.keys listing.listed) i)
+    ∙ (λ i. finite.contains_key old (arch, name) || (not (finite.contains_key old (arch, name)) && listed-any listing.listed name i))
 
 -- no name stands twice
-pub names-apart : (old : Records) (arch : List ℕ) (lists : Lists) → IsApart bytes_eq (names_of old arch lists)
+pub names-apart : (old : Records) (arch : List ℕ) (listing : ArchiveListing) → IsApart bytes_eq (names_of old arch listing)
 unfolding names_of
-names-apart old arch lists =
+names-apart old arch listing =
     append-apart bytes_eq (recorded_names old arch) _
     (recorded-apart arch (finite.keys old) (keys-apart old))
-    (filter-apart (λ name. not (finite.contains_key old (arch, name))) (finite.keys lists.listed) (text_keys-apart lists.listed))
+    (filter-apart (λ name. not (finite.contains_key old (arch, name))) (finite.keys listing.listed) (text_keys-apart listing.listed))
     (λ name there again. never (finite.contains_key old (arch, name)) _
     (sym (recorded-names-any old arch name) ∙ there)
-    (sym (filter-any (λ name. not (finite.contains_key old (arch, name))) name (finite.keys lists.listed)) ∙ again))
+    (sym (filter-any (λ name. not (finite.contains_key old (arch, name))) name (finite.keys listing.listed)) ∙ again))
     bytes_eq-itself
   where
     never : (a b : Bool) → a ≡ true → (not a && b) ≡ true → ⊥
@@ -84,103 +84,103 @@ split-or true b e = absurd cc
 split-or false b e = (refl, e)
 
 -- a source package of the architecture that is not named has no record, before or after
-pub unnamed : (old : Records) (arch : List ℕ) (lists : Lists) (name : List ℕ) → list_any (bytes_eq name) (names_of old arch lists) ≡ false
-    → (finite.get old (arch, name) ≡ None) × (finite.get lists.listed name ≡ None)
-unnamed old arch lists name e =
-    let both = split-or (finite.contains_key old (arch, name)) (finite.contains_key lists.listed name) (sym (names-any old arch lists name) ∙ e) in
+pub unnamed : (old : Records) (arch : List ℕ) (listing : ArchiveListing) (name : List ℕ) → list_any (bytes_eq name) (names_of old arch listing) ≡ false
+    → (finite.get old (arch, name) ≡ None) × (finite.get listing.listed name ≡ None)
+unnamed old arch listing name e =
+    let both = split-or (finite.contains_key old (arch, name)) (finite.contains_key listing.listed name) (sym (names-any old arch listing name) ∙ e) in
     (none-is _ both.0, none-is _ both.1)
 
 -- the record at a key while names are left: those that are left have what they had
-abbrev pub half_merged : Records → List ℕ → Lists → List (List ℕ) → Key → Option Record
-half_merged old arch lists names key =
-    cond (bytes_eq key.0 arch && list_any (bytes_eq key.1) names) (finite.get old key) (after_at old arch lists key)
+abbrev pub half_merged : Records → List ℕ → ArchiveListing → List (List ℕ) → Key → Option Record
+half_merged old arch listing names key =
+    cond (bytes_eq key.0 arch && list_any (bytes_eq key.1) names) (finite.get old key) (after_at old arch listing key)
 
-none-after : (old : Option Record) (lists : Lists) (name : List ℕ) → old ≡ None → finite.get lists.listed name ≡ None
-    → after old (finite.get lists.listed name) (finite.get lists.built name) lists.available ≡ old
-none-after old lists name e f =
-    (λ i. after (e i) (f i) (finite.get lists.built name) lists.available) ∙ sym e
+none-after : (old : Option Record) (listing : ArchiveListing) (name : List ℕ) → old ≡ None → finite.get listing.listed name ≡ None
+    → after old (finite.get listing.listed name) (finite.get listing.built name) listing.available ≡ old
+none-after old listing name e f =
+    (λ i. after (e i) (f i) (finite.get listing.built name) listing.available) ∙ sym e
 
 -- at a key of the architecture that is not named nothing changes
-pub kept-unnamed : (old : Records) (arch : List ℕ) (lists : Lists) (key : Key) → bytes_eq key.0 arch ≡ true
-    → list_any (bytes_eq key.1) (names_of old arch lists) ≡ false → after_at old arch lists key ≡ finite.get old key
+pub kept-unnamed : (old : Records) (arch : List ℕ) (listing : ArchiveListing) (key : Key) → bytes_eq key.0 arch ≡ true
+    → list_any (bytes_eq key.1) (names_of old arch listing) ≡ false → after_at old arch listing key ≡ finite.get old key
 unfolding after_at
-kept-unnamed old arch lists key e f =
-    let nothing = unnamed old arch lists key.1 f in
+kept-unnamed old arch listing key e f =
+    let nothing = unnamed old arch listing key.1 f in
     let same : key ≡ (arch, key.1) = λ i. (bytes_eq-is key.0 arch e i, key.1) in
-    ap (λ b. cond b (after (finite.get old key) (finite.get lists.listed key.1) (finite.get lists.built key.1) lists.available) (finite.get old key)) e
-    ∙ none-after (finite.get old key) lists key.1 (ap (finite.get old) same ∙ nothing.0) nothing.1
+    ap (λ b. cond b (after (finite.get old key) (finite.get listing.listed key.1) (finite.get listing.built key.1) listing.available) (finite.get old key)) e
+    ∙ none-after (finite.get old key) listing key.1 (ap (finite.get old) same ∙ nothing.0) nothing.1
 
 -- at a key of another architecture nothing changes
-kept-elsewhere : (old : Records) (arch : List ℕ) (lists : Lists) (key : Key) → bytes_eq key.0 arch ≡ false → after_at old arch lists key ≡ finite.get old key
+kept-elsewhere : (old : Records) (arch : List ℕ) (listing : ArchiveListing) (key : Key) → bytes_eq key.0 arch ≡ false → after_at old arch listing key ≡ finite.get old key
 unfolding after_at
-kept-elsewhere old arch lists key e =
-    ap (λ b. cond b (after (finite.get old key) (finite.get lists.listed key.1) (finite.get lists.built key.1) lists.available) (finite.get old key)) e
+kept-elsewhere old arch listing key e =
+    ap (λ b. cond b (after (finite.get old key) (finite.get listing.listed key.1) (finite.get listing.built key.1) listing.available) (finite.get old key)) e
 
 -- before the first name every key has what it had
-pub half-start : (old : Records) (arch : List ℕ) (lists : Lists) (key : Key) → finite.get old key ≡ half_merged old arch lists (names_of old arch lists) key
-half-start old arch lists key =
-    let is_named = list_any (bytes_eq key.1) (names_of old arch lists) in
-    elim (bytes_eq key.0 arch) as (λ b. bytes_eq key.0 arch ≡ b → finite.get old key ≡ cond (b && is_named) (finite.get old key) (after_at old arch lists key)) [
-      | true ↦ λ e. elim is_named as (λ b. is_named ≡ b → finite.get old key ≡ cond b (finite.get old key) (after_at old arch lists key)) [
+pub half-start : (old : Records) (arch : List ℕ) (listing : ArchiveListing) (key : Key) → finite.get old key ≡ half_merged old arch listing (names_of old arch listing) key
+half-start old arch listing key =
+    let is_named = list_any (bytes_eq key.1) (names_of old arch listing) in
+    elim (bytes_eq key.0 arch) as (λ b. bytes_eq key.0 arch ≡ b → finite.get old key ≡ cond (b && is_named) (finite.get old key) (after_at old arch listing key)) [
+      | true ↦ λ e. elim is_named as (λ b. is_named ≡ b → finite.get old key ≡ cond b (finite.get old key) (after_at old arch listing key)) [
         | true ↦ λ _. refl
-        | false ↦ λ f. sym (kept-unnamed old arch lists key e f)
+        | false ↦ λ f. sym (kept-unnamed old arch listing key e f)
       ] refl
-      | false ↦ λ e. sym (kept-elsewhere old arch lists key e)
+      | false ↦ λ e. sym (kept-elsewhere old arch listing key e)
     ] refl
 
 -- a name that is left has what it had
-pub half-here : (old records : Records) (arch : List ℕ) (lists : Lists) (name : List ℕ) (names : List (List ℕ))
-    → ((key : Key) → finite.get records key ≡ half_merged old arch lists (name ∷ names) key) → finite.get records (arch, name) ≡ finite.get old (arch, name)
-half-here old records arch lists name names half =
+pub half-here : (old records : Records) (arch : List ℕ) (listing : ArchiveListing) (name : List ℕ) (names : List (List ℕ))
+    → ((key : Key) → finite.get records key ≡ half_merged old arch listing (name ∷ names) key) → finite.get records (arch, name) ≡ finite.get old (arch, name)
+half-here old records arch listing name names half =
     half (arch, name)
-    ∙ (λ i. cond (bytes_eq-itself arch i && (bytes_eq-itself name i || list_any (bytes_eq name) names)) (finite.get old (arch, name)) (after_at old arch lists (arch, name)))
+    ∙ (λ i. cond (bytes_eq-itself arch i && (bytes_eq-itself name i || list_any (bytes_eq name) names)) (finite.get old (arch, name)) (after_at old arch listing (arch, name)))
 
-after-here : (old : Records) (arch : List ℕ) (lists : Lists) (name : List ℕ) → after_at old arch lists (arch, name) ≡ after_named lists name (finite.get old (arch, name))
+after-here : (old : Records) (arch : List ℕ) (listing : ArchiveListing) (name : List ℕ) → after_at old arch listing (arch, name) ≡ after_named listing name (finite.get old (arch, name))
 unfolding after_at
-after-here old arch lists name =
-    ap (λ b. cond b (after_named lists name (finite.get old (arch, name))) (finite.get old (arch, name))) (bytes_eq-itself arch)
+after-here old arch listing name =
+    ap (λ b. cond b (after_named listing name (finite.get old (arch, name))) (finite.get old (arch, name))) (bytes_eq-itself arch)
 
 -- after a name no more name is left of it
-pub named-here : (old records : Records) (arch : List ℕ) (lists : Lists) (name : List ℕ) (names : List (List ℕ))
-    → ((key : Key) → finite.get records key ≡ half_merged old arch lists (name ∷ names) key) → after_named lists name (finite.get records (arch, name)) ≡ after_at old arch lists (arch, name)
-named-here old records arch lists name names half =
-    ap (λ current. after current (finite.get lists.listed name) (finite.get lists.built name) lists.available) (half-here old records arch lists name names half)
-    ∙ sym (after-here old arch lists name)
+pub named-here : (old records : Records) (arch : List ℕ) (listing : ArchiveListing) (name : List ℕ) (names : List (List ℕ))
+    → ((key : Key) → finite.get records key ≡ half_merged old arch listing (name ∷ names) key) → after_named listing name (finite.get records (arch, name)) ≡ after_at old arch listing (arch, name)
+named-here old records arch listing name names half =
+    ap (λ current. after current (finite.get listing.listed name) (finite.get listing.built name) listing.available) (half-here old records arch listing name names half)
+    ∙ sym (after-here old arch listing name)
 
 -- another key has the same among the names with and without one
-half-other : (old : Records) (arch : List ℕ) (lists : Lists) (name : List ℕ) (names : List (List ℕ)) (key : Key)
-    → (bytes_eq arch key.0 && bytes_eq name key.1) ≡ false → half_merged old arch lists (name ∷ names) key ≡ half_merged old arch lists names key
-half-other old arch lists name names key =
-    elim (bytes_eq arch key.0) as (λ b. bytes_eq arch key.0 ≡ b → (b && bytes_eq name key.1) ≡ false → half_merged old arch lists (name ∷ names) key ≡ half_merged old arch lists names key) [
-      | true ↦ λ e f. λ i. cond (bytes_eq key.0 arch && ((bytes_eq-flip key.1 name ∙ f) i || list_any (bytes_eq key.1) names)) (finite.get old key) (after_at old arch lists key)
+half-other : (old : Records) (arch : List ℕ) (listing : ArchiveListing) (name : List ℕ) (names : List (List ℕ)) (key : Key)
+    → (bytes_eq arch key.0 && bytes_eq name key.1) ≡ false → half_merged old arch listing (name ∷ names) key ≡ half_merged old arch listing names key
+half-other old arch listing name names key =
+    elim (bytes_eq arch key.0) as (λ b. bytes_eq arch key.0 ≡ b → (b && bytes_eq name key.1) ≡ false → half_merged old arch listing (name ∷ names) key ≡ half_merged old arch listing names key) [
+      | true ↦ λ e f. λ i. cond (bytes_eq key.0 arch && ((bytes_eq-flip key.1 name ∙ f) i || list_any (bytes_eq key.1) names)) (finite.get old key) (after_at old arch listing key)
       | false ↦ λ e f. let there : bytes_eq key.0 arch ≡ false = bytes_eq-flip key.0 arch ∙ e in
-          (λ i. cond (there i && (bytes_eq key.1 name || list_any (bytes_eq key.1) names)) (finite.get old key) (after_at old arch lists key))
-          ∙ (λ i. cond (sym there i && list_any (bytes_eq key.1) names) (finite.get old key) (after_at old arch lists key))
+          (λ i. cond (there i && (bytes_eq key.1 name || list_any (bytes_eq key.1) names)) (finite.get old key) (after_at old arch listing key))
+          ∙ (λ i. cond (sym there i && list_any (bytes_eq key.1) names) (finite.get old key) (after_at old arch listing key))
     ] refl
 
-pub half-next : (old records new : Records) (arch : List ℕ) (lists : Lists) (name : List ℕ) (names : List (List ℕ))
+pub half-next : (old records new : Records) (arch : List ℕ) (listing : ArchiveListing) (name : List ℕ) (names : List (List ℕ))
     → list_any (bytes_eq name) names ≡ false
-    → ((key : Key) → finite.get records key ≡ half_merged old arch lists (name ∷ names) key)
-    → IsSetAt records (arch, name) (after_named lists name (finite.get records (arch, name))) new
-    → (key : Key) → finite.get new key ≡ half_merged old arch lists names key
+    → ((key : Key) → finite.get records key ≡ half_merged old arch listing (name ∷ names) key)
+    → IsSetAt records (arch, name) (after_named listing name (finite.get records (arch, name))) new
+    → (key : Key) → finite.get new key ≡ half_merged old arch listing names key
 unfolding IsSetAt
-half-next old records new arch lists name names apart half step key =
+half-next old records new arch listing name names apart half step key =
     step key
-    ∙ elim (eq_by_cmp pair_cmp (arch, name) key) as (λ b. eq_by_cmp pair_cmp (arch, name) key ≡ b → cond b (after_named lists name (finite.get records (arch, name))) (finite.get records key) ≡ half_merged old arch lists names key) [
+    ∙ elim (eq_by_cmp pair_cmp (arch, name) key) as (λ b. eq_by_cmp pair_cmp (arch, name) key ≡ b → cond b (after_named listing name (finite.get records (arch, name))) (finite.get records key) ≡ half_merged old arch listing names key) [
       | true ↦ λ e. let same : (arch, name) ≡ key = pair-is (arch, name) key e in
-          named-here old records arch lists name names half
-          ∙ (λ i. cond (sym (and-false (bytes_eq arch arch)) i) (finite.get old (arch, name)) (after_at old arch lists (arch, name)))
-          ∙ (λ i. cond (bytes_eq arch arch && sym apart i) (finite.get old (arch, name)) (after_at old arch lists (arch, name)))
-          ∙ ap (half_merged old arch lists names) same
-      | false ↦ λ e. half key ∙ half-other old arch lists name names key (sym (pair-eq (arch, name) key) ∙ e)
+          named-here old records arch listing name names half
+          ∙ (λ i. cond (sym (and-false (bytes_eq arch arch)) i) (finite.get old (arch, name)) (after_at old arch listing (arch, name)))
+          ∙ (λ i. cond (bytes_eq arch arch && sym apart i) (finite.get old (arch, name)) (after_at old arch listing (arch, name)))
+          ∙ ap (half_merged old arch listing names) same
+      | false ↦ λ e. half key ∙ half-other old arch listing name names key (sym (pair-eq (arch, name) key) ∙ e)
     ] refl
 
 -- ---- the records after the merge
 
 -- whether there may be a record at a key after the merge
-keys-any : (old : Records) (arch : List ℕ) (lists : Lists) (key : Key) → list_any (eq_by_cmp pair_cmp key) (merge_keys old arch lists) ≡ false
-    → (finite.get old key ≡ None) × (list_any (eq_by_cmp pair_cmp key) (map (λ name. (arch, name)) (finite.keys lists.listed)) ≡ false)
-keys-any old arch lists key e =
+keys-any : (old : Records) (arch : List ℕ) (listing : ArchiveListing) (key : Key) → list_any (eq_by_cmp pair_cmp key) (merge_keys old arch listing) ≡ false
+    → (finite.get old key ≡ None) × (list_any (eq_by_cmp pair_cmp key) (map (λ name. (arch, name)) (finite.keys listing.listed)) ≡ false)
+keys-any old arch listing key e =
     let parts = neither _ _ (sym (list_any-append (eq_by_cmp pair_cmp key) (finite.keys old) _) ∙ e) in
     (none-is _ (finite.contains_key-keys old key ∙ parts.0), parts.1)
   where
@@ -196,47 +196,47 @@ listed-key-any arch (name ∷ names) key e =
     let here : eq_by_cmp pair_cmp key (arch, name) ≡ bytes_eq key.1 name = pair-eq key (arch, name) ∙ ap (λ b. b && bytes_eq key.1 name) e in
     λ i. here i || rest i
 
-nowhere : (old : Records) (arch : List ℕ) (lists : Lists) (key : Key) → list_any (eq_by_cmp pair_cmp key) (merge_keys old arch lists) ≡ false → after_at old arch lists key ≡ None
+nowhere : (old : Records) (arch : List ℕ) (listing : ArchiveListing) (key : Key) → list_any (eq_by_cmp pair_cmp key) (merge_keys old arch listing) ≡ false → after_at old arch listing key ≡ None
 unfolding after_at
-nowhere old arch lists key e =
-    let parts = keys-any old arch lists key e in
+nowhere old arch listing key e =
+    let parts = keys-any old arch listing key e in
     elim (bytes_eq key.0 arch) as (λ b. bytes_eq key.0 arch ≡ b
-    → cond b (after (finite.get old key) (finite.get lists.listed key.1) (finite.get lists.built key.1) lists.available) (finite.get old key) ≡ None) [
-      | true ↦ λ f. let unlisted : finite.get lists.listed key.1 ≡ None = none-is _ (sym (listed-any lists.listed key.1) ∙ sym (listed-key-any arch (finite.keys lists.listed) key f) ∙ parts.1) in
-          none-after (finite.get old key) lists key.1 parts.0 unlisted ∙ parts.0
+    → cond b (after (finite.get old key) (finite.get listing.listed key.1) (finite.get listing.built key.1) listing.available) (finite.get old key) ≡ None) [
+      | true ↦ λ f. let unlisted : finite.get listing.listed key.1 ≡ None = none-is _ (sym (listed-any listing.listed key.1) ∙ sym (listed-key-any arch (finite.keys listing.listed) key f) ∙ parts.1) in
+          none-after (finite.get old key) listing key.1 parts.0 unlisted ∙ parts.0
       | false ↦ λ f. parts.0
     ] refl
 
 -- the record at each key after the merge
-pub merged-get : (old : Records) (arch : List ℕ) (lists : Lists) (key : Key) → finite.get (merged old arch lists) key ≡ after_at old arch lists key
+pub merged-get : (old : Records) (arch : List ℕ) (listing : ArchiveListing) (key : Key) → finite.get (merged old arch listing) key ≡ after_at old arch listing key
 unfolding merged
-merged-get old arch lists key =
-    let is_there = list_any (eq_by_cmp pair_cmp key) (merge_keys old arch lists) in
-    map_at-get pair_cmp_total pair_cmp-same (after_at old arch lists) (merge_keys old arch lists) key
-    ∙ elim is_there as (λ b. is_there ≡ b → cond b (after_at old arch lists key) None ≡ after_at old arch lists key) [
+merged-get old arch listing key =
+    let is_there = list_any (eq_by_cmp pair_cmp key) (merge_keys old arch listing) in
+    map_at-get pair_cmp_total pair_cmp-same (after_at old arch listing) (merge_keys old arch listing) key
+    ∙ elim is_there as (λ b. is_there ≡ b → cond b (after_at old arch listing key) None ≡ after_at old arch listing key) [
       | true ↦ λ _. refl
-      | false ↦ λ e. sym (nowhere old arch lists key e)
+      | false ↦ λ e. sym (nowhere old arch listing key e)
     ] refl
 
 -- the records of other architectures stay
-pub merged-others : (old : Records) (arch : List ℕ) (lists : Lists) (key : Key) → (key.0 ≡ arch → ⊥) → finite.get (merged old arch lists) key ≡ finite.get old key
-merged-others old arch lists key other =
-    merged-get old arch lists key ∙ kept-elsewhere old arch lists key (is-false (bytes_eq key.0 arch) (λ e. other (bytes_eq-is key.0 arch e)))
+pub merged-others : (old : Records) (arch : List ℕ) (listing : ArchiveListing) (key : Key) → (key.0 ≡ arch → ⊥) → finite.get (merged old arch listing) key ≡ finite.get old key
+merged-others old arch listing key other =
+    merged-get old arch listing key ∙ kept-elsewhere old arch listing key (is-false (bytes_eq key.0 arch) (λ e. other (bytes_eq-is key.0 arch e)))
 
 -- what is not listed has no record
-pub merged-unlisted : (old : Records) (arch : List ℕ) (lists : Lists) (name : List ℕ) → finite.get lists.listed name ≡ None
-    → finite.get (merged old arch lists) (arch, name) ≡ None
-merged-unlisted old arch lists name none =
-    merged-get old arch lists (arch, name) ∙ after-here old arch lists name
-    ∙ ap (λ (o : Option Listed). after (finite.get old (arch, name)) o (finite.get lists.built name) lists.available) none
-    ∙ nothing (finite.get old (arch, name)) (finite.get lists.built name) lists.available
+pub merged-unlisted : (old : Records) (arch : List ℕ) (listing : ArchiveListing) (name : List ℕ) → finite.get listing.listed name ≡ None
+    → finite.get (merged old arch listing) (arch, name) ≡ None
+merged-unlisted old arch listing name none =
+    merged-get old arch listing (arch, name) ∙ after-here old arch listing name
+    ∙ ap (λ (o : Option Listed). after (finite.get old (arch, name)) o (finite.get listing.built name) listing.available) none
+    ∙ nothing (finite.get old (arch, name)) (finite.get listing.built name) listing.available
   where
     nothing : (current : Option Record) (built : Option Built) (available : Pairs) → after current None built available ≡ None
     nothing None built available = refl
     nothing (Some current) built available = refl
 
-pub half-end : (old records : Records) (arch : List ℕ) (lists : Lists) → ((key : Key) → finite.get records key ≡ half_merged old arch lists [] key)
-    → records ≡ merged old arch lists
-half-end old records arch lists half =
+pub half-end : (old records : Records) (arch : List ℕ) (listing : ArchiveListing) → ((key : Key) → finite.get records key ≡ half_merged old arch listing [] key)
+    → records ≡ merged old arch listing
+half-end old records arch listing half =
     finite.same_map pair_cmp_total pair_cmp-same _ _ (λ key.
-    half key ∙ (λ i. cond (and-false (bytes_eq key.0 arch) i) (finite.get old key) (after_at old arch lists key)) ∙ sym (merged-get old arch lists key))
+    half key ∙ (λ i. cond (and-false (bytes_eq key.0 arch) i) (finite.get old key) (after_at old arch listing key)) ∙ sym (merged-get old arch listing key))

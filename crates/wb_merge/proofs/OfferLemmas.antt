@@ -11,7 +11,7 @@ use Rattle.wb_states.proofs.KeyLemmas.{text_cmp_total}
 use Rattle.wb_states.proofs.MapLemmas.{get-lookup}
 use Rattle.wb_merge.specs.declared.listing.Listed.{Listed}
 use Rattle.wb_merge.specs.declared.listing.Built.{Built}
-use Rattle.wb_merge.specs.Lists.{SourceRow, BinaryRow}
+use Rattle.wb_merge.specs.Rows.{SourceRow, BinaryRow}
 use Rattle.wb_merge.specs.Listing.{listed_cmp, listed_as, built_cmp, built_as, is_listed, is_better}
 use Rattle.wb_merge.specs.Offers.{with_listed, with_build}
 

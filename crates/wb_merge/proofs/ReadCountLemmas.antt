@@ -3,7 +3,7 @@ use Rattle.std.proofs.Common.{◌≡◌, ℕ, ◌+◌, ◌≤◌, Bool, true, fa
 use Rattle.std.specs.List.{slice_split, onto_first}
 use Rattle.deb_control.specs.Paragraphs.{Place, begun}
 use Rattle.wb_states.specs.declared.refusal.ListKind.TheVariants.{Sources, Packages}
-use Rattle.wb_merge.specs.Lists.{SourceRow, BinaryRow, source_row_of, binary_row_of, source_rows, binary_rows}
+use Rattle.wb_merge.specs.Rows.{SourceRow, BinaryRow, source_row_of, binary_row_of, source_rows, binary_rows}
 use Rattle.wb_merge.specs.Offers.{HasPassed, after_rows, rows_at}
 use Rattle.deb_control.specs.Lines.{is_feed, is_separator, has_line, lines_of, paragraphs_in}
 

@@ -12,7 +12,7 @@ use Rattle.std.proofs.lemmas.List.Sums.{fold-append}
 use Rattle.deb_version.specs.Syntax.{value_of, with_digit}
 use Rattle.wb_states.specs.declared.record.Record.{Record}
 use Rattle.wb_states.specs.Moves.{build_text_of}
-use Rattle.wb_merge.specs.Lists.{rebuild_number}
+use Rattle.wb_merge.specs.Rows.{rebuild_number}
 use Rattle.wb_merge.proofs.SourceLemmas.{number-one, number-two, number-three}
 
 both : (b c : Bool) → (b && c) ≡ true → (b ≡ true) × (c ≡ true)

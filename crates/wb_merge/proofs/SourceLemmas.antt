@@ -8,7 +8,7 @@ use Rattle.std.proofs.lemmas.List.{reverse-append, reverse-reverse, length-rever
 use Rattle.deb_version.specs.Syntax.{value_of, with_digit}
 use Rattle.deb_version.proofs.CutLemmas.{list_any-first}
 use Rattle.deb_relations.specs.Text.{leading}
-use Rattle.wb_merge.specs.Lists.{is_space, in_brackets, last_digits, ends_in, rebuild_number}
+use Rattle.wb_merge.specs.Rows.{is_space, in_brackets, last_digits, ends_in, rebuild_number}
 use Rattle.wb_merge.specs.Backwards.{begins_digit, begins_plus_b}
 
 -- ---- the space and the brackets

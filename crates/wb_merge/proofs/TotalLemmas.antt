@@ -3,7 +3,7 @@ use Rattle.std.proofs.Common.{◌≡◌, ℕ, ◌+◌, suc, Bool, true, false, c
 use Rattle.std.specs.List.{list_any}
 use Rattle.std.specs.FinMap as finite
 use Rattle.wb_states.specs.declared.record.Record.{Record}
-use Rattle.wb_merge.specs.Listing.{Lists}
+use Rattle.wb_merge.specs.Listing.{ArchiveListing}
 use Rattle.wb_merge.specs.Merged.{Records, after_at, merged, names_of, is_added, is_changed, is_kept, is_removed, is_same_record, number_where, counts_over, merge_counts, all_kept, recorded_names}
 use Rattle.wb_merge.specs.Steps.{Key}
 use Rattle.wb_merge.proofs.NameLemmas.{IsApart, bytes_eq-flip, bytes_eq-is, bytes_eq-itself, filter-any, filter-apart, keys-apart}
@@ -96,9 +96,9 @@ part-after None (Some new) = refl
 part-after (Some old) None = refl
 part-after (Some old) (Some new) = elim (is_same_record old new) as (λ b. 0 + (bit (not b) + bit b) ≡ 1) [ true ↦ refl | false ↦ refl ]
 
-module _ (old : Records) (arch : List ℕ) (lists : Lists) where
+module _ (old : Records) (arch : List ℕ) (listing : ArchiveListing) where
   abbrev names : List (List ℕ)
-  names = names_of old arch lists
+  names = names_of old arch listing
 
   -- those of the names that have a record are those that have one
   kept-of : (a b : Bool) → (a && (a || (not a && b))) ≡ a
@@ -108,33 +108,33 @@ module _ (old : Records) (arch : List ℕ) (lists : Lists) where
   length-before : length (filter (λ name. is_some (finite.get old (arch, name))) names) ≡ length (recorded_names old arch)
   length-before =
       same-length (filter (λ name. is_some (finite.get old (arch, name))) names) (recorded_names old arch)
-      (filter-apart (λ name. is_some (finite.get old (arch, name))) names (names-apart old arch lists))
+      (filter-apart (λ name. is_some (finite.get old (arch, name))) names (names-apart old arch listing))
       (recorded-apart arch (finite.keys old) (keys-apart old))
       (λ name. filter-any (λ name. is_some (finite.get old (arch, name))) name names
-      ∙ ap (λ (b : Bool). is_some (finite.get old (arch, name)) && b) (names-any old arch lists name)
-      ∙ kept-of (is_some (finite.get old (arch, name))) (finite.contains_key lists.listed name)
+      ∙ ap (λ (b : Bool). is_some (finite.get old (arch, name)) && b) (names-any old arch listing name)
+      ∙ kept-of (is_some (finite.get old (arch, name))) (finite.contains_key listing.listed name)
       ∙ sym (recorded-names-any old arch name))
 
-  pub counts-before : (merge_counts old arch lists).removed + ((merge_counts old arch lists).changed + (merge_counts old arch lists).kept)
+  pub counts-before : (merge_counts old arch listing).removed + ((merge_counts old arch listing).changed + (merge_counts old arch listing).kept)
       ≡ length (recorded_names old arch)
   unfolding merge_counts counts_over
   counts-before =
-      parts-add (λ name. is_removed (finite.get old (arch, name)) (after_at old arch lists (arch, name)))
-      (λ name. is_changed (finite.get old (arch, name)) (after_at old arch lists (arch, name)))
-      (λ name. is_kept (finite.get old (arch, name)) (after_at old arch lists (arch, name)))
+      parts-add (λ name. is_removed (finite.get old (arch, name)) (after_at old arch listing (arch, name)))
+      (λ name. is_changed (finite.get old (arch, name)) (after_at old arch listing (arch, name)))
+      (λ name. is_kept (finite.get old (arch, name)) (after_at old arch listing (arch, name)))
       (λ name. is_some (finite.get old (arch, name)))
-      (λ name. part-before (finite.get old (arch, name)) (after_at old arch lists (arch, name))) names
+      (λ name. part-before (finite.get old (arch, name)) (after_at old arch listing (arch, name))) names
       ∙ length-before
 
   -- a source package that has a record after the merge is named
-  named-after : (name : List ℕ) → (is_some (after_at old arch lists (arch, name)) && list_any (bytes_eq name) names) ≡ is_some (after_at old arch lists (arch, name))
+  named-after : (name : List ℕ) → (is_some (after_at old arch listing (arch, name)) && list_any (bytes_eq name) names) ≡ is_some (after_at old arch listing (arch, name))
   named-after name =
       elim (list_any (bytes_eq name) names) as (λ b. list_any (bytes_eq name) names ≡ b
-      → (is_some (after_at old arch lists (arch, name)) && b) ≡ is_some (after_at old arch lists (arch, name))) [
-        | true ↦ λ _. and-true (is_some (after_at old arch lists (arch, name)))
+      → (is_some (after_at old arch listing (arch, name)) && b) ≡ is_some (after_at old arch listing (arch, name))) [
+        | true ↦ λ _. and-true (is_some (after_at old arch listing (arch, name)))
         | false ↦ λ e.
-            let nothing : after_at old arch lists (arch, name) ≡ None =
-            kept-unnamed old arch lists (arch, name) (bytes_eq-itself arch) e ∙ (unnamed old arch lists name e).0 in
+            let nothing : after_at old arch listing (arch, name) ≡ None =
+            kept-unnamed old arch listing (arch, name) (bytes_eq-itself arch) e ∙ (unnamed old arch listing name e).0 in
             ap (λ (o : Option Record). is_some o && false) nothing ∙ ap is_some (sym nothing)
       ] refl
     where
@@ -142,25 +142,25 @@ module _ (old : Records) (arch : List ℕ) (lists : Lists) where
       and-true true = refl
       and-true false = refl
 
-  length-after : length (filter (λ name. is_some (after_at old arch lists (arch, name))) names) ≡ length (recorded_names (merged old arch lists) arch)
+  length-after : length (filter (λ name. is_some (after_at old arch listing (arch, name))) names) ≡ length (recorded_names (merged old arch listing) arch)
   length-after =
-      same-length (filter (λ name. is_some (after_at old arch lists (arch, name))) names) (recorded_names (merged old arch lists) arch)
-      (filter-apart (λ name. is_some (after_at old arch lists (arch, name))) names (names-apart old arch lists))
-      (recorded-apart arch (finite.keys (merged old arch lists)) (keys-apart (merged old arch lists)))
-      (λ name. filter-any (λ name. is_some (after_at old arch lists (arch, name))) name names
+      same-length (filter (λ name. is_some (after_at old arch listing (arch, name))) names) (recorded_names (merged old arch listing) arch)
+      (filter-apart (λ name. is_some (after_at old arch listing (arch, name))) names (names-apart old arch listing))
+      (recorded-apart arch (finite.keys (merged old arch listing)) (keys-apart (merged old arch listing)))
+      (λ name. filter-any (λ name. is_some (after_at old arch listing (arch, name))) name names
       ∙ named-after name
-      ∙ ap is_some (sym (merged-get old arch lists (arch, name)))
-      ∙ sym (recorded-names-any (merged old arch lists) arch name))
+      ∙ ap is_some (sym (merged-get old arch listing (arch, name)))
+      ∙ sym (recorded-names-any (merged old arch listing) arch name))
 
-  pub counts-after : (merge_counts old arch lists).added + ((merge_counts old arch lists).changed + (merge_counts old arch lists).kept)
-      ≡ length (recorded_names (merged old arch lists) arch)
+  pub counts-after : (merge_counts old arch listing).added + ((merge_counts old arch listing).changed + (merge_counts old arch listing).kept)
+      ≡ length (recorded_names (merged old arch listing) arch)
   unfolding merge_counts counts_over
   counts-after =
-      parts-add (λ name. is_added (finite.get old (arch, name)) (after_at old arch lists (arch, name)))
-      (λ name. is_changed (finite.get old (arch, name)) (after_at old arch lists (arch, name)))
-      (λ name. is_kept (finite.get old (arch, name)) (after_at old arch lists (arch, name)))
-      (λ name. is_some (after_at old arch lists (arch, name)))
-      (λ name. part-after (finite.get old (arch, name)) (after_at old arch lists (arch, name))) names
+      parts-add (λ name. is_added (finite.get old (arch, name)) (after_at old arch listing (arch, name)))
+      (λ name. is_changed (finite.get old (arch, name)) (after_at old arch listing (arch, name)))
+      (λ name. is_kept (finite.get old (arch, name)) (after_at old arch listing (arch, name)))
+      (λ name. is_some (after_at old arch listing (arch, name)))
+      (λ name. part-after (finite.get old (arch, name)) (after_at old arch listing (arch, name))) names
       ∙ length-after
 
 -- ---- a second merge
@@ -181,24 +181,24 @@ none-changed : (current : Option Record) → is_changed current current ≡ fals
 none-changed None = refl
 none-changed (Some current) = ap not ((same-record-is current current).1 refl)
 
-module _ (old : Records) (arch : List ℕ) (lists : Lists) where
+module _ (old : Records) (arch : List ℕ) (listing : ArchiveListing) where
   abbrev once : Records
-  once = merged old arch lists
+  once = merged old arch listing
 
-  same-again : (key : Key) → after_at once arch lists key ≡ finite.get once key
-  same-again key = after_at-twice old arch lists key ∙ sym (merged-get old arch lists key)
+  same-again : (key : Key) → after_at once arch listing key ≡ finite.get once key
+  same-again key = after_at-twice old arch listing key ∙ sym (merged-get old arch listing key)
 
   none-where : (test : Option Record → Option Record → Bool) → ((current : Option Record) → test current current ≡ false) → (names : List (List ℕ))
-      → number_where test once arch lists names ≡ 0
+      → number_where test once arch listing names ≡ 0
   none-where test none names =
-      filter-none (λ name. test (finite.get once (arch, name)) (after_at once arch lists (arch, name)))
+      filter-none (λ name. test (finite.get once (arch, name)) (after_at once arch listing (arch, name)))
       (λ name. ap (test (finite.get once (arch, name))) (same-again (arch, name)) ∙ none (finite.get once (arch, name))) names
 
-  pub counts-twice : merge_counts once arch lists ≡ all_kept (length (recorded_names once arch))
+  pub counts-twice : merge_counts once arch listing ≡ all_kept (length (recorded_names once arch))
   unfolding merge_counts counts_over
   counts-twice =
-      let added : (merge_counts once arch lists).added ≡ 0 = none-where is_added none-added (names_of once arch lists) in
-      let changed : (merge_counts once arch lists).changed ≡ 0 = none-where is_changed none-changed (names_of once arch lists) in
-      let removed : (merge_counts once arch lists).removed ≡ 0 = none-where is_removed none-removed (names_of once arch lists) in
-      let kept : (merge_counts once arch lists).kept ≡ length (recorded_names once arch) = omega (arith, counts-before once arch lists, changed, removed) in
+      let added : (merge_counts once arch listing).added ≡ 0 = none-where is_added none-added (names_of once arch listing) in
+      let changed : (merge_counts once arch listing).changed ≡ 0 = none-where is_changed none-changed (names_of once arch listing) in
+      let removed : (merge_counts once arch listing).removed ≡ 0 = none-where is_removed none-removed (names_of once arch listing) in
+      let kept : (merge_counts once arch listing).kept ≡ length (recorded_names once arch) = omega (arith, counts-before once arch listing, changed, removed) in
       λ i. record { added = added i; changed = changed i; kept = kept i; removed = removed i }

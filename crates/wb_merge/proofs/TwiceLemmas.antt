@@ -14,7 +14,7 @@ use Rattle.wb_states.specs.State.{is_dep_wait, is_installed, is_not_for_us}
 use Rattle.wb_states.proofs.KeyLemmas.{pair_cmp_total, pair_cmp-same}
 use Rattle.wb_merge.specs.declared.listing.Listed.{Listed}
 use Rattle.wb_merge.specs.declared.listing.Built.{Built}
-use Rattle.wb_merge.specs.Listing.{Lists}
+use Rattle.wb_merge.specs.Listing.{ArchiveListing}
 use Rattle.wb_merge.specs.Merge.{after, by_order, covers, built_number, are_waits_met, relisted, blank_record, new_record, newer_record, same_record, listed_record}
 use Rattle.wb_merge.specs.Merged.{Records, after_at, merged}
 use Rattle.wb_merge.specs.Steps.{Key}
@@ -233,20 +233,20 @@ after-twice None (Some listed) built available =
 after-twice (Some current) (Some listed) built available = ap Some (listed-twice listed built available current)
 
 -- the record at a key of an architecture or of another
-abbrev at_key : Bool → Lists → List ℕ → Option Record → Option Record
-at_key is_of lists name current = cond is_of (after current (finite.get lists.listed name) (finite.get lists.built name) lists.available) current
+abbrev at_key : Bool → ArchiveListing → List ℕ → Option Record → Option Record
+at_key is_of listing name current = cond is_of (after current (finite.get listing.listed name) (finite.get listing.built name) listing.available) current
 
-at_key-twice : (is_of : Bool) (lists : Lists) (name : List ℕ) (current : Option Record) → at_key is_of lists name (at_key is_of lists name current) ≡ at_key is_of lists name current
-at_key-twice true lists name current = after-twice current (finite.get lists.listed name) (finite.get lists.built name) lists.available
-at_key-twice false lists name current = refl
+at_key-twice : (is_of : Bool) (listing : ArchiveListing) (name : List ℕ) (current : Option Record) → at_key is_of listing name (at_key is_of listing name current) ≡ at_key is_of listing name current
+at_key-twice true listing name current = after-twice current (finite.get listing.listed name) (finite.get listing.built name) listing.available
+at_key-twice false listing name current = refl
 
-pub after_at-twice : (old : Records) (arch : List ℕ) (lists : Lists) (key : Key) → after_at (merged old arch lists) arch lists key ≡ after_at old arch lists key
+pub after_at-twice : (old : Records) (arch : List ℕ) (listing : ArchiveListing) (key : Key) → after_at (merged old arch listing) arch listing key ≡ after_at old arch listing key
 unfolding after_at
-after_at-twice old arch lists key =
-    ap (at_key (bytes_eq key.0 arch) lists key.1) (merged-get old arch lists key)
-    ∙ at_key-twice (bytes_eq key.0 arch) lists key.1 (finite.get old key)
+after_at-twice old arch listing key =
+    ap (at_key (bytes_eq key.0 arch) listing key.1) (merged-get old arch listing key)
+    ∙ at_key-twice (bytes_eq key.0 arch) listing key.1 (finite.get old key)
 
-pub merged-twice : (old : Records) (arch : List ℕ) (lists : Lists) → merged (merged old arch lists) arch lists ≡ merged old arch lists
-merged-twice old arch lists =
+pub merged-twice : (old : Records) (arch : List ℕ) (listing : ArchiveListing) → merged (merged old arch listing) arch listing ≡ merged old arch listing
+merged-twice old arch listing =
     finite.same_map pair_cmp_total pair_cmp-same _ _ (λ key.
-    merged-get (merged old arch lists) arch lists key ∙ after_at-twice old arch lists key ∙ sym (merged-get old arch lists key))
+    merged-get (merged old arch listing) arch listing key ∙ after_at-twice old arch listing key ∙ sym (merged-get old arch listing key))

@@ -8,8 +8,8 @@ use Rattle.deb_relations.specs.Satisfaction.{Pairs, no_pairs, with_pair}
 use Rattle.wb_states.specs.declared.refusal.Refusal.{Refusal}
 use Rattle.wb_merge.specs.declared.listing.Listed.{Listed}
 use Rattle.wb_merge.specs.declared.listing.Built.{Built}
-use Rattle.wb_merge.specs.Lists.{SourceRow, BinaryRow, source_rows, binary_rows}
-use Rattle.wb_merge.specs.Listing.{map_at, listed_cmp, listed_as, is_candidate, candidates, listed_of, built_cmp, built_as, is_built_from, builds, built_of, is_installable_on, available_of, lists_of, best_from, lists_in, listing_of, is_listed}
+use Rattle.wb_merge.specs.Rows.{SourceRow, BinaryRow, source_rows, binary_rows}
+use Rattle.wb_merge.specs.Listing.{map_at, listed_cmp, listed_as, is_candidate, candidates, listed_of, built_cmp, built_as, is_built_from, builds, built_of, is_installable_on, available_of, listing_of_rows, best_from, listing_in, listing_of, is_listed}
 use Rattle.wb_merge.specs.Offers.{after_rows, with_listed, with_build, with_package, with_binary}
 use Rattle.wb_merge.proofs.FoldLemmas.{fold-map, map-get}
 
@@ -63,8 +63,8 @@ lists-are : (arch : ArchWords) (sources : Result (List SourceRow) Refusal) (pack
     (listed : finite.FinMap text_cmp Listed) (built : finite.FinMap text_cmp Built) (available : Pairs)
     → after_rows (with_listed arch) finite.empty sources ≡ Ok listed
     → after_rows (with_binary arch) (finite.empty, no_pairs) packages ≡ Ok (built, available)
-    → lists_in arch sources packages ≡ Ok (record { listed = listed; built = built; available = available })
-unfolding lists_of
+    → listing_in arch sources packages ≡ Ok (record { listed = listed; built = built; available = available })
+unfolding listing_of_rows
 lists-are arch (Err refusal) packages listed built available s p = absurd (not-ok refusal listed s)
 lists-are arch (Ok sources) (Err refusal) listed built available s p = absurd (not-ok refusal (built, available) p)
 lists-are arch (Ok sources) (Ok packages) listed built available s p =
@@ -86,7 +86,7 @@ unfolding listing_of
 sources-refused arch sources packages refusal s = rw s refl
 
 packages-bad : (arch : ArchWords) (sources : Result (List SourceRow) Refusal) (listed : finite.FinMap text_cmp Listed) (refusal : Refusal)
-    → after_rows (with_listed arch) finite.empty sources ≡ Ok listed → lists_in arch sources (Err refusal) ≡ Err refusal
+    → after_rows (with_listed arch) finite.empty sources ≡ Ok listed → listing_in arch sources (Err refusal) ≡ Err refusal
 packages-bad arch (Err other) listed refusal s = absurd (not-ok other listed s)
 packages-bad arch (Ok rows) listed refusal s = refl
 
@@ -98,11 +98,11 @@ packages-refused arch sources packages listed refusal s p = rw p (packages-bad a
 -- ---- what a listing has at a name
 
 pub listed-get : (arch : ArchWords) (sources : List SourceRow) (packages : List BinaryRow) (name : List ℕ)
-    → finite.get (lists_of arch sources packages).listed name ≡ best_from listed_cmp None (candidates arch sources name)
-unfolding lists_of listed_of candidates is_candidate
+    → finite.get (listing_of_rows arch sources packages).listed name ≡ best_from listed_cmp None (candidates arch sources name)
+unfolding listing_of_rows listed_of candidates is_candidate
 listed-get arch sources packages name = map-get listed_cmp (is_listed arch) (λ row. row.name) (listed_as arch) sources name
 
 pub built-get : (arch : ArchWords) (sources : List SourceRow) (packages : List BinaryRow) (name : List ℕ)
-    → finite.get (lists_of arch sources packages).built name ≡ best_from built_cmp None (builds arch packages name)
-unfolding lists_of built_of builds is_built_from
+    → finite.get (listing_of_rows arch sources packages).built name ≡ best_from built_cmp None (builds arch packages name)
+unfolding listing_of_rows built_of builds is_built_from
 built-get arch sources packages name = map-get built_cmp (λ row. bytes_eq arch.name row.arch) (λ row. row.source) built_as packages name

@@ -8,7 +8,7 @@ use Rattle.wb_merge.specs.declared.listing.Listed.{Listed}
 use Rattle.wb_merge.specs.declared.listing.Built.{Built}
 use Rattle.wb_merge.specs.contracts.listing.Listed as listed
 use Rattle.wb_merge.specs.contracts.listing.Built as built
-use Rattle.wb_merge.specs.Listing.{Lists}
+use Rattle.wb_merge.specs.Listing.{ArchiveListing}
 
 -- the fields of a listing, one after another
 abbrev pub ListingFields : Type 0
@@ -20,8 +20,8 @@ coded_fields =
     coded× (map.code coded_text listed.the_row.coded) (coded× (map.code coded_text built.the_row.coded) coded_pairs)
 
 -- the code of a listing
-abbrev pub coded_lists : Coded Lists
-coded_lists =
-    code_by ListingFields coded_fields (λ lists. (lists.listed, (lists.built, lists.available)))
+abbrev pub coded_listing : Coded ArchiveListing
+coded_listing =
+    code_by ListingFields coded_fields (λ listing. (listing.listed, (listing.built, listing.available)))
     (λ p. record { listed = p.0; built = p.1.0; available = p.1.1 })
     (λ _. refl)

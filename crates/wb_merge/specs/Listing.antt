@@ -19,7 +19,7 @@ use Rattle.wb_states.specs.Moves.{waits_for}
 use Rattle.wb_states.specs.Record.{is_empty_text}
 use Rattle.wb_merge.specs.declared.listing.Listed.{Listed}
 use Rattle.wb_merge.specs.declared.listing.Built.{Built}
-use Rattle.wb_merge.specs.Lists.{SourceRow, BinaryRow, source_rows, binary_rows}
+use Rattle.wb_merge.specs.Rows.{SourceRow, BinaryRow, source_rows, binary_rows}
 
 -- ---- the greatest of some, the first of equals
 
@@ -148,7 +148,7 @@ installable_versions arch rows name =
 -- ---- the listing
 
 -- what the archive lists for an architecture, by the names of source packages
-pub record Lists : Type 0 where
+pub record ArchiveListing : Type 0 where
   pub listed : finite.FinMap text_cmp Listed
   pub built : finite.FinMap text_cmp Built
   pub available : Pairs
@@ -168,19 +168,19 @@ unfoldable pub map_at : {K X : Type 0} {R : K → K → Ordering} → (K → Opt
 map_at f keys = finite.from_entries (with_values f keys)
 
 -- the listing of rows
-unfoldable pub lists_of : ArchWords → List SourceRow → List BinaryRow → Lists
-lists_of arch sources packages = record {
+unfoldable pub listing_of_rows : ArchWords → List SourceRow → List BinaryRow → ArchiveListing
+listing_of_rows arch sources packages = record {
   listed = map_at (listed_of arch sources) (map (λ row. row.name) sources);
   built = map_at (built_of arch packages) (map (λ row. row.source) packages);
   available = available_of arch packages;
 }
 
 -- the listing of the rows of two lists, or the first refusal where a list was refused
-abbrev pub lists_in : ArchWords → Result (List SourceRow) Refusal → Result (List BinaryRow) Refusal → Result Lists Refusal
-lists_in arch (Err refusal) packages = Err refusal
-lists_in arch (Ok sources) (Err refusal) = Err refusal
-lists_in arch (Ok sources) (Ok packages) = Ok (lists_of arch sources packages)
+abbrev pub listing_in : ArchWords → Result (List SourceRow) Refusal → Result (List BinaryRow) Refusal → Result ArchiveListing Refusal
+listing_in arch (Err refusal) packages = Err refusal
+listing_in arch (Ok sources) (Err refusal) = Err refusal
+listing_in arch (Ok sources) (Ok packages) = Ok (listing_of_rows arch sources packages)
 
 -- the listing of two lists, or the refusal for a fault of the Sources list, then of the Packages list
-unfoldable pub listing_of : List ℕ → List ℕ → ArchWords → Result Lists Refusal
-listing_of sources packages arch = lists_in arch (source_rows sources) (binary_rows packages)
+unfoldable pub listing_of : List ℕ → List ℕ → ArchWords → Result ArchiveListing Refusal
+listing_of sources packages arch = listing_in arch (source_rows sources) (binary_rows packages)

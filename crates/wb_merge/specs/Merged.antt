@@ -5,7 +5,7 @@ use Rattle.wb_states.specs.declared.record.Record.{Record}
 use Rattle.wb_states.specs.declared.reply.MergeCounts.{MergeCounts}
 use Rattle.wb_states.specs.Machine.{pair_cmp}
 use Rattle.wb_states.specs.State.{code_of}
-use Rattle.wb_merge.specs.Listing.{Lists, map_at}
+use Rattle.wb_merge.specs.Listing.{ArchiveListing, map_at}
 use Rattle.wb_merge.specs.Merge.{after}
 
 -- the records of the office, by architecture and source package
@@ -13,26 +13,26 @@ abbrev pub Records : Type 0
 Records = finite.FinMap pair_cmp Record
 
 -- the record of a source package after a merge of a listing, from the one that it had
-abbrev pub after_named : Lists → List ℕ → Option Record → Option Record
-after_named lists name current = after current (finite.get lists.listed name) (finite.get lists.built name) lists.available
+abbrev pub after_named : ArchiveListing → List ℕ → Option Record → Option Record
+after_named listing name current = after current (finite.get listing.listed name) (finite.get listing.built name) listing.available
 
 -- the record at a key after the merge of an architecture: other architectures keep theirs
-unfoldable pub after_at : Records → List ℕ → Lists → List ℕ × List ℕ → Option Record
-after_at old arch lists key =
-    if bytes_eq key.0 arch then after_named lists key.1 (finite.get old key) else finite.get old key
+unfoldable pub after_at : Records → List ℕ → ArchiveListing → List ℕ × List ℕ → Option Record
+after_at old arch listing key =
+    if bytes_eq key.0 arch then after_named listing key.1 (finite.get old key) else finite.get old key
 
 -- the keys at which there may be a record after the merge
-abbrev pub merge_keys : Records → List ℕ → Lists → List (List ℕ × List ℕ)
-merge_keys old arch lists = finite.keys old ++ map (λ name. (arch, name)) (finite.keys lists.listed)
+abbrev pub merge_keys : Records → List ℕ → ArchiveListing → List (List ℕ × List ℕ)
+merge_keys old arch listing = finite.keys old ++ map (λ name. (arch, name)) (finite.keys listing.listed)
 
 -- the records after the merge
-unfoldable pub merged : Records → List ℕ → Lists → Records
-merged old arch lists = map_at (after_at old arch lists) (merge_keys old arch lists)
+unfoldable pub merged : Records → List ℕ → ArchiveListing → Records
+merged old arch listing = map_at (after_at old arch listing) (merge_keys old arch listing)
 
 -- the record at a key before a merge of an architecture, and the one after it
-pub record BecomesAt (old : Records) (arch : List ℕ) (lists : Lists) (key : List ℕ × List ℕ) (current new : Record) : Type 0 where
+pub record BecomesAt (old : Records) (arch : List ℕ) (listing : ArchiveListing) (key : List ℕ × List ℕ) (current new : Record) : Type 0 where
   pub was : finite.get old key ≡ Some current
-  pub is : finite.get (merged old arch lists) key ≡ Some new
+  pub is : finite.get (merged old arch listing) key ≡ Some new
 
 -- ---- what is counted
 
@@ -95,27 +95,27 @@ abbrev pub recorded_names : Records → List ℕ → List (List ℕ)
 recorded_names records arch = map (λ key. key.1) (filter (λ key. bytes_eq key.0 arch) (finite.keys records))
 
 -- the source packages of the architecture that have a record, and then those that are listed and have none
-unfoldable pub names_of : Records → List ℕ → Lists → List (List ℕ)
-names_of old arch lists =
-    recorded_names old arch ++ filter (λ name. not (finite.contains_key old (arch, name))) (finite.keys lists.listed)
+unfoldable pub names_of : Records → List ℕ → ArchiveListing → List (List ℕ)
+names_of old arch listing =
+    recorded_names old arch ++ filter (λ name. not (finite.contains_key old (arch, name))) (finite.keys listing.listed)
 
 -- how many source packages pass a test of the record before and the record after
-abbrev pub number_where : (Option Record → Option Record → Bool) → Records → List ℕ → Lists → List (List ℕ) → ℕ
-number_where test old arch lists names =
-    length (filter (λ name. test (finite.get old (arch, name)) (after_at old arch lists (arch, name))) names)
+abbrev pub number_where : (Option Record → Option Record → Bool) → Records → List ℕ → ArchiveListing → List (List ℕ) → ℕ
+number_where test old arch listing names =
+    length (filter (λ name. test (finite.get old (arch, name)) (after_at old arch listing (arch, name))) names)
 
 -- what a merge did, counted over these names
-unfoldable pub counts_over : Records → List ℕ → Lists → List (List ℕ) → MergeCounts
-counts_over old arch lists names = record {
-  added = number_where is_added old arch lists names;
-  changed = number_where is_changed old arch lists names;
-  kept = number_where is_kept old arch lists names;
-  removed = number_where is_removed old arch lists names;
+unfoldable pub counts_over : Records → List ℕ → ArchiveListing → List (List ℕ) → MergeCounts
+counts_over old arch listing names = record {
+  added = number_where is_added old arch listing names;
+  changed = number_where is_changed old arch listing names;
+  kept = number_where is_kept old arch listing names;
+  removed = number_where is_removed old arch listing names;
 }
 
 -- what a merge of an architecture did
-unfoldable pub merge_counts : Records → List ℕ → Lists → MergeCounts
-merge_counts old arch lists = counts_over old arch lists (names_of old arch lists)
+unfoldable pub merge_counts : Records → List ℕ → ArchiveListing → MergeCounts
+merge_counts old arch listing = counts_over old arch listing (names_of old arch listing)
 
 -- the counts of a merge that keeps so many records, and does nothing else
 abbrev pub all_kept : ℕ → MergeCounts

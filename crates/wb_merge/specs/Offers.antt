@@ -13,7 +13,7 @@ use Rattle.wb_states.specs.declared.refusal.ListKind.{ListKind}
 use Rattle.wb_states.specs.declared.refusal.ListingFault.{ListingFault}
 use Rattle.wb_merge.specs.declared.listing.Listed.{Listed}
 use Rattle.wb_merge.specs.declared.listing.Built.{Built}
-use Rattle.wb_merge.specs.Lists.{SourceRow, BinaryRow, rows_behind, onto_rows}
+use Rattle.wb_merge.specs.Rows.{SourceRow, BinaryRow, rows_behind, onto_rows}
 use Rattle.wb_merge.specs.Listing.{is_better, is_listed, listed_cmp, listed_as, built_cmp, built_as, is_installable_on}
 
 -- ---- what a row adds

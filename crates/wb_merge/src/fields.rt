@@ -7,7 +7,7 @@ ghost use Rattle.wb_states.specs.declared.refusal.ListField.TheVariants.{Package
 ghost use Rattle.wb_states.specs.Names.{is_source_name};
 ghost use Rattle.wb_states.specs.Record.{is_empty_text};
 ghost use Rattle.wb_states.specs.Refusals.{name_of_field};
-ghost use Rattle.wb_merge.specs.Lists.{value_named, text_named, is_label_or_empty, wanted_fault, spare_fault};
+ghost use Rattle.wb_merge.specs.Rows.{value_named, text_named, is_label_or_empty, wanted_fault, spare_fault};
 
 use deb_control::{ControlFaultKind, Paragraph};
 use deb_relations::Text;
@@ -21,7 +21,7 @@ pub(crate) const MEMORY: ListingFault = ListingFault::Control {
 };
 
 /// The folded value of the field of this name, where the paragraph has it.
-#[tactic(auto, unfolding(crate::specs::Lists::value_named))]
+#[tactic(auto, unfolding(crate::specs::Rows::value_named))]
 pub(crate) fn value(
     alloc: Global,
     paragraph: &Paragraph<'_>,
@@ -86,7 +86,7 @@ fn formed(text: Text, has_form: bool, field: ListField) -> Result<Text, ListingF
 }
 
 /// The name of the package.
-#[tactic(auto, unfolding(crate::specs::Lists::wanted_fault))]
+#[tactic(auto, unfolding(crate::specs::Rows::wanted_fault))]
 pub(crate) fn package_name(alloc: Global, paragraph: &Paragraph<'_>) -> Result<Text, ListingFault>
     ensures value { IfOk result (λ name. name ≡ text_named (codes "Package") paragraph.now) }
     ensures ok { OnOk result (wanted_fault Package is_source_name paragraph.now ≡ None) }
@@ -122,7 +122,7 @@ pub(crate) fn parse_version(
 }
 
 /// The version of the package.
-#[tactic(auto, unfolding(crate::specs::Lists::wanted_fault))]
+#[tactic(auto, unfolding(crate::specs::Rows::wanted_fault))]
 pub(crate) fn package_version(
     alloc: Global,
     paragraph: &Paragraph<'_>,
@@ -138,7 +138,7 @@ pub(crate) fn package_version(
 }
 
 /// The architectures of the package, which are not empty.
-#[tactic(auto, unfolding(crate::specs::Lists::wanted_fault))]
+#[tactic(auto, unfolding(crate::specs::Rows::wanted_fault))]
 pub(crate) fn architectures(alloc: Global, paragraph: &Paragraph<'_>) -> Result<Text, ListingFault>
     ensures value { IfOk result (λ archs. archs ≡ text_named (codes "Architecture") paragraph.now) }
     ensures ok { OnOk result (
@@ -152,7 +152,7 @@ pub(crate) fn architectures(alloc: Global, paragraph: &Paragraph<'_>) -> Result<
     formed(archs, has_form, field)
 }
 
-#[tactic(auto, unfolding(crate::specs::Lists::is_label_or_empty))]
+#[tactic(auto, unfolding(crate::specs::Rows::is_label_or_empty))]
 fn is_label_or_empty(text: &str) -> bool
     ensures { result ≡ is_label_or_empty text.now }
 {
@@ -160,7 +160,7 @@ fn is_label_or_empty(text: &str) -> bool
 }
 
 /// The priority or the section, which may be missing or empty.
-#[tactic(auto, unfolding(crate::specs::Lists::spare_fault))]
+#[tactic(auto, unfolding(crate::specs::Rows::spare_fault))]
 pub(crate) fn label(
     alloc: Global,
     paragraph: &Paragraph<'_>,

@@ -11,8 +11,8 @@ ghost use Rattle.deb_relations.specs.declared.arch.ArchWords.{ArchWords};
 ghost use Rattle.deb_relations.specs.Satisfaction.{versions_of};
 ghost use Rattle.wb_merge.specs.declared.listing.Listed.{Listed};
 ghost use Rattle.wb_merge.specs.declared.listing.Built.{Built};
-ghost use Rattle.wb_merge.specs.Lists.{AreRows, IsFirstFault, NamesSource, SourceRow, BinaryRow, binary_paragraph, binary_rows, is_source_text, rebuild_number, source_name, source_paragraph, source_rows, with_version};
-ghost use Rattle.wb_merge.specs.Listing.{IsGreatest, available_of, installable_versions, listed_cmp, candidates, built_cmp, builds, lists_of, Lists};
+ghost use Rattle.wb_merge.specs.Rows.{AreRows, IsFirstFault, NamesSource, SourceRow, BinaryRow, binary_paragraph, binary_rows, is_source_text, rebuild_number, source_name, source_paragraph, source_rows, with_version};
+ghost use Rattle.wb_merge.specs.Listing.{IsGreatest, available_of, installable_versions, listed_cmp, candidates, built_cmp, builds, listing_of_rows, ArchiveListing};
 ghost use Rattle.wb_states.specs.declared.record.Record.{Record};
 ghost use Rattle.wb_states.specs.declared.refusal.Refusal.{Refusal};
 ghost use Rattle.wb_states.specs.declared.refusal.ListKind.TheVariants.{Sources, Packages};
@@ -45,11 +45,11 @@ pub fn the_first_faulty_paragraph_decides()
 pub fn listed_is_greatest()
     ensures is { (arch : ArchWords) (sources : List SourceRow) (packages : List BinaryRow)
         (name : List ℕ) → IsGreatest listed_cmp (candidates arch sources name)
-        (map.get (lists_of arch sources packages).listed name) }
+        (map.get (listing_of_rows arch sources packages).listed name) }
     ensures only { (arch : ArchWords) (sources : List SourceRow) (packages : List BinaryRow)
         (name : List ℕ) (found : Option Listed)
         → IsGreatest listed_cmp (candidates arch sources name) found
-        → found ≡ map.get (lists_of arch sources packages).listed name }
+        → found ≡ map.get (listing_of_rows arch sources packages).listed name }
 {}
 
 /// What a listing has of the builds of a source package is the greatest by source version and rebuild
@@ -58,11 +58,11 @@ pub fn listed_is_greatest()
 pub fn built_is_greatest()
     ensures is { (arch : ArchWords) (sources : List SourceRow) (packages : List BinaryRow)
         (name : List ℕ) → IsGreatest built_cmp (builds arch packages name)
-        (map.get (lists_of arch sources packages).built name) }
+        (map.get (listing_of_rows arch sources packages).built name) }
     ensures only { (arch : ArchWords) (sources : List SourceRow) (packages : List BinaryRow)
         (name : List ℕ) (found : Option Built)
         → IsGreatest built_cmp (builds arch packages name) found
-        → found ≡ map.get (lists_of arch sources packages).built name }
+        → found ≡ map.get (listing_of_rows arch sources packages).built name }
 {}
 
 /// What is available of a name are the versions of all its packages that can be installed on the
@@ -75,34 +75,35 @@ pub fn available_is_each_pair()
 /// At each key a merge makes of the record there what the cases say, whatever the other records are: those
 /// of other architectures stay, and a source package that is not listed has none.
 pub fn merge_is_pointwise()
-    ensures at { (old : Records) (arch : List ℕ) (lists : Lists) (key : Key)
-        → map.get (merged old arch lists) key ≡ after_at old arch lists key }
-    ensures others { (old : Records) (arch : List ℕ) (lists : Lists) (key : Key)
-        → key.0 ≢ arch → map.get (merged old arch lists) key ≡ map.get old key }
-    ensures unlisted { (old : Records) (arch : List ℕ) (lists : Lists) (name : List ℕ)
-        → map.get lists.listed name ≡ None → map.get (merged old arch lists) (arch, name) ≡ None }
+    ensures at { (old : Records) (arch : List ℕ) (listing : ArchiveListing) (key : Key)
+        → map.get (merged old arch listing) key ≡ after_at old arch listing key }
+    ensures others { (old : Records) (arch : List ℕ) (listing : ArchiveListing) (key : Key)
+        → key.0 ≢ arch → map.get (merged old arch listing) key ≡ map.get old key }
+    ensures unlisted { (old : Records) (arch : List ℕ) (listing : ArchiveListing) (name : List ℕ)
+        → map.get listing.listed name ≡ None
+        → map.get (merged old arch listing) (arch, name) ≡ None }
 {}
 
 /// A merge of the listing that was merged just before changes nothing, and counts every record of the
 /// architecture as kept.
 pub fn merge_twice_changes_nothing()
-    ensures unchanged { (old : Records) (arch : List ℕ) (lists : Lists)
-        → merged (merged old arch lists) arch lists ≡ merged old arch lists }
-    ensures counts { (old : Records) (arch : List ℕ) (lists : Lists)
-        → merge_counts (merged old arch lists) arch lists
-        ≡ all_kept (length (recorded_names (merged old arch lists) arch)) }
+    ensures unchanged { (old : Records) (arch : List ℕ) (listing : ArchiveListing)
+        → merged (merged old arch listing) arch listing ≡ merged old arch listing }
+    ensures counts { (old : Records) (arch : List ℕ) (listing : ArchiveListing)
+        → merge_counts (merged old arch listing) arch listing
+        ≡ all_kept (length (recorded_names (merged old arch listing) arch)) }
 {}
 
 /// The counts of a merge add up: each record that the architecture had before is removed, changed or
 /// kept, and each that it has afterwards is added, changed or kept.
 pub fn merge_counts_add_up()
-    ensures before { (old : Records) (arch : List ℕ) (lists : Lists)
-        → let counts = merge_counts old arch lists in
+    ensures before { (old : Records) (arch : List ℕ) (listing : ArchiveListing)
+        → let counts = merge_counts old arch listing in
         counts.removed + (counts.changed + counts.kept) ≡ length (recorded_names old arch) }
-    ensures behind { (old : Records) (arch : List ℕ) (lists : Lists)
-        → let counts = merge_counts old arch lists in
+    ensures behind { (old : Records) (arch : List ℕ) (listing : ArchiveListing)
+        → let counts = merge_counts old arch listing in
         counts.added + (counts.changed + counts.kept)
-        ≡ length (recorded_names (merged old arch lists) arch) }
+        ≡ length (recorded_names (merged old arch listing) arch) }
 {}
 
 /// Records are found to be the same exactly where they are equal, so what is counted as kept is as it was.
@@ -115,26 +116,27 @@ pub fn kept_records_are_equal()
 /// a source package that is listed a hold ends exactly where the listing has a later version, or the same
 /// one built with at least the record's number (this project's own).
 pub fn merges_never_go_back()
-    ensures version { (old : Records) (arch : List ℕ) (lists : Lists) (key : Key)
-        (current new : Record) → BecomesAt old arch lists key current new
+    ensures version { (old : Records) (arch : List ℕ) (listing : ArchiveListing) (key : Key)
+        (current new : Record) → BecomesAt old arch listing key current new
         → version_cmp new.version current.version ≢ Less }
-    ensures number { (old : Records) (arch : List ℕ) (lists : Lists) (key : Key)
-        (current new : Record) → BecomesAt old arch lists key current new
+    ensures number { (old : Records) (arch : List ℕ) (listing : ArchiveListing) (key : Key)
+        (current new : Record) → BecomesAt old arch listing key current new
         → version_cmp new.version current.version ≡ Equal → current.number ≤ new.number }
-    ensures earlier { (old : Records) (arch : List ℕ) (lists : Lists) (key : Key)
-        (current new : Record) → BecomesAt old arch lists key current new
+    ensures earlier { (old : Records) (arch : List ℕ) (listing : ArchiveListing) (key : Key)
+        (current new : Record) → BecomesAt old arch listing key current new
         → current.earlier ≡ true → new.earlier ≡ true }
-    ensures not_for_us { (old : Records) (arch : List ℕ) (lists : Lists) (key : Key)
-        (current new : Record) → BecomesAt old arch lists key current new
+    ensures not_for_us { (old : Records) (arch : List ℕ) (listing : ArchiveListing) (key : Key)
+        (current new : Record) → BecomesAt old arch listing key current new
         → current.state ≡ NotForUs → new.state ≡ NotForUs }
-    ensures hold { (old : Records) (arch : List ℕ) (lists : Lists) (key : Key)
-        (current new : Record) (listed : Listed) → BecomesAt old arch lists key current new
-        → is_held current.state ≡ true → map.get lists.listed key.1 ≡ Some listed
-        → ends_hold listed (map.get lists.built key.1) current ≡ false → HasSameHold current new }
-    ensures ended { (old : Records) (arch : List ℕ) (lists : Lists) (key : Key)
-        (current new : Record) (listed : Listed) → BecomesAt old arch lists key current new
-        → key.0 ≡ arch → map.get lists.listed key.1 ≡ Some listed
-        → ends_hold listed (map.get lists.built key.1) current ≡ true → is_held new.state ≡ false }
+    ensures hold { (old : Records) (arch : List ℕ) (listing : ArchiveListing) (key : Key)
+        (current new : Record) (listed : Listed) → BecomesAt old arch listing key current new
+        → is_held current.state ≡ true → map.get listing.listed key.1 ≡ Some listed
+        → ends_hold listed (map.get listing.built key.1) current ≡ false → HasSameHold current new }
+    ensures ended { (old : Records) (arch : List ℕ) (listing : ArchiveListing) (key : Key)
+        (current new : Record) (listed : Listed) → BecomesAt old arch listing key current new
+        → key.0 ≡ arch → map.get listing.listed key.1 ≡ Some listed
+        → ends_hold listed (map.get listing.built key.1) current ≡ true
+        → is_held new.state ≡ false }
 {}
 
 /// The number of a binary-only rebuild is read back from the version that its binaries are given, and so

@@ -5,7 +5,7 @@ ghost use Rattle.std.specs.FinMap as map;
 ghost use Rattle.wb_states.specs.declared.refusal.Refusal.TheVariants.{Memory};
 ghost use Rattle.deb_relations.specs.Text.{text_cmp};
 ghost use Rattle.deb_relations.specs.Satisfaction.{no_pairs};
-ghost use Rattle.wb_merge.specs.Lists.{source_rows, binary_rows};
+ghost use Rattle.wb_merge.specs.Rows.{source_rows, binary_rows};
 ghost use Rattle.wb_merge.specs.Listing.{listing_of};
 ghost use Rattle.wb_merge.specs.Offers.{after_rows, with_listed, with_binary};
 
@@ -56,12 +56,12 @@ pub struct Listing {
 
 impl Model for Listing {
     ghost use Rattle.std.specs.FinMap as map;
-    ghost use Rattle.wb_merge.specs.Listing.{Lists};
-    ghost use Rattle.wb_merge.specs.Coded.{coded_lists};
+    ghost use Rattle.wb_merge.specs.Listing.{ArchiveListing};
+    ghost use Rattle.wb_merge.specs.Coded.{coded_listing};
 
-    ghost Value = { Lists };
+    ghost Value = { ArchiveListing };
 
-    ghost coded = { coded_lists };
+    ghost coded = { coded_listing };
 
     ghost view = { λ listing. record {
       listed = map.from_entries listing.listed.entries;

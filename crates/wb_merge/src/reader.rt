@@ -4,7 +4,7 @@ ghost use Rattle.deb_control.specs.declared.fault.ControlFaultKind.TheVariants.{
 ghost use Rattle.wb_states.specs.declared.refusal.Refusal.TheVariants.{BadListing, Memory};
 ghost use Rattle.wb_states.specs.declared.refusal.ListKind.TheVariants.{Sources, Packages};
 ghost use Rattle.wb_states.specs.declared.refusal.ListingFault.TheVariants.{Control};
-ghost use Rattle.wb_merge.specs.Lists.{source_row_of, binary_row_of};
+ghost use Rattle.wb_merge.specs.Rows.{source_row_of, binary_row_of};
 ghost use Rattle.wb_merge.specs.Offers.{rows_at, HasPassed, GivesRow};
 
 use crate::rows::{BinaryRow, SourceRow};

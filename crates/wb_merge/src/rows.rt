@@ -7,7 +7,7 @@ ghost use Rattle.deb_relations.specs.Arch.{matches_arch};
 ghost use Rattle.wb_states.specs.declared.refusal.ListingFault.TheVariants.{Control, BadValue};
 ghost use Rattle.wb_states.specs.declared.refusal.ListField.TheVariants.{Source};
 ghost use Rattle.wb_states.specs.Record.{is_empty_text};
-ghost use Rattle.wb_merge.specs.Lists.{value_named, is_source_text, spare_fault, source_row_of, binary_row_of, with_source};
+ghost use Rattle.wb_merge.specs.Rows.{value_named, is_source_text, spare_fault, source_row_of, binary_row_of, with_source};
 ghost use Rattle.wb_merge.specs.Listing.{is_listed};
 
 use crate::fields::{architectures, label, package_name, package_version, text, value};
@@ -51,7 +51,7 @@ pub(crate) struct SourceRow {
 
 impl Model for SourceRow {
     ghost use Rattle.deb_control.specs.Lines.{words_in};
-    ghost use Rattle.wb_merge.specs.Lists.{SourceRow};
+    ghost use Rattle.wb_merge.specs.Rows.{SourceRow};
 
     ghost Value = { SourceRow };
 
@@ -69,7 +69,7 @@ impl Model for SourceRow {
 
 impl SourceRow {
     /// Reads a paragraph of a Sources list.
-    #[tactic(auto, unfolding(crate::specs::Lists::source_row_of, crate::specs::Lists::source_fault))]
+    #[tactic(auto, unfolding(crate::specs::Rows::source_row_of, crate::specs::Rows::source_fault))]
     pub(crate) fn read(alloc: Global, paragraph: &Paragraph<'_>) -> Result<SourceRow, ListingFault>
         ensures value { IfOk result (λ row. source_row_of paragraph.now ≡ Ok row) }
         ensures refused { IfErr result (λ fault. fault ≢ Control Memory
@@ -111,7 +111,7 @@ pub(crate) struct BinaryRow {
 
 impl Model for BinaryRow {
     ghost use Rattle.std.specs.Prelude.{unwrap_or};
-    ghost use Rattle.wb_merge.specs.Lists.{BinaryRow};
+    ghost use Rattle.wb_merge.specs.Rows.{BinaryRow};
 
     ghost Value = { BinaryRow };
 
@@ -126,7 +126,7 @@ impl Model for BinaryRow {
 }
 
 /// The row of a package that this text says the source of.
-#[tactic(auto, unfolding(crate::specs::Lists::is_source_text))]
+#[tactic(auto, unfolding(crate::specs::Rows::is_source_text))]
 fn with_source(
     alloc: Global,
     name: Text,
@@ -160,7 +160,7 @@ fn with_source(
 
 impl BinaryRow {
     /// Reads a paragraph of a Packages list.
-    #[tactic(auto, unfolding(crate::specs::Lists::binary_row_of, crate::specs::Lists::binary_fault, crate::specs::Lists::spare_fault))]
+    #[tactic(auto, unfolding(crate::specs::Rows::binary_row_of, crate::specs::Rows::binary_fault, crate::specs::Rows::spare_fault))]
     pub(crate) fn read(alloc: Global, paragraph: &Paragraph<'_>) -> Result<BinaryRow, ListingFault>
         ensures value { IfOk result (λ row. binary_row_of paragraph.now ≡ Ok row) }
         ensures refused { IfErr result (λ fault. fault ≢ Control Memory

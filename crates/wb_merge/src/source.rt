@@ -8,7 +8,7 @@ ghost use Rattle.deb_version.specs.Syntax.{is_version_text};
 ghost use Rattle.wb_states.specs.declared.refusal.ListingFault.TheVariants.{Control, BadValue};
 ghost use Rattle.wb_states.specs.declared.refusal.ListField.TheVariants.{Source};
 ghost use Rattle.wb_states.specs.Holds.{has_value};
-ghost use Rattle.wb_merge.specs.Lists.{source_name, has_source_version, in_brackets, is_space, source_version, is_source_text, rebuild_number};
+ghost use Rattle.wb_merge.specs.Rows.{source_name, has_source_version, in_brackets, is_space, source_version, is_source_text, rebuild_number};
 ghost use Rattle.wb_merge.specs.Backwards.{begins_digit, begins_plus_b};
 
 use crate::fields::parse_version;
@@ -18,7 +18,7 @@ use std::alloc::Global;
 use wb_states::{ListField, ListingFault, is_source};
 
 /// The name that stands before the first space, and what stands behind the space.
-#[tactic(auto, unfolding(crate::specs::Lists::source_name, crate::specs::Lists::has_source_version))]
+#[tactic(auto, unfolding(crate::specs::Rows::source_name, crate::specs::Rows::has_source_version))]
 fn cut_source(text: &str) -> (&str, Option<&str>)
     ensures name { result.0.now ≡ source_name text.now }
     ensures rest { option_copied result.1 ≡ (if has_source_version text.now
@@ -55,7 +55,7 @@ fn bracketed_version(alloc: Global, text: &str) -> Result<Version, ListingFault>
 }
 
 /// The source package that a text names, and its version where one is written (Debian Policy 5.6.1).
-#[tactic(auto, unfolding(crate::specs::Lists::is_source_text, crate::specs::Lists::source_version))]
+#[tactic(auto, unfolding(crate::specs::Rows::is_source_text, crate::specs::Rows::source_version))]
 pub(crate) fn parse_source(
     alloc: Global,
     text: &str,

@@ -7,7 +7,7 @@ use Rattle.wb_states.specs.declared.command.Command.TheVariants.{Merge}
 use Rattle.wb_states.specs.declared.command.Part.{Part}
 use Rattle.wb_states.specs.declared.refusal.Refusal.{Refusal}
 use Rattle.wb_states.specs.Machine.{Machine}
-use Rattle.wb_merge.specs.Listing.{Lists}
+use Rattle.wb_merge.specs.Listing.{ArchiveListing}
 use Rattle.wb_merge.specs.Merge.{after}
 use Rattle.wb_merge.specs.Merged.{Records, after_at}
 use Rattle.wb_merge.proofs.MergeLemmas.{merged-get}
@@ -20,14 +20,14 @@ use Rattle.wb_office.proofs.FrameLemmas.{part-others, parts-others}
 use Rattle.wb_office.proofs.PassLemmas.{either-false, passes}
 
 -- what a part makes of the record at a key depends on that record alone
-with-same : (records other : Records) (arch : List ℕ) (read : Result Lists Refusal) (key : List ℕ × List ℕ) → map.get records key ≡ map.get other key
+with-same : (records other : Records) (arch : List ℕ) (read : Result ArchiveListing Refusal) (key : List ℕ × List ℕ) → map.get records key ≡ map.get other key
     → map.get (records_with records arch read) key ≡ map.get (records_with other arch read) key
 unfolding after_at
 with-same records other arch (Err refusal) key same = same
-with-same records other arch (Ok lists) key same =
-    merged-get records arch lists key
-    ∙ (λ i. cond (bytes_eq key.0 arch) (after (same i) (map.get lists.listed key.1) (map.get lists.built key.1) lists.available) (same i))
-    ∙ sym (merged-get other arch lists key)
+with-same records other arch (Ok listing) key same =
+    merged-get records arch listing key
+    ∙ (λ i. cond (bytes_eq key.0 arch) (after (same i) (map.get listing.listed key.1) (map.get listing.built key.1) listing.available) (same i))
+    ∙ sym (merged-get other arch listing key)
 
 -- a part that is not for one architecture of a list is not for that of its middle
 middle-other : (test : Part → Bool) (before : List Part) (part : Part) (behind : List Part) → list_any test (before ++ part ∷ behind) ≡ false → test part ≡ false

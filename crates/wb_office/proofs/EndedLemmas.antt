@@ -110,7 +110,7 @@ change-free take_number machine (of.Enter arch source version priority section) 
     insert_all pair_cmp_total pair_cmp-same (λ key. IsNotTaken take_number) machine.records (arch, source) (entered version priority section) tt old
 change-free take_number machine (of.Merge sources parts) below old allowed =
     records_after-keeps (λ key. IsNotTaken take_number) machine sources parts
-    (λ part lists is source found had. after-free take_number found (map.get lists.listed source) (map.get lists.built source) lists.available had) machine.records old
+    (λ part listing is source found had. after-free take_number found (map.get listing.listed source) (map.get listing.built source) listing.available had) machine.records old
 change-free take_number machine (of.Next arch builder after) below old allowed = moving-free take_number machine (of.Next arch builder after) below old allowed
 change-free take_number machine (of.Take arch builder source version) below old allowed = moving-free take_number machine (of.Take arch builder source version) below old allowed
 change-free take_number machine (of.Built number) below old allowed = moving-free take_number machine (of.Built number) below old allowed

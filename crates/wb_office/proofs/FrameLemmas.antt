@@ -12,7 +12,7 @@ use Rattle.wb_states.specs.Machine.{Machine, pair_cmp}
 use Rattle.wb_states.specs.Moves.{moved}
 use Rattle.wb_states.specs.Queue.{Entry}
 use Rattle.wb_states.proofs.KeyLemmas.{pair_cmp_total, pair_cmp-same, eq_by_cmp-same}
-use Rattle.wb_merge.specs.Listing.{Lists}
+use Rattle.wb_merge.specs.Listing.{ArchiveListing}
 use Rattle.wb_merge.specs.Merge.{after}
 use Rattle.wb_merge.specs.Merged.{Records, after_at}
 use Rattle.wb_merge.proofs.MergeLemmas.{merged-get}
@@ -34,13 +34,13 @@ insert-other records key other current apart =
     ]) refl
 
 -- a part changes no record of another architecture
-pub part-others : (records : Records) (arch : List ℕ) (read : Result Lists Refusal) (key : List ℕ × List ℕ) → bytes_eq key.0 arch ≡ false
+pub part-others : (records : Records) (arch : List ℕ) (read : Result ArchiveListing Refusal) (key : List ℕ × List ℕ) → bytes_eq key.0 arch ≡ false
     → map.get (records_with records arch read) key ≡ map.get records key
 unfolding after_at
 part-others records arch (Err refusal) key other = refl
-part-others records arch (Ok lists) key other =
-    merged-get records arch lists key
-    ∙ ap (λ b. cond b (after (map.get records key) (map.get lists.listed key.1) (map.get lists.built key.1) lists.available) (map.get records key)) other
+part-others records arch (Ok listing) key other =
+    merged-get records arch listing key
+    ∙ ap (λ b. cond b (after (map.get records key) (map.get listing.listed key.1) (map.get listing.built key.1) listing.available) (map.get records key)) other
 
 either-not : (a b : Bool) → ((a || b) ≡ true → ⊥) → (a ≡ false) × (b ≡ true → ⊥)
 either-not true b apart = absurd (apart refl)

@@ -25,8 +25,8 @@ use Rattle.wb_states.specs.Record.{IsTextWithin, is_empty_text}
 use Rattle.wb_states.proofs.KeyLemmas.{text_cmp_total, text_cmp-same}
 use Rattle.wb_merge.specs.declared.listing.Listed.{Listed}
 use Rattle.wb_merge.specs.declared.listing.Built.{Built}
-use Rattle.wb_merge.specs.Lists.{SourceRow, BinaryRow, source_rows, binary_rows}
-use Rattle.wb_merge.specs.Listing.{Lists, better, best_from, joined, printed_for, within_limit, both_joined, depends_of, listed_as, is_candidate, listed_cmp, candidates, listed_of, built_as, built_cmp, is_built_from, builds, built_of, map_at, lists_of, lists_in, listing_of}
+use Rattle.wb_merge.specs.Rows.{SourceRow, BinaryRow, source_rows, binary_rows}
+use Rattle.wb_merge.specs.Listing.{ArchiveListing, better, best_from, joined, printed_for, within_limit, both_joined, depends_of, listed_as, is_candidate, listed_cmp, candidates, listed_of, built_as, built_cmp, is_built_from, builds, built_of, map_at, listing_of_rows, listing_in, listing_of}
 use Rattle.wb_merge.proofs.ListingLemmas.{map_at-get}
 use Rattle.wb_office.proofs.PassLemmas.{both-true}
 use Rattle.wb_office.proofs.RowLemmas.{IsGoodSource, IsSmall, source_rows-good, binary_rows-small}
@@ -44,9 +44,9 @@ abbrev pub IsSmallBuilt : Built → Type 0
 IsSmallBuilt built = built.number ≤ rebuild_limit
 
 -- a listing of which all has its forms
-pub record IsGoodListing (lists : Lists) : Type 0 where
-  pub listed : (source : List ℕ) → IfSome (finite.get lists.listed source) (IsGoodListed source)
-  pub built : (source : List ℕ) → IfSome (finite.get lists.built source) IsSmallBuilt
+pub record IsGoodListing (listing : ArchiveListing) : Type 0 where
+  pub listed : (source : List ℕ) → IfSome (finite.get listing.listed source) (IsGoodListed source)
+  pub built : (source : List ℕ) → IfSome (finite.get listing.built source) IsSmallBuilt
 
 pub reading_of-faultless : (text : List ℕ) → fault_of text ≡ None → IsOk (reading_of text)
 unfolding reading_of
@@ -163,25 +163,25 @@ built-small arch rows small name =
     (every IsSmall (λ row. is_built_from arch name row ≡ true → IsSmallBuilt (built_as row)) (λ row small _. small) rows small))
 
 lists-good : (arch : ArchWords) (sources : List SourceRow) (packages : List BinaryRow) → AllByRecursion IsGoodSource sources → AllByRecursion IsSmall packages
-    → IsGoodListing (lists_of arch sources packages)
-unfolding lists_of
+    → IsGoodListing (listing_of_rows arch sources packages)
+unfolding listing_of_rows
 lists-good arch sources packages good small = record {
   listed = map_at-has (listed_of arch sources) (map (λ row. row.name) sources) IsGoodListed (listed-good arch sources good);
   built = map_at-has (built_of arch packages) (map (λ row. row.source) packages) (λ _. IsSmallBuilt) (built-small arch packages small);
 }
 
-lists_in-good : (arch : ArchWords) (sources : Result (List SourceRow) Refusal) (packages : Result (List BinaryRow) Refusal) (lists : Lists)
+listing_in-good : (arch : ArchWords) (sources : Result (List SourceRow) Refusal) (packages : Result (List BinaryRow) Refusal) (listing : ArchiveListing)
     → ((rows : List SourceRow) → sources ≡ Ok rows → AllByRecursion IsGoodSource rows)
     → ((rows : List BinaryRow) → packages ≡ Ok rows → AllByRecursion IsSmall rows)
-    → lists_in arch sources packages ≡ Ok lists → IsGoodListing lists
-lists_in-good arch (Err refusal) packages lists good small is = cc
-lists_in-good arch (Ok sources) (Err refusal) lists good small is = cc
-lists_in-good arch (Ok sources) (Ok packages) lists good small is =
-    subst IsGoodListing (only (lists_of arch sources packages) is) (lists-good arch sources packages (good sources refl) (small packages refl)) where
-      only : (made : Lists) → ◌≡◌ {A = Result Lists Refusal} (Ok made) (Ok lists) → made ≡ lists
+    → listing_in arch sources packages ≡ Ok listing → IsGoodListing listing
+listing_in-good arch (Err refusal) packages listing good small is = cc
+listing_in-good arch (Ok sources) (Err refusal) listing good small is = cc
+listing_in-good arch (Ok sources) (Ok packages) listing good small is =
+    subst IsGoodListing (only (listing_of_rows arch sources packages) is) (lists-good arch sources packages (good sources refl) (small packages refl)) where
+      only : (made : ArchiveListing) → ◌≡◌ {A = Result ArchiveListing Refusal} (Ok made) (Ok listing) → made ≡ listing
       only made e = cc
 
-pub listing_of-good : (sources packages : List ℕ) (arch : ArchWords) (lists : Lists) → listing_of sources packages arch ≡ Ok lists → IsGoodListing lists
+pub listing_of-good : (sources packages : List ℕ) (arch : ArchWords) (listing : ArchiveListing) → listing_of sources packages arch ≡ Ok listing → IsGoodListing listing
 unfolding listing_of
-listing_of-good sources packages arch lists is =
-    lists_in-good arch (source_rows sources) (binary_rows packages) lists (source_rows-good sources) (binary_rows-small packages) is
+listing_of-good sources packages arch listing is =
+    listing_in-good arch (source_rows sources) (binary_rows packages) listing (source_rows-good sources) (binary_rows-small packages) is

@@ -9,7 +9,7 @@ use Rattle.wb_states.specs.Limits.{count_limit}
 use Rattle.wb_states.specs.Machine.{Machine, arch_words, with_words, AreWaits, IsRecord, IsConsistent}
 use Rattle.wb_merge.specs.declared.listing.Listed.{Listed}
 use Rattle.wb_merge.specs.declared.listing.Built.{Built}
-use Rattle.wb_merge.specs.Listing.{Lists}
+use Rattle.wb_merge.specs.Listing.{ArchiveListing}
 use Rattle.wb_merge.specs.Merge.{new_record, listed_record, after}
 use Rattle.wb_merge.specs.Merged.{Records}
 use Rattle.wb_office.specs.Parts.{listing_for, part_listing, records_after}
@@ -27,13 +27,13 @@ abbrev MayReplace : Machine → OfKeys
 MayReplace machine key current = IsRecord machine key.0 key.1 current × IfSome current.take (IsNumberAt machine key)
 
 -- what the merge makes of a record that may be there
-after-may : (machine : Machine) (arch : List ℕ) (lists : Lists) → IsTrue (map.contains_key machine.archs arch) → IsGoodListing lists
+after-may : (machine : Machine) (arch : List ℕ) (listing : ArchiveListing) → IsTrue (map.contains_key machine.archs arch) → IsGoodListing listing
     → (source : List ℕ) (found : Option Record) → IfSome found (MayReplace machine (arch, source))
-    → IfSome (after found (map.get lists.listed source) (map.get lists.built source) lists.available) (MayReplace machine (arch, source))
-after-may machine arch lists known good source found old =
-    at found (map.get lists.listed source) (map.get lists.built source) (good.listed source) (good.built source) old where
+    → IfSome (after found (map.get listing.listed source) (map.get listing.built source) listing.available) (MayReplace machine (arch, source))
+after-may machine arch listing known good source found old =
+    at found (map.get listing.listed source) (map.get listing.built source) (good.listed source) (good.built source) old where
       at : (found : Option Record) (listed : Option Listed) (built : Option Built) → IfSome listed (IsGoodListed source) → IfSome built IsSmallBuilt
-          → IfSome found (MayReplace machine (arch, source)) → IfSome (after found listed built lists.available) (MayReplace machine (arch, source))
+          → IfSome found (MayReplace machine (arch, source)) → IfSome (after found listed built listing.available) (MayReplace machine (arch, source))
       at found None built fine small old = tt
       at None (Some listed) built fine small old =
           let left = new-left listed built in
@@ -47,12 +47,12 @@ after-may machine arch lists known good source found old =
           } in
           (is, left.take (IsNumberAt machine (arch, source)) tt)
       at (Some current) (Some listed) built fine small old =
-          let left = listed-left listed built lists.available current in
+          let left = listed-left listed built listing.available current in
           let had : IsRecord machine arch source current = old.0 in
-          let is : IsRecord machine arch source (listed_record listed built lists.available current) = record {
+          let is : IsRecord machine arch source (listed_record listed built listing.available current) = record {
             name = had.name;
             known = had.known;
-            fields = listed-well source listed built lists.available current fine small had.fields;
+            fields = listed-well source listed built listing.available current fine small had.fields;
             holder = left.holder (λ builder. IsTrue (set.contains machine.builders (builder, arch))) had.holder;
             waits = left.waits (AreWaits (arch_words machine arch)) (inl refl) had.waits;
             given = left.take (λ take_number. (1 ≤ take_number) × (take_number ≤ machine.handed)) had.given;
@@ -60,14 +60,14 @@ after-may machine arch lists known good source found old =
           (is, left.take (IsNumberAt machine (arch, source)) old.1)
 
 -- a part that can be merged is of an architecture that is there, and its listing has its forms
-part-is : (machine : Machine) (sources : List ℕ) (part : Part) (lists : Lists) → part_listing machine sources part ≡ Ok lists
-    → IsTrue (map.contains_key machine.archs part.arch) × IsGoodListing lists
+part-is : (machine : Machine) (sources : List ℕ) (part : Part) (listing : ArchiveListing) → part_listing machine sources part ≡ Ok listing
+    → IsTrue (map.contains_key machine.archs part.arch) × IsGoodListing listing
 unfolding part_listing
-part-is machine sources part lists is = at (map.get machine.archs part.arch) refl is where
-  at : (found : Option OsCpu) → map.get machine.archs part.arch ≡ found → listing_for sources part found ≡ Ok lists
-      → IsTrue (map.contains_key machine.archs part.arch) × IsGoodListing lists
+part-is machine sources part listing is = at (map.get machine.archs part.arch) refl is where
+  at : (found : Option OsCpu) → map.get machine.archs part.arch ≡ found → listing_for sources part found ≡ Ok listing
+      → IsTrue (map.contains_key machine.archs part.arch) × IsGoodListing listing
   at None e is = cc
-  at (Some words) e is = (ap is_some e, listing_of-good sources part.packages (with_words part.arch words) lists is)
+  at (Some words) e is = (ap is_some e, listing_of-good sources part.packages (with_words part.arch words) listing is)
 
 all-may : (machine : Machine) → IsConsistent machine → (key : List ℕ × List ℕ) → IfSome (map.get machine.records key) (MayReplace machine key)
 all-may machine old key = at (map.get machine.records key) refl (old.records key.0 key.1) where
@@ -83,7 +83,7 @@ merged-may : (machine : Machine) (sources : List ℕ) (parts : List Part) → Is
     → (key : List ℕ × List ℕ) → IfSome (map.get (records_after machine sources parts machine.records) key) (MayReplace machine key)
 merged-may machine sources parts old =
     records_after-keeps (MayReplace machine) machine sources parts
-    (λ part lists is. let known = part-is machine sources part lists is in after-may machine part.arch lists known.0 known.1)
+    (λ part listing is. let known = part-is machine sources part listing is in after-may machine part.arch listing known.0 known.1)
     machine.records (all-may machine old)
 
 -- the take number of a record is that of the one at its key before

@@ -9,7 +9,7 @@ use Rattle.wb_states.specs.declared.refusal.Refusal.TheVariants.{BadName, BadNum
 use Rattle.wb_states.specs.Limits.{count_limit}
 use Rattle.wb_states.specs.Machine.{Machine}
 use Rattle.wb_states.specs.Names.{is_arch_name}
-use Rattle.wb_merge.specs.Listing.{Lists}
+use Rattle.wb_merge.specs.Listing.{ArchiveListing}
 use Rattle.wb_merge.specs.Merged.{Records}
 use Rattle.wb_office.specs.Checks.{first_refusal, first_some, has_repeated_arch, state_refusal, text_refusal, when}
 use Rattle.wb_office.specs.Found.{refused_merge}
@@ -35,8 +35,8 @@ first_refusal_of_merge machine sources parts =
     (nat_le count_limit machine.accepted) machine.handed
 
 -- a part is merged where it has a listing
-pub is_merged-end : (records : Records) (arch : List ℕ) (listing : Result Lists Refusal) → is_merged (end_with records arch listing) ≡ is_ok listing
-is_merged-end records arch (Ok lists) = refl
+pub is_merged-end : (records : Records) (arch : List ℕ) (listing : Result ArchiveListing Refusal) → is_merged (end_with records arch listing) ≡ is_ok listing
+is_merged-end records arch (Ok listing) = refl
 is_merged-end records arch (Err refusal) = refl
 
 -- the refusal of a merge, by the outcomes of its checks

@@ -142,7 +142,7 @@ change-takes machine (of.Enter arch source version priority section) old allowed
     insert_all pair_cmp_total pair_cmp-same (λ key. HasTakeByState) machine.records (arch, source) (entered version priority section) refl old
 change-takes machine (of.Merge sources parts) old allowed =
     records_after-keeps (λ key. HasTakeByState) machine sources parts
-    (λ part lists is source found had. after-take found (map.get lists.listed source) (map.get lists.built source) lists.available had) machine.records old
+    (λ part listing is source found had. after-take found (map.get listing.listed source) (map.get listing.built source) listing.available had) machine.records old
 change-takes machine (of.Next arch builder after) old allowed = moving-takes machine (of.Next arch builder after) old allowed
 change-takes machine (of.Take arch builder source version) old allowed = moving-takes machine (of.Take arch builder source version) old allowed
 change-takes machine (of.Built take_number) old allowed = moving-takes machine (of.Built take_number) old allowed

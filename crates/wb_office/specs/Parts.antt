@@ -10,21 +10,21 @@ use Rattle.wb_states.specs.declared.reply.PartEnd.{PartEnd}
 use Rattle.wb_states.specs.declared.reply.PartEnd.TheVariants.{Merged, Refused}
 use Rattle.wb_states.specs.declared.reply.PartReply.{PartReply}
 use Rattle.wb_states.specs.Machine.{Machine, with_words}
-use Rattle.wb_merge.specs.Listing.{Lists, listing_of}
+use Rattle.wb_merge.specs.Listing.{ArchiveListing, listing_of}
 use Rattle.wb_merge.specs.Merged.{Records, merged, merge_counts}
 
 -- the listing of a part whose architecture has these words, if it was added
-abbrev pub listing_for : List ℕ → Part → Option OsCpu → Result Lists Refusal
+abbrev pub listing_for : List ℕ → Part → Option OsCpu → Result ArchiveListing Refusal
 listing_for sources part None = Err UnknownArch
 listing_for sources part (Some words) = listing_of sources part.packages (with_words part.arch words)
 
 -- the listing of a part, or why the part is refused
-unfoldable pub part_listing : Machine → List ℕ → Part → Result Lists Refusal
+unfoldable pub part_listing : Machine → List ℕ → Part → Result ArchiveListing Refusal
 part_listing machine sources part = listing_for sources part (map.get machine.archs part.arch)
 
 -- why a part is refused
-abbrev pub refusal_in : Result Lists Refusal → Option Refusal
-refusal_in (Ok lists) = None
+abbrev pub refusal_in : Result ArchiveListing Refusal → Option Refusal
+refusal_in (Ok listing) = None
 refusal_in (Err refusal) = Some refusal
 
 -- whether a part can be merged
@@ -43,14 +43,14 @@ is_merged (Merged counts) = true
 is_merged (Refused refusal) = false
 
 -- the records after a part: a refused one changes nothing
-abbrev pub records_with : Records → List ℕ → Result Lists Refusal → Records
+abbrev pub records_with : Records → List ℕ → Result ArchiveListing Refusal → Records
 records_with records arch (Err refusal) = records
-records_with records arch (Ok lists) = merged records arch lists
+records_with records arch (Ok listing) = merged records arch listing
 
 -- the end of a part
-abbrev pub end_with : Records → List ℕ → Result Lists Refusal → PartEnd
+abbrev pub end_with : Records → List ℕ → Result ArchiveListing Refusal → PartEnd
 end_with records arch (Err refusal) = Refused refusal
-end_with records arch (Ok lists) = Merged (merge_counts records arch lists)
+end_with records arch (Ok listing) = Merged (merge_counts records arch listing)
 
 -- the records after the parts, from these on
 abbrev pub records_after : Machine → List ℕ → List Part → Records → Records

@@ -3,7 +3,7 @@ use Rattle.std.specs.FinMap as finite
 use Rattle.deb_relations.specs.Satisfaction.{no_pairs}
 use Rattle.deb_relations.specs.Text.{text_cmp}
 use Rattle.wb_states.specs.declared.refusal.ListKind.TheVariants.{Packages}
-use Rattle.wb_merge.specs.Lists.{binary_row_of, binary_rows}
+use Rattle.wb_merge.specs.Rows.{binary_row_of, binary_rows}
 use Rattle.wb_merge.specs.Offers.{after_rows, with_binary, rows_at, number_of, HasPassed}
 use Rattle.wb_merge.proofs.listing.read_packages.Given as goal
 

@@ -2,7 +2,7 @@ use Rattle.std.proofs.Common.{◌≡◌}
 use Rattle.std.specs.FinMap as finite
 use Rattle.deb_relations.specs.Text.{text_cmp}
 use Rattle.wb_states.specs.declared.refusal.ListKind.TheVariants.{Sources}
-use Rattle.wb_merge.specs.Lists.{source_row_of, source_rows}
+use Rattle.wb_merge.specs.Rows.{source_row_of, source_rows}
 use Rattle.wb_merge.specs.Offers.{after_rows, with_listed, rows_at, number_of, HasPassed}
 use Rattle.wb_merge.proofs.listing.read_sources.Given as goal
 

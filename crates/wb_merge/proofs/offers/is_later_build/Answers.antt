@@ -4,7 +4,7 @@ use Rattle.std.specs.BTreeMap.{is_at}
 use Rattle.std.specs.Ordering.{is_gt, ordering_then, nat_cmp}
 use Rattle.deb_relations.specs.Text.{text_cmp}
 use Rattle.deb_version.specs.Order.{version_cmp}
-use Rattle.wb_merge.specs.Lists.{BinaryRow}
+use Rattle.wb_merge.specs.Rows.{BinaryRow}
 use Rattle.wb_merge.specs.Listing.{built_cmp, built_as}
 use Rattle.wb_merge.proofs.OfferLemmas.{better-some, better-none}
 use Rattle.wb_merge.proofs.offers.is_later_build.Goals as goal

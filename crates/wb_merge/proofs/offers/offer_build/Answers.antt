@@ -4,7 +4,7 @@ use Rattle.deb_relations.specs.Text.{text_cmp}
 use Rattle.wb_states.proofs.KeyLemmas.{text_cmp_total, text_cmp-same}
 use Rattle.wb_states.proofs.MapLemmas.{one-inserted}
 use Rattle.wb_merge.specs.declared.listing.Built.{Built}
-use Rattle.wb_merge.specs.Lists.{BinaryRow}
+use Rattle.wb_merge.specs.Rows.{BinaryRow}
 use Rattle.wb_merge.specs.Listing.{built_as}
 use Rattle.wb_merge.proofs.OfferLemmas.{differ, agree, build-other, build-kept, build-new}
 use Rattle.wb_merge.proofs.offers.offer_build.Goals as goal

@@ -4,7 +4,7 @@ use Rattle.deb_relations.specs.Text.{text_cmp}
 use Rattle.wb_states.proofs.KeyLemmas.{text_cmp_total, text_cmp-same}
 use Rattle.wb_states.proofs.MapLemmas.{one-inserted}
 use Rattle.wb_merge.specs.declared.listing.Listed.{Listed}
-use Rattle.wb_merge.specs.Lists.{SourceRow}
+use Rattle.wb_merge.specs.Rows.{SourceRow}
 use Rattle.wb_merge.proofs.OfferLemmas.{source-other, source-kept, source-new}
 use Rattle.wb_merge.proofs.offers.offer_source.Goals as goal
 

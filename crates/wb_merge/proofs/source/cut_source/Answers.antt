@@ -1,6 +1,6 @@
 use Rattle.std.proofs.Common.{refl, lit<, None}
 use Rattle.std.proofs.lemmas.Str.Pattern.{split_once_first}
-use Rattle.wb_merge.specs.Lists.{has_source_version}
+use Rattle.wb_merge.specs.Rows.{has_source_version}
 use Rattle.wb_merge.proofs.SourceLemmas.{no_space}
 use Rattle.wb_merge.proofs.source.cut_source.Goals as goal
 

@@ -219,13 +219,13 @@ binary_row_of fields = unless_faulty (binary_fault fields) (binary_row fields)
 -- ---- lists
 
 -- the refusal of a list for a fault in the paragraph of this number, counted from 1
-abbrev told : {X : Type 0} → ListKind → ℕ → Result X ListingFault → Result X Refusal
-told which number (Ok row) = Ok row
-told which number (Err fault) = Err (BadListing which number fault)
+abbrev refused_at : {X : Type 0} → ListKind → ℕ → Result X ListingFault → Result X Refusal
+refused_at which number (Ok row) = Ok row
+refused_at which number (Err fault) = Err (BadListing which number fault)
 
 -- the row of a paragraph, or the refusal for its fault
 abbrev pub row_in : {X : Type 0} → (List Entry → Result X ListingFault) → ListKind → ℕ → Result (List Entry) ControlFaultKind → Result X Refusal
-row_in read which number (Ok fields) = told which number (read fields)
+row_in read which number (Ok fields) = refused_at which number (read fields)
 row_in read which number (Err kind) = Err (BadListing which number (Control kind))
 
 -- a row before the rows behind it
