@@ -20,7 +20,7 @@ use Rattle.wb_office.specs.Checks.{first_refusal}
 use Rattle.wb_office.specs.HandOuts.{HandOut, IsBeingBuilt, HasTakeByState, HasTakesByState, Ends, Rise, given_by, hand_out, hand_outs, onto_hand_outs, holds, is_held_as}
 use Rattle.wb_office.specs.Moving.{target_of, moving, with_move, again_of}
 use Rattle.wb_office.specs.Replay.{replay}
-use Rattle.wb_office.specs.Step.{outcome, step, change, counted, after_move, after_take, reply_to, job_of}
+use Rattle.wb_office.specs.Step.{outcome, step, change, counted, after_move, after_take, reply_to, assignment_reply}
 use Rattle.wb_office.proofs.MovingLemmas.{MayMove, moving-may}
 use Rattle.wb_office.proofs.PassLemmas.{Passes, passes, step-either}
 use Rattle.wb_office.proofs.TakeStateLemmas.{allowed-from, replay-takes, step-takes}
@@ -50,13 +50,13 @@ only x y e = cc
 abbrev AsksFor : Machine → Command → List ℕ → Type 0
 AsksFor machine command builder =
     ((entry : Entry) → with_move machine command entry ≡ Some (entry, to.Take builder (machine.handed + 1)))
-    × (reply_to machine command ≡ job_of machine (target_of machine command))
+    × (reply_to machine command ≡ assignment_reply machine (target_of machine command))
     × (change machine command ≡ after_take machine (moving machine command))
 
-job-given : (machine : Machine) (builder : List ℕ) (found : Option Entry) (given : HandOut) → given_by builder (Ok (job_of machine found)) ≡ Some given
+assigned-given : (machine : Machine) (builder : List ℕ) (found : Option Entry) (given : HandOut) → given_by builder (Ok (assignment_reply machine found)) ≡ Some given
     → (entry : Entry) × ((found ≡ Some entry) × ((given.key ≡ entry.0) × ((given.take ≡ machine.handed + 1) × (given.builder ≡ builder))))
-job-given machine builder None given is = cc
-job-given machine builder (Some entry) given is =
+assigned-given machine builder None given is = cc
+assigned-given machine builder (Some entry) given is =
     let same : record { builder = builder; key = entry.0; take = machine.handed + 1 } ≡ given = only _ _ is in
     (entry, (refl, (sym (ap (λ (g : HandOut). g.key) same), (sym (ap (λ (g : HandOut). g.take) same), sym (ap (λ (g : HandOut). g.builder) same)))))
 
@@ -64,18 +64,18 @@ accepted-given : (machine : Machine) (command : Command) (builder : List ℕ) (g
     → given_by builder (Ok (reply_to machine command)) ≡ Some given → IsHandedOut machine (counted machine (change machine command)) given
 unfolding moving
 accepted-given machine command builder given asks pass is =
-    let job = job-given machine builder (target_of machine command) given (sym (ap (λ reply. given_by builder (Ok reply)) asks.1) ∙ is) in
-    let entry : Entry = job.0 in
+    let assigned = assigned-given machine builder (target_of machine command) given (sym (ap (λ reply. given_by builder (Ok reply)) asks.1) ∙ is) in
+    let entry : Entry = assigned.0 in
     let move : Move = to.Take builder (machine.handed + 1) in
-    let found : moving machine command ≡ Some (entry, move) = ap (option_and_then (with_move machine command)) job.1.0 ∙ asks.0 entry in
+    let found : moving machine command ≡ Some (entry, move) = ap (option_and_then (with_move machine command)) assigned.1.0 ∙ asks.0 entry in
     let may : MayMove machine command (entry, move) = moving-may machine command (entry, move) pass.move found in
     let done : change machine command ≡ after_take machine (Some (entry, move)) = asks.2 ∙ ap (after_take machine) found in
     record {
       entry = entry;
       builder = builder;
-      asker = job.1.1.1.1;
-      key = job.1.1.0;
-      number = job.1.1.1.0;
+      asker = assigned.1.1.1.1;
+      key = assigned.1.1.0;
+      number = assigned.1.1.1.0;
       stands = may.stands;
       waits = taken-free builder (machine.handed + 1) entry.1.state (allowed-from move entry.1 may.allowed);
       handed = ap (λ (m : Machine). m.handed) done;

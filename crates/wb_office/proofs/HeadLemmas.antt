@@ -22,7 +22,7 @@ use Rattle.wb_states.proofs.QueueLemmas.{IsIn-queue_of, head_of-waits, sorted-qu
 use Rattle.wb_merge.specs.Merged.{Records}
 use Rattle.wb_office.specs.Step.{step}
 use Rattle.wb_office.proofs.FrameLemmas.{insert-other}
-use Rattle.wb_office.proofs.RetryLemmas.{handed_to, job-is}
+use Rattle.wb_office.proofs.RetryLemmas.{handed_to, assigned-is}
 
 -- ---- lists in strictly ascending order
 
@@ -144,19 +144,19 @@ pub next-head-rest : (machine : Machine) (arch builder : List ℕ) (after : Opti
     → (step machine (Next arch builder after)).0 ≡ Ok (Job accepted given)
     → (current : Record) × (queue_of machine arch ≡ ((arch, given.source), current) ∷ queue_of (step machine (Next arch builder after)).1 arch)
 next-head-rest machine arch builder after accepted given is =
-    let job = job-is machine arch builder after accepted given is in
-    let entry : Entry = job.entry in
+    let assigned = assigned-is machine arch builder after accepted given is in
+    let entry : Entry = assigned.entry in
     let new : Machine = handed_to machine builder entry in
-    let parts = head-rest machine arch entry job.head in
+    let parts = head-rest machine arch entry assigned.head in
     let rest : List Entry = parts.0 in
     let at : queue_of machine arch ≡ entry ∷ rest = parts.1 in
     let total = on_total (λ (e : Entry). place_of e.1 e.0.1) place_cmp_total in
-    let waits : (other : Entry) → IsIn other rest ↔ IsWaitingAt new arch other = rest-waits machine arch builder entry rest at job.head in
+    let waits : (other : Entry) → IsIn other rest ↔ IsWaitingAt new arch other = rest-waits machine arch builder entry rest at assigned.head in
     let same : rest ≡ queue_of new arch = sorted-same entry_cmp total rest (queue_of new arch)
     (tail-sorted entry rest (subst (IsStrictlySortedBy entry_cmp) at (sorted-queue_of machine arch))) (sorted-queue_of new arch)
     (λ other. (λ within. (IsIn-queue_of new arch other).1 ((waits other).0 within), λ within. (waits other).1 ((IsIn-queue_of new arch other).0 within))) in
-    let told = job.told in
-    let after_is = job.new in
-    let arch_is : entry.0.0 ≡ arch = (head_of-waits machine arch entry job.head).1 in
-    let source_is : given.source ≡ entry.0.1 = ap (λ (g : Assignment). g.source) told in
+    let value = assigned.value in
+    let after_is = assigned.new in
+    let arch_is : entry.0.0 ≡ arch = (head_of-waits machine arch entry assigned.head).1 in
+    let source_is : given.source ≡ entry.0.1 = ap (λ (g : Assignment). g.source) value in
     (entry.1, at ∙ (λ i. ((arch_is i, sym source_is i), entry.1) ∷ (same ∙ ap (λ (m : Machine). queue_of m arch) (sym after_is)) i))

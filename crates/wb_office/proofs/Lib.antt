@@ -1,6 +1,7 @@
 pub mod ApartPartLemmas
 pub mod AppliedLemmas
 pub mod AskedLemmas
+pub mod AssignmentLemmas
 pub mod ChosenLemmas
 pub mod ConsistencyLemmas
 pub mod CountedLemmas
@@ -10,7 +11,6 @@ pub mod HandOutLemmas
 pub mod HeadLemmas
 pub mod HeldLemmas
 pub mod InvariantLemmas
-pub mod JobLemmas
 pub mod KeyLemmas
 pub mod ListedLemmas
 pub mod MergedLemmas

@@ -16,9 +16,9 @@ use Rattle.wb_states.specs.Queue.{Entry, head_of}
 use Rattle.wb_states.proofs.QueueLemmas.{head_of-waits}
 use Rattle.wb_store.specs.Lookups.{named}
 use Rattle.wb_office.specs.Checks.{first_some, when, has_bad_name, is_ahead, is_for_other_archs, lacks_arch, lacks_builder, text_refusal, state_refusal, first_refusal}
-use Rattle.wb_office.specs.Found.{unless_refused, builder_refusal, head_at, head_step, job_step, take_move, told_of}
+use Rattle.wb_office.specs.Found.{unless_refused, builder_refusal, head_at, head_step, assignment_step, take_move, held_assignment}
 use Rattle.wb_office.specs.Moving.{again_of, moving}
-use Rattle.wb_office.specs.Step.{outcome, step, reply_to, change, counted, after_take, job_of}
+use Rattle.wb_office.specs.Step.{outcome, step, reply_to, change, counted, after_take, assignment_reply}
 use Rattle.wb_office.proofs.StepLemmas.{step-refused, outcome-None, three-None, three-Some}
 
 -- the checks of the builder before others
@@ -58,9 +58,9 @@ next-checks : (machine : Machine) (arch builder : List ℕ) (after : Option ℕ)
     → first_refusal machine (Next arch builder after) ≡ option_or (first_some (when is_bad BadName ∷ [])) (builder_first machine arch builder after
     (option_or (when is_later (AfterAhead machine.handed)) (queue_checks machine builder (is_none again) (head_of machine arch))))
 unfolding first_refusal text_refusal state_refusal moving builder_first queue_checks
-next-checks machine arch builder after is_bad is_later again bad later told =
+next-checks machine arch builder after is_bad is_later again bad later again_is =
     λ i. option_or (first_some (when (bad i) BadName ∷ [])) (builder_first machine arch builder after
-    (option_or (when (later i) (AfterAhead machine.handed)) (queue_checks machine builder (is_none (told i)) (head_of machine arch))))
+    (option_or (when (later i) (AfterAhead machine.handed)) (queue_checks machine builder (is_none (again_is i)) (head_of machine arch))))
 
 pub next-BadName : (machine : Machine) (arch builder : List ℕ) (after : Option ℕ) → has_bad_name (Next arch builder after) ≡ true
     → step machine (Next arch builder after) ≡ (Err BadName, machine)
@@ -100,27 +100,27 @@ queue_checks-again machine arch builder =
 pub next-Again : (machine : Machine) (arch builder : List ℕ) (after : Option ℕ) (entry : Entry) → has_bad_name (Next arch builder after) ≡ false
     → builder_refusal machine arch builder ≡ None → is_ahead machine (Next arch builder after) ≡ false
     → again_of machine (Next arch builder after) ≡ Some entry
-    → step machine (Next arch builder after) ≡ (Ok (Again machine.accepted (told_of entry)), machine)
+    → step machine (Next arch builder after) ≡ (Ok (Again machine.accepted (held_assignment entry)), machine)
 unfolding step
-next-Again machine arch builder after entry bad is later told =
+next-Again machine arch builder after entry bad is later again_is =
     let first : first_refusal machine (Next arch builder after) ≡ None =
-    next-checks machine arch builder after false false (Some entry) bad later told ∙ builder_first-None machine arch builder after _ is
+    next-checks machine arch builder after false false (Some entry) bad later again_is ∙ builder_first-None machine arch builder after _ is
     ∙ queue_checks-again machine arch builder in
-    λ i. outcome (first i) (told i) machine (Next arch builder after)
+    λ i. outcome (first i) (again_is i) machine (Next arch builder after)
 
 -- what is answered and done with what stands at the head of a queue
 head-answer : (machine : Machine) (arch builder : List ℕ) (after : Option ℕ)
     → unless_refused (queue_checks machine builder true (head_of machine arch)) machine
     (Ok (reply_to machine (Next arch builder after)), counted machine (change machine (Next arch builder after)))
     ≡ head_at machine builder (head_of machine arch)
-unfolding queue_checks job_step moving
+unfolding queue_checks assignment_step moving
 head-answer machine arch builder after = found (head_of machine arch) where
   found : (head : Option Entry)
       → unless_refused (option_or (option_and_then (λ (asked : Entry × Move). move_refusal asked.1 asked.0.1)
       (option_and_then (λ (entry : Entry). Some (entry, take_move machine builder)) head))
       (option_or (when (is_none head) QueueEmpty)
       (option_or (when (nat_le count_limit machine.accepted || nat_le count_limit machine.handed) Spent) None))) machine
-      (Ok (job_of machine head), counted machine (after_take machine (option_and_then (λ (entry : Entry). Some (entry, take_move machine builder)) head)))
+      (Ok (assignment_reply machine head), counted machine (after_take machine (option_and_then (λ (entry : Entry). Some (entry, take_move machine builder)) head)))
       ≡ head_at machine builder head
   found None = refl
   found (Some entry) = refl
@@ -130,10 +130,10 @@ pub next-head : (machine : Machine) (arch builder : List ℕ) (after : Option �
     → again_of machine (Next arch builder after) ≡ None
     → step machine (Next arch builder after) ≡ head_step machine arch builder
 unfolding step head_step
-next-head machine arch builder after bad is later told =
+next-head machine arch builder after bad is later again_is =
     let first : first_refusal machine (Next arch builder after) ≡ queue_checks machine builder true (head_of machine arch) =
-    next-checks machine arch builder after false false None bad later told ∙ builder_first-None machine arch builder after _ is in
-    (λ i. outcome (first i) (told i) machine (Next arch builder after))
+    next-checks machine arch builder after false false None bad later again_is ∙ builder_first-None machine arch builder after _ is in
+    (λ i. outcome (first i) (again_is i) machine (Next arch builder after))
     ∙ outcome-None (queue_checks machine builder true (head_of machine arch)) machine (Next arch builder after)
     ∙ head-answer machine arch builder after
 
@@ -163,32 +163,32 @@ pub head_step-QueueEmpty : (machine : Machine) (arch builder : List ℕ) → Non
 unfolding head_step
 head_step-QueueEmpty machine arch builder is = ap (head_at machine builder) (head-none machine arch is)
 
-pub head_step-job : (machine : Machine) (arch builder source : List ℕ) (current : Record) → Some (source, current) ≡ option_map named (head_of machine arch)
-    → head_step machine arch builder ≡ job_step machine builder ((arch, source), current)
+pub head_step-assignment : (machine : Machine) (arch builder source : List ℕ) (current : Record) → Some (source, current) ≡ option_map named (head_of machine arch)
+    → head_step machine arch builder ≡ assignment_step machine builder ((arch, source), current)
 unfolding head_step
-head_step-job machine arch builder source current is = ap (head_at machine builder) (head-named machine arch source current is)
+head_step-assignment machine arch builder source current is = ap (head_at machine builder) (head-named machine arch source current is)
 
-none-told : (entry : Option Entry) → None ≡ option_map told_of entry → entry ≡ None
-none-told None is = refl
-none-told (Some entry) is = cc
+none-held : (entry : Option Entry) → None ≡ option_map held_assignment entry → entry ≡ None
+none-held None is = refl
+none-held (Some entry) is = cc
 
 pub next-new : (machine : Machine) (arch builder : List ℕ) (after : Option ℕ) → has_bad_name (Next arch builder after) ≡ false
     → builder_refusal machine arch builder ≡ None → is_ahead machine (Next arch builder after) ≡ false
-    → None ≡ option_map told_of (again_of machine (Next arch builder after))
+    → None ≡ option_map held_assignment (again_of machine (Next arch builder after))
     → step machine (Next arch builder after) ≡ head_step machine arch builder
-next-new machine arch builder after bad is later told =
-    next-head machine arch builder after bad is later (none-told (again_of machine (Next arch builder after)) told)
+next-new machine arch builder after bad is later again_is =
+    next-head machine arch builder after bad is later (none-held (again_of machine (Next arch builder after)) again_is)
 
-pub next-told : (machine : Machine) (arch builder : List ℕ) (after : Option ℕ) (assignment : Assignment) → has_bad_name (Next arch builder after) ≡ false
+pub next-again : (machine : Machine) (arch builder : List ℕ) (after : Option ℕ) (assignment : Assignment) → has_bad_name (Next arch builder after) ≡ false
     → builder_refusal machine arch builder ≡ None → is_ahead machine (Next arch builder after) ≡ false
-    → Some assignment ≡ option_map told_of (again_of machine (Next arch builder after))
+    → Some assignment ≡ option_map held_assignment (again_of machine (Next arch builder after))
     → step machine (Next arch builder after) ≡ (Ok (Again machine.accepted assignment), machine)
-next-told machine arch builder after assignment bad is later told = found (again_of machine (Next arch builder after)) refl told where
-  found : (entry : Option Entry) → again_of machine (Next arch builder after) ≡ entry → Some assignment ≡ option_map told_of entry
+next-again machine arch builder after assignment bad is later again_is = found (again_of machine (Next arch builder after)) refl again_is where
+  found : (entry : Option Entry) → again_of machine (Next arch builder after) ≡ entry → Some assignment ≡ option_map held_assignment entry
       → step machine (Next arch builder after) ≡ (Ok (Again machine.accepted assignment), machine)
   found None at e = cc
   found (Some entry) at e =
-      let same : assignment ≡ told_of entry = only assignment (told_of entry) e in
+      let same : assignment ≡ held_assignment entry = only assignment (held_assignment entry) e in
       next-Again machine arch builder after entry bad is later at ∙ (λ i. (Ok (Again machine.accepted (sym same i)), machine))
     where
       only : (x y : Assignment) → Some x ≡ Some y → x ≡ y

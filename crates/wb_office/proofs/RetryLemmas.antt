@@ -21,9 +21,9 @@ use Rattle.wb_states.proofs.KeyLemmas.{pair_cmp_total, pair_cmp-same, insert_all
 use Rattle.wb_states.proofs.QueueLemmas.{IsIn-filter, IsIn-find, IsIn-sorted_by, head_of-waits}
 use Rattle.wb_merge.proofs.NameLemmas.{bytes_eq-itself}
 use Rattle.wb_office.specs.Checks.{first_refusal}
-use Rattle.wb_office.specs.Found.{told_of}
+use Rattle.wb_office.specs.Found.{held_assignment}
 use Rattle.wb_office.specs.Moving.{again_of, moving, with_move}
-use Rattle.wb_office.specs.Step.{after_take, assignment_of, counted, job_of, outcome, step}
+use Rattle.wb_office.specs.Step.{after_take, assignment_of, counted, assignment_reply, outcome, step}
 use Rattle.wb_office.proofs.MovingLemmas.{Stands}
 use Rattle.wb_office.proofs.NextLemmas.{next-Again}
 use Rattle.wb_office.proofs.PassLemmas.{Passes, passes}
@@ -113,13 +113,13 @@ handed_to machine builder entry = record machine {
 }
 
 -- what is known of a command for the head of a queue that was answered with an assignment
-pub record IsJob (machine : Machine) (arch builder : List ℕ) (after : Option ℕ) (accepted : ℕ) (given : Assignment) : Type 0 where
+pub record IsAssigned (machine : Machine) (arch builder : List ℕ) (after : Option ℕ) (accepted : ℕ) (given : Assignment) : Type 0 where
   pub entry : Entry
   pub pass : Passes machine (Next arch builder after)
   pub none : again_of machine (Next arch builder after) ≡ None
   pub head : head_of machine arch ≡ Some entry
   pub count : accepted ≡ machine.accepted + 1
-  pub told : given ≡ assignment_of entry (machine.handed + 1)
+  pub value : given ≡ assignment_of entry (machine.handed + 1)
   pub new : (step machine (Next arch builder after)).1 ≡ handed_to machine builder entry
 
 -- the state after the head of a queue was moved
@@ -129,32 +129,32 @@ unfolding moving handed_to
 head-handed machine arch builder after entry is =
     ap (λ head. counted machine (after_take machine (option_and_then (with_move machine (Next arch builder after)) head))) is
 
-job-parts : (one other : ℕ) (made given : Assignment) → Job one made ≡ Job other given → (one ≡ other) × (made ≡ given)
-job-parts one other made given is = (cc, cc)
+answered-parts : (one other : ℕ) (made given : Assignment) → Job one made ≡ Job other given → (one ≡ other) × (made ≡ given)
+answered-parts one other made given is = (cc, cc)
 
-pub job-is : (machine : Machine) (arch builder : List ℕ) (after : Option ℕ) (accepted : ℕ) (given : Assignment)
-    → (step machine (Next arch builder after)).0 ≡ Ok (Job accepted given) → IsJob machine arch builder after accepted given
+pub assigned-is : (machine : Machine) (arch builder : List ℕ) (after : Option ℕ) (accepted : ℕ) (given : Assignment)
+    → (step machine (Next arch builder after)).0 ≡ Ok (Job accepted given) → IsAssigned machine arch builder after accepted given
 unfolding step
-job-is machine arch builder after accepted given is =
+assigned-is machine arch builder after accepted given is =
     (elim (first_refusal machine (Next arch builder after)) as (λ r. first_refusal machine (Next arch builder after) ≡ r
     → (outcome r (again_of machine (Next arch builder after)) machine (Next arch builder after)).0 ≡ Ok (Job accepted given)
-    → IsJob machine arch builder after accepted given) [
+    → IsAssigned machine arch builder after accepted given) [
       | Some refusal ↦ λ _ no. absurd (refused refusal no)
       | None ↦ λ first. (elim (again_of machine (Next arch builder after)) as (λ again. again_of machine (Next arch builder after) ≡ again
-          → (outcome None again machine (Next arch builder after)).0 ≡ Ok (Job accepted given) → IsJob machine arch builder after accepted given) [
-            | Some entry ↦ λ _ no. absurd (told machine.accepted (told_of entry) (answer (Again machine.accepted (told_of entry)) no))
-            | None ↦ λ again. (elim (head_of machine arch) as (λ head. head_of machine arch ≡ head → ◌≡◌ {A = Result Reply Refusal} (Ok (job_of machine head)) (Ok (Job accepted given))
-                → IsJob machine arch builder after accepted given) [
+          → (outcome None again machine (Next arch builder after)).0 ≡ Ok (Job accepted given) → IsAssigned machine arch builder after accepted given) [
+            | Some entry ↦ λ _ no. absurd (apart machine.accepted (held_assignment entry) (answer (Again machine.accepted (held_assignment entry)) no))
+            | None ↦ λ again. (elim (head_of machine arch) as (λ head. head_of machine arch ≡ head → ◌≡◌ {A = Result Reply Refusal} (Ok (assignment_reply machine head)) (Ok (Job accepted given))
+                → IsAssigned machine arch builder after accepted given) [
                   | None ↦ λ _ no. absurd (done (machine.accepted + 1) (answer (Done (machine.accepted + 1)) no))
                   | Some entry ↦ λ head some.
-                      let parts = job-parts (machine.accepted + 1) accepted (assignment_of entry (machine.handed + 1)) given (answer _ some) in
+                      let parts = answered-parts (machine.accepted + 1) accepted (assignment_of entry (machine.handed + 1)) given (answer _ some) in
                       record {
                         entry = entry;
                         pass = passes machine (Next arch builder after) first;
                         none = again;
                         head = head;
                         count = sym parts.0;
-                        told = sym parts.1;
+                        value = sym parts.1;
                         new = (λ i. (outcome (first i) (again i) machine (Next arch builder after)).1) ∙ head-handed machine arch builder after entry head;
                       }
                 ]) refl
@@ -167,8 +167,8 @@ job-is machine arch builder after accepted given is =
     answer : (reply : Reply) → ◌≡◌ {A = Result Reply Refusal} (Ok reply) (Ok (Job accepted given)) → reply ≡ Job accepted given
     answer reply e = cc
 
-    told : (count : ℕ) (made : Assignment) → Again count made ≡ Job accepted given → ⊥
-    told count made e = cc
+    apart : (count : ℕ) (made : Assignment) → Again count made ≡ Job accepted given → ⊥
+    apart count made e = cc
 
     done : (count : ℕ) → Done count ≡ Job accepted given → ⊥
     done count e = cc
@@ -214,24 +214,24 @@ retried machine arch builder known entry head below none =
         insert_all pair_cmp_total pair_cmp-same IsIt machine.records entry.0 put (λ _ _. refl) old other.0 in
         subst (λ found. IfSome found (IsIt other.0)) at all
 
-told-again : (machine : Machine) (arch builder : List ℕ) (after : Option ℕ) (known accepted : ℕ) (given : Assignment) → IsJob machine arch builder after accepted given
+assigned-again : (machine : Machine) (arch builder : List ℕ) (after : Option ℕ) (known accepted : ℕ) (given : Assignment) → IsAssigned machine arch builder after accepted given
     → known ≤ machine.handed → ((other : Entry) → Stands machine other → is_held_by builder other ≡ true → is_building_after arch known other ≡ false)
     → step (step machine (Next arch builder after)).1 (Next arch builder (Some known))
     ≡ (Ok (Again accepted given), (step machine (Next arch builder after)).1)
 unfolding handed_to taken moved
-told-again machine arch builder after known accepted given job below none =
-    let entry : Entry = job.entry in
+assigned-again machine arch builder after known accepted given assigned below none =
+    let entry : Entry = assigned.entry in
     let new : Machine = handed_to machine builder entry in
-    let pass : Passes machine (Next arch builder after) = job.pass in
-    let told : step new (Next arch builder (Some known)) ≡ (Ok (Again (machine.accepted + 1) (assignment_of entry (machine.handed + 1))), new) =
+    let pass : Passes machine (Next arch builder after) = assigned.pass in
+    let answered : step new (Next arch builder (Some known)) ≡ (Ok (Again (machine.accepted + 1) (assignment_of entry (machine.handed + 1))), new) =
     next-Again new arch builder (Some known) (taken builder (machine.handed + 1) entry) pass.names
     (builder_refusal-is new arch builder false false false pass.arch pass.builder pass.others)
     (le-ltb (machine.handed + 1) known (omega arith))
-    (retried machine arch builder known entry job.head below none) in
-    let count = job.count in
-    let same = job.told in
-    subst (λ (m : Machine). step m (Next arch builder (Some known)) ≡ (Ok (Again accepted given), m)) (sym job.new)
-    (told ∙ (λ i. (Ok (Again (sym count i) (sym same i)), new)))
+    (retried machine arch builder known entry assigned.head below none) in
+    let count = assigned.count in
+    let same = assigned.value in
+    subst (λ (m : Machine). step m (Next arch builder (Some known)) ≡ (Ok (Again accepted given), m)) (sym assigned.new)
+    (answered ∙ (λ i. (Ok (Again (sym count i) (sym same i)), new)))
 
 -- who asks again with the number that it asked with is told the same
 pub next-retried : (machine : Machine) (arch builder : List ℕ) (after accepted : ℕ) (given : Assignment)
@@ -239,9 +239,9 @@ pub next-retried : (machine : Machine) (arch builder : List ℕ) (after accepted
     → step (step machine (Next arch builder (Some after))).1 (Next arch builder (Some after))
     ≡ (Ok (Again accepted given), (step machine (Next arch builder (Some after))).1)
 next-retried machine arch builder after accepted given is =
-    let job = job-is machine arch builder (Some after) accepted given is in
-    told-again machine arch builder (Some after) after accepted given job (ltb-false machine.handed after job.pass.ahead)
-    (none-later machine arch builder after job.none)
+    let assigned = assigned-is machine arch builder (Some after) accepted given is in
+    assigned-again machine arch builder (Some after) after accepted given assigned (ltb-false machine.handed after assigned.pass.ahead)
+    (none-later machine arch builder after assigned.none)
 
 -- in a consistent office no record is held under a number that was not given yet
 none-ahead : (machine : Machine) → IsConsistent machine → (arch : List ℕ) (other : Entry) → Stands machine other → is_building_after arch machine.handed other ≡ false
@@ -267,5 +267,5 @@ pub next-lost : (machine : Machine) (arch builder : List ℕ) (after : Option �
     → step (step machine (Next arch builder after)).1 (Next arch builder (Some machine.handed))
     ≡ (Ok (Again accepted given), (step machine (Next arch builder after)).1)
 next-lost machine arch builder after accepted given old is =
-    told-again machine arch builder after machine.handed accepted given (job-is machine arch builder after accepted given is) (omega arith)
+    assigned-again machine arch builder after machine.handed accepted given (assigned-is machine arch builder after accepted given is) (omega arith)
     (λ other at _. none-ahead machine old arch other at)

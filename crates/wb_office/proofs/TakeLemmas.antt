@@ -13,9 +13,9 @@ use Rattle.wb_states.specs.Machine.{Machine}
 use Rattle.wb_states.specs.Moves.{move_refusal}
 use Rattle.wb_states.specs.Queue.{Entry}
 use Rattle.wb_office.specs.Checks.{first_some, when, differing, has_bad_name, lacks_arch, lacks_builder, is_for_other_archs, text_refusal, state_refusal}
-use Rattle.wb_office.specs.Found.{unless_refused, builder_refusal, found_refusal, job_step, take_at, take_move, take_step}
+use Rattle.wb_office.specs.Found.{unless_refused, builder_refusal, found_refusal, assignment_step, take_at, take_move, take_step}
 use Rattle.wb_office.specs.Moving.{moving, record_named}
-use Rattle.wb_office.specs.Step.{Outcome, step, counted, after_take, job_of}
+use Rattle.wb_office.specs.Step.{Outcome, step, counted, after_take, assignment_reply}
 use Rattle.wb_office.proofs.StepLemmas.{step-state, step-text, unless_refused-option_or, unless_refused-last}
 
 unless_refused-three : (a b c rest : Option Refusal) (machine : Machine) (accepted : Outcome)
@@ -34,12 +34,12 @@ take-answer : (machine : Machine) (arch builder source version : List ℕ) (foun
     (option_and_then (λ (entry : Entry). Some (entry, take_move machine builder)) (option_map (λ (current : Record). ((arch, source), current)) found))
     ∷ when (nat_le count_limit machine.accepted || nat_le count_limit machine.handed) Spent
     ∷ [])) machine (
-      Ok (job_of machine (option_map (λ (current : Record). ((arch, source), current)) found)),
+      Ok (assignment_reply machine (option_map (λ (current : Record). ((arch, source), current)) found)),
       counted machine (after_take machine
           (option_and_then (λ (entry : Entry). Some (entry, take_move machine builder)) (option_map (λ (current : Record). ((arch, source), current)) found))),
     )
     ≡ take_at machine builder (arch, source) version found
-unfolding job_step
+unfolding assignment_step
 take-answer machine arch builder source version None = refl
 take-answer machine arch builder source version (Some current) = unless_refused-option_or (differing version current) _ machine _
 
@@ -91,7 +91,7 @@ take_at-refused : (machine : Machine) (builder : List ℕ) (key : List ℕ × Li
     → found_refusal version found ≡ Some refusal → take_at machine builder key version found ≡ (Err refusal, machine)
 take_at-refused machine builder key version None refusal is = ap (λ first. unless_refused first machine (Err UnknownSource, machine)) is
 take_at-refused machine builder key version (Some current) refusal is =
-    unless_refused-last (differing version current) machine (job_step machine builder (key, current)) refusal is
+    unless_refused-last (differing version current) machine (assignment_step machine builder (key, current)) refusal is
 
 pub take_step-found : (machine : Machine) (arch builder source version : List ℕ) (refusal : Refusal) → builder_refusal machine arch builder ≡ None
     → found_refusal version (map.get machine.records (arch, source)) ≡ Some refusal
@@ -101,10 +101,10 @@ take_step-found machine arch builder source version refusal may is =
     (λ i. unless_refused (may i) machine (take_at machine builder (arch, source) version (map.get machine.records (arch, source))))
     ∙ take_at-refused machine builder (arch, source) version (map.get machine.records (arch, source)) refusal is
 
-pub take_step-job : (machine : Machine) (arch builder source version : List ℕ) (current : Record) → builder_refusal machine arch builder ≡ None
+pub take_step-assignment : (machine : Machine) (arch builder source version : List ℕ) (current : Record) → builder_refusal machine arch builder ≡ None
     → map.get machine.records (arch, source) ≡ Some current → differing version current ≡ None
-    → take_step machine arch builder source version ≡ job_step machine builder ((arch, source), current)
+    → take_step machine arch builder source version ≡ assignment_step machine builder ((arch, source), current)
 unfolding take_step
-take_step-job machine arch builder source version current may found same =
+take_step-assignment machine arch builder source version current may found same =
     (λ i. unless_refused (may i) machine (take_at machine builder (arch, source) version (found i)))
-    ∙ (λ i. unless_refused (same i) machine (job_step machine builder ((arch, source), current)))
+    ∙ (λ i. unless_refused (same i) machine (assignment_step machine builder ((arch, source), current)))

@@ -23,7 +23,7 @@ use Rattle.wb_states.specs.Names.{is_arch_name}
 use Rattle.wb_states.specs.Queue.{Entry, head_of}
 use Rattle.wb_office.specs.Checks.{differing, fault_in, first_some, has_bad_key, has_repeated_arch, when}
 use Rattle.wb_office.specs.Parts.{parts_refusal}
-use Rattle.wb_office.specs.Step.{Outcome, assignment_of, counted, after_move, after_take, job_of}
+use Rattle.wb_office.specs.Step.{Outcome, assignment_of, counted, after_move, after_take, assignment_reply}
 
 -- the refusal of a check, which leaves the state as it was, or else this
 abbrev pub unless_refused : Option Refusal → Machine → Outcome → Outcome
@@ -60,9 +60,9 @@ found_refusal version found = first_some (
 
 -- ---- a record that was found
 
--- what a builder is told of a record that it has, under the record's own take number
-abbrev pub told_of : Entry → Assignment
-told_of entry = assignment_of entry (take_of entry)
+-- the assignment of a record that a builder holds, under the record's own take number
+abbrev pub held_assignment : Entry → Assignment
+held_assignment entry = assignment_of entry (take_of entry)
 
 -- a record is moved and the command is counted, where neither the move nor the count is refused
 unfoldable pub move_step : Machine → Entry → Move → Outcome
@@ -78,13 +78,13 @@ abbrev pub take_move : Machine → List ℕ → Move
 take_move machine builder = to.Take builder (machine.handed + 1)
 
 -- a record is handed to a builder and the command is counted, where neither the move nor a count is refused
-unfoldable pub job_step : Machine → List ℕ → Entry → Outcome
-job_step machine builder entry =
+unfoldable pub assignment_step : Machine → List ℕ → Entry → Outcome
+assignment_step machine builder entry =
     unless_refused (first_some (
     move_refusal (take_move machine builder) entry.1
     ∷ when (nat_le count_limit machine.accepted || nat_le count_limit machine.handed) Spent
     ∷ [])) machine
-    (Ok (job_of machine (Some entry)), counted machine (after_take machine (Some (entry, take_move machine builder))))
+    (Ok (assignment_reply machine (Some entry)), counted machine (after_take machine (Some (entry, take_move machine builder))))
 
 -- ---- a record that is sought
 
@@ -100,7 +100,7 @@ taken_step machine take_number moves = taken_at machine moves (taken_as machine 
 -- what was found at the head of a queue is handed to a builder, or the queue is empty
 abbrev pub head_at : Machine → List ℕ → Option Entry → Outcome
 head_at machine builder None = (Err QueueEmpty, machine)
-head_at machine builder (Some entry) = job_step machine builder entry
+head_at machine builder (Some entry) = assignment_step machine builder entry
 
 -- the head of a queue is handed to a builder
 unfoldable pub head_step : Machine → List ℕ → List ℕ → Outcome
@@ -122,7 +122,7 @@ named_step machine arch source version move =
 abbrev pub take_at : Machine → List ℕ → List ℕ × List ℕ → List ℕ → Option Record → Outcome
 take_at machine builder key version None = (Err UnknownSource, machine)
 take_at machine builder key version (Some current) =
-    unless_refused (differing version current) machine (job_step machine builder (key, current))
+    unless_refused (differing version current) machine (assignment_step machine builder (key, current))
 
 -- the record of a source package is handed to a builder, if it is of the version
 unfoldable pub take_step : Machine → List ℕ → List ℕ → List ℕ → List ℕ → Outcome

@@ -67,7 +67,7 @@ change machine command = after_move machine (moving machine command)
 
 -- ---- the reply to a command that is accepted
 
--- what a builder is handed with a record, under this take number
+-- the assignment of a record, under this take number
 abbrev pub assignment_of : Entry → ℕ → Assignment
 assignment_of entry take_number = record {
   arch = entry.0.0;
@@ -79,15 +79,15 @@ assignment_of entry take_number = record {
   take = take_number;
 }
 
--- the reply with what a builder is handed
-abbrev pub job_of : Machine → Option Entry → Reply
-job_of machine None = Done (machine.accepted + 1)
-job_of machine (Some entry) = Job (machine.accepted + 1) (assignment_of entry (machine.handed + 1))
+-- the reply with the assignment of a record, under the next take number
+abbrev pub assignment_reply : Machine → Option Entry → Reply
+assignment_reply machine None = Done (machine.accepted + 1)
+assignment_reply machine (Some entry) = Job (machine.accepted + 1) (assignment_of entry (machine.handed + 1))
 
 -- the reply to a command
 abbrev pub reply_to : Machine → Command → Reply
-reply_to machine (Next arch builder after) = job_of machine (target_of machine (Next arch builder after))
-reply_to machine (Take arch builder source version) = job_of machine (target_of machine (Take arch builder source version))
+reply_to machine (Next arch builder after) = assignment_reply machine (target_of machine (Next arch builder after))
+reply_to machine (Take arch builder source version) = assignment_reply machine (target_of machine (Take arch builder source version))
 reply_to machine (Merge sources parts) =
     Merged (machine.accepted + 1) (part_replies machine sources parts machine.records)
 reply_to machine command = Done (machine.accepted + 1)

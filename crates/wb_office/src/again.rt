@@ -7,7 +7,7 @@ ghost use Rattle.wb_states.specs.declared.refusal.Refusal.TheVariants.{Memory};
 ghost use Rattle.wb_states.specs.Holds.{building_after, is_building_after};
 ghost use Rattle.wb_store.specs.Lookups.{entry_of};
 ghost use Rattle.wb_office.specs.Moving.{again_of};
-ghost use Rattle.wb_office.specs.Found.{told_of};
+ghost use Rattle.wb_office.specs.Found.{held_assignment};
 
 use crate::builder::assignment;
 use deb_relations::Text;
@@ -41,15 +41,15 @@ fn first_later<'a>(
 }
 
 /// What the builder builds on the architecture under the least take number after this one.
-fn told_after(
+fn assignment_after(
     alloc: Global,
     store: &Store,
     arch: &Text,
     builder: &Text,
     after: u64,
 ) -> Result<Option<Assignment>, Refusal>
-    ensures value { IfOk result (λ told. told
-        ≡ option_map told_of (building_after store.now arch.now builder.now after)) }
+    ensures value { IfOk result (λ found. found
+        ≡ option_map held_assignment (building_after store.now arch.now builder.now after)) }
     ensures refused { IfErr result (λ refusal. refusal ≡ Memory) }
 {
     let held = store.held_by(builder)?;
@@ -64,19 +64,19 @@ fn told_after(
 }
 
 /// What the builder is told again, where it asks after a take number and builds under a later one.
-pub(crate) fn told_again(
+pub(crate) fn assignment_again(
     alloc: Global,
     store: &Store,
     arch: &Text,
     builder: &Text,
     after: Option<u64>,
 ) -> Result<Option<Assignment>, Refusal>
-    ensures value { IfOk result (λ told. told
-        ≡ option_map told_of (again_of store.now (Next arch.now builder.now after))) }
+    ensures value { IfOk result (λ found. found
+        ≡ option_map held_assignment (again_of store.now (Next arch.now builder.now after))) }
     ensures refused { IfErr result (λ refusal. refusal ≡ Memory) }
 {
     match after {
         None => Ok(None),
-        Some(after) => told_after(alloc, store, arch, builder, after),
+        Some(after) => assignment_after(alloc, store, arch, builder, after),
     }
 }

@@ -8,12 +8,12 @@ ghost use Rattle.wb_states.specs.declared.reply.Reply.TheVariants.{Job};
 ghost use Rattle.wb_states.specs.Limits.{count_limit};
 ghost use Rattle.wb_states.specs.Moves.{move_refusal, moved};
 ghost use Rattle.wb_office.specs.Checks.{MayWantMemory};
-ghost use Rattle.wb_office.specs.Found.{builder_refusal, head_step, job_step, take_move, take_step};
+ghost use Rattle.wb_office.specs.Found.{builder_refusal, head_step, assignment_step, take_move, take_step};
 ghost use Rattle.wb_office.specs.Step.{step, assignment_of};
 
-use crate::again::told_again;
+use crate::again::assignment_again;
 use crate::checks::{
-    find_source, is_ahead, is_for_others, is_job_spent, lacks_arch, lacks_builder,
+    find_source, is_ahead, is_assignment_spent, is_for_others, lacks_arch, lacks_builder,
 };
 use crate::forms::{is_bad_asker, is_bad_taker};
 use crate::moved::{Moved, move_checked};
@@ -24,14 +24,14 @@ use std::alloc::Global;
 use wb_states::{Assignment, COUNT_LIMIT, Counts, Move, Record, Refusal, Reply, build_text};
 use wb_store::Store;
 
-/// A record after a builder took it, and what the builder is told.
+/// A record after a builder took it, and the assignment that answers the builder.
 #[derive(Drop)]
-pub(crate) struct Handed {
+pub(crate) struct Assigned {
     pub(crate) made: Moved,
     pub(crate) assignment: Assignment,
 }
 
-/// What the builder is told of a record that it has.
+/// The assignment of a record under a take number.
 pub(crate) fn assignment(
     alloc: Global,
     arch: &Text,
@@ -86,35 +86,36 @@ fn take_checked(
     move_checked(alloc, current, &change)
 }
 
-/// The record after the builder took it, and what the builder is told, where both counts have room.
+/// The record after the builder took it, and the assignment that answers it, where both counts have room.
 /// Nothing is written.
-pub(crate) fn prepare_job(
+pub(crate) fn prepare_assignment(
     alloc: Global,
     store: &Store,
     arch: &Text,
     source: &Text,
     current: &Record,
     builder: &Text,
-) -> Result<Handed, Refusal>
-    ensures key { IfOk result (λ job. (job.made.arch ≡ arch.now) × (job.made.source ≡ source.now)) }
-    ensures value { IfOk result (λ job.
-        job.made.after ≡ moved (take_move store.now builder.now) current.now) }
-    ensures told { IfOk result (λ job. job.assignment
+) -> Result<Assigned, Refusal>
+    ensures key { IfOk result (λ given.
+        (given.made.arch ≡ arch.now) × (given.made.source ≡ source.now)) }
+    ensures value { IfOk result (λ given.
+        given.made.after ≡ moved (take_move store.now builder.now) current.now) }
+    ensures reply { IfOk result (λ given. given.assignment
         ≡ assignment_of ((arch.now, source.now), current.now) (store.now.handed + 1)) }
     ensures ok { OnOk result (move_refusal (take_move store.now builder.now) current.now ≡ None) }
     ensures room { OnOk result
         ((nat_le count_limit store.now.accepted || nat_le count_limit store.now.handed) ≡ false) }
     ensures refused { IfErr result (λ refusal. refusal ≢ Memory
-        → job_step store.now builder.now ((arch.now, source.now), current.now)
+        → assignment_step store.now builder.now ((arch.now, source.now), current.now)
         ≡ (Err refusal, store.now)) }
 {
     let take_number = next_take(store);
     let after = take_checked(alloc, current, builder, take_number)?;
-    if is_job_spent(store) {
+    if is_assignment_spent(store) {
         return Err(Refusal::Spent);
     }
     let assignment = assignment(alloc, arch, source, current, take_number)?;
-    Ok(Handed {
+    Ok(Assigned {
         made: Moved {
             arch: arch.clone()?,
             source: source.clone()?,
@@ -125,12 +126,12 @@ pub(crate) fn prepare_job(
 }
 
 /// Writes the record that a builder took, and counts the take number and the command.
-pub(crate) fn keep_job(store: &mut Store, job: Handed) -> Result<Reply, Refusal>
+pub(crate) fn keep_assignment(store: &mut Store, given: Assigned) -> Result<Reply, Refusal>
     requires { (nat_le count_limit store.old.accepted || nat_le count_limit store.old.handed)
         ≡ false }
-    ensures reply { IfOk result (λ reply. reply ≡ Job (store.old.accepted + 1) job.assignment) }
+    ensures reply { IfOk result (λ reply. reply ≡ Job (store.old.accepted + 1) given.assignment) }
     ensures ok { OnOk result (store.new ≡ record store.old {
-      records = map.insert store.old.records (job.made.arch, job.made.source) job.made.after;
+      records = map.insert store.old.records (given.made.arch, given.made.source) given.made.after;
       handed = store.old.handed + 1;
       accepted = store.old.accepted + 1;
     }) }
@@ -140,11 +141,11 @@ pub(crate) fn keep_job(store: &mut Store, job: Handed) -> Result<Reply, Refusal>
     let counts = store.office_row();
     let handed = counts.handed + 1;
     let accepted = counts.accepted + 1;
-    store.put(job.made.arch, job.made.source, job.made.after)?;
+    store.put(given.made.arch, given.made.source, given.made.after)?;
     store.set_counts(Counts { handed, accepted });
     Ok(Reply::Job {
         accepted,
-        assignment: job.assignment,
+        assignment: given.assignment,
     })
 }
 
@@ -184,8 +185,8 @@ fn next_head(
     let Some((source, current)) = store.head(arch) else {
         return Err(Refusal::QueueEmpty);
     };
-    let job = prepare_job(alloc, store, arch, source, current, builder)?;
-    Ok(keep_job(store, job)?)
+    let given = prepare_assignment(alloc, store, arch, source, current, builder)?;
+    Ok(keep_assignment(store, given)?)
 }
 
 /// Hands the head of the architecture's queue to the builder, or tells it again what it builds there
@@ -215,8 +216,8 @@ pub(crate) fn next(
             handed: counts.handed,
         });
     }
-    let told = told_again(alloc, store, arch, builder, after)?;
-    match told {
+    let held = assignment_again(alloc, store, arch, builder, after)?;
+    match held {
         None => Ok(next_head(alloc, store, arch, builder)?),
         Some(assignment) => {
             let row = store.office_row();
@@ -246,8 +247,8 @@ fn take_named(
 {
     check_builds(store, arch, builder)?;
     let current = find_source(alloc, store, arch, source, version)?;
-    let job = prepare_job(alloc, store, arch, source, current, builder)?;
-    Ok(keep_job(store, job)?)
+    let given = prepare_assignment(alloc, store, arch, source, current, builder)?;
+    Ok(keep_assignment(store, given)?)
 }
 
 /// Hands the source package that the builder names to it, under the take number after the last.

@@ -72,7 +72,7 @@ pub(crate) fn is_spent(store: &Store) -> bool
 }
 
 /// Whether no more assignment can be counted.
-pub(crate) fn is_job_spent(store: &Store) -> bool
+pub(crate) fn is_assignment_spent(store: &Store) -> bool
     ensures value { result
         ≡ (nat_le count_limit store.now.accepted || nat_le count_limit store.now.handed) }
 {

@@ -9,7 +9,7 @@ ghost use Rattle.wb_office.specs.Step.{step};
 
 use crate::checks::{find_source, lacks_arch, words_of};
 use crate::moved::{keep_move, prepare_move};
-use crate::texts::{is_long, or_later, read_key, read_relations, rebuild_number};
+use crate::texts::{is_long, read_key, read_refusal_or, read_relations, rebuild_number};
 use deb_relations::Text;
 use deb_version::Version;
 use std::alloc::Global;
@@ -83,7 +83,7 @@ pub(crate) fn dep_wait(
     let key = read_key(alloc, arch, source, version);
     let groups = match read_relations(alloc, relations) {
         Ok(groups) => groups,
-        Err(refusal) => return Err(or_later(key, refusal)),
+        Err(refusal) => return Err(read_refusal_or(key, refusal)),
     };
     let read = key?;
     let words = words_of(alloc, store, arch)?;
@@ -115,7 +115,7 @@ pub(crate) fn fail(
 {
     let key = read_key(alloc, arch, source, version);
     if is_long(note) {
-        return Err(or_later(key, Refusal::TextTooLong));
+        return Err(read_refusal_or(key, Refusal::TextTooLong));
     }
     let read = key?;
     let change = Move::Fail {
@@ -146,7 +146,7 @@ pub(crate) fn not_for_us(
 {
     let key = read_key(alloc, arch, source, version);
     if is_long(note) {
-        return Err(or_later(key, Refusal::TextTooLong));
+        return Err(read_refusal_or(key, Refusal::TextTooLong));
     }
     let read = key?;
     let change = Move::NotForUs {
@@ -178,10 +178,10 @@ pub(crate) fn rebuild(
 {
     let key = read_key(alloc, arch, source, version);
     let Some(number) = rebuild_number(number) else {
-        return Err(or_later(key, Refusal::BadNumber));
+        return Err(read_refusal_or(key, Refusal::BadNumber));
     };
     if is_long(message) {
-        return Err(or_later(key, Refusal::TextTooLong));
+        return Err(read_refusal_or(key, Refusal::TextTooLong));
     }
     let read = key?;
     let change = Move::Rebuild {

@@ -96,7 +96,7 @@ pub(crate) fn read_key(
 
 /// The first refusal of a command that a later check refuses: that of what was read before, if it is no want
 /// of memory.
-pub(crate) fn or_later(read: Result<Version, Refusal>, later: Refusal) -> Refusal
+pub(crate) fn read_refusal_or(read: Result<Version, Refusal>, later: Refusal) -> Refusal
     ensures value { (first : Option Refusal) → OnOk read (first ≡ None)
         → IfErr read (λ refusal. refusal ≢ Memory → first ≡ Some refusal)
         → IfErr read (λ refusal. refusal ≡ Memory → first ≡ None)

@@ -2,7 +2,7 @@ use Rattle.std.proofs.Common.{◌∙◌, sym, Ok, Err}
 use Rattle.std.proofs.lemmas.Result.{err_from_is_err_and}
 use Rattle.wb_states.specs.declared.refusal.Refusal.TheVariants.{AfterAhead}
 use Rattle.wb_states.specs.declared.reply.Reply.TheVariants.{Again}
-use Rattle.wb_office.proofs.NextLemmas.{next-BadName, next-builder, next-AfterAhead, next-told, next-new}
+use Rattle.wb_office.proofs.NextLemmas.{next-BadName, next-builder, next-AfterAhead, next-again, next-new}
 use Rattle.wb_office.proofs.builder.next.Goals as goal
 
 pub returns-then-is_bad_asker-clause-refused : goal.returns-then-is_bad_asker-clause-refused
@@ -25,18 +25,18 @@ pub returns-in_ok-next_head-in-None-clause-reply : goal.returns-in_ok-next_head-
 returns-in_ok-next_head-in-None-clause-reply c =
     next-new c.args.store.now c.args.arch.now c.args.builder.now c.args.after
     (sym c.is_bad_asker.ensures.value ∙ c.if-is_bad_asker.false) c.in_ok-check_builds.ensures.ok (sym c.is_ahead.ensures.value ∙ c.if-is_ahead.false)
-    (sym c.in-None.is ∙ c.in_ok-told.ensures.value) ∙ c.in_ok-next_head-in-None.ensures.reply
+    (sym c.in-None.is ∙ c.in_ok-held.ensures.value) ∙ c.in_ok-next_head-in-None.ensures.reply
 
 pub returns-in_err-next_head-in-None-clause-refused : goal.returns-in_err-next_head-in-None-clause-refused
 returns-in_err-next_head-in-None-clause-refused c =
     let p = err_from_is_err_and c.from_residual-in_err-next_head-in-None.result c.from_residual-in_err-next_head-in-None.ensures.1 in
     rw (p.1, p.2) (λ differs. next-new c.args.store.now c.args.arch.now c.args.builder.now c.args.after
     (sym c.is_bad_asker.ensures.value ∙ c.if-is_bad_asker.false) c.in_ok-check_builds.ensures.ok (sym c.is_ahead.ensures.value ∙ c.if-is_ahead.false)
-    (sym c.in-None.is ∙ c.in_ok-told.ensures.value) ∙ c.in_err-next_head-in-None.ensures.refused differs)
+    (sym c.in-None.is ∙ c.in_ok-held.ensures.value) ∙ c.in_err-next_head-in-None.ensures.refused differs)
 
 pub returns-in-Some-clause-reply : goal.returns-in-Some-clause-reply
 returns-in-Some-clause-reply c =
-    next-told c.args.store.now c.args.arch.now c.args.builder.now c.args.after c.in-Some.assignment
+    next-again c.args.store.now c.args.arch.now c.args.builder.now c.args.after c.in-Some.assignment
     (sym c.is_bad_asker.ensures.value ∙ c.if-is_bad_asker.false) c.in_ok-check_builds.ensures.ok (sym c.is_ahead.ensures.value ∙ c.if-is_ahead.false)
-    (sym c.in-Some.is ∙ c.in_ok-told.ensures.value)
+    (sym c.in-Some.is ∙ c.in_ok-held.ensures.value)
     ∙ (λ i. (Ok (Again (sym c.office_row-row.ensures.value i).accepted c.in-Some.assignment), c.args.store.now))

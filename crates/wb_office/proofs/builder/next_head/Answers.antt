@@ -1,21 +1,21 @@
 use Rattle.std.proofs.Common.{◌∙◌}
 use Rattle.std.proofs.lemmas.Result.{err_from_is_err_and}
-use Rattle.wb_office.proofs.NextLemmas.{head_step-QueueEmpty, head_step-job}
-use Rattle.wb_office.proofs.JobLemmas.{job_step-kept}
+use Rattle.wb_office.proofs.NextLemmas.{head_step-QueueEmpty, head_step-assignment}
+use Rattle.wb_office.proofs.AssignmentLemmas.{assignment_step-kept}
 use Rattle.wb_office.proofs.builder.next_head.Goals as goal
 
 pub returns-in_default-clause-refused : goal.returns-in_default-clause-refused
 returns-in_default-clause-refused c = λ _. head_step-QueueEmpty c.args.store.now c.args.arch.now c.args.builder.now c.in_default.ensures.value
 
-pub returns-in_err-job-clause-refused : goal.returns-in_err-job-clause-refused
-returns-in_err-job-clause-refused c =
+pub returns-in_err-given-clause-refused : goal.returns-in_err-given-clause-refused
+returns-in_err-given-clause-refused c =
     let p = err_from_is_err_and c.from_residual.result c.from_residual.ensures.1 in
-    rw (p.1, p.2) (λ differs. head_step-job c.args.store.now c.args.arch.now c.args.builder.now c.in-Some.source.now c.in-Some.current.now c.in-Some.ensures.value
-    ∙ c.in_err-job.ensures.refused differs)
+    rw (p.1, p.2) (λ differs. head_step-assignment c.args.store.now c.args.arch.now c.args.builder.now c.in-Some.source.now c.in-Some.current.now c.in-Some.ensures.value
+    ∙ c.in_err-given.ensures.refused differs)
 
 pub returns-clause-reply : goal.returns-clause-reply
 returns-clause-reply c =
-    head_step-job c.args.store.now c.args.arch.now c.args.builder.now c.in-Some.source.now c.in-Some.current.now c.in-Some.ensures.value
-    ∙ job_step-kept c.args.store.now _ c.args.builder.now c.args.arch.now c.in-Some.source.now _ _ c.in-Some.current.now _ _ _
-    c.in_ok-job.ensures.ok c.in_ok-job.ensures.room c.in_ok-job.ensures.key c.in_ok-job.ensures.value c.in_ok-job.ensures.told
-    c.in_ok-keep_job.ensures.reply c.in_ok-keep_job.ensures.ok
+    head_step-assignment c.args.store.now c.args.arch.now c.args.builder.now c.in-Some.source.now c.in-Some.current.now c.in-Some.ensures.value
+    ∙ assignment_step-kept c.args.store.now _ c.args.builder.now c.args.arch.now c.in-Some.source.now _ _ c.in-Some.current.now _ _ _
+    c.in_ok-given.ensures.ok c.in_ok-given.ensures.room c.in_ok-given.ensures.key c.in_ok-given.ensures.value c.in_ok-given.ensures.reply
+    c.in_ok-keep_assignment.ensures.reply c.in_ok-keep_assignment.ensures.ok

@@ -1,7 +1,7 @@
 use Rattle.std.proofs.Common.{◌∙◌}
 use Rattle.std.proofs.lemmas.Result.{err_from_is_err_and}
-use Rattle.wb_office.proofs.TakeLemmas.{take_step-builder, take_step-found, take_step-job}
-use Rattle.wb_office.proofs.JobLemmas.{job_step-kept}
+use Rattle.wb_office.proofs.TakeLemmas.{take_step-builder, take_step-found, take_step-assignment}
+use Rattle.wb_office.proofs.AssignmentLemmas.{assignment_step-kept}
 use Rattle.wb_office.proofs.builder.take_named.Goals as goal
 
 pub returns-in_err-check_builds-clause-refused : goal.returns-in_err-check_builds-clause-refused
@@ -16,16 +16,16 @@ returns-in_err-current-clause-refused c =
     rw (p.1, p.2) (λ differs. take_step-found c.args.store.now c.args.arch.now c.args.builder.now c.args.source.now c.args.version.now _
     c.in_ok-check_builds.ensures.ok (c.in_err-current.ensures.refused differs))
 
-pub returns-in_err-job-clause-refused : goal.returns-in_err-job-clause-refused
-returns-in_err-job-clause-refused c =
-    let p = err_from_is_err_and c.from_residual-in_err-job.result c.from_residual-in_err-job.ensures.1 in
-    rw (p.1, p.2) (λ differs. take_step-job c.args.store.now c.args.arch.now c.args.builder.now c.args.source.now c.args.version.now c.in_ok-current.current.now
-    c.in_ok-check_builds.ensures.ok c.in_ok-current.ensures.value c.in_ok-current.ensures.ok ∙ c.in_err-job.ensures.refused differs)
+pub returns-in_err-given-clause-refused : goal.returns-in_err-given-clause-refused
+returns-in_err-given-clause-refused c =
+    let p = err_from_is_err_and c.from_residual-in_err-given.result c.from_residual-in_err-given.ensures.1 in
+    rw (p.1, p.2) (λ differs. take_step-assignment c.args.store.now c.args.arch.now c.args.builder.now c.args.source.now c.args.version.now c.in_ok-current.current.now
+    c.in_ok-check_builds.ensures.ok c.in_ok-current.ensures.value c.in_ok-current.ensures.ok ∙ c.in_err-given.ensures.refused differs)
 
 pub returns-clause-reply : goal.returns-clause-reply
 returns-clause-reply c =
-    take_step-job c.args.store.now c.args.arch.now c.args.builder.now c.args.source.now c.args.version.now c.in_ok-current.current.now
+    take_step-assignment c.args.store.now c.args.arch.now c.args.builder.now c.args.source.now c.args.version.now c.in_ok-current.current.now
     c.in_ok-check_builds.ensures.ok c.in_ok-current.ensures.value c.in_ok-current.ensures.ok
-    ∙ job_step-kept c.args.store.now _ c.args.builder.now c.args.arch.now c.args.source.now _ _ c.in_ok-current.current.now _ _ _
-    c.in_ok-job.ensures.ok c.in_ok-job.ensures.room c.in_ok-job.ensures.key c.in_ok-job.ensures.value c.in_ok-job.ensures.told
-    c.in_ok-keep_job.ensures.reply c.in_ok-keep_job.ensures.ok
+    ∙ assignment_step-kept c.args.store.now _ c.args.builder.now c.args.arch.now c.args.source.now _ _ c.in_ok-current.current.now _ _ _
+    c.in_ok-given.ensures.ok c.in_ok-given.ensures.room c.in_ok-given.ensures.key c.in_ok-given.ensures.value c.in_ok-given.ensures.reply
+    c.in_ok-keep_assignment.ensures.reply c.in_ok-keep_assignment.ensures.ok

@@ -13,16 +13,16 @@ returns-in_err-read-clause-refused c =
 
 pub returns-in-Err-clause-refused : goal.returns-in-Err-clause-refused
 returns-in-Err-clause-refused c = λ differs.
-    dep_wait-either c.args.store.now c.args.arch.now c.args.source.now c.args.version.now c.args.relations.now c.in-Err.refusal c.or_later.result
-    (c.or_later.ensures.value (key_refusal c.args.arch.now c.args.source.now c.args.version.now) c.read_key-key.ensures.ok c.read_key-key.ensures.refused c.read_key-key.ensures.memory)
+    dep_wait-either c.args.store.now c.args.arch.now c.args.source.now c.args.version.now c.args.relations.now c.in-Err.refusal c.read_refusal_or.result
+    (c.read_refusal_or.ensures.value (key_refusal c.args.arch.now c.args.source.now c.args.version.now) c.read_key-key.ensures.ok c.read_key-key.ensures.refused c.read_key-key.ensures.memory)
     c.in-Err.ensures.refused differs
 
 pub returns-in-Err-clause-memory : goal.returns-in-Err-clause-memory
 returns-in-Err-clause-memory c = λ none.
     want-DepWait c.args.arch.now c.args.source.now c.args.version.now c.args.relations.now
-    (key-wanted c.args.arch.now c.args.source.now c.args.version.now c.in-Err.refusal c.or_later.result
-    (c.or_later.ensures.value (key_refusal c.args.arch.now c.args.source.now c.args.version.now) c.read_key-key.ensures.ok c.read_key-key.ensures.refused c.read_key-key.ensures.memory) none)
-    (c.in-Err.ensures.memory (c.or_later.ensures.memory none))
+    (key-wanted c.args.arch.now c.args.source.now c.args.version.now c.in-Err.refusal c.read_refusal_or.result
+    (c.read_refusal_or.ensures.value (key_refusal c.args.arch.now c.args.source.now c.args.version.now) c.read_key-key.ensures.ok c.read_key-key.ensures.refused c.read_key-key.ensures.memory) none)
+    (c.in-Err.ensures.memory (c.read_refusal_or.ensures.memory none))
 
 pub returns-in_err-read-clause-memory : goal.returns-in_err-read-clause-memory
 returns-in_err-read-clause-memory c =

@@ -19,7 +19,7 @@ returns-in_err-read-clause-memory c =
 pub returns-then-is_long-clause-refused : goal.returns-then-is_long-clause-refused
 returns-then-is_long-clause-refused c = λ _.
     not_for_us-long c.args.store.now c.args.arch.now c.args.source.now c.args.version.now c.args.note.now _
-    (c.or_later.ensures.value (key_refusal c.args.arch.now c.args.source.now c.args.version.now) c.read_key-key.ensures.ok c.read_key-key.ensures.refused c.read_key-key.ensures.memory)
+    (c.read_refusal_or.ensures.value (key_refusal c.args.arch.now c.args.source.now c.args.version.now) c.read_key-key.ensures.ok c.read_key-key.ensures.refused c.read_key-key.ensures.memory)
     (sym c.is_long.ensures.value ∙ c.if-is_long.true)
 
 pub returns-in_err-clone-clause-memory : goal.returns-in_err-clone-clause-memory

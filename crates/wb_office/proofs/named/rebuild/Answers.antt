@@ -19,13 +19,13 @@ returns-in_err-read-clause-memory c =
 pub returns-in_default-clause-refused : goal.returns-in_default-clause-refused
 returns-in_default-clause-refused c = λ _.
     rebuild-BadNumber c.args.store.now c.args.arch.now c.args.source.now c.args.version.now c.args.number c.args.message.now _
-    (c.or_later.ensures.value (key_refusal c.args.arch.now c.args.source.now c.args.version.now) c.read_key-key.ensures.ok c.read_key-key.ensures.refused c.read_key-key.ensures.memory)
+    (c.read_refusal_or.ensures.value (key_refusal c.args.arch.now c.args.source.now c.args.version.now) c.read_key-key.ensures.ok c.read_key-key.ensures.refused c.read_key-key.ensures.memory)
     c.in_default.ensures.value
 
 pub returns-then-is_long-clause-refused : goal.returns-then-is_long-clause-refused
 returns-then-is_long-clause-refused c = λ _.
     rebuild-long c.args.store.now c.args.arch.now c.args.source.now c.args.version.now c.args.number c.args.message.now _
-    (c.or_later-then-is_long.ensures.value (key_refusal c.args.arch.now c.args.source.now c.args.version.now) c.read_key-key.ensures.ok c.read_key-key.ensures.refused c.read_key-key.ensures.memory)
+    (c.read_refusal_or-then-is_long.ensures.value (key_refusal c.args.arch.now c.args.source.now c.args.version.now) c.read_key-key.ensures.ok c.read_key-key.ensures.refused c.read_key-key.ensures.memory)
     (numbered c.args.number c.in-Some.number _ c.in-Some.ensures.value).0 (sym c.is_long.ensures.value ∙ c.if-is_long.true)
 
 pub returns-in_err-clone-clause-memory : goal.returns-in_err-clone-clause-memory

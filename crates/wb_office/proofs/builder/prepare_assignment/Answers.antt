@@ -4,32 +4,32 @@ use Rattle.wb_states.specs.declared.moves.Move.TheVariants as to
 use Rattle.wb_states.specs.Limits.{count_limit}
 use Rattle.wb_states.specs.Moves.{moved}
 use Rattle.wb_office.specs.Step.{assignment_of}
-use Rattle.wb_office.proofs.JobLemmas.{job_step-refused, job_step-Spent, take-any, neither}
-use Rattle.wb_office.proofs.builder.prepare_job.Goals as goal
+use Rattle.wb_office.proofs.AssignmentLemmas.{assignment_step-refused, assignment_step-Spent, take-any, neither}
+use Rattle.wb_office.proofs.builder.prepare_assignment.Goals as goal
 
 pub returns-in_err-after-clause-refused : goal.returns-in_err-after-clause-refused
 returns-in_err-after-clause-refused c =
     let p = err_from_is_err_and c.from_residual.result c.from_residual.ensures.1 in
-    rw (p.1, p.2) (λ differs. job_step-refused c.args.store.now c.args.builder.now ((c.args.arch.now, c.args.source.now), c.args.current.now) _
+    rw (p.1, p.2) (λ differs. assignment_step-refused c.args.store.now c.args.builder.now ((c.args.arch.now, c.args.source.now), c.args.current.now) _
     (take-any c.args.builder.now (c.args.store.now.handed + 1) c.next_take-take_number.result c.args.current.now ∙ c.in_err-after.ensures.refused differs))
 
-pub returns-then-is_job_spent-clause-refused : goal.returns-then-is_job_spent-clause-refused
-returns-then-is_job_spent-clause-refused c = λ _.
-    job_step-Spent c.args.store.now c.args.builder.now ((c.args.arch.now, c.args.source.now), c.args.current.now)
+pub returns-then-is_assignment_spent-clause-refused : goal.returns-then-is_assignment_spent-clause-refused
+returns-then-is_assignment_spent-clause-refused c = λ _.
+    assignment_step-Spent c.args.store.now c.args.builder.now ((c.args.arch.now, c.args.source.now), c.args.current.now)
     (take-any c.args.builder.now (c.args.store.now.handed + 1) c.next_take-take_number.result c.args.current.now ∙ c.in_ok-after.ensures.ok)
-    (sym c.is_job_spent.ensures.value ∙ c.if-is_job_spent.true)
+    (sym c.is_assignment_spent.ensures.value ∙ c.if-is_assignment_spent.true)
 
 pub returns-clause-value : goal.returns-clause-value
 returns-clause-value c =
     let room : (nat_le count_limit c.args.store.now.accepted || nat_le count_limit c.args.store.now.handed) ≡ false =
-    sym c.is_job_spent.ensures.value ∙ c.if-is_job_spent.false in
+    sym c.is_assignment_spent.ensures.value ∙ c.if-is_assignment_spent.false in
     c.in_ok-after.ensures.value
     ∙ ap (λ (k : ℕ). moved (to.Take c.args.builder.now k) c.args.current.now) (c.next_take-take_number.ensures.value (neither _ _ room).1)
 
-pub returns-clause-told : goal.returns-clause-told
-returns-clause-told c =
+pub returns-clause-reply : goal.returns-clause-reply
+returns-clause-reply c =
     let room : (nat_le count_limit c.args.store.now.accepted || nat_le count_limit c.args.store.now.handed) ≡ false =
-    sym c.is_job_spent.ensures.value ∙ c.if-is_job_spent.false in
+    sym c.is_assignment_spent.ensures.value ∙ c.if-is_assignment_spent.false in
     c.in_ok-assignment.ensures.value
     ∙ ap (λ (k : ℕ). assignment_of ((c.args.arch.now, c.args.source.now), c.args.current.now) k) (c.next_take-take_number.ensures.value (neither _ _ room).1)
 
@@ -38,4 +38,4 @@ returns-clause-ok c =
     take-any c.args.builder.now (c.args.store.now.handed + 1) c.next_take-take_number.result c.args.current.now ∙ c.in_ok-after.ensures.ok
 
 pub returns-clause-room : goal.returns-clause-room
-returns-clause-room c = sym c.is_job_spent.ensures.value ∙ c.if-is_job_spent.false
+returns-clause-room c = sym c.is_assignment_spent.ensures.value ∙ c.if-is_assignment_spent.false

@@ -14,8 +14,8 @@ use Rattle.wb_states.specs.Machine.{Machine}
 use Rattle.wb_states.specs.Moves.{move_refusal, moved, may_go}
 use Rattle.wb_states.specs.Queue.{Entry}
 use Rattle.wb_office.specs.Checks.{when}
-use Rattle.wb_office.specs.Found.{unless_refused, job_step, take_move}
-use Rattle.wb_office.specs.Step.{assignment_of, counted, after_take, job_of}
+use Rattle.wb_office.specs.Found.{unless_refused, assignment_step, take_move}
+use Rattle.wb_office.specs.Step.{assignment_of, counted, after_take, assignment_reply}
 
 -- whether a record can be taken does not depend on the take number
 pub take-any : (builder : List ℕ) (one other : ℕ) (current : Record)
@@ -23,22 +23,22 @@ pub take-any : (builder : List ℕ) (one other : ℕ) (current : Record)
 unfolding move_refusal may_go
 take-any builder one other current = refl
 
-pub job_step-refused : (machine : Machine) (builder : List ℕ) (entry : Entry) (refusal : Refusal)
-    → move_refusal (take_move machine builder) entry.1 ≡ Some refusal → job_step machine builder entry ≡ (Err refusal, machine)
-unfolding job_step
-job_step-refused machine builder entry refusal is =
+pub assignment_step-refused : (machine : Machine) (builder : List ℕ) (entry : Entry) (refusal : Refusal)
+    → move_refusal (take_move machine builder) entry.1 ≡ Some refusal → assignment_step machine builder entry ≡ (Err refusal, machine)
+unfolding assignment_step
+assignment_step-refused machine builder entry refusal is =
     λ i. unless_refused (option_or (is i) (option_or (when (nat_le count_limit machine.accepted || nat_le count_limit machine.handed) Spent) None)) machine
-    (Ok (job_of machine (Some entry)), counted machine (after_take machine (Some (entry, take_move machine builder))))
+    (Ok (assignment_reply machine (Some entry)), counted machine (after_take machine (Some (entry, take_move machine builder))))
 
-pub job_step-Spent : (machine : Machine) (builder : List ℕ) (entry : Entry)
+pub assignment_step-Spent : (machine : Machine) (builder : List ℕ) (entry : Entry)
     → move_refusal (take_move machine builder) entry.1 ≡ None → (nat_le count_limit machine.accepted || nat_le count_limit machine.handed) ≡ true
-    → job_step machine builder entry ≡ (Err Spent, machine)
-unfolding job_step
-job_step-Spent machine builder entry is full =
+    → assignment_step machine builder entry ≡ (Err Spent, machine)
+unfolding assignment_step
+assignment_step-Spent machine builder entry is full =
     λ i. unless_refused (option_or (is i) (option_or (when (full i) Spent) None)) machine
-    (Ok (job_of machine (Some entry)), counted machine (after_take machine (Some (entry, take_move machine builder))))
+    (Ok (assignment_reply machine (Some entry)), counted machine (after_take machine (Some (entry, take_move machine builder))))
 
-pub job_step-Ok : (machine new : Machine) (builder : List ℕ) (entry : Entry) (assignment : Assignment) (reply : Reply)
+pub assignment_step-Ok : (machine new : Machine) (builder : List ℕ) (entry : Entry) (assignment : Assignment) (reply : Reply)
     → move_refusal (take_move machine builder) entry.1 ≡ None → (nat_le count_limit machine.accepted || nat_le count_limit machine.handed) ≡ false
     → assignment ≡ assignment_of entry (machine.handed + 1)
     → reply ≡ Job (machine.accepted + 1) assignment
@@ -47,12 +47,12 @@ pub job_step-Ok : (machine new : Machine) (builder : List ℕ) (entry : Entry) (
       handed = machine.handed + 1;
       accepted = machine.accepted + 1;
     }
-    → job_step machine builder entry ≡ (Ok reply, new)
-unfolding job_step
-job_step-Ok machine new builder entry assignment reply is room told replied left =
+    → assignment_step machine builder entry ≡ (Ok reply, new)
+unfolding assignment_step
+assignment_step-Ok machine new builder entry assignment reply is room given replied left =
     (λ i. unless_refused (option_or (is i) (option_or (when (room i) Spent) None)) machine
-    (Ok (job_of machine (Some entry)), counted machine (after_take machine (Some (entry, take_move machine builder)))))
-    ∙ (λ i. (Ok (Job (machine.accepted + 1) (sym told i)), sym left i))
+    (Ok (assignment_reply machine (Some entry)), counted machine (after_take machine (Some (entry, take_move machine builder)))))
+    ∙ (λ i. (Ok (Job (machine.accepted + 1) (sym given i)), sym left i))
     ∙ (λ i. (Ok (sym replied i), new))
 
 -- a test of two is false only where both are
@@ -61,7 +61,7 @@ neither true other is = cc
 neither false other is = (refl, is)
 
 -- a record that was handed out is written, and both counts are raised
-pub job_step-kept : (machine new : Machine) (builder arch source own_arch own_source : List ℕ) (current after : Record) (assignment : Assignment) (reply : Reply)
+pub assignment_step-kept : (machine new : Machine) (builder arch source own_arch own_source : List ℕ) (current after : Record) (assignment : Assignment) (reply : Reply)
     → move_refusal (take_move machine builder) current ≡ None → (nat_le count_limit machine.accepted || nat_le count_limit machine.handed) ≡ false
     → (own_arch ≡ arch) × (own_source ≡ source) → after ≡ moved (take_move machine builder) current
     → assignment ≡ assignment_of ((arch, source), current) (machine.handed + 1)
@@ -71,9 +71,9 @@ pub job_step-kept : (machine new : Machine) (builder arch source own_arch own_so
       handed = machine.handed + 1;
       accepted = machine.accepted + 1;
     }
-    → job_step machine builder ((arch, source), current) ≡ (Ok reply, new)
-job_step-kept machine new builder arch source own_arch own_source current after assignment reply is room key value told replied left =
-    job_step-Ok machine new builder ((arch, source), current) assignment reply is room told replied
+    → assignment_step machine builder ((arch, source), current) ≡ (Ok reply, new)
+assignment_step-kept machine new builder arch source own_arch own_source current after assignment reply is room key value given replied left =
+    assignment_step-Ok machine new builder ((arch, source), current) assignment reply is room given replied
     (left ∙ (λ i. record machine {
       records = map.insert machine.records (key.0 i, key.1 i) (value i);
       handed = machine.handed + 1;
