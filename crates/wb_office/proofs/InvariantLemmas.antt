@@ -21,11 +21,10 @@ use Rattle.wb_office.proofs.AskedLemmas.{HasHanded, asked-good}
 use Rattle.wb_office.proofs.ConsistencyLemmas.{IsFreshOrKept, with_arch, with_builder, with_record, with_counts}
 use Rattle.wb_office.proofs.ListedLemmas.{reading_of-faultless}
 use Rattle.wb_office.proofs.MergingLemmas.{merging-keeps}
-use Rattle.wb_office.proofs.MovedLemmas.{IsGoodMove, allowed-value, moved-well, moved-holder, moved-waits, moved-number}
+use Rattle.wb_office.proofs.MovedLemmas.{IsGoodMove, moved-well, moved-holder, moved-waits, moved-number}
 use Rattle.wb_office.proofs.MovingLemmas.{moving-may}
 use Rattle.wb_office.proofs.PassLemmas.{Passes, step-either, not-false, both-true, either-false}
 use Rattle.wb_office.proofs.SettledLemmas.{empty_within}
-use Rattle.wb_office.proofs.TakeStateLemmas.{allowed-from}
 
 -- ---- a source package that is entered
 
@@ -62,12 +61,11 @@ unfolding arch_words
 put-keeps machine handed entry move old stands allowed good up within room =
     let arch : List ℕ = entry.0.0 in
     let current : Record = entry.1 in
-    let from = allowed-from move current allowed in
     let had : IfSome (Some current) (IsRecord machine arch entry.0.1) = subst (λ r. IfSome r (IsRecord machine arch entry.0.1)) stands (old.records arch entry.0.1) in
     let is : IsRecord (record machine { handed = handed }) arch entry.0.1 (moved move current) = record {
       name = had.name;
       known = had.known;
-      fields = moved-well machine handed arch current had.fields move good from (allowed-value move current from allowed);
+      fields = moved-well machine handed arch current had.fields move good allowed;
       holder = moved-holder machine handed arch current move good had.holder;
       waits = moved-waits machine handed arch current move good;
       given = moved-number machine handed arch current (λ n. (1 ≤ n) × (n ≤ handed)) move good (λ e. (omega arith, omega arith)) (given current.take had.given);
