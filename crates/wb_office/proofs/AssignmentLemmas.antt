@@ -14,7 +14,7 @@ use Rattle.wb_states.specs.Machine.{Machine}
 use Rattle.wb_states.specs.Moves.{move_refusal, moved, may_go}
 use Rattle.wb_states.specs.Queue.{Entry}
 use Rattle.wb_office.specs.Checks.{when}
-use Rattle.wb_office.specs.Found.{unless_refused, assignment_step, take_move}
+use Rattle.wb_office.specs.Found.{outcome_unless, assignment_step, take_move}
 use Rattle.wb_office.specs.Step.{assignment_of, counted, after_take, assignment_reply}
 
 -- whether a record can be taken does not depend on the take number
@@ -27,7 +27,7 @@ pub assignment_step-refused : (machine : Machine) (builder : List ℕ) (entry : 
     → move_refusal (take_move machine builder) entry.1 ≡ Some refusal → assignment_step machine builder entry ≡ (Err refusal, machine)
 unfolding assignment_step
 assignment_step-refused machine builder entry refusal is =
-    λ i. unless_refused (option_or (is i) (option_or (when (nat_le count_limit machine.accepted || nat_le count_limit machine.handed) Spent) None)) machine
+    λ i. outcome_unless (option_or (is i) (option_or (when (nat_le count_limit machine.accepted || nat_le count_limit machine.handed) Spent) None)) machine
     (Ok (assignment_reply machine (Some entry)), counted machine (after_take machine (Some (entry, take_move machine builder))))
 
 pub assignment_step-Spent : (machine : Machine) (builder : List ℕ) (entry : Entry)
@@ -35,7 +35,7 @@ pub assignment_step-Spent : (machine : Machine) (builder : List ℕ) (entry : En
     → assignment_step machine builder entry ≡ (Err Spent, machine)
 unfolding assignment_step
 assignment_step-Spent machine builder entry is full =
-    λ i. unless_refused (option_or (is i) (option_or (when (full i) Spent) None)) machine
+    λ i. outcome_unless (option_or (is i) (option_or (when (full i) Spent) None)) machine
     (Ok (assignment_reply machine (Some entry)), counted machine (after_take machine (Some (entry, take_move machine builder))))
 
 pub assignment_step-Ok : (machine new : Machine) (builder : List ℕ) (entry : Entry) (assignment : Assignment) (reply : Reply)
@@ -50,7 +50,7 @@ pub assignment_step-Ok : (machine new : Machine) (builder : List ℕ) (entry : E
     → assignment_step machine builder entry ≡ (Ok reply, new)
 unfolding assignment_step
 assignment_step-Ok machine new builder entry assignment reply is room given replied left =
-    (λ i. unless_refused (option_or (is i) (option_or (when (room i) Spent) None)) machine
+    (λ i. outcome_unless (option_or (is i) (option_or (when (room i) Spent) None)) machine
     (Ok (assignment_reply machine (Some entry)), counted machine (after_take machine (Some (entry, take_move machine builder)))))
     ∙ (λ i. (Ok (Job (machine.accepted + 1) (sym given i)), sym left i))
     ∙ (λ i. (Ok (sym replied i), new))

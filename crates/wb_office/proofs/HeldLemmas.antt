@@ -16,13 +16,13 @@ use Rattle.wb_states.specs.Machine.{Machine, arch_words}
 use Rattle.wb_states.specs.Moves.{move_refusal}
 use Rattle.wb_states.specs.Queue.{Entry}
 use Rattle.wb_office.specs.Checks.{first_some, when, fault_in, text_refusal, state_refusal}
-use Rattle.wb_office.specs.Found.{unless_refused, move_step, relations_refusal, taken_at, taken_step}
+use Rattle.wb_office.specs.Found.{outcome_unless, move_step, relations_refusal, taken_at, taken_step}
 use Rattle.wb_office.specs.Moving.{groups_in, moving}
 use Rattle.wb_office.specs.Step.{step, counted, after_move}
 use Rattle.wb_office.proofs.StepLemmas.{step-state, step-text}
 
 taken-answer : (machine : Machine) (moves : Entry → Move) (found : Option Entry)
-    → unless_refused (first_some (
+    → outcome_unless (first_some (
     when (is_none found) NotHeld
     ∷ option_and_then (λ (asked : Entry × Move). move_refusal asked.1 asked.0.1) (option_and_then (λ (entry : Entry). Some (entry, moves entry)) found)
     ∷ when (nat_le count_limit machine.accepted) Spent

@@ -20,25 +20,25 @@ use Rattle.wb_office.proofs.StepLemmas.{step-text, two-None, two-Some, two-later
 
 pub give_back-refused : (machine : Machine) (arch source version : List ℕ) (refusal : Refusal) → key_refusal arch source version ≡ Some refusal
     → step machine (GiveBack arch source version) ≡ (Err refusal, machine)
-unfolding text_refusal key_refusal
+unfolding text_refusal
 give_back-refused machine arch source version refusal is =
     step-text machine (GiveBack arch source version) refusal (two-Some (when (has_bad_key arch source) BadName) (option_map BadVersion (fault_of version)) None refusal is)
 
 pub give_back-is : (machine : Machine) (arch source version : List ℕ) → key_refusal arch source version ≡ None
     → step machine (GiveBack arch source version) ≡ named_step machine arch source version to.GiveBack
-unfolding text_refusal key_refusal
+unfolding text_refusal
 give_back-is machine arch source version is = step-GiveBack machine arch source version (two-None (when (has_bad_key arch source) BadName) (option_map BadVersion (fault_of version)) None is)
 
 pub dep_wait-refused : (machine : Machine) (arch source version relations : List ℕ) (refusal : Refusal) → key_refusal arch source version ≡ Some refusal
     → step machine (DepWait arch source version relations) ≡ (Err refusal, machine)
-unfolding text_refusal key_refusal
+unfolding text_refusal
 dep_wait-refused machine arch source version relations refusal is =
     step-text machine (DepWait arch source version relations) refusal (two-Some (when (has_bad_key arch source) BadName) (option_map BadVersion (fault_of version)) (option_or (option_map (λ fault. BadRelations (Some fault)) (fault_in (reading_of relations))) None) refusal is)
 
 pub dep_wait-BadRelations : (machine : Machine) (arch source version relations : List ℕ) (later refusal : Refusal)
     → option_or (key_refusal arch source version) (Some later) ≡ Some refusal → relations_refusal relations ≡ Some later
     → step machine (DepWait arch source version relations) ≡ (Err refusal, machine)
-unfolding text_refusal key_refusal relations_refusal
+unfolding text_refusal relations_refusal
 dep_wait-BadRelations machine arch source version relations later refusal is bad =
     step-text machine (DepWait arch source version relations) refusal (two-later (when (has_bad_key arch source) BadName) (option_map BadVersion (fault_of version)) (option_or (option_map (λ fault. BadRelations (Some fault)) (fault_in (reading_of relations))) None) later refusal is
     (ap (λ first. option_or first None) bad))
@@ -62,7 +62,7 @@ dep_wait-either machine arch source version relations later refusal is bad diffe
 pub dep_wait-is : (machine : Machine) (arch source version relations : List ℕ) (groups : List (List Alternative)) (words : ArchWords) → key_refusal arch source version ≡ None
     → reading_of relations ≡ Ok groups → words ≡ arch_words machine arch
     → step machine (DepWait arch source version relations) ≡ named_step machine arch source version (to.DepWait groups words)
-unfolding text_refusal key_refusal
+unfolding text_refusal
 dep_wait-is machine arch source version relations groups words is reads named =
     step-DepWait machine arch source version relations (two-None (when (has_bad_key arch source) BadName) (option_map BadVersion (fault_of version)) (option_or (option_map (λ fault. BadRelations (Some fault)) (fault_in (reading_of relations))) None) is
     ∙ ap (λ reading. option_or (option_map (λ fault. BadRelations (Some fault)) (fault_in reading)) None) reads)
@@ -70,49 +70,49 @@ dep_wait-is machine arch source version relations groups words is reads named =
 
 pub fail-refused : (machine : Machine) (arch source version note : List ℕ) (refusal : Refusal) → key_refusal arch source version ≡ Some refusal
     → step machine (Fail arch source version note) ≡ (Err refusal, machine)
-unfolding text_refusal key_refusal
+unfolding text_refusal
 fail-refused machine arch source version note refusal is =
     step-text machine (Fail arch source version note) refusal (two-Some (when (has_bad_key arch source) BadName) (option_map BadVersion (fault_of version)) (option_or (when (nat_lt note_limit (length note)) TextTooLong) None) refusal is)
 
 pub fail-long : (machine : Machine) (arch source version note : List ℕ) (refusal : Refusal)
     → option_or (key_refusal arch source version) (Some TextTooLong) ≡ Some refusal → nat_lt note_limit (length note) ≡ true
     → step machine (Fail arch source version note) ≡ (Err refusal, machine)
-unfolding text_refusal key_refusal
+unfolding text_refusal
 fail-long machine arch source version note refusal is long =
     step-text machine (Fail arch source version note) refusal (two-later (when (has_bad_key arch source) BadName) (option_map BadVersion (fault_of version)) (option_or (when (nat_lt note_limit (length note)) TextTooLong) None) TextTooLong refusal is
     (ap (λ b. option_or (when b TextTooLong) None) long))
 
 pub fail-is : (machine : Machine) (arch source version note : List ℕ) (own : List ℕ) → key_refusal arch source version ≡ None → nat_lt note_limit (length note) ≡ false → own ≡ note
     → step machine (Fail arch source version note) ≡ named_step machine arch source version (to.Fail own)
-unfolding text_refusal key_refusal
+unfolding text_refusal
 fail-is machine arch source version note own is long same =
     step-Fail machine arch source version note (two-None (when (has_bad_key arch source) BadName) (option_map BadVersion (fault_of version)) (option_or (when (nat_lt note_limit (length note)) TextTooLong) None) is ∙ ap (λ b. option_or (when b TextTooLong) None) long)
     ∙ ap (λ (text : List ℕ). named_step machine arch source version (to.Fail text)) (sym same)
 
 pub not_for_us-refused : (machine : Machine) (arch source version note : List ℕ) (refusal : Refusal) → key_refusal arch source version ≡ Some refusal
     → step machine (NotForUs arch source version note) ≡ (Err refusal, machine)
-unfolding text_refusal key_refusal
+unfolding text_refusal
 not_for_us-refused machine arch source version note refusal is =
     step-text machine (NotForUs arch source version note) refusal (two-Some (when (has_bad_key arch source) BadName) (option_map BadVersion (fault_of version)) (option_or (when (nat_lt note_limit (length note)) TextTooLong) None) refusal is)
 
 pub not_for_us-long : (machine : Machine) (arch source version note : List ℕ) (refusal : Refusal)
     → option_or (key_refusal arch source version) (Some TextTooLong) ≡ Some refusal → nat_lt note_limit (length note) ≡ true
     → step machine (NotForUs arch source version note) ≡ (Err refusal, machine)
-unfolding text_refusal key_refusal
+unfolding text_refusal
 not_for_us-long machine arch source version note refusal is long =
     step-text machine (NotForUs arch source version note) refusal (two-later (when (has_bad_key arch source) BadName) (option_map BadVersion (fault_of version)) (option_or (when (nat_lt note_limit (length note)) TextTooLong) None) TextTooLong refusal is
     (ap (λ b. option_or (when b TextTooLong) None) long))
 
 pub not_for_us-is : (machine : Machine) (arch source version note : List ℕ) (own : List ℕ) → key_refusal arch source version ≡ None → nat_lt note_limit (length note) ≡ false → own ≡ note
     → step machine (NotForUs arch source version note) ≡ named_step machine arch source version (to.NotForUs own)
-unfolding text_refusal key_refusal
+unfolding text_refusal
 not_for_us-is machine arch source version note own is long same =
     step-NotForUs machine arch source version note (two-None (when (has_bad_key arch source) BadName) (option_map BadVersion (fault_of version)) (option_or (when (nat_lt note_limit (length note)) TextTooLong) None) is ∙ ap (λ b. option_or (when b TextTooLong) None) long)
     ∙ ap (λ (text : List ℕ). named_step machine arch source version (to.NotForUs text)) (sym same)
 
 pub rebuild-refused : (machine : Machine) (arch source version : List ℕ) (number : ℕ) (message : List ℕ) (refusal : Refusal) → key_refusal arch source version ≡ Some refusal
     → step machine (Rebuild arch source version number message) ≡ (Err refusal, machine)
-unfolding text_refusal key_refusal
+unfolding text_refusal
 rebuild-refused machine arch source version number message refusal is =
     step-text machine (Rebuild arch source version number message) refusal (two-Some (when (has_bad_key arch source) BadName) (option_map BadVersion (fault_of version)) (option_or (when (nat_eq number 0 || nat_lt rebuild_limit number) BadNumber) (option_or (when (nat_lt note_limit (length message)) TextTooLong) None)) refusal is)
 
@@ -120,7 +120,7 @@ pub rebuild-BadNumber : (machine : Machine) (arch source version : List ℕ) (nu
     → option_or (key_refusal arch source version) (Some BadNumber) ≡ Some refusal
     → None ≡ (if nat_eq number 0 || nat_lt rebuild_limit number then None else Some number)
     → step machine (Rebuild arch source version number message) ≡ (Err refusal, machine)
-unfolding text_refusal key_refusal
+unfolding text_refusal
 rebuild-BadNumber machine arch source version number message refusal is none =
     step-text machine (Rebuild arch source version number message) refusal (two-later (when (has_bad_key arch source) BadName) (option_map BadVersion (fault_of version)) (option_or (when (nat_eq number 0 || nat_lt rebuild_limit number) BadNumber) (option_or (when (nat_lt note_limit (length message)) TextTooLong) None)) BadNumber refusal is
     (ap (λ b. option_or (when b BadNumber) (option_or (when (nat_lt note_limit (length message)) TextTooLong) None)) (bad (nat_eq number 0 || nat_lt rebuild_limit number) none)))
@@ -139,7 +139,7 @@ pub rebuild-long : (machine : Machine) (arch source version : List ℕ) (number 
     → option_or (key_refusal arch source version) (Some TextTooLong) ≡ Some refusal
     → (nat_eq number 0 || nat_lt rebuild_limit number) ≡ false → nat_lt note_limit (length message) ≡ true
     → step machine (Rebuild arch source version number message) ≡ (Err refusal, machine)
-unfolding text_refusal key_refusal
+unfolding text_refusal
 rebuild-long machine arch source version number message refusal is good long =
     step-text machine (Rebuild arch source version number message) refusal (two-later (when (has_bad_key arch source) BadName) (option_map BadVersion (fault_of version)) (option_or (when (nat_eq number 0 || nat_lt rebuild_limit number) BadNumber) (option_or (when (nat_lt note_limit (length message)) TextTooLong) None)) TextTooLong refusal is
     (λ i. option_or (when (good i) BadNumber) (option_or (when (long i) TextTooLong) None)))
@@ -147,7 +147,7 @@ rebuild-long machine arch source version number message refusal is good long =
 pub rebuild-is : (machine : Machine) (arch source version : List ℕ) (number : ℕ) (message : List ℕ) (kept : ℕ) (own : List ℕ) → key_refusal arch source version ≡ None
     → (nat_eq number 0 || nat_lt rebuild_limit number) ≡ false → nat_lt note_limit (length message) ≡ false → kept ≡ number → own ≡ message
     → step machine (Rebuild arch source version number message) ≡ named_step machine arch source version (to.Rebuild kept own)
-unfolding text_refusal key_refusal
+unfolding text_refusal
 rebuild-is machine arch source version number message kept own is good long same told =
     step-Rebuild machine arch source version number message (two-None (when (has_bad_key arch source) BadName) (option_map BadVersion (fault_of version)) (option_or (when (nat_eq number 0 || nat_lt rebuild_limit number) BadNumber) (option_or (when (nat_lt note_limit (length message)) TextTooLong) None)) is
     ∙ (λ i. option_or (when (good i) BadNumber) (option_or (when (long i) TextTooLong) None)))

@@ -10,18 +10,18 @@ use Rattle.wb_states.specs.declared.reply.Reply.{Reply}
 use Rattle.wb_states.specs.declared.reply.Reply.TheVariants.{Done}
 use Rattle.wb_states.specs.Limits.{count_limit}
 use Rattle.wb_states.specs.Machine.{Machine}
-use Rattle.wb_states.specs.Moves.{move_refusal, move_of, moved, unless_refused as unless_move_refused}
+use Rattle.wb_states.specs.Moves.{move_refusal, move_of, moved, unless_refused}
 use Rattle.wb_states.specs.Queue.{Entry}
 use Rattle.wb_office.specs.declared.moved.Moved.{Moved}
 use Rattle.wb_office.specs.Checks.{when}
-use Rattle.wb_office.specs.Found.{unless_refused, move_step}
+use Rattle.wb_office.specs.Found.{outcome_unless, move_step}
 use Rattle.wb_office.specs.Step.{counted, after_move}
 
 pub move_of-Ok : (move : Move) (current after : Record) → move_of move current ≡ Ok after
     → (move_refusal move current ≡ None) × (after ≡ moved move current)
 unfolding move_of
 move_of-Ok move current after = found (move_refusal move current) where
-  found : (first : Option Refusal) → unless_move_refused first (moved move current) ≡ Ok after → (first ≡ None) × (after ≡ moved move current)
+  found : (first : Option Refusal) → unless_refused first (moved move current) ≡ Ok after → (first ≡ None) × (after ≡ moved move current)
   found None is = (refl, only (moved move current) after is) where
     only : (x y : Record) → (let left : Result Record Refusal = Ok x in left) ≡ Ok y → y ≡ x
     only x y e = cc
@@ -31,7 +31,7 @@ pub move_of-Err : (move : Move) (current : Record) (refusal : Refusal) → move_
     → move_refusal move current ≡ Some refusal
 unfolding move_of
 move_of-Err move current refusal = found (move_refusal move current) where
-  found : (first : Option Refusal) → unless_move_refused first (moved move current) ≡ Err refusal → first ≡ Some refusal
+  found : (first : Option Refusal) → unless_refused first (moved move current) ≡ Err refusal → first ≡ Some refusal
   found None is = cc
   found (Some other) is = cc
 
@@ -39,14 +39,14 @@ pub move_step-refused : (machine : Machine) (entry : Entry) (move : Move) (refus
     → move_refusal move entry.1 ≡ Some refusal → move_step machine entry move ≡ (Err refusal, machine)
 unfolding move_step
 move_step-refused machine entry move refusal is =
-    λ i. unless_refused (option_or (is i) (option_or (when (nat_le count_limit machine.accepted) Spent) None)) machine
+    λ i. outcome_unless (option_or (is i) (option_or (when (nat_le count_limit machine.accepted) Spent) None)) machine
     (Ok (Done (machine.accepted + 1)), counted machine (after_move machine (Some (entry, move))))
 
 pub move_step-Spent : (machine : Machine) (entry : Entry) (move : Move)
     → move_refusal move entry.1 ≡ None → nat_le count_limit machine.accepted ≡ true → move_step machine entry move ≡ (Err Spent, machine)
 unfolding move_step
 move_step-Spent machine entry move is full =
-    λ i. unless_refused (option_or (is i) (option_or (when (full i) Spent) None)) machine
+    λ i. outcome_unless (option_or (is i) (option_or (when (full i) Spent) None)) machine
     (Ok (Done (machine.accepted + 1)), counted machine (after_move machine (Some (entry, move))))
 
 pub move_step-Ok : (machine new : Machine) (entry : Entry) (move : Move) (reply : Reply)
@@ -56,7 +56,7 @@ pub move_step-Ok : (machine new : Machine) (entry : Entry) (move : Move) (reply 
     → move_step machine entry move ≡ (Ok reply, new)
 unfolding move_step
 move_step-Ok machine new entry move reply is room replied left =
-    (λ i. unless_refused (option_or (is i) (option_or (when (room i) Spent) None)) machine
+    (λ i. outcome_unless (option_or (is i) (option_or (when (room i) Spent) None)) machine
     (Ok (Done (machine.accepted + 1)), counted machine (after_move machine (Some (entry, move)))))
     ∙ (λ i. (Ok (sym replied i), sym left i))
 

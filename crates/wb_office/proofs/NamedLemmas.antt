@@ -14,13 +14,13 @@ use Rattle.wb_states.specs.Moves.{move_refusal}
 use Rattle.wb_states.specs.Queue.{Entry}
 use Rattle.deb_relations.specs.Reading.{reading_of}
 use Rattle.wb_office.specs.Checks.{first_some, when, differing, text_refusal, state_refusal}
-use Rattle.wb_office.specs.Found.{unless_refused, move_step, found_refusal, named_at, named_step}
+use Rattle.wb_office.specs.Found.{outcome_unless, move_step, found_refusal, named_at, named_step}
 use Rattle.wb_office.specs.Moving.{groups_in, moving, record_named, with_move}
-use Rattle.wb_office.specs.Step.{step, counted, after_move}
-use Rattle.wb_office.proofs.StepLemmas.{step-state, unless_refused-option_or, unless_refused-last}
+use Rattle.wb_office.specs.Step.{Outcome, step, counted, after_move}
+use Rattle.wb_office.proofs.StepLemmas.{step-state, outcome_unless-option_or, outcome_unless-last}
 
 named-answer : (machine : Machine) (arch source version : List ℕ) (move : Move) (is_unknown : Bool) (found : Option Record)
-    → unless_refused (first_some (
+    → outcome_unless (first_some (
     when is_unknown UnknownArch
     ∷ when (not (is_some found)) UnknownSource
     ∷ option_and_then (differing version) found
@@ -32,12 +32,13 @@ named-answer : (machine : Machine) (arch source version : List ℕ) (move : Move
       counted machine (after_move machine
           (option_and_then (λ (entry : Entry). Some (entry, move)) (option_map (λ (current : Record). ((arch, source), current)) found))),
     )
-    ≡ unless_refused (when is_unknown UnknownArch) machine (named_at machine (arch, source) version move found)
+    ≡ outcome_unless (when is_unknown UnknownArch) machine
+    (named_at machine version (λ current. move_step machine ((arch, source), current) move) found)
 unfolding move_step
-named-answer machine arch source version move is_unknown None = unless_refused-option_or (when is_unknown UnknownArch) _ machine _
+named-answer machine arch source version move is_unknown None = outcome_unless-option_or (when is_unknown UnknownArch) _ machine _
 named-answer machine arch source version move is_unknown (Some current) =
-    unless_refused-option_or (when is_unknown UnknownArch) _ machine _
-    ∙ ap (unless_refused (when is_unknown UnknownArch) machine) (unless_refused-option_or (differing version current) _ machine _)
+    outcome_unless-option_or (when is_unknown UnknownArch) _ machine _
+    ∙ ap (outcome_unless (when is_unknown UnknownArch) machine) (outcome_unless-option_or (differing version current) _ machine _)
 
 pub step-GiveBack : (machine : Machine) (arch source version : List ℕ) → text_refusal (GiveBack arch source version) ≡ None
     → step machine (GiveBack arch source version) ≡ named_step machine arch source version to.GiveBack
@@ -70,7 +71,7 @@ step-Rebuild machine arch source version number message text =
 
 -- the move of DepWait is of the entry's own architecture
 depwait-answer : (machine : Machine) (arch source version relations : List ℕ) (found : Option Record)
-    → unless_refused (first_some (
+    → outcome_unless (first_some (
     when (not (map.contains_key machine.archs arch)) UnknownArch
     ∷ when (not (is_some found)) UnknownSource
     ∷ option_and_then (differing version) found
@@ -82,8 +83,8 @@ depwait-answer : (machine : Machine) (arch source version relations : List ℕ) 
       counted machine (after_move machine
           (option_and_then (with_move machine (DepWait arch source version relations)) (option_map (λ (current : Record). ((arch, source), current)) found))),
     )
-    ≡ unless_refused (when (not (map.contains_key machine.archs arch)) UnknownArch) machine
-    (named_at machine (arch, source) version (to.DepWait (groups_in (reading_of relations)) (arch_words machine arch)) found)
+    ≡ outcome_unless (when (not (map.contains_key machine.archs arch)) UnknownArch) machine
+    (named_at machine version (λ current. move_step machine ((arch, source), current) (to.DepWait (groups_in (reading_of relations)) (arch_words machine arch))) found)
 depwait-answer machine arch source version relations None =
     named-answer machine arch source version (to.DepWait (groups_in (reading_of relations)) (arch_words machine arch)) (not (map.contains_key machine.archs arch)) None
 depwait-answer machine arch source version relations (Some current) =
@@ -101,26 +102,26 @@ pub named_step-UnknownArch : (machine : Machine) (arch source version : List ℕ
     → named_step machine arch source version move ≡ (Err UnknownArch, machine)
 unfolding named_step
 named_step-UnknownArch machine arch source version move unknown =
-    λ i. unless_refused (when (unknown i) UnknownArch) machine (named_at machine (arch, source) version move (map.get machine.records (arch, source)))
+    λ i. outcome_unless (when (unknown i) UnknownArch) machine (named_at machine version (λ current. move_step machine ((arch, source), current) move) (map.get machine.records (arch, source)))
 
-named_at-refused : (machine : Machine) (key : List ℕ × List ℕ) (version : List ℕ) (move : Move) (found : Option Record) (refusal : Refusal)
-    → found_refusal version found ≡ Some refusal → named_at machine key version move found ≡ (Err refusal, machine)
-named_at-refused machine key version move None refusal is = ap (λ first. unless_refused first machine (Err UnknownSource, machine)) is
-named_at-refused machine key version move (Some current) refusal is =
-    unless_refused-last (differing version current) machine (move_step machine (key, current) move) refusal is
+pub named_at-refused : (machine : Machine) (version : List ℕ) (done : Record → Outcome) (found : Option Record) (refusal : Refusal)
+    → first_some (when (not (is_some found)) UnknownSource ∷ option_and_then (differing version) found ∷ []) ≡ Some refusal
+    → named_at machine version done found ≡ (Err refusal, machine)
+named_at-refused machine version done None refusal is = ap (λ first. outcome_unless first machine (Err UnknownSource, machine)) is
+named_at-refused machine version done (Some current) refusal is = outcome_unless-last (differing version current) machine (done current) refusal is
 
 pub named_step-found : (machine : Machine) (arch source version : List ℕ) (move : Move) (refusal : Refusal) → not (map.contains_key machine.archs arch) ≡ false
-    → found_refusal version (map.get machine.records (arch, source)) ≡ Some refusal
+    → found_refusal machine arch source version ≡ Some refusal
     → named_step machine arch source version move ≡ (Err refusal, machine)
 unfolding named_step
 named_step-found machine arch source version move refusal known is =
-    (λ i. unless_refused (when (known i) UnknownArch) machine (named_at machine (arch, source) version move (map.get machine.records (arch, source))))
-    ∙ named_at-refused machine (arch, source) version move (map.get machine.records (arch, source)) refusal is
+    (λ i. outcome_unless (when (known i) UnknownArch) machine (named_at machine version (λ current. move_step machine ((arch, source), current) move) (map.get machine.records (arch, source))))
+    ∙ named_at-refused machine version (λ current. move_step machine ((arch, source), current) move) (map.get machine.records (arch, source)) refusal is
 
 pub named_step-moves : (machine : Machine) (arch source version : List ℕ) (move : Move) (current : Record) → not (map.contains_key machine.archs arch) ≡ false
     → map.get machine.records (arch, source) ≡ Some current → differing version current ≡ None
     → named_step machine arch source version move ≡ move_step machine ((arch, source), current) move
 unfolding named_step
 named_step-moves machine arch source version move current known found same =
-    (λ i. unless_refused (when (known i) UnknownArch) machine (named_at machine (arch, source) version move (found i)))
-    ∙ (λ i. unless_refused (same i) machine (move_step machine ((arch, source), current) move))
+    (λ i. outcome_unless (when (known i) UnknownArch) machine (named_at machine version (λ current. move_step machine ((arch, source), current) move) (found i)))
+    ∙ (λ i. outcome_unless (same i) machine (move_step machine ((arch, source), current) move))

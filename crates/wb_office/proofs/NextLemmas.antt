@@ -16,7 +16,7 @@ use Rattle.wb_states.specs.Queue.{Entry, head_of}
 use Rattle.wb_states.proofs.QueueLemmas.{head_of-waits}
 use Rattle.wb_store.specs.Lookups.{named}
 use Rattle.wb_office.specs.Checks.{first_some, when, has_bad_name, is_ahead, is_for_other_archs, lacks_arch, lacks_builder, text_refusal, state_refusal, first_refusal}
-use Rattle.wb_office.specs.Found.{unless_refused, builder_refusal, head_at, head_step, assignment_step, take_move, held_assignment}
+use Rattle.wb_office.specs.Found.{outcome_unless, builder_refusal, head_at, head_step, assignment_step, take_move, held_assignment}
 use Rattle.wb_office.specs.Moving.{again_of, moving}
 use Rattle.wb_office.specs.Step.{outcome, step, reply_to, change, counted, after_take, assignment_reply}
 use Rattle.wb_office.proofs.StepLemmas.{step-refused, outcome-None, three-None, three-Some}
@@ -110,13 +110,13 @@ next-Again machine arch builder after entry bad is later again_is =
 
 -- what is answered and done with what stands at the head of a queue
 head-answer : (machine : Machine) (arch builder : List ℕ) (after : Option ℕ)
-    → unless_refused (queue_checks machine builder true (head_of machine arch)) machine
+    → outcome_unless (queue_checks machine builder true (head_of machine arch)) machine
     (Ok (reply_to machine (Next arch builder after)), counted machine (change machine (Next arch builder after)))
     ≡ head_at machine builder (head_of machine arch)
 unfolding queue_checks assignment_step moving
 head-answer machine arch builder after = found (head_of machine arch) where
   found : (head : Option Entry)
-      → unless_refused (option_or (option_and_then (λ (asked : Entry × Move). move_refusal asked.1 asked.0.1)
+      → outcome_unless (option_or (option_and_then (λ (asked : Entry × Move). move_refusal asked.1 asked.0.1)
       (option_and_then (λ (entry : Entry). Some (entry, take_move machine builder)) head))
       (option_or (when (is_none head) QueueEmpty)
       (option_or (when (nat_le count_limit machine.accepted || nat_le count_limit machine.handed) Spent) None))) machine

@@ -1,5 +1,5 @@
 -- The refusal of a merge, and its parts one by one.
-use Rattle.std.proofs.Common.{◌≡◌, ℕ, Bool, true, false, List, [], ◌∷◌, Option, Some, None, Result, Ok, Err, is_ok, refl, ap, cond, nat_le, not}
+use Rattle.std.proofs.Common.{◌≡◌, ℕ, Bool, true, false, List, [], ◌∷◌, Option, Some, None, Result, Ok, Err, is_ok, refl, ap, cond, nat_le, not, ◌∙◌}
 use Rattle.std.specs.List.{list_any}
 use Rattle.std.specs.Option.{option_or}
 use Rattle.wb_states.specs.declared.command.Command.TheVariants.{Merge}
@@ -12,7 +12,6 @@ use Rattle.wb_states.specs.Names.{is_arch_name}
 use Rattle.wb_merge.specs.Listing.{ArchiveListing}
 use Rattle.wb_merge.specs.Merged.{Records}
 use Rattle.wb_office.specs.Checks.{first_refusal, first_some, has_repeated_arch, state_refusal, text_refusal, when}
-use Rattle.wb_office.specs.Found.{refused_merge}
 use Rattle.wb_office.specs.Moving.{moving}
 use Rattle.wb_office.specs.Parts.{end_with, is_good, is_merged, parts_refusal, part_listing, refusal_in}
 
@@ -26,27 +25,21 @@ joined false true refused is_full handed = refl
 joined false false (Some refusal) is_full handed = refl
 joined false false None is_full handed = refl
 
--- the refusal of a merge, by what can be wrong with one
-pub first_refusal_of_merge : (machine : Machine) (sources : List ℕ) (parts : List Part)
-    → first_refusal machine (Merge sources parts) ≡ refused_merge machine sources parts
-unfolding first_refusal text_refusal state_refusal moving refused_merge
-first_refusal_of_merge machine sources parts =
-    joined (list_any (λ part. not (is_arch_name part.arch)) parts) (has_repeated_arch parts) (parts_refusal machine sources parts)
-    (nat_le count_limit machine.accepted) machine.handed
-
 -- a part is merged where it has a listing
 pub is_merged-end : (records : Records) (arch : List ℕ) (listing : Result ArchiveListing Refusal) → is_merged (end_with records arch listing) ≡ is_ok listing
 is_merged-end records arch (Ok listing) = refl
 is_merged-end records arch (Err refusal) = refl
 
 -- the refusal of a merge, by the outcomes of its checks
-pub refused_merge-is : (machine : Machine) (sources : List ℕ) (parts : List Part) (is_bad is_repeated : Bool) (refused : Option Refusal) (is_full : Bool)
+pub first_refusal-Merge : (machine : Machine) (sources : List ℕ) (parts : List Part) (is_bad is_repeated : Bool) (refused : Option Refusal) (is_full : Bool)
     → list_any (λ part. not (is_arch_name part.arch)) parts ≡ is_bad → has_repeated_arch parts ≡ is_repeated
     → parts_refusal machine sources parts ≡ refused → nat_le count_limit machine.accepted ≡ is_full
-    → refused_merge machine sources parts ≡ first_some (when is_bad BadName ∷ when is_repeated RepeatedArch ∷ refused ∷ when is_full Spent ∷ [])
-unfolding refused_merge
-refused_merge-is machine sources parts is_bad is_repeated refused is_full bad repeated why full =
-    λ i. first_some (when (bad i) BadName ∷ when (repeated i) RepeatedArch ∷ why i ∷ when (full i) Spent ∷ [])
+    → first_refusal machine (Merge sources parts) ≡ first_some (when is_bad BadName ∷ when is_repeated RepeatedArch ∷ refused ∷ when is_full Spent ∷ [])
+unfolding first_refusal text_refusal state_refusal moving
+first_refusal-Merge machine sources parts is_bad is_repeated refused is_full bad repeated why full =
+    joined (list_any (λ part. not (is_arch_name part.arch)) parts) (has_repeated_arch parts) (parts_refusal machine sources parts)
+    (nat_le count_limit machine.accepted) machine.handed
+    ∙ (λ i. first_some (when (bad i) BadName ∷ when (repeated i) RepeatedArch ∷ why i ∷ when (full i) Spent ∷ []))
 
 -- a merge of which a part can be merged is not refused for its parts
 pub parts_refusal-none : (machine : Machine) (sources : List ℕ) (parts : List Part) → list_any (is_good machine sources) parts ≡ true

@@ -56,14 +56,14 @@ builder_refusal-is machine arch builder is_unknown has_none is_other unknown non
     λ i. first_some (when (unknown i) UnknownArch ∷ when (none i) UnknownBuilder ∷ when (other i) WrongArch ∷ [])
 
 pub key_refusal-BadName : (arch source version : List ℕ) → has_bad_key arch source ≡ true → key_refusal arch source version ≡ Some BadName
-unfolding key_refusal
+unfolding text_refusal
 key_refusal-BadName arch source version bad = λ i. first_some (when (bad i) BadName ∷ option_map BadVersion (fault_of version) ∷ [])
 
 pub key_refusal-BadVersion : (arch source version : List ℕ) (refusal : Refusal) → has_bad_key arch source ≡ false
     → option_map BadVersion (fault_of version) ≡ Some refusal → key_refusal arch source version ≡ Some refusal
-unfolding key_refusal
+unfolding text_refusal
 key_refusal-BadVersion arch source version refusal bad faulty = λ i. first_some (when (bad i) BadName ∷ faulty i ∷ [])
 
 pub key_refusal-None : (arch source version : List ℕ) → has_bad_key arch source ≡ false → fault_of version ≡ None → key_refusal arch source version ≡ None
-unfolding key_refusal
+unfolding text_refusal
 key_refusal-None arch source version bad faulty = λ i. first_some (when (bad i) BadName ∷ option_map BadVersion (faulty i) ∷ [])

@@ -5,7 +5,7 @@ use Rattle.wb_states.specs.declared.command.Command.{Command}
 use Rattle.wb_states.specs.declared.refusal.Refusal.{Refusal}
 use Rattle.wb_states.specs.Machine.{Machine}
 use Rattle.wb_office.specs.Checks.{first_some, text_refusal, state_refusal, first_refusal}
-use Rattle.wb_office.specs.Found.{unless_refused}
+use Rattle.wb_office.specs.Found.{outcome_unless}
 use Rattle.wb_office.specs.Moving.{again_of}
 use Rattle.wb_office.specs.Step.{Outcome, outcome, step, reply_to, change, counted}
 
@@ -21,28 +21,28 @@ step-text machine command refusal is = ap (λ text. outcome (option_or text (sta
 
 -- where nothing is told again, a command is refused, or it is accepted
 pub outcome-None : (first : Option Refusal) (machine : Machine) (command : Command)
-    → outcome first None machine command ≡ unless_refused first machine (Ok (reply_to machine command), counted machine (change machine command))
+    → outcome first None machine command ≡ outcome_unless first machine (Ok (reply_to machine command), counted machine (change machine command))
 outcome-None None machine command = refl
 outcome-None (Some refusal) machine command = refl
 
 -- a command whose texts are good, and which is told nothing again
 pub step-state : (machine : Machine) (command : Command) → text_refusal command ≡ None → again_of machine command ≡ None
-    → step machine command ≡ unless_refused (state_refusal machine command) machine (Ok (reply_to machine command), counted machine (change machine command))
+    → step machine command ≡ outcome_unless (state_refusal machine command) machine (Ok (reply_to machine command), counted machine (change machine command))
 unfolding step first_refusal
 step-state machine command text again =
     (λ i. outcome (option_or (text i) (state_refusal machine command)) (again i) machine command)
     ∙ outcome-None (state_refusal machine command) machine command
 
-pub unless_refused-option_or : (one rest : Option Refusal) (machine : Machine) (accepted : Outcome)
-    → unless_refused (option_or one rest) machine accepted ≡ unless_refused one machine (unless_refused rest machine accepted)
-unless_refused-option_or None rest machine accepted = refl
-unless_refused-option_or (Some refusal) rest machine accepted = refl
+pub outcome_unless-option_or : (one rest : Option Refusal) (machine : Machine) (accepted : Outcome)
+    → outcome_unless (option_or one rest) machine accepted ≡ outcome_unless one machine (outcome_unless rest machine accepted)
+outcome_unless-option_or None rest machine accepted = refl
+outcome_unless-option_or (Some refusal) rest machine accepted = refl
 
-pub unless_refused-last : (one : Option Refusal) (machine : Machine) (accepted : Outcome) (refusal : Refusal)
-    → option_or one None ≡ Some refusal → unless_refused one machine accepted ≡ (Err refusal, machine)
-unless_refused-last None machine accepted refusal is = cc
-unless_refused-last (Some other) machine accepted refusal is =
-    let same : Some other ≡ Some refusal = is in ap (λ first. unless_refused first machine accepted) same
+pub outcome_unless-last : (one : Option Refusal) (machine : Machine) (accepted : Outcome) (refusal : Refusal)
+    → option_or one None ≡ Some refusal → outcome_unless one machine accepted ≡ (Err refusal, machine)
+outcome_unless-last None machine accepted refusal is = cc
+outcome_unless-last (Some other) machine accepted refusal is =
+    let same : Some other ≡ Some refusal = is in ap (λ first. outcome_unless first machine accepted) same
 
 pub two-None : (a b rest : Option Refusal) → first_some (a ∷ b ∷ []) ≡ None → option_or a (option_or b rest) ≡ rest
 two-None None None rest is = refl

@@ -13,21 +13,22 @@ use Rattle.wb_states.specs.Machine.{Machine}
 use Rattle.wb_states.specs.Moves.{move_refusal}
 use Rattle.wb_states.specs.Queue.{Entry}
 use Rattle.wb_office.specs.Checks.{first_some, when, differing, has_bad_name, lacks_arch, lacks_builder, is_for_other_archs, text_refusal, state_refusal}
-use Rattle.wb_office.specs.Found.{unless_refused, builder_refusal, found_refusal, assignment_step, take_at, take_move, take_step}
+use Rattle.wb_office.specs.Found.{outcome_unless, builder_refusal, found_refusal, assignment_step, named_at, take_move, take_step}
 use Rattle.wb_office.specs.Moving.{moving, record_named}
 use Rattle.wb_office.specs.Step.{Outcome, step, counted, after_take, assignment_reply}
-use Rattle.wb_office.proofs.StepLemmas.{step-state, step-text, unless_refused-option_or, unless_refused-last}
+use Rattle.wb_office.proofs.NamedLemmas.{named_at-refused}
+use Rattle.wb_office.proofs.StepLemmas.{step-state, step-text, outcome_unless-option_or}
 
-unless_refused-three : (a b c rest : Option Refusal) (machine : Machine) (accepted : Outcome)
-    → unless_refused (option_or a (option_or b (option_or c rest))) machine accepted
-    ≡ unless_refused (first_some (a ∷ b ∷ c ∷ [])) machine (unless_refused rest machine accepted)
-unless_refused-three None None None rest machine accepted = refl
-unless_refused-three None None (Some c) rest machine accepted = refl
-unless_refused-three None (Some b) c rest machine accepted = refl
-unless_refused-three (Some a) b c rest machine accepted = refl
+outcome_unless-three : (a b c rest : Option Refusal) (machine : Machine) (accepted : Outcome)
+    → outcome_unless (option_or a (option_or b (option_or c rest))) machine accepted
+    ≡ outcome_unless (first_some (a ∷ b ∷ c ∷ [])) machine (outcome_unless rest machine accepted)
+outcome_unless-three None None None rest machine accepted = refl
+outcome_unless-three None None (Some c) rest machine accepted = refl
+outcome_unless-three None (Some b) c rest machine accepted = refl
+outcome_unless-three (Some a) b c rest machine accepted = refl
 
 take-answer : (machine : Machine) (arch builder source version : List ℕ) (found : Option Record)
-    → unless_refused (first_some (
+    → outcome_unless (first_some (
     when (not (is_some found)) UnknownSource
     ∷ option_and_then (differing version) found
     ∷ option_and_then (λ (asked : Entry × Move). move_refusal asked.1 asked.0.1)
@@ -38,21 +39,21 @@ take-answer : (machine : Machine) (arch builder source version : List ℕ) (foun
       counted machine (after_take machine
           (option_and_then (λ (entry : Entry). Some (entry, take_move machine builder)) (option_map (λ (current : Record). ((arch, source), current)) found))),
     )
-    ≡ take_at machine builder (arch, source) version found
+    ≡ named_at machine version (λ current. assignment_step machine builder ((arch, source), current)) found
 unfolding assignment_step
 take-answer machine arch builder source version None = refl
-take-answer machine arch builder source version (Some current) = unless_refused-option_or (differing version current) _ machine _
+take-answer machine arch builder source version (Some current) = outcome_unless-option_or (differing version current) _ machine _
 
 step-Take : (machine : Machine) (arch builder source version : List ℕ) → text_refusal (Take arch builder source version) ≡ None
     → step machine (Take arch builder source version) ≡ take_step machine arch builder source version
 unfolding state_refusal moving record_named take_step builder_refusal
 step-Take machine arch builder source version text =
     step-state machine (Take arch builder source version) text refl
-    ∙ unless_refused-three
+    ∙ outcome_unless-three
     (when (lacks_arch machine (Take arch builder source version)) UnknownArch)
     (when (lacks_builder machine (Take arch builder source version)) UnknownBuilder)
     (when (is_for_other_archs machine (Take arch builder source version)) WrongArch) _ machine _
-    ∙ ap (unless_refused (builder_refusal machine arch builder) machine)
+    ∙ ap (outcome_unless (builder_refusal machine arch builder) machine)
     (take-answer machine arch builder source version (map.get machine.records (arch, source)))
 
 take-text : (arch builder source version : List ℕ) → has_bad_name (Take arch builder source version) ≡ false → fault_of version ≡ None
@@ -85,26 +86,20 @@ pub take_step-builder : (machine : Machine) (arch builder source version : List 
     → take_step machine arch builder source version ≡ (Err refusal, machine)
 unfolding take_step
 take_step-builder machine arch builder source version refusal is =
-    λ i. unless_refused (is i) machine (take_at machine builder (arch, source) version (map.get machine.records (arch, source)))
-
-take_at-refused : (machine : Machine) (builder : List ℕ) (key : List ℕ × List ℕ) (version : List ℕ) (found : Option Record) (refusal : Refusal)
-    → found_refusal version found ≡ Some refusal → take_at machine builder key version found ≡ (Err refusal, machine)
-take_at-refused machine builder key version None refusal is = ap (λ first. unless_refused first machine (Err UnknownSource, machine)) is
-take_at-refused machine builder key version (Some current) refusal is =
-    unless_refused-last (differing version current) machine (assignment_step machine builder (key, current)) refusal is
+    λ i. outcome_unless (is i) machine (named_at machine version (λ current. assignment_step machine builder ((arch, source), current)) (map.get machine.records (arch, source)))
 
 pub take_step-found : (machine : Machine) (arch builder source version : List ℕ) (refusal : Refusal) → builder_refusal machine arch builder ≡ None
-    → found_refusal version (map.get machine.records (arch, source)) ≡ Some refusal
+    → found_refusal machine arch source version ≡ Some refusal
     → take_step machine arch builder source version ≡ (Err refusal, machine)
 unfolding take_step
 take_step-found machine arch builder source version refusal may is =
-    (λ i. unless_refused (may i) machine (take_at machine builder (arch, source) version (map.get machine.records (arch, source))))
-    ∙ take_at-refused machine builder (arch, source) version (map.get machine.records (arch, source)) refusal is
+    (λ i. outcome_unless (may i) machine (named_at machine version (λ current. assignment_step machine builder ((arch, source), current)) (map.get machine.records (arch, source))))
+    ∙ named_at-refused machine version (λ current. assignment_step machine builder ((arch, source), current)) (map.get machine.records (arch, source)) refusal is
 
 pub take_step-assignment : (machine : Machine) (arch builder source version : List ℕ) (current : Record) → builder_refusal machine arch builder ≡ None
     → map.get machine.records (arch, source) ≡ Some current → differing version current ≡ None
     → take_step machine arch builder source version ≡ assignment_step machine builder ((arch, source), current)
 unfolding take_step
 take_step-assignment machine arch builder source version current may found same =
-    (λ i. unless_refused (may i) machine (take_at machine builder (arch, source) version (found i)))
-    ∙ (λ i. unless_refused (same i) machine (assignment_step machine builder ((arch, source), current)))
+    (λ i. outcome_unless (may i) machine (named_at machine version (λ current. assignment_step machine builder ((arch, source), current)) (found i)))
+    ∙ (λ i. outcome_unless (same i) machine (assignment_step machine builder ((arch, source), current)))

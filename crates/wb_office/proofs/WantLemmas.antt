@@ -8,7 +8,7 @@ use Rattle.wb_states.specs.declared.refusal.Refusal.{Refusal}
 use Rattle.wb_states.specs.declared.refusal.Refusal.TheVariants.{Memory, BadName, BadVersion}
 use Rattle.wb_states.specs.Limits.{note_limit, rebuild_limit, relations_limit}
 use Rattle.wb_states.specs.Machine.{Machine}
-use Rattle.wb_office.specs.Checks.{MayWantMemory, first_refusal, first_some, has_bad_key, when}
+use Rattle.wb_office.specs.Checks.{MayWantMemory, first_refusal, first_some, has_bad_key, when, text_refusal}
 use Rattle.wb_office.specs.Found.{key_refusal}
 use Rattle.wb_office.proofs.PassLemmas.{passes, first_some-None, when-None, option_map-None}
 
@@ -19,7 +19,7 @@ wanted (Err refusal) known = λ _. known
 
 -- a source package whose names and version are not refused
 pub key-good : (arch source version : List ℕ) → key_refusal arch source version ≡ None → (has_bad_key arch source ≡ false) × (fault_of version ≡ None)
-unfolding key_refusal
+unfolding text_refusal
 key-good arch source version is =
     let both = first_some-None (when (has_bad_key arch source) BadName ∷ option_map BadVersion (fault_of version) ∷ []) is in
     (when-None _ _ both.0, option_map-None BadVersion _ both.1.0)
@@ -27,7 +27,7 @@ key-good arch source version is =
 -- such a package is known where memory is what is wanted in the end
 pub key-wanted : (arch source version : List ℕ) (later refusal : Refusal) → option_or (key_refusal arch source version) (Some later) ≡ Some refusal → refusal ≡ Memory
     → key_refusal arch source version ≡ None
-unfolding key_refusal
+unfolding text_refusal
 key-wanted arch source version later refusal is none = either (has_bad_key arch source) (fault_of version) (is ∙ ap Some none) where
   either : (b : Bool) (fault : Option VersionFault)
       → option_or (first_some (when b BadName ∷ option_map BadVersion fault ∷ [])) (Some later) ≡ Some Memory

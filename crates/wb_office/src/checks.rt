@@ -112,8 +112,7 @@ pub(crate) fn find_source<'a>(
         map.get store.now.records (arch.now, source.now) ≡ Some current.now) }
     ensures ok { IfOk result (λ current. differing version.now current.now ≡ None) }
     ensures refused { IfErr result (λ refusal. refusal ≢ Memory
-        → found_refusal version.now (map.get store.now.records (arch.now, source.now))
-        ≡ Some refusal) }
+        → found_refusal store.now arch.now source.now version.now ≡ Some refusal) }
 {
     let Some(current) = store.get(arch, source)? else {
         return Err(Refusal::UnknownSource);

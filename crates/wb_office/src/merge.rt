@@ -9,8 +9,7 @@ ghost use Rattle.wb_states.specs.declared.reply.Reply.TheVariants.{Merged};
 ghost use Rattle.wb_states.specs.Limits.{count_limit};
 ghost use Rattle.wb_states.specs.Machine.{Machine};
 ghost use Rattle.wb_states.specs.Names.{is_arch_name};
-ghost use Rattle.wb_office.specs.Checks.{MayWantMemory, has_repeated_arch};
-ghost use Rattle.wb_office.specs.Found.{refused_merge};
+ghost use Rattle.wb_office.specs.Checks.{MayWantMemory, first_refusal, has_repeated_arch};
 ghost use Rattle.wb_office.specs.Parts.{is_good, is_merged, part_listing, part_replies, parts_refusal, records_after, end_with, records_with};
 ghost use Rattle.wb_office.specs.Step.{step};
 
@@ -175,12 +174,12 @@ fn prepare_merge(
         ≡ records_after store.now sources.now parts.now store.now.records) }
     ensures replies { IfOk result (λ made. made.replies.items
         ≡ part_replies store.now sources.now parts.now store.now.records) }
-    ensures ok { OnOk result (refused_merge store.now sources.now parts.now ≡ None) }
+    ensures ok { OnOk result (first_refusal store.now (Merge sources.now parts.now) ≡ None) }
     ensures room { OnOk result (nat_le count_limit store.now.accepted ≡ false) }
     ensures memory { IfErr result (λ refusal. refusal ≡ Memory
         → MayWantMemory (Merge sources.now parts.now)) }
     ensures refused { IfErr result (λ refusal. refusal ≢ Memory
-        → refused_merge store.now sources.now parts.now ≡ Some refusal) }
+        → first_refusal store.now (Merge sources.now parts.now) ≡ Some refusal) }
 {
     if has_bad_arch(parts) {
         return Err(Refusal::BadName);
@@ -199,7 +198,7 @@ fn prepare_merge(
 }
 
 /// Brings the records of each part's architecture in line with what the archive lists, all or none.
-#[tactic(auto, using(crate::proofs::PartLemmas::first_refusal_of_merge), unfolding(crate::specs::Step::step))]
+#[tactic(auto, unfolding(crate::specs::Step::step))]
 pub(crate) fn merge(
     alloc: Global,
     store: &mut Store,

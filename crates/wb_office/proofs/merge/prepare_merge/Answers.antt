@@ -2,36 +2,36 @@
 use Rattle.std.proofs.Common.{◌≡◌, ◌∙◌, sym, refl, true, false, None, Some, rules}
 use Rattle.std.specs.List.{list_any}
 use Rattle.wb_office.specs.Parts.{is_good}
-use Rattle.wb_office.proofs.PartLemmas.{parts_refusal-none, refused_merge-is}
+use Rattle.wb_office.proofs.PartLemmas.{parts_refusal-none, first_refusal-Merge}
 use Rattle.wb_office.proofs.merge.prepare_merge.Goals as goal
 
 pub returns-then-has_bad_arch-clause-refused : goal.returns-then-has_bad_arch-clause-refused
 returns-then-has_bad_arch-clause-refused c = λ _.
-    refused_merge-is c.args.store.now c.args.sources.now c.args.parts.now true _ _ _
+    first_refusal-Merge c.args.store.now c.args.sources.now c.args.parts.now true _ _ _
     (sym c.has_bad_arch.ensures ∙ c.if-has_bad_arch.true) refl refl refl
 
 pub returns-then-repeats_arch-clause-refused : goal.returns-then-repeats_arch-clause-refused
 returns-then-repeats_arch-clause-refused c = λ _.
-    refused_merge-is c.args.store.now c.args.sources.now c.args.parts.now false true _ _
+    first_refusal-Merge c.args.store.now c.args.sources.now c.args.parts.now false true _ _
     (sym c.has_bad_arch.ensures ∙ c.if-has_bad_arch.false) (sym c.repeats_arch.ensures ∙ c.if-repeats_arch.true) refl refl
 
 pub returns-then-not-made-clause-refused : goal.returns-then-not-made-clause-refused
 returns-then-not-made-clause-refused c = λ _.
     let none : list_any (is_good c.args.store.now c.args.sources.now) c.args.parts.now ≡ false = search rules in
-    refused_merge-is c.args.store.now c.args.sources.now c.args.parts.now false false (Some c.refusal_of.result) _
+    first_refusal-Merge c.args.store.now c.args.sources.now c.args.parts.now false false (Some c.refusal_of.result) _
     (sym c.has_bad_arch.ensures ∙ c.if-has_bad_arch.false) (sym c.repeats_arch.ensures ∙ c.if-repeats_arch.false)
     (c.refusal_of.ensures c.args.store.now c.args.sources.now c.args.parts.now c.in_ok-made.ensures.replies none) refl
 
 pub returns-then-is_spent-clause-refused : goal.returns-then-is_spent-clause-refused
 returns-then-is_spent-clause-refused c = λ _.
     let some : list_any (is_good c.args.store.now c.args.sources.now) c.args.parts.now ≡ true = search rules in
-    refused_merge-is c.args.store.now c.args.sources.now c.args.parts.now false false None true
+    first_refusal-Merge c.args.store.now c.args.sources.now c.args.parts.now false false None true
     (sym c.has_bad_arch.ensures ∙ c.if-has_bad_arch.false) (sym c.repeats_arch.ensures ∙ c.if-repeats_arch.false)
     (parts_refusal-none c.args.store.now c.args.sources.now c.args.parts.now some) (sym c.is_spent.ensures.value ∙ c.if-is_spent.true)
 
 pub returns-clause-ok : goal.returns-clause-ok
 returns-clause-ok c =
     let some : list_any (is_good c.args.store.now c.args.sources.now) c.args.parts.now ≡ true = search rules in
-    refused_merge-is c.args.store.now c.args.sources.now c.args.parts.now false false None false
+    first_refusal-Merge c.args.store.now c.args.sources.now c.args.parts.now false false None false
     (sym c.has_bad_arch.ensures ∙ c.if-has_bad_arch.false) (sym c.repeats_arch.ensures ∙ c.if-repeats_arch.false)
     (parts_refusal-none c.args.store.now c.args.sources.now c.args.parts.now some) (sym c.is_spent.ensures.value ∙ c.if-is_spent.false)
