@@ -1,9 +1,12 @@
 pub mod AvailableLemmas
+pub mod CheckLemmas
+pub mod ChosenLemmas
 pub mod CountLemmas
 pub mod FirstFaultLemmas
 pub mod FoldLemmas
 pub mod ForwardLemmas
 pub mod GreatestLemmas
+pub mod ListedLemmas
 pub mod ListingLemmas
 pub mod MergeLemmas
 pub mod NameLemmas
@@ -11,6 +14,9 @@ pub mod OfferLemmas
 pub mod ReadCountLemmas
 pub mod RebuildLemmas
 pub mod RecordLemmas
+pub mod RelistedLemmas
+pub mod RowLemmas
+pub mod SettledLemmas
 pub mod SourceLemmas
 pub mod SourceTextLemmas
 pub mod TotalLemmas

@@ -15,6 +15,7 @@ use Rattle.wb_states.proofs.KeyLemmas.{pair_cmp_total}
 use Rattle.wb_merge.specs.Merged.{Records, is_same_option, is_same_flag, has_same_source, has_same_place, has_same_texts, is_same_record}
 use Rattle.wb_merge.specs.declared.merge.Change.TheVariants.{Kept, Changed}
 use Rattle.wb_merge.specs.Steps.{Key, IsSetAt, change_of}
+use Rattle.wb_merge.proofs.CheckLemmas.{both-true}
 use Rattle.wb_merge.proofs.NameLemmas.{bytes_eq-is, bytes_eq-itself, pair-is}
 
 -- ---- one record more or less
@@ -40,10 +41,6 @@ set-inserted es fs key value = set-at es fs key (Some value)
 
 -- ---- records that are equal
 
-same-and : (a b : Bool) → (a && b) ≡ true → (a ≡ true) × (b ≡ true)
-same-and true b e = (refl, e)
-same-and false b e = absurd cc
-
 same-flag : (a b : Bool) → is_same_flag a b ≡ true → a ≡ b
 same-flag true b e = sym e
 same-flag false true e = absurd cc
@@ -62,17 +59,17 @@ same-state one other e = code_of-differ one other (eqb-true (code_of one) (code_
 pub same-record : (one other : Record) → is_same_record one other ≡ true → one ≡ other
 unfolding is_same_record has_same_source has_same_place has_same_texts
 same-record one other e =
-    let groups = same-and _ _ e in
-    let source = same-and _ _ groups.0 in
-    let source_1 = same-and _ _ source.1 in
-    let source_2 = same-and _ _ source_1.1 in
-    let source_3 = same-and _ _ source_2.1 in
-    let others = same-and _ _ groups.1 in
-    let place = same-and _ _ others.0 in
-    let place_1 = same-and _ _ place.1 in
-    let texts = same-and _ _ others.1 in
-    let texts_1 = same-and _ _ texts.1 in
-    let texts_2 = same-and _ _ texts_1.1 in
+    let groups = both-true _ _ e in
+    let source = both-true _ _ groups.0 in
+    let source_1 = both-true _ _ source.1 in
+    let source_2 = both-true _ _ source_1.1 in
+    let source_3 = both-true _ _ source_2.1 in
+    let others = both-true _ _ groups.1 in
+    let place = both-true _ _ others.0 in
+    let place_1 = both-true _ _ place.1 in
+    let texts = both-true _ _ others.1 in
+    let texts_1 = both-true _ _ texts.1 in
+    let texts_2 = both-true _ _ texts_1.1 in
     λ i. record {
       state = same-state one.state other.state place.0 i;
       version = bytes_eq-is one.version other.version source.0 i;

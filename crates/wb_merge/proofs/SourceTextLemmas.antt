@@ -10,12 +10,9 @@ use Rattle.deb_version.specs.Syntax.{is_version_text}
 use Rattle.wb_states.specs.Holds.{has_value}
 use Rattle.wb_states.specs.Names.{is_source_char, is_source_name}
 use Rattle.wb_merge.specs.Rows.{is_space, in_brackets, source_name, has_source_version, source_version, is_source_text, with_version, NamesSource}
+use Rattle.wb_merge.proofs.CheckLemmas.{both-true}
 use Rattle.wb_merge.proofs.NameLemmas.{bytes_eq-is}
 use Rattle.wb_merge.proofs.SourceLemmas.{closed, last_is}
-
-both : (a b : Bool) → (a && b) ≡ true → (a ≡ true) × (b ≡ true)
-both true b e = (refl, e)
-both false b e = absurd cc
 
 neither : (a b : Bool) → (a || b) ≡ false → (a ≡ false) × (b ≡ false)
 neither true b e = absurd cc
@@ -36,12 +33,12 @@ no_space-char c h =
 no_space-all : (name : List ℕ) → list_all is_source_char name ≡ true → list_any is_space name ≡ false
 no_space-all [] h = refl
 no_space-all (c ∷ cs) h =
-    let parts = both (is_source_char c) (list_all is_source_char cs) h in
+    let parts = both-true (is_source_char c) (list_all is_source_char cs) h in
     λ i. no_space-char c parts.0 i || no_space-all cs parts.1 i
 
 no_space-name : (name : List ℕ) → is_source_name name ≡ true → list_any is_space name ≡ false
 unfolding is_source_name
-no_space-name name h = no_space-all name (both _ _ (both _ _ h).1).1
+no_space-name name h = no_space-all name (both-true _ _ (both-true _ _ h).1).1
 
 place-none : (name : List ℕ) → list_any is_space name ≡ false → position_or_len is_space name ≡ length name
 place-none [] h = refl
@@ -154,4 +151,4 @@ source_text-is text h =
           )
       | false ↦ λ none _.
           inl (sym (ap (λ (n : ℕ). take n text) (place-none text none) ∙ take_all (length text) text (omega arith)))
-    ]) refl (both _ _ h).1
+    ]) refl (both-true _ _ h).1

@@ -119,14 +119,14 @@ spare_form_fault field has_form (Some text) = if has_form text then None else So
 unfoldable pub spare_fault : ListField → (List ℕ → Bool) → List Entry → Option ListingFault
 spare_fault field has_form fields = spare_form_fault field has_form (value_named (name_of_field field) fields)
 
--- the first fault of some
-abbrev pub first_fault : List (Option ListingFault) → Option ListingFault
-first_fault [] = None
-first_fault (fault ∷ later) = option_or fault (first_fault later)
+-- the first of some that is there
+abbrev pub first_some : {X : Type 0} → List (Option X) → Option X
+first_some [] = None
+first_some (one ∷ later) = option_or one (first_some later)
 
 -- what is wrong with a paragraph of a Sources list: its fields in their order (Debian Policy 5.3)
 unfoldable pub source_fault : List Entry → Option ListingFault
-source_fault fields = first_fault (
+source_fault fields = first_some (
     wanted_fault Package is_source_name fields
     ∷ wanted_fault Version is_version_text fields
     ∷ wanted_fault Architecture (λ text. not (is_empty_text text)) fields
@@ -136,7 +136,7 @@ source_fault fields = first_fault (
 
 -- what is wrong with a paragraph of a Packages list: its fields in their order (Debian Policy 5.3)
 unfoldable pub binary_fault : List Entry → Option ListingFault
-binary_fault fields = first_fault (
+binary_fault fields = first_some (
     wanted_fault Package is_source_name fields
     ∷ wanted_fault Version is_version_text fields
     ∷ wanted_fault Architecture (λ text. not (is_empty_text text)) fields

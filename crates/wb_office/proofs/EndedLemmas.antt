@@ -28,7 +28,7 @@ use Rattle.wb_office.proofs.HeldLemmas.{step-Built, taken_step-NotHeld}
 use Rattle.wb_office.proofs.MergedLemmas.{records_after-keeps}
 use Rattle.wb_office.proofs.MovingLemmas.{moving-may, taken_as-stands}
 use Rattle.wb_office.proofs.PassLemmas.{passes, step-either}
-use Rattle.wb_office.proofs.RelistedLemmas.{listed-left, new-left}
+use Rattle.wb_merge.proofs.RelistedLemmas.{listed-left, new-left}
 
 -- a record is not held under a take number
 abbrev IsNotTaken : ℕ → Record → Type 0

@@ -15,7 +15,8 @@ use Rattle.wb_states.specs.Limits.{count_limit}
 use Rattle.wb_states.specs.Machine.{Machine, arch_words}
 use Rattle.wb_states.specs.Moves.{move_refusal}
 use Rattle.wb_states.specs.Queue.{Entry}
-use Rattle.wb_office.specs.Checks.{first_some, when, fault_in, text_refusal, state_refusal}
+use Rattle.wb_merge.specs.Rows.{first_some}
+use Rattle.wb_office.specs.Checks.{when, fault_in, text_refusal, state_refusal}
 use Rattle.wb_office.specs.Found.{outcome_unless, move_step, relations_refusal, taken_at, taken_step}
 use Rattle.wb_office.specs.Moving.{groups_in, moving}
 use Rattle.wb_office.specs.Step.{step, counted, after_move}

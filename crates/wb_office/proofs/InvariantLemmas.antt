@@ -19,12 +19,13 @@ use Rattle.wb_office.specs.Step.{step, change, counted, entered, after_move, aft
 use Rattle.wb_office.specs.Utf8.{HasUtf8Texts, HaveUtf8Texts}
 use Rattle.wb_office.proofs.AskedLemmas.{HasHanded, asked-good}
 use Rattle.wb_office.proofs.ConsistencyLemmas.{IsFreshOrKept, with_arch, with_builder, with_record, with_counts}
-use Rattle.wb_office.proofs.ListedLemmas.{reading_of-faultless}
+use Rattle.wb_merge.proofs.ListedLemmas.{reading_of-faultless}
 use Rattle.wb_office.proofs.MergingLemmas.{merging-keeps}
 use Rattle.wb_office.proofs.MovedLemmas.{IsGoodMove, moved-well, moved-holder, moved-waits, moved-number}
 use Rattle.wb_office.proofs.MovingLemmas.{moving-may}
-use Rattle.wb_office.proofs.PassLemmas.{Passes, step-either, not-false, both-true, either-false}
-use Rattle.wb_office.proofs.SettledLemmas.{empty_within}
+use Rattle.wb_office.proofs.PassLemmas.{Passes, step-either, not-false, either-false}
+use Rattle.wb_merge.proofs.SettledLemmas.{empty_within}
+use Rattle.wb_merge.proofs.CheckLemmas.{both-true}
 
 -- ---- a source package that is entered
 

@@ -2,7 +2,6 @@ pub mod ApartPartLemmas
 pub mod AppliedLemmas
 pub mod AskedLemmas
 pub mod AssignmentLemmas
-pub mod ChosenLemmas
 pub mod ConsistencyLemmas
 pub mod CountedLemmas
 pub mod EndedLemmas
@@ -12,7 +11,6 @@ pub mod HeadLemmas
 pub mod HeldLemmas
 pub mod InvariantLemmas
 pub mod KeyLemmas
-pub mod ListedLemmas
 pub mod MergedLemmas
 pub mod MergingLemmas
 pub mod MoveLemmas
@@ -23,10 +21,7 @@ pub mod NextLemmas
 pub mod PartLemmas
 pub mod PassLemmas
 pub mod RefusalLemmas
-pub mod RelistedLemmas
 pub mod RetryLemmas
-pub mod RowLemmas
-pub mod SettledLemmas
 pub mod StepLemmas
 pub mod TakeLemmas
 pub mod TakeStateLemmas

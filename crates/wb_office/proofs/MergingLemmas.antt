@@ -14,9 +14,9 @@ use Rattle.wb_merge.specs.Merge.{new_record, listed_record, after}
 use Rattle.wb_merge.specs.Merged.{Records}
 use Rattle.wb_office.specs.Parts.{listing_for, part_listing, records_after}
 use Rattle.wb_office.proofs.ConsistencyLemmas.{with_records}
-use Rattle.wb_office.proofs.ListedLemmas.{IsGoodListed, IsSmallBuilt, IsGoodListing, listing_of-good}
+use Rattle.wb_merge.proofs.ListedLemmas.{IsGoodListed, IsSmallBuilt, IsGoodListing, listing_of-good}
 use Rattle.wb_office.proofs.MergedLemmas.{OfKeys, records_after-keeps}
-use Rattle.wb_office.proofs.RelistedLemmas.{new_record-well, listed-well, new-left, listed-left}
+use Rattle.wb_merge.proofs.RelistedLemmas.{new_record-well, listed-well, new-left, listed-left}
 
 -- a take number is that of the record at the key
 abbrev pub IsNumberAt : Machine → List ℕ × List ℕ → ℕ → Type 0

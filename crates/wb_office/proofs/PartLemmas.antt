@@ -11,7 +11,8 @@ use Rattle.wb_states.specs.Machine.{Machine}
 use Rattle.wb_states.specs.Names.{is_arch_name}
 use Rattle.wb_merge.specs.Listing.{ArchiveListing}
 use Rattle.wb_merge.specs.Merged.{Records}
-use Rattle.wb_office.specs.Checks.{first_refusal, first_some, has_repeated_arch, state_refusal, text_refusal, when}
+use Rattle.wb_merge.specs.Rows.{first_some}
+use Rattle.wb_office.specs.Checks.{first_refusal, has_repeated_arch, state_refusal, text_refusal, when}
 use Rattle.wb_office.specs.Moving.{moving}
 use Rattle.wb_office.specs.Parts.{end_with, is_good, is_merged, parts_refusal, part_listing, refusal_in}
 

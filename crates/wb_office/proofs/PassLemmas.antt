@@ -6,20 +6,11 @@ use Rattle.wb_states.specs.declared.command.Command.{Command}
 use Rattle.wb_states.specs.declared.refusal.Refusal.{Refusal}
 use Rattle.wb_states.specs.declared.refusal.Refusal.TheVariants.{UnknownArch, UnknownBuilder, WrongArch, UnknownSource, QueueEmpty, NotHeld, AfterAhead, AlreadyThere, BadName, BadVersion, BadRelations, BadNumber, TextTooLong, Spent, RepeatedArch}
 use Rattle.wb_states.specs.Machine.{Machine}
-use Rattle.wb_office.specs.Checks.{when, first_some, text_refusal, state_refusal, first_refusal, has_bad_name, version_fault, relation_fault, has_bad_number, has_long_text, repeats_arch, lacks_arch, merge_refusal, lacks_builder, is_for_other_archs, is_ahead, is_not_held, lacks_source, other_version, refused_move, has_empty_queue, is_there_already, is_spent}
+use Rattle.wb_merge.specs.Rows.{first_some}
+use Rattle.wb_merge.proofs.CheckLemmas.{option_or-None, first_some-None}
+use Rattle.wb_office.specs.Checks.{when, text_refusal, state_refusal, first_refusal, has_bad_name, version_fault, relation_fault, has_bad_number, has_long_text, repeats_arch, lacks_arch, merge_refusal, lacks_builder, is_for_other_archs, is_ahead, is_not_held, lacks_source, other_version, refused_move, has_empty_queue, is_there_already, is_spent}
 use Rattle.wb_office.specs.Moving.{again_of}
 use Rattle.wb_office.specs.Step.{outcome, step, change, counted}
-
--- where neither refuses, neither does alone
-pub option_or-None : {X : Type 0} (one other : Option X) → option_or one other ≡ None → (one ≡ None) × (other ≡ None)
-option_or-None None other is = (refl, is)
-option_or-None (Some x) other is = cc
-
--- where none refuses, each does not
-pub first_some-None : (checks : List (Option Refusal)) → first_some checks ≡ None → AllByRecursion (λ check. check ≡ None) checks
-first_some-None [] is = tt
-first_some-None (check ∷ checks) is =
-    let both = option_or-None check (first_some checks) is in (both.0, first_some-None checks both.1)
 
 pub when-None : (test : Bool) (refusal : Refusal) → when test refusal ≡ None → test ≡ false
 when-None true refusal is = cc
@@ -32,10 +23,6 @@ option_map-None f (Some x) is = cc
 pub not-false : (test : Bool) → not test ≡ false → IsTrue test
 not-false true is = refl
 not-false false is = sym is
-
-pub both-true : (one other : Bool) → IsTrue (one && other) → IsTrue one × IsTrue other
-both-true true other is = (refl, is)
-both-true false other is = (is, cc)
 
 pub either-false : (one other : Bool) → (one || other) ≡ false → (one ≡ false) × (other ≡ false)
 either-false true other is = cc

@@ -25,7 +25,7 @@ use Rattle.wb_office.specs.HandOuts.{HasTakeByState, HasTakesByState}
 use Rattle.wb_office.specs.Moving.{moving}
 use Rattle.wb_office.specs.Replay.{replay}
 use Rattle.wb_office.specs.Step.{step, change, entered, after_move}
-use Rattle.wb_office.proofs.ChosenLemmas.{new-chosen, newer-chosen, same-chosen}
+use Rattle.wb_merge.proofs.ChosenLemmas.{new-chosen, newer-chosen, same-chosen}
 use Rattle.wb_office.proofs.MergedLemmas.{records_after-keeps}
 use Rattle.wb_office.proofs.MovingLemmas.{moving-may}
 use Rattle.wb_office.proofs.PassLemmas.{step-either}

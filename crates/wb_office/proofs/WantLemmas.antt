@@ -8,9 +8,11 @@ use Rattle.wb_states.specs.declared.refusal.Refusal.{Refusal}
 use Rattle.wb_states.specs.declared.refusal.Refusal.TheVariants.{Memory, BadName, BadVersion}
 use Rattle.wb_states.specs.Limits.{note_limit, rebuild_limit, relations_limit}
 use Rattle.wb_states.specs.Machine.{Machine}
-use Rattle.wb_office.specs.Checks.{MayWantMemory, first_refusal, first_some, has_bad_key, when, text_refusal}
+use Rattle.wb_merge.specs.Rows.{first_some}
+use Rattle.wb_merge.proofs.CheckLemmas.{first_some-None}
+use Rattle.wb_office.specs.Checks.{MayWantMemory, first_refusal, has_bad_key, when, text_refusal}
 use Rattle.wb_office.specs.Found.{key_refusal}
-use Rattle.wb_office.proofs.PassLemmas.{passes, first_some-None, when-None, option_map-None}
+use Rattle.wb_office.proofs.PassLemmas.{passes, when-None, option_map-None}
 
 -- what is known on a way is known of each refusal that comes of it
 pub wanted : {X P : Type 0} (answer : Result X Refusal) → P → IfErr answer (λ refusal. refusal ≡ Memory → P)

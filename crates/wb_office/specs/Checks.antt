@@ -24,6 +24,7 @@ use Rattle.wb_states.specs.Machine.{Machine, archs_of}
 use Rattle.wb_states.specs.Moves.{move_refusal}
 use Rattle.wb_states.specs.Names.{is_arch_name, is_os_cpu_word, is_builder_name, is_source_name, is_label_text}
 use Rattle.wb_states.specs.Queue.{head_of}
+use Rattle.wb_merge.specs.Rows.{first_some}
 use Rattle.wb_office.specs.Moving.{again_of, moving}
 use Rattle.wb_office.specs.Parts.{parts_refusal}
 
@@ -31,11 +32,6 @@ use Rattle.wb_office.specs.Parts.{parts_refusal}
 abbrev pub when : Bool → Refusal → Option Refusal
 when true refusal = Some refusal
 when false refusal = None
-
--- the first refusal of a list of checks
-abbrev pub first_some : List (Option Refusal) → Option Refusal
-first_some [] = None
-first_some (check ∷ checks) = option_or check (first_some checks)
 
 -- ---- the forms of a command's texts
 

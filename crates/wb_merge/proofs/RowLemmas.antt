@@ -19,8 +19,8 @@ use Rattle.wb_states.specs.declared.refusal.Refusal.TheVariants.{BadListing}
 use Rattle.wb_states.specs.Names.{is_source_name, is_label_text}
 use Rattle.wb_states.specs.Record.{is_empty_text}
 use Rattle.wb_states.specs.Refusals.{name_of_field}
-use Rattle.wb_merge.specs.Rows.{SourceRow, BinaryRow, value_named, text_named, is_label_or_empty, has_source_version, last_digits, rebuild_number, wanted_fault, spare_fault, first_fault, source_fault, source_row, with_source, binary_row, unless_faulty, source_row_of, binary_row_of, row_in, onto_rows, rows_behind, source_rows, binary_rows}
-use Rattle.wb_office.proofs.PassLemmas.{both-true, option_or-None}
+use Rattle.wb_merge.specs.Rows.{SourceRow, BinaryRow, value_named, text_named, is_label_or_empty, has_source_version, last_digits, rebuild_number, wanted_fault, spare_fault, source_fault, source_row, with_source, binary_row, unless_faulty, source_row_of, binary_row_of, row_in, onto_rows, rows_behind, source_rows, binary_rows}
+use Rattle.wb_merge.proofs.CheckLemmas.{both-true, first_some-None}
 
 -- ---- rows that were read are those of paragraphs without a fault
 
@@ -58,10 +58,6 @@ module _ {X : Type 0} (Q : X → Type 0) (read : List Entry → Result X Listing
       subst (AllByRecursion Q) onto.whole (row-good (passed + 1) _ onto.row onto.head, rows-good (passed + 1) later onto.later onto.tail)
 
 -- ---- the faults of a paragraph
-
-first_fault-None : (faults : List (Option ListingFault)) → first_fault faults ≡ None → AllByRecursion (λ fault. fault ≡ None) faults
-first_fault-None [] is = tt
-first_fault-None (fault ∷ later) is = let both = option_or-None fault (first_fault later) is in (both.0, first_fault-None later both.1)
 
 passed : (test : Bool) (fault : ListingFault) → cond test None (Some fault) ≡ None → IsTrue test
 passed true fault is = refl
@@ -123,7 +119,7 @@ source-good : (fields : List Entry) (row : SourceRow) → source_row_of fields �
 unfolding source_row_of source_fault
 source-good fields row is =
     let made = faultless-row (source_fault fields) (source_row fields) row is in
-    let none = first_fault-None (
+    let none = first_some-None (
     wanted_fault Package is_source_name fields
     ∷ wanted_fault Version is_version_text fields
     ∷ wanted_fault Architecture (λ text. not (is_empty_text text)) fields

@@ -28,8 +28,8 @@ use Rattle.wb_merge.specs.declared.listing.Built.{Built}
 use Rattle.wb_merge.specs.Rows.{SourceRow, BinaryRow, source_rows, binary_rows}
 use Rattle.wb_merge.specs.Listing.{ArchiveListing, better, best_from, joined, printed_for, within_limit, both_joined, depends_of, listed_as, is_candidate, listed_cmp, candidates, listed_of, built_as, built_cmp, is_built_from, builds, built_of, map_at, listing_of_rows, listing_in, listing_of}
 use Rattle.wb_merge.proofs.ListingLemmas.{map_at-get}
-use Rattle.wb_office.proofs.PassLemmas.{both-true}
-use Rattle.wb_office.proofs.RowLemmas.{IsGoodSource, IsSmall, source_rows-good, binary_rows-small}
+use Rattle.wb_merge.proofs.RowLemmas.{IsGoodSource, IsSmall, source_rows-good, binary_rows-small}
+use Rattle.wb_merge.proofs.CheckLemmas.{both-true}
 
 -- what is listed of a source package has its forms
 pub record IsGoodListed (source : List ℕ) (listed : Listed) : Type 0 where
