@@ -1,17 +1,19 @@
 -- What rows give that are offered one after another: at each name the first greatest of what they list.
-use Rattle.std.proofs.Common.{◌≡◌, ℕ, Bool, true, false, cond, ◌&&◌, ◌||◌, List, [], ◌∷◌, map, filter, bytes_eq, Option, Some, None, Result, Ok, Err, refl, sym, ap, ◌∙◌}
+use Rattle.std.proofs.Common.{◌≡◌, ℕ, Bool, true, false, cond, ◌&&◌, List, [], ◌∷◌, map, filter, bytes_eq, Option, Some, None, Result, Ok, Err, refl, sym, ap, ◌∙◌}
 use Rattle.std.specs.List.{list_any, fold}
 use Rattle.std.specs.declared.cmp.Ordering.{Ordering}
 use Rattle.std.specs.Ordering.{eq_by_cmp, is_gt}
 use Rattle.std.specs.FinMap as finite
 use Rattle.std.proofs.lemmas.Map.Text.{is_eq-slice_cmp}
 use Rattle.deb_relations.specs.Text.{text_cmp}
-use Rattle.wb_states.proofs.KeyLemmas.{text_cmp_total, text_cmp-same, eq_by_cmp-same}
+use Rattle.wb_states.proofs.KeyLemmas.{text_cmp_total, text_cmp-same}
 use Rattle.wb_states.specs.declared.refusal.Refusal.{Refusal}
 use Rattle.wb_merge.specs.Rows.{onto_rows}
 use Rattle.wb_merge.specs.Listing.{better, best_from, map_at, is_better}
 use Rattle.wb_merge.specs.Offers.{offered, after_rows}
+use Rattle.wb_merge.proofs.CheckLemmas.{neither}
 use Rattle.wb_merge.proofs.ListingLemmas.{map_at-get}
+use Rattle.wb_merge.proofs.NameLemmas.{bytes_eq-is}
 
 -- ---- rows one after another
 
@@ -41,9 +43,6 @@ after-refused add start first rows (Err other) refusal e is =
 
 -- ---- the better of two
 
-same-text : (xs ys : List ℕ) → bytes_eq xs ys ≡ true → xs ≡ ys
-same-text xs ys e = eq_by_cmp-same text_cmp-same xs ys (is_eq-slice_cmp xs ys ∙ e)
-
 under-some : {X : Type 0} (b : Bool) (x y : X) → Some (cond b x y) ≡ cond b (Some x) (Some y)
 under-some true x y = refl
 under-some false x y = refl
@@ -59,11 +58,11 @@ module _ {X : Type 0} (R : X → X → Ordering) where
       → finite.get (cond g (finite.insert m k x) m) name ≡ cond b (Some (better R (finite.get m name) x)) (finite.get m name)
   offered-at true true m k x name g e =
       finite.get-insert text_cmp_total m k x name ∙ ap (λ t. cond t (Some x) (finite.get m name)) (is_eq-slice_cmp name k ∙ e)
-      ∙ sym (better-is (finite.get m name) x ∙ ap (λ t. cond t (Some x) (finite.get m name)) (ap (λ key. is_better R (finite.get m key) x) (same-text name k e) ∙ g))
+      ∙ sym (better-is (finite.get m name) x ∙ ap (λ t. cond t (Some x) (finite.get m name)) (ap (λ key. is_better R (finite.get m key) x) (bytes_eq-is name k e) ∙ g))
   offered-at true false m k x name g e =
       finite.get-insert text_cmp_total m k x name ∙ ap (λ t. cond t (Some x) (finite.get m name)) (is_eq-slice_cmp name k ∙ e)
   offered-at false true m k x name g e =
-      sym (better-is (finite.get m name) x ∙ ap (λ t. cond t (Some x) (finite.get m name)) (ap (λ key. is_better R (finite.get m key) x) (same-text name k e) ∙ g))
+      sym (better-is (finite.get m name) x ∙ ap (λ t. cond t (Some x) (finite.get m name)) (ap (λ key. is_better R (finite.get m key) x) (bytes_eq-is name k e) ∙ g))
   offered-at false false m k x name g e = refl
 
   offered-get : (m : finite.FinMap text_cmp X) (k : List ℕ) (x : X) (name : List ℕ)
@@ -105,10 +104,6 @@ module _ {Row X : Type 0} (R : X → X → Ordering) (takes : Row → Bool) (key
   no-items (row ∷ rows) name none =
       let both = neither _ _ none in
       ap (λ b. map item (cond (b && takes row) (row ∷ filter (is_of name) rows) (filter (is_of name) rows))) (sym (is_eq-slice_cmp name (key row)) ∙ both.0) ∙ no-items rows name both.1
-    where
-      neither : (a b : Bool) → (a || b) ≡ false → (a ≡ false) × (b ≡ false)
-      neither true b e = cc
-      neither false b e = (refl, e)
 
   at_names : (b : Bool) (rows : List Row) (name : List ℕ) → list_any (eq_by_cmp text_cmp name) (map key rows) ≡ b
       → cond b (best_from R None (items_of name rows)) None ≡ best_from R None (items_of name rows)

@@ -10,7 +10,8 @@ use Rattle.std.proofs.lemmas.Bool.Decides.{nat_tests}
 use Rattle.std.proofs.lemmas.Slice.Eq.{bytes_eq-Decides}
 use Rattle.std.proofs.lemmas.Str.{IsUtf8-append, IsUtf8-from_ascii}
 use Rattle.std.proofs.lemmas.Str.Ascii.{IsAscii-nil, IsAscii-cons}
-use Rattle.deb_version.specs.Syntax.{fault_of, reading_of}
+use Rattle.deb_version.specs.Syntax.{reading_of}
+use Rattle.deb_version.proofs.ReadingLemmas.{reading_of-ok}
 use Rattle.deb_relations.specs.declared.arch.ArchWords.{ArchWords}
 use Rattle.deb_relations.specs.declared.fault.RelationFault.{RelationFault}
 use Rattle.deb_relations.specs.declared.relations.Alternative.{Alternative}
@@ -47,10 +48,6 @@ IsSmallBuilt built = built.number ≤ rebuild_limit
 pub record IsGoodListing (listing : ArchiveListing) : Type 0 where
   pub listed : (source : List ℕ) → IfSome (finite.get listing.listed source) (IsGoodListed source)
   pub built : (source : List ℕ) → IfSome (finite.get listing.built source) IsSmallBuilt
-
-pub reading_of-faultless : (text : List ℕ) → fault_of text ≡ None → IsOk (reading_of text)
-unfolding reading_of
-reading_of-faultless text is = rw is refl
 
 -- ---- what is needed to build
 
@@ -142,7 +139,7 @@ candidate-good arch name row good is =
     let same : name ≡ row.name = (bytes_eq-Decides name row.name).0 (both-true (bytes_eq name row.name) _ is).0 in
     record {
       name = subst (λ n. IsTrue (is_source_name n)) (sym same) good.name;
-      version = reading_of-faultless row.version good.version;
+      version = reading_of-ok row.version good.version;
       priority = good.priority;
       section = good.section;
       depends = depends-well arch row;

@@ -6,13 +6,9 @@ use Rattle.std.specs.Ordering.{eq_by_cmp}
 use Rattle.std.specs.Cmp.{IsTotalOrder}
 use Rattle.std.specs.FinMap as finite
 use Rattle.wb_states.proofs.KeyLemmas.{eq_by_cmp-same}
-use Rattle.wb_merge.specs.Listing.{with_values, map_at}
+use Rattle.wb_merge.specs.Listing.{with_values, map_at, onto_entry}
 
 -- an entry before others, where there is a value
-abbrev onto_entry : {K X : Type 0} → K → Option X → List (K × X) → List (K × X)
-onto_entry key None entries = entries
-onto_entry key (Some value) entries = (key, value) ∷ entries
-
 nothing : {X : Type 0} (b : Bool) → cond {A = Option X} b None None ≡ None
 nothing true = refl
 nothing false = refl

@@ -15,6 +15,7 @@ use Rattle.wb_merge.specs.Listing.{ArchiveListing}
 use Rattle.wb_merge.specs.Merge.{after}
 use Rattle.wb_merge.specs.Merged.{Records, after_at, merge_keys, merged, names_of, recorded_names, after_named}
 use Rattle.wb_merge.specs.Steps.{Key, IsSetAt}
+use Rattle.wb_merge.proofs.CheckLemmas.{neither}
 use Rattle.wb_merge.proofs.ListingLemmas.{map_at-get}
 use Rattle.wb_merge.proofs.NameLemmas.{is-false, none-is, text_eq, bytes_eq-flip, bytes_eq-itself, bytes_eq-is, pair-eq, pair-is, IsApart, keys-apart, text_keys-apart, append-apart, filter-apart, filter-any, and-false}
 
@@ -183,10 +184,6 @@ keys-any : (old : Records) (arch : List ℕ) (listing : ArchiveListing) (key : K
 keys-any old arch listing key e =
     let parts = neither _ _ (sym (list_any-append (eq_by_cmp pair_cmp key) (finite.keys old) _) ∙ e) in
     (none-is _ (finite.contains_key-keys old key ∙ parts.0), parts.1)
-  where
-    neither : (a b : Bool) → (a || b) ≡ false → (a ≡ false) × (b ≡ false)
-    neither true b e = absurd cc
-    neither false b e = (refl, e)
 
 listed-key-any : (arch : List ℕ) (names : List (List ℕ)) (key : Key) → bytes_eq key.0 arch ≡ true
     → list_any (eq_by_cmp pair_cmp key) (map (λ name. (arch, name)) names) ≡ list_any (bytes_eq key.1) names

@@ -16,7 +16,7 @@ use Rattle.wb_merge.specs.declared.listing.Built.{Built}
 use Rattle.wb_merge.specs.Merge.{by_order, covers, built_number, relisted, blank_record, new_state, new_number, new_record, newer_state, newer_number, newer_record, same_state, same_number, same_record, listed_record}
 use Rattle.wb_merge.proofs.ChosenLemmas.{new-chosen, newer-chosen, same-chosen}
 use Rattle.wb_merge.proofs.ListedLemmas.{IsGoodListed, IsSmallBuilt}
-use Rattle.wb_merge.proofs.SettledLemmas.{HasFields, MayStand, empty_within, fields-of, stands-free, stands-well, settled-well, kept-note}
+use Rattle.wb_merge.proofs.SettledLemmas.{HasFields, MayStand, empty_within, fields-of, if-kept, stands-free, stands-well, settled-well, kept-note}
 
 -- ---- numbers
 
@@ -152,10 +152,6 @@ pub record HasLeft (old new : Record) : Type 1 where
   pub take : (P : ℕ → Type 0) → IfSome old.take P → IfSome new.take P
   pub waits : (P : List ℕ → Type 0) → P [] → P old.waits → P new.waits
 
-kept-some : {X : Type 0} (P : X → Type 0) (test : Bool) (found : Option X) → IfSome found P → IfSome (cond test found None) P
-kept-some P true found is = is
-kept-some P false found is = tt
-
 kept-text : (P : List ℕ → Type 0) (test : Bool) (text : List ℕ) → P [] → P text → P (cond test text [])
 kept-text P true text none is = is
 kept-text P false text none is = none
@@ -163,8 +159,8 @@ kept-text P false text none is = none
 relisted-left : (state : State) (number : ℕ) (listed : Listed) (built : Option Built) (current : Record) → HasLeft current (relisted state number listed built current)
 unfolding relisted
 relisted-left state number listed built current = record {
-  holder = λ P. kept-some P (is_held state) current.holder;
-  take = λ P. kept-some P (is_held state) current.take;
+  holder = λ P. if-kept P (is_held state) current.holder;
+  take = λ P. if-kept P (is_held state) current.take;
   waits = λ P. kept-text P (is_dep_wait state) current.waits;
 }
 

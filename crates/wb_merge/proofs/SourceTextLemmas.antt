@@ -10,13 +10,9 @@ use Rattle.deb_version.specs.Syntax.{is_version_text}
 use Rattle.wb_states.specs.Holds.{has_value}
 use Rattle.wb_states.specs.Names.{is_source_char, is_source_name}
 use Rattle.wb_merge.specs.Rows.{is_space, in_brackets, source_name, has_source_version, source_version, is_source_text, with_version, NamesSource}
-use Rattle.wb_merge.proofs.CheckLemmas.{both-true}
+use Rattle.wb_merge.proofs.CheckLemmas.{both-true, neither}
 use Rattle.wb_merge.proofs.NameLemmas.{bytes_eq-is}
 use Rattle.wb_merge.proofs.SourceLemmas.{closed, last_is}
-
-neither : (a b : Bool) → (a || b) ≡ false → (a ≡ false) × (b ≡ false)
-neither true b e = absurd cc
-neither false b e = (refl, e)
 
 -- ---- the first space
 

@@ -6,6 +6,7 @@ use Rattle.wb_states.specs.declared.record.Record.{Record}
 use Rattle.wb_merge.specs.Listing.{ArchiveListing}
 use Rattle.wb_merge.specs.Merged.{Records, after_at, merged, names_of, is_added, is_changed, is_kept, is_removed, is_same_record, number_where, counts_over, merge_counts, all_kept, recorded_names}
 use Rattle.wb_merge.specs.Steps.{Key}
+use Rattle.wb_merge.proofs.CheckLemmas.{neither}
 use Rattle.wb_merge.proofs.NameLemmas.{IsApart, bytes_eq-flip, bytes_eq-is, bytes_eq-itself, filter-any, filter-apart, keys-apart}
 use Rattle.wb_merge.proofs.MergeLemmas.{merged-get, names-any, names-apart, recorded-apart, recorded-names-any, kept-unnamed, unnamed}
 use Rattle.wb_merge.proofs.RecordLemmas.{same-record-is}
@@ -19,10 +20,6 @@ others-kept text (first ∷ texts) e =
     let parts = neither (bytes_eq text first) (list_any (bytes_eq text) texts) e in
     ap (λ (b : Bool). cond (not b) (first ∷ filter (λ (other : List ℕ). not (bytes_eq text other)) texts) (filter (λ (other : List ℕ). not (bytes_eq text other)) texts)) parts.0
     ∙ ap (λ (xs : List (List ℕ)). first ∷ xs) (others-kept text texts parts.1)
-  where
-    neither : (a b : Bool) → (a || b) ≡ false → (a ≡ false) × (b ≡ false)
-    neither true b e = absurd cc
-    neither false b e = (refl, e)
 
 length-without : (text : List ℕ) (texts : List (List ℕ)) → IsApart bytes_eq texts → list_any (bytes_eq text) texts ≡ true
     → length texts ≡ suc (length (filter (λ other. not (bytes_eq text other)) texts))

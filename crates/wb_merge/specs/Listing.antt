@@ -154,7 +154,7 @@ pub record ArchiveListing : Type 0 where
   pub available : Pairs
 
 -- a key and its value before other entries, where it has a value
-abbrev onto_entry : {K X : Type 0} → K → Option X → List (K × X) → List (K × X)
+abbrev pub onto_entry : {K X : Type 0} → K → Option X → List (K × X) → List (K × X)
 onto_entry key None entries = entries
 onto_entry key (Some value) entries = (key, value) ∷ entries
 

@@ -12,12 +12,13 @@ use Rattle.wb_merge.specs.Merge.{after}
 use Rattle.wb_merge.specs.Merged.{Records, after_at}
 use Rattle.wb_merge.proofs.MergeLemmas.{merged-get}
 use Rattle.wb_merge.proofs.NameLemmas.{bytes_eq-flip}
+use Rattle.wb_merge.proofs.CheckLemmas.{neither}
 use Rattle.wb_office.specs.Checks.{first_refusal, has_repeated_arch}
 use Rattle.wb_office.specs.Moving.{again_of}
 use Rattle.wb_office.specs.Parts.{part_listing, records_after, records_with}
 use Rattle.wb_office.specs.Step.{change, counted, outcome, step}
 use Rattle.wb_office.proofs.FrameLemmas.{part-others, parts-others}
-use Rattle.wb_office.proofs.PassLemmas.{either-false, passes}
+use Rattle.wb_office.proofs.PassLemmas.{passes}
 
 -- what a part makes of the record at a key depends on that record alone
 with-same : (records other : Records) (arch : List ℕ) (read : Result ArchiveListing Refusal) (key : List ℕ × List ℕ) → map.get records key ≡ map.get other key
@@ -31,9 +32,9 @@ with-same records other arch (Ok listing) key same =
 
 -- a part that is not for one architecture of a list is not for that of its middle
 middle-other : (test : Part → Bool) (before : List Part) (part : Part) (behind : List Part) → list_any test (before ++ part ∷ behind) ≡ false → test part ≡ false
-middle-other test [] part behind is = (either-false (test part) (list_any test behind) is).0
+middle-other test [] part behind is = (neither (test part) (list_any test behind) is).0
 middle-other test (one ∷ before) part behind is =
-    middle-other test before part behind (either-false (test one) (list_any test (before ++ part ∷ behind)) is).1
+    middle-other test before part behind (neither (test one) (list_any test (before ++ part ∷ behind)) is).1
 
 not-both : (b : Bool) → b ≡ false → b ≡ true → ⊥
 not-both b fails holds = clash (sym holds ∙ fails) where
@@ -45,12 +46,12 @@ merged-part : (machine : Machine) (sources : List ℕ) (before : List Part) (par
     → map.get (records_after machine sources (before ++ part ∷ behind) records) key
     ≡ map.get (records_with records part.arch (part_listing machine sources part)) key
 merged-part machine sources [] part behind records key once here =
-    let later = (either-false (list_any (λ other. bytes_eq part.arch other.arch) behind) (has_repeated_arch behind) once).0 in
+    let later = (neither (list_any (λ other. bytes_eq part.arch other.arch) behind) (has_repeated_arch behind) once).0 in
     parts-others machine sources behind (records_with records part.arch (part_listing machine sources part)) key
     (not-both (list_any (λ other. bytes_eq key.0 other.arch) behind) (ap (λ (name : List ℕ). list_any (λ other. bytes_eq name other.arch) behind) here ∙ later))
 merged-part machine sources (one ∷ before) part behind records key once here =
     let rest : List Part = before ++ part ∷ behind in
-    let both = either-false (list_any (λ other. bytes_eq one.arch other.arch) rest) (has_repeated_arch rest) once in
+    let both = neither (list_any (λ other. bytes_eq one.arch other.arch) rest) (has_repeated_arch rest) once in
     let apart : bytes_eq key.0 one.arch ≡ false =
     ap (λ (name : List ℕ). bytes_eq name one.arch) here ∙ bytes_eq-flip part.arch one.arch
     ∙ middle-other (λ other. bytes_eq one.arch other.arch) before part behind both.0 in

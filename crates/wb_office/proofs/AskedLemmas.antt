@@ -18,13 +18,13 @@ use Rattle.wb_states.specs.Names.{is_arch_name, is_builder_name, is_source_name}
 use Rattle.wb_states.specs.Queue.{Entry}
 use Rattle.wb_states.specs.Record.{IsTextWithin}
 use Rattle.wb_states.proofs.QueueLemmas.{head_of-waits}
-use Rattle.wb_merge.proofs.CheckLemmas.{both-true}
+use Rattle.wb_merge.proofs.CheckLemmas.{both-true, neither}
 use Rattle.wb_office.specs.Checks.{fault_in}
 use Rattle.wb_office.specs.Moving.{groups_in, target_of, move_asked}
 use Rattle.wb_office.specs.Utf8.{HasUtf8Texts}
 use Rattle.wb_office.proofs.MovedLemmas.{IsGoodMove}
 use Rattle.wb_office.proofs.MovingLemmas.{record_named-is}
-use Rattle.wb_office.proofs.PassLemmas.{Passes, not-false, either-false}
+use Rattle.wb_office.proofs.PassLemmas.{Passes, not-false}
 
 -- a text that is not too long
 short-text : (limit : ℕ) (text : List ℕ) → IsUtf8 text → nat_lt limit (length text) ≡ false → IsTextWithin limit text
@@ -54,7 +54,7 @@ none move e = absurd (apart e) where
 
 good-rebuild : (number : ℕ) → (nat_eq number 0 || nat_lt rebuild_limit number) ≡ false → number ≤ rebuild_limit
 good-rebuild number is =
-    let low : nat_lt rebuild_limit number ≡ false = (either-false (nat_eq number 0) (nat_lt rebuild_limit number) is).1 in
+    let low : nat_lt rebuild_limit number ≡ false = (neither (nat_eq number 0) (nat_lt rebuild_limit number) is).1 in
     grind (arith, nat_tests)
 
 -- a command that hands out gives the next take number

@@ -1,5 +1,5 @@
 -- A record that was found is handed to a builder, or the builder is refused.
-use Rattle.std.proofs.Common.{◌≡◌, ℕ, ◌+◌, ◌||◌, Bool, true, false, List, Some, None, Ok, Err, refl, sym, ◌∙◌, nat_le}
+use Rattle.std.proofs.Common.{◌≡◌, ℕ, ◌+◌, ◌||◌, true, false, List, Some, None, Ok, Err, refl, sym, ◌∙◌, nat_le}
 use Rattle.std.specs.FinMap as map
 use Rattle.std.specs.Option.{option_or}
 use Rattle.wb_states.specs.declared.moves.Move.TheVariants as to
@@ -54,11 +54,6 @@ assignment_step-Ok machine new builder entry assignment reply is room given repl
     (Ok (assignment_reply machine (Some entry)), counted machine (after_take machine (Some (entry, take_move machine builder)))))
     ∙ (λ i. (Ok (Job (machine.accepted + 1) (sym given i)), sym left i))
     ∙ (λ i. (Ok (sym replied i), new))
-
--- a test of two is false only where both are
-pub neither : (one other : Bool) → (one || other) ≡ false → (one ≡ false) × (other ≡ false)
-neither true other is = cc
-neither false other is = (refl, is)
 
 -- a record that was handed out is written, and both counts are raised
 pub assignment_step-kept : (machine new : Machine) (builder arch source own_arch own_source : List ℕ) (current after : Record) (assignment : Assignment) (reply : Reply)

@@ -3,6 +3,7 @@ use Rattle.std.proofs.Common.{◌≡◌, ℕ, ◌+◌, ◌<◌, ◌≤◌, Bool,
 use Rattle.std.proofs.lemmas.Bool.{leb-false}
 use Rattle.std.specs.FinMap as map
 use Rattle.deb_version.specs.Syntax.{fault_of}
+use Rattle.deb_version.proofs.ReadingLemmas.{reading_of-ok}
 use Rattle.wb_states.specs.declared.command.Command.{Command}
 use Rattle.wb_states.specs.declared.command.Command.TheVariants as of
 use Rattle.wb_states.specs.declared.moves.Move.{Move}
@@ -19,13 +20,12 @@ use Rattle.wb_office.specs.Step.{step, change, counted, entered, after_move, aft
 use Rattle.wb_office.specs.Utf8.{HasUtf8Texts, HaveUtf8Texts}
 use Rattle.wb_office.proofs.AskedLemmas.{HasHanded, asked-good}
 use Rattle.wb_office.proofs.ConsistencyLemmas.{IsFreshOrKept, with_arch, with_builder, with_record, with_counts}
-use Rattle.wb_merge.proofs.ListedLemmas.{reading_of-faultless}
 use Rattle.wb_office.proofs.MergingLemmas.{merging-keeps}
 use Rattle.wb_office.proofs.MovedLemmas.{IsGoodMove, moved-well, moved-holder, moved-waits, moved-number}
 use Rattle.wb_office.proofs.MovingLemmas.{moving-may}
-use Rattle.wb_office.proofs.PassLemmas.{Passes, step-either, not-false, either-false}
+use Rattle.wb_office.proofs.PassLemmas.{Passes, step-either, not-false}
 use Rattle.wb_merge.proofs.SettledLemmas.{empty_within}
-use Rattle.wb_merge.proofs.CheckLemmas.{both-true}
+use Rattle.wb_merge.proofs.CheckLemmas.{both-true, neither}
 
 -- ---- a source package that is entered
 
@@ -39,7 +39,7 @@ labelled text is = either (is_empty_text text) (is_label_text text) is where
 entered-well : (version priority section : List ℕ) → fault_of version ≡ None → IsTrue (is_label_text priority) → IsTrue (is_label_text section)
     → IsWellFormed (entered version priority section)
 entered-well version priority section reads first second = record {
-  version = reading_of-faultless version reads;
+  version = reading_of-ok version reads;
   priority = labelled priority first;
   section = labelled section second;
   number = omega arith;
@@ -137,10 +137,10 @@ change-keeps machine (of.Enter arch source version priority section) old utf8 pa
     with_record machine (arch, source) (entered version priority section) machine.handed old is tt (omega arith) given (room-for machine pass.room)
 change-keeps machine (of.Next arch builder after) old utf8 pass again =
     let counts = nat_le count_limit machine.accepted || nat_le count_limit machine.handed in
-    let spent = either-false (nat_le count_limit machine.accepted) (nat_le count_limit machine.handed) (sym (ap (λ found. is_none found && counts) again) ∙ pass.room) in
+    let spent = neither (nat_le count_limit machine.accepted) (nat_le count_limit machine.handed) (sym (ap (λ found. is_none found && counts) again) ∙ pass.room) in
     taking-keeps machine (of.Next arch builder after) old utf8 refl pass (leb-false count_limit machine.handed spent.1) (room-for machine spent.0)
 change-keeps machine (of.Take arch builder source version) old utf8 pass again =
-    let spent = either-false (nat_le count_limit machine.accepted) (nat_le count_limit machine.handed) pass.room in
+    let spent = neither (nat_le count_limit machine.accepted) (nat_le count_limit machine.handed) pass.room in
     taking-keeps machine (of.Take arch builder source version) old utf8 refl pass (leb-false count_limit machine.handed spent.1) (room-for machine spent.0)
 change-keeps machine (of.Merge sources parts) old utf8 pass again = merging-keeps machine sources parts old (room-for machine pass.room)
 change-keeps machine (of.Built take_number) old utf8 pass again = moving-keeps machine (of.Built take_number) old utf8 tt pass (room-for machine pass.room)

@@ -1,12 +1,9 @@
 -- What is known of a command that no check refuses, and what a step then does.
-use Rattle.std.proofs.Common.{◌≡◌, Bool, true, false, not, ◌&&◌, ◌||◌, List, [], ◌∷◌, Option, Some, None, IsTrue, refl, sym, option_map}
-use Rattle.std.specs.List.{AllByRecursion}
-use Rattle.std.specs.Option.{option_or}
+use Rattle.std.proofs.Common.{◌≡◌, Bool, true, false, not, [], ◌∷◌, Option, Some, None, IsTrue, refl, sym, option_map}
 use Rattle.wb_states.specs.declared.command.Command.{Command}
 use Rattle.wb_states.specs.declared.refusal.Refusal.{Refusal}
 use Rattle.wb_states.specs.declared.refusal.Refusal.TheVariants.{UnknownArch, UnknownBuilder, WrongArch, UnknownSource, QueueEmpty, NotHeld, AfterAhead, AlreadyThere, BadName, BadVersion, BadRelations, BadNumber, TextTooLong, Spent, RepeatedArch}
 use Rattle.wb_states.specs.Machine.{Machine}
-use Rattle.wb_merge.specs.Rows.{first_some}
 use Rattle.wb_merge.proofs.CheckLemmas.{option_or-None, first_some-None}
 use Rattle.wb_office.specs.Checks.{when, text_refusal, state_refusal, first_refusal, has_bad_name, version_fault, relation_fault, has_bad_number, has_long_text, repeats_arch, lacks_arch, merge_refusal, lacks_builder, is_for_other_archs, is_ahead, is_not_held, lacks_source, other_version, refused_move, has_empty_queue, is_there_already, is_spent}
 use Rattle.wb_office.specs.Moving.{again_of}
@@ -23,10 +20,6 @@ option_map-None f (Some x) is = cc
 pub not-false : (test : Bool) → not test ≡ false → IsTrue test
 not-false true is = refl
 not-false false is = sym is
-
-pub either-false : (one other : Bool) → (one || other) ≡ false → (one ≡ false) × (other ≡ false)
-either-false true other is = cc
-either-false false other is = (refl, is)
 
 -- what is known of a command that no check refuses
 pub record Passes (machine : Machine) (command : Command) : Type 0 where

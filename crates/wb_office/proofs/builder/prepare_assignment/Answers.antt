@@ -4,8 +4,9 @@ use Rattle.wb_states.specs.declared.moves.Move.TheVariants as to
 use Rattle.wb_states.specs.Limits.{count_limit}
 use Rattle.wb_states.specs.Moves.{moved}
 use Rattle.wb_office.specs.Step.{assignment_of}
-use Rattle.wb_office.proofs.AssignmentLemmas.{assignment_step-refused, assignment_step-Spent, take-any, neither}
+use Rattle.wb_office.proofs.AssignmentLemmas.{assignment_step-refused, assignment_step-Spent, take-any}
 use Rattle.wb_office.proofs.builder.prepare_assignment.Goals as goal
+use Rattle.wb_merge.proofs.CheckLemmas.{neither}
 
 pub returns-in_err-after-clause-refused : goal.returns-in_err-after-clause-refused
 returns-in_err-after-clause-refused c =
