@@ -22,7 +22,11 @@ pub struct Subject {
 /// A copy of the word that was given for the argument `id`, or `None` where there is none. The only
 /// error is that there is no memory for the copy.
 #[tactic(auto, using(crate::proofs::RowLemmas::row_laws), unfolding(crate::specs::Arguments::word_of))]
-pub fn word(alloc: Global, arguments: &ArgMatches<'_>, id: &str) -> Result<Option<Text>, AllocError>
+pub(crate) fn word(
+    alloc: Global,
+    arguments: &ArgMatches<'_>,
+    id: &str,
+) -> Result<Option<Text>, AllocError>
     ensures value { IfOk result (λ text. text ≡ word_of id.now (rows_of (found_of arguments.now))) }
 {
     match arguments.get_str(id) {
@@ -42,7 +46,7 @@ fn joined(alloc: Global, words: &[&str]) -> Result<Text, AllocError>
 /// The words that were given for the argument `id`, joined by one space each; the empty text where
 /// there is none. The only error is that there is no memory for the text.
 #[tactic(auto, using(crate::proofs::RowLemmas::row_laws), unfolding(crate::specs::Arguments::words_of))]
-pub fn words(alloc: Global, arguments: &ArgMatches<'_>, id: &str) -> Result<Text, AllocError>
+pub(crate) fn words(alloc: Global, arguments: &ArgMatches<'_>, id: &str) -> Result<Text, AllocError>
     ensures value { IfOk result (λ text. text ≡ words_of id.now (rows_of (found_of arguments.now))) }
 {
     match arguments.get_strs(id) {
@@ -61,7 +65,7 @@ fn number_written(text: &str) -> Option<u64>
 
 /// The number that was given for the argument `id`; `None` where there is none, or another word.
 #[tactic(auto, using(crate::proofs::RowLemmas::row_laws), unfolding(crate::specs::Arguments::word_of, crate::specs::Arguments::number_of))]
-pub fn number(arguments: &ArgMatches<'_>, id: &str) -> Option<u64>
+pub(crate) fn number(arguments: &ArgMatches<'_>, id: &str) -> Option<u64>
     ensures value { result ≡ number_of id.now (rows_of (found_of arguments.now)) }
 {
     match arguments.get_str(id) {
@@ -72,7 +76,7 @@ pub fn number(arguments: &ArgMatches<'_>, id: &str) -> Option<u64>
 
 /// The number that was given for the argument `id`, if one was; `None` where another word was given.
 #[tactic(auto, using(crate::proofs::RowLemmas::row_laws), unfolding(crate::specs::Arguments::word_of, crate::specs::Arguments::optional_number_of))]
-pub fn optional_number(arguments: &ArgMatches<'_>, id: &str) -> Option<Option<u64>>
+pub(crate) fn optional_number(arguments: &ArgMatches<'_>, id: &str) -> Option<Option<u64>>
     ensures value { result ≡ optional_number_of id.now (rows_of (found_of arguments.now)) }
 {
     match arguments.get_str(id) {
@@ -87,7 +91,7 @@ pub fn optional_number(arguments: &ArgMatches<'_>, id: &str) -> Option<Option<u6
 /// The source package that the arguments `arch`, `source` and `version` name; `None` where one of
 /// them is missing. The only error is that there is no memory for the texts.
 #[tactic(auto, unfolding(crate::specs::Arguments::subject_of))]
-pub fn read_subject(
+pub(crate) fn read_subject(
     alloc: Global,
     arguments: &ArgMatches<'_>,
 ) -> Result<Option<Subject>, AllocError>

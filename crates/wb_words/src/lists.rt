@@ -24,7 +24,7 @@ pub static USAGES: [(&str, &[(&str, ArgumentKind)]); 1] = [(
 /// that reads lists, an argument is missing, or a word names no part. The only error is that there
 /// is no memory for the names.
 #[tactic(auto, unfolding(crate::specs::Words::list_asked))]
-pub fn asked_named(
+pub(crate) fn asked_named(
     alloc: Global,
     name: &str,
     arguments: &ArgMatches<'_>,
