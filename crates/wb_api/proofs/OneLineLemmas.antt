@@ -6,6 +6,7 @@ use Rattle.std.specs.List.{list_any}
 use Rattle.std.specs.Fmt.{digits, digits_onto, digit_glyph}
 use Rattle.json.specs.Print.{quoted, escape, escape_byte}
 use Rattle.deb_control.specs.Faults.{fault_name}
+use Rattle.deb_control.specs.Lines.{is_feed, IsOneLine}
 use Rattle.deb_version.specs.Syntax.{name_of as name_of_fault}
 use Rattle.wb_states.specs.Refusals.{name_of_list, name_of_field}
 use Rattle.wb_states.specs.State.{name_of}
@@ -18,15 +19,15 @@ use Rattle.wb_states.specs.declared.reply.PartReply.{PartReply}
 use Rattle.wb_states.specs.declared.reply.Reply.{Reply}
 use Rattle.wb_states.specs.declared.reply.Reply.TheVariants.{Done, Job, Again, Merged}
 use Rattle.wb_states.specs.declared.reply.Assignment.{Assignment}
-use Rattle.wb_api.specs.Encoding.{IsOneLine, name_of_relations, reply_text, job_text, refusal_members, refusal_text, end_text, part_text, parts_text}
+use Rattle.wb_api.specs.Encoding.{name_of_relations, reply_text, job_text, refusal_members, refusal_text, end_text, part_text, parts_text}
 
 -- a text behind another
 append-one : (xs ys : List ℕ) → IsOneLine xs → IsOneLine ys → IsOneLine (xs ++ ys)
-append-one xs ys h k = list_any-append (λ c. c == 10) xs ys ∙ ap₂ (λ a b. a || b) h k
+append-one xs ys h k = list_any-append is_feed xs ys ∙ ap₂ (λ a b. a || b) h k
 
 -- what stands behind a text of one line
-behind : (xs ys : List ℕ) → IsOneLine xs → list_any (λ c. c == 10) (xs ++ ys) ≡ list_any (λ c. c == 10) ys
-behind xs ys h = list_any-append (λ c. c == 10) xs ys ∙ ap (λ a. a || list_any (λ c. c == 10) ys) h
+behind : (xs ys : List ℕ) → IsOneLine xs → list_any is_feed (xs ++ ys) ≡ list_any is_feed ys
+behind xs ys h = list_any-append is_feed xs ys ∙ ap (λ a. a || list_any is_feed ys) h
 
 -- a digit of a number
 digit-one : (d : ℕ) → (digit_glyph false d == 10) ≡ false

@@ -1,8 +1,8 @@
 -- The JSON texts of what the office answers (RFC 8259), with their keys in byte order and no space; the keys are this project's own.
 -- A text is written here piece by piece, as it stands in the output: `decimal` gives a number's digits, `quoted` a text between
 -- quotation marks with JSON's shortest escapes, and `concat` the pieces one after the other.
-use Rattle.std.specs.Prelude.{◌≡◌, ℕ, ◌==◌, Bool, true, false, List, [], ◌∷◌, ◌++◌, map, Option, None, Some, codes, decimal}
-use Rattle.std.specs.List.{concat, join_with_byte, list_any}
+use Rattle.std.specs.Prelude.{◌≡◌, ℕ, Bool, true, false, List, [], ◌∷◌, ◌++◌, map, Option, None, Some, codes, decimal}
+use Rattle.std.specs.List.{concat, join_with_byte}
 use Rattle.std.specs.Cow.{cow_str_bytes, IsBorrowedStr}
 use Rattle.std.specs.declared.alloc.Global.{Global}
 use Rattle.std.specs.declared.borrow.CowStr.{CowStr}
@@ -127,7 +127,3 @@ line_fault_text = codes "{\"fault\":\"line\"}"
 -- the text in answer to a line that names a file which cannot be read (this project's own)
 abbrev pub file_fault_text : List ℕ
 file_fault_text = codes "{\"fault\":\"file\"}"
-
--- a text without a line feed (this project's own)
-abbrev pub IsOneLine : List ℕ → Type 0
-IsOneLine text = list_any (λ c. c == 10) text ≡ false

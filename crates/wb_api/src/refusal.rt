@@ -14,7 +14,7 @@ use std::borrow::CowStr;
 use wb_states::{ListKind, ListingFault, Refusal};
 
 /// The refusal for want of memory, whose text must not need any.
-const MEMORY: &str = "{\"code\":20,\"refused\":\"Memory\"}";
+const MEMORY: &str = r#"{"code":20,"refused":"Memory"}"#;
 
 /// The text of a refusal that tells no more than its number and its name, which is a constant.
 fn constant_text(refusal: &Refusal) -> Option<&'static str>
@@ -33,7 +33,7 @@ fn constant_text(refusal: &Refusal) -> Option<&'static str>
         Refusal::BadNumber => Some(r#"{"code":14,"refused":"BadNumber"}"#),
         Refusal::TextTooLong => Some(r#"{"code":17,"refused":"TextTooLong"}"#),
         Refusal::Spent => Some(r#"{"code":18,"refused":"Spent"}"#),
-        Refusal::Memory => Some(r#"{"code":20,"refused":"Memory"}"#),
+        Refusal::Memory => Some(MEMORY),
         Refusal::RepeatedArch => Some(r#"{"code":22,"refused":"RepeatedArch"}"#),
         Refusal::OtherVersion { .. }
         | Refusal::WrongState { .. }
