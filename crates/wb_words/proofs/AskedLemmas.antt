@@ -1,9 +1,10 @@
 -- What is asked for where a command stands on a number that may not be one.
 use Rattle.std.proofs.Common.{◌≡◌, ℕ, List, refl}
 use Rattle.std.specs.Prelude.{Option, Some, None, option_map}
+use Rattle.std.specs.Option.{option_or}
 use Rattle.wb_states.specs.declared.command.Command.{Command}
 use Rattle.wb_states.specs.declared.command.Command.TheVariants.{Next}
-use Rattle.wb_words.specs.Words.{or_asked, or_command}
+use Rattle.wb_words.specs.Words.{or_asked}
 use Rattle.wb_words.specs.declared.words.Asked.TheVariants as asked
 
 -- a builder's command is asked for where there is one
@@ -14,7 +15,7 @@ builder-asked command (Some n) = refl
 
 -- an operator's command is asked for where there is one
 pub operator-asked : (command : ℕ → Command) (number : Option ℕ)
-    → or_asked (or_command (option_map command number) None) None ≡ option_map (λ n. asked.Command (command n)) number
+    → or_asked (option_or (option_map command number) None) None ≡ option_map (λ n. asked.Command (command n)) number
 operator-asked command None = refl
 operator-asked command (Some n) = refl
 

@@ -2,11 +2,12 @@
 use Rattle.std.proofs.Common.{◌≡◌, ◌∙◌, refl, sym, true, false, List, bytes_eq, Decides, if◌then◌else◌, Option, Some, None, option_map, option_and_then, codes}
 use Rattle.std.proofs.lemmas.Slice.Eq.{bytes_eq-Decides}
 use Rattle.std.proofs.lemmas.Option.{none-some}
+use Rattle.std.specs.Option.{option_or}
 use Rattle.clap.specs.Words.{Row, Text}
 use Rattle.wb_states.specs.Commands.{name_of_command}
 use Rattle.wb_states.specs.declared.command.Command.{Command}
 use Rattle.wb_words.specs.Arguments.{word_of, number_of, optional_number_of, subject_of}
-use Rattle.wb_words.specs.Words.{add_arch_of, add_builder_of, enter_of, give_back_of, dep_wait_of, fail_of, not_for_us_of, rebuild_of, next_of, take_of, built_of, uploaded_of, put_back_of, waits_of, operator_command, builder_command, command_named, or_command}
+use Rattle.wb_words.specs.Words.{add_arch_of, add_builder_of, enter_of, give_back_of, dep_wait_of, fail_of, not_for_us_of, rebuild_of, next_of, take_of, built_of, uploaded_of, put_back_of, waits_of, operator_command, builder_command, command_named}
 
 -- what may be there is a command of this name
 abbrev IsNamed : Text → Option Command → Type 0
@@ -112,7 +113,7 @@ builder-named name rows = ask-named name (codes "next") (next_of rows) _ (next_o
 either-named : (name : Text) (found others : Option Command)
     → ((command : Command) → found ≡ Some command → name ≡ name_of_command command)
     → ((command : Command) → others ≡ Some command → name ≡ name_of_command command)
-    → (command : Command) → or_command found others ≡ Some command → name ≡ name_of_command command
+    → (command : Command) → option_or found others ≡ Some command → name ≡ name_of_command command
 either-named name None others h k command e = k command e
 either-named name (Some one) others h k command e = h command e
 

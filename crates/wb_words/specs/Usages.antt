@@ -25,18 +25,18 @@ usages_in = map (λ usage. (
 ))
 
 -- the arguments that take one word each
-abbrev pub words : List Text → List Argument
-words = map (λ id. (id, Word))
+abbrev pub word_arguments : List Text → List Argument
+word_arguments = map (λ id. (id, Word))
 
 -- the arguments that name a source package
 abbrev pub subject : List Argument
-subject = words (codes "arch" ∷ codes "source" ∷ codes "version" ∷ [])
+subject = word_arguments (codes "arch" ∷ codes "source" ∷ codes "version" ∷ [])
 
 -- the subcommands of operators
 abbrev pub operator_usages : List Usage
-operator_usages = (codes "add-arch", words (codes "name" ∷ codes "os" ∷ codes "cpu" ∷ []))
-    ∷ (codes "add-builder", words (codes "name" ∷ codes "arch" ∷ []))
-    ∷ (codes "enter", subject ++ words (codes "priority" ∷ codes "section" ∷ []))
+operator_usages = (codes "add-arch", word_arguments (codes "name" ∷ codes "os" ∷ codes "cpu" ∷ []))
+    ∷ (codes "add-builder", word_arguments (codes "name" ∷ codes "arch" ∷ []))
+    ∷ (codes "enter", subject ++ word_arguments (codes "priority" ∷ codes "section" ∷ []))
     ∷ (codes "give-back", subject)
     ∷ (codes "dep-wait", subject ++ (codes "relations", SomeWords) ∷ [])
     ∷ (codes "fail", subject ++ (codes "note", AnyWords) ∷ [])
@@ -48,15 +48,15 @@ operator_usages = (codes "add-arch", words (codes "name" ∷ codes "os" ∷ code
 abbrev pub builder_usages : List Usage
 builder_usages = (
   codes "next",
-  words (codes "arch" ∷ codes "builder" ∷ []) ++ (codes "after", NamedWord) ∷ [],
+  word_arguments (codes "arch" ∷ codes "builder" ∷ []) ++ (codes "after", NamedWord) ∷ [],
 )
     ∷ (
       codes "take",
-      words (codes "arch" ∷ codes "builder" ∷ codes "source" ∷ codes "version" ∷ []),
+      word_arguments (codes "arch" ∷ codes "builder" ∷ codes "source" ∷ codes "version" ∷ []),
     )
-    ∷ (codes "built", words (codes "take" ∷ []))
-    ∷ (codes "uploaded", words (codes "take" ∷ []))
-    ∷ (codes "put-back", words (codes "take" ∷ []))
+    ∷ (codes "built", word_arguments (codes "take" ∷ []))
+    ∷ (codes "uploaded", word_arguments (codes "take" ∷ []))
+    ∷ (codes "put-back", word_arguments (codes "take" ∷ []))
     ∷ (codes "waits", (codes "take", Word) ∷ (codes "relations", SomeWords) ∷ [])
     ∷ []
 

@@ -2,6 +2,7 @@
 use Rattle.std.specs.Prelude.{◌==◌, List, [], ◌∷◌, Option, Some, None, codes, if◌then◌else◌}
 use Rattle.std.specs.Prelude.{option_and_then, option_map}
 use Rattle.std.specs.List.{slice_split}
+use Rattle.std.specs.Option.{option_or}
 use Rattle.std.specs.Str.{bytes_eq}
 use Rattle.clap.specs.Words.{Kinds, Row, Text, fault_of, subcommand_of}
 use Rattle.wb_states.specs.declared.command.Command.{Command}
@@ -123,14 +124,9 @@ list_asked name rows = if bytes_eq name (codes "merge") then merge_of rows else 
 
 -- ---- what a line asks for
 
--- the first, and where there is none the second
-abbrev pub or_command : Option Command → Option Command → Option Command
-or_command (Some command) next = Some command
-or_command None next = next
-
 -- the command of this name with these arguments
 unfoldable pub command_named : Text → List Row → Option Command
-command_named name rows = or_command (operator_command name rows) (builder_command name rows)
+command_named name rows = option_or (operator_command name rows) (builder_command name rows)
 
 -- a command, and where there is none what is asked else
 abbrev pub or_asked : Option Command → Option Asked → Option Asked
