@@ -47,7 +47,8 @@ fn joined(alloc: Global, words: &[&str]) -> Result<Text, AllocError>
 /// there is none. The only error is that there is no memory for the text.
 #[tactic(auto, using(crate::proofs::RowLemmas::row_laws), unfolding(crate::specs::Arguments::words_of))]
 pub(crate) fn words(alloc: Global, arguments: &ArgMatches<'_>, id: &str) -> Result<Text, AllocError>
-    ensures value { IfOk result (λ text. text ≡ words_of id.now (rows_of (found_of arguments.now))) }
+    ensures value { IfOk result (λ text.
+        text ≡ words_of id.now (rows_of (found_of arguments.now))) }
 {
     match arguments.get_strs(id) {
         Some(words) => joined(alloc, words),
@@ -95,7 +96,8 @@ pub(crate) fn read_subject(
     alloc: Global,
     arguments: &ArgMatches<'_>,
 ) -> Result<Option<Subject>, AllocError>
-    ensures value { IfOk result (λ subject. subject ≡ subject_of (rows_of (found_of arguments.now))) }
+    ensures value { IfOk result (λ subject.
+        subject ≡ subject_of (rows_of (found_of arguments.now))) }
 {
     let Some(arch) = word(alloc, arguments, "arch")? else {
         return Ok(None);

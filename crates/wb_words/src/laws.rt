@@ -147,8 +147,8 @@ pub fn any_words_are_arguments()
     ensures take { (arch builder source version : List ℕ) → asked_in (codes "take" ∷ codes "--"
         ∷ arch ∷ builder ∷ source ∷ version ∷ [])
         ≡ Some (Command (Take arch builder source version)) }
-    ensures built { (take_number : List ℕ) → asked_in (codes "built" ∷ codes "--" ∷ take_number ∷ [])
-        ≡ option_map (λ n. Command (Built n)) (number_in take_number) }
+    ensures built { (take_number : List ℕ) → asked_in (codes "built" ∷ codes "--"
+        ∷ take_number ∷ []) ≡ option_map (λ n. Command (Built n)) (number_in take_number) }
     ensures uploaded { (take_number : List ℕ) → asked_in (codes "uploaded" ∷ codes "--"
         ∷ take_number ∷ []) ≡ option_map (λ n. Command (Uploaded n)) (number_in take_number) }
     ensures put_back { (take_number : List ℕ) → asked_in (codes "put-back" ∷ codes "--"

@@ -58,7 +58,8 @@ fn parts(
     arguments: &ArgMatches<'_>,
     id: &str,
 ) -> Result<Option<Items<PartNames>>, AllocError>
-    ensures value { IfOk result (λ parts. parts ≡ parts_of id.now (rows_of (found_of arguments.now))) }
+    ensures value { IfOk result (λ parts.
+        parts ≡ parts_of id.now (rows_of (found_of arguments.now))) }
 {
     match arguments.get_strs(id) {
         Some(words) => named_parts(alloc, words),
