@@ -1,3 +1,3 @@
 mod EncodingLemmas
-mod OneLineLemmas
+pub mod OneLineLemmas
 mod PlainLemmas

@@ -22,8 +22,8 @@ use Rattle.wb_states.specs.declared.reply.Assignment.{Assignment}
 use Rattle.wb_api.specs.Encoding.{name_of_relations, reply_text, job_text, refusal_members, refusal_text, end_text, part_text, parts_text}
 
 -- a text behind another
-append-one : (xs ys : List ℕ) → IsOneLine xs → IsOneLine ys → IsOneLine (xs ++ ys)
-append-one xs ys h k = list_any-append is_feed xs ys ∙ ap₂ (λ a b. a || b) h k
+pub IsOneLine-append : (xs ys : List ℕ) → IsOneLine xs → IsOneLine ys → IsOneLine (xs ++ ys)
+IsOneLine-append xs ys h k = list_any-append is_feed xs ys ∙ ap₂ (λ a b. a || b) h k
 
 -- what stands behind a text of one line
 behind : (xs ys : List ℕ) → IsOneLine xs → list_any is_feed (xs ++ ys) ≡ list_any is_feed ys
@@ -57,11 +57,11 @@ escape_byte-one x = search rules
 
 escape-one : (text : List ℕ) → IsOneLine (escape text)
 escape-one [] = refl
-escape-one (x ∷ text) = append-one (escape_byte x) (escape text) (escape_byte-one x) (escape-one text)
+escape-one (x ∷ text) = IsOneLine-append (escape_byte x) (escape text) (escape_byte-one x) (escape-one text)
 
 -- a text between quotation marks
 quoted-one : (text : List ℕ) → IsOneLine (quoted text)
-quoted-one text = append-one (escape text) (34 ∷ []) (escape-one text) refl
+quoted-one text = IsOneLine-append (escape text) (34 ∷ []) (escape-one text) refl
 
 job_text-one : (name : List ℕ) (accepted : ℕ) (given : Assignment) → IsOneLine (job_text name accepted given)
 unfolding job_text

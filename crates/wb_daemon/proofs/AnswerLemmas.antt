@@ -12,7 +12,8 @@ use Rattle.wb_words.specs.declared.words.Asked.{Asked}
 use Rattle.wb_words.specs.declared.words.Asked.TheVariants.{Command as asked_Command, Merge as asked_Merge}
 use Rattle.wb_words.specs.declared.words.PartNames.{PartNames}
 use Rattle.wb_api.specs.Encoding.{line_fault_text}
-use Rattle.wb_daemon.specs.Line.{is_blank_line, is_long, words_of}
+use Rattle.deb_control.specs.Lines.{words_in}
+use Rattle.wb_daemon.specs.Line.{is_blank_line, is_long}
 use Rattle.wb_daemon.specs.Lists.{Gives, GivesMerge, GivesNoMore}
 use Rattle.wb_daemon.specs.Run.{Said, Says, Accepts, AsksFor, LineAsks, SaysHeard, Heard, Silence, Fault, Asks, heard_in, heard_of, asked_of_line, fault_said, memory_said, needs_memory, with_feed}
 use Rattle.wb_daemon.specs.Turn.{Answers, AnswersAsked, AnswersInPart, AppendsFront, GivesFed, GivesLast, LacksAnswer, StopsTurn, Turns}
@@ -68,7 +69,7 @@ utf8-asked : (line : List ℕ) (asked : Asked) (b : Bool) → is_utf8 line ≡ b
 unfolding asked_of_line
 utf8-asked line asked true u e = refl
 utf8-asked line asked false u e =
-    let none : asked_of_line line ≡ None = ap (λ b. cond b (asked_in (words_of line)) None) u in
+    let none : asked_of_line line ≡ None = ap (λ b. cond b (asked_in (words_in line)) None) u in
     let differ : Some asked ≡ None = sym e ∙ none in
     cc
 

@@ -1,13 +1,15 @@
 -- Lemmas on the words of a line, and on what a reader has left.
-use Rattle.std.proofs.Common.{take, drop, take-add, subst, append-nil, ◌≤◌, Option, None, Some, ◌≡◌, ℕ, ◌+◌, ◌<◌, Bool, true, false, eqb, List, [], ◌∷◌, ◌++◌, length, refl, sym, ap, ◌∙◌, append_assoc, arith, length-append}
+use Rattle.std.proofs.Common.{take, drop, take-add, subst, append-nil, ◌≤◌, Option, None, Some, ◌≡◌, ℕ, ◌+◌, ◌<◌, Bool, true, false, not, eqb, List, [], ◌∷◌, ◌++◌, length, refl, sym, ap, ◌∙◌, append_assoc, arith, length-append}
 use Rattle.std.specs.List.{slice_split, flat_map, onto_first}
 use Rattle.std.proofs.lemmas.List.Splits.{length-slice_split, slice_split-cons_yes, slice_split-cons_no}
 use Rattle.std.specs.Io.KnownBytes.{Consumes, Appends}
 use Rattle.std.specs.Str.{IsUtf8, is_utf8}
 use Rattle.std.proofs.lemmas.Str.{IsUtf8-from_is_utf8}
-use Rattle.std.proofs.lemmas.List.Folds.{list_any-append}
+use Rattle.std.proofs.lemmas.Bool.{false_from_ne_true, ne_eqb}
 use Rattle.std.proofs.lemmas.Bool.Decides.{nat_tests}
-use Rattle.wb_daemon.specs.Line.{is_blank, is_feed, is_long, max_line, HasNoFeed}
+use Rattle.deb_control.specs.Lines.{has_char, is_blank, IsOneLine}
+use Rattle.wb_api.proofs.OneLineLemmas.{IsOneLine-append}
+use Rattle.wb_daemon.specs.Line.{is_long, max_line}
 
 abbrev spaces : List ℕ → List (List ℕ)
 spaces text = slice_split (λ c. eqb c 32) text
@@ -45,6 +47,11 @@ pub tabs-spaces : (text : List ℕ) → flat_map tabs (spaces text) ≡ slice_sp
 tabs-spaces [] = refl
 tabs-spaces (c ∷ cs) = cut_one c cs (eqb c 32) (eqb c 9) refl refl (tabs-spaces cs)
 
+-- a text that is not empty has a character
+pub has_char-length : (text : List ℕ) → not (eqb (length text) 0) ≡ has_char text
+has_char-length [] = refl
+has_char-length (c ∷ cs) = ap not (ne_eqb (length (c ∷ cs)) 0 (λ h. omega (arith, h)))
+
 -- ---- what a reader has left
 
 pub Consumes-then : (a b c : Option (List ℕ)) (xs ys : List ℕ) → Consumes a b xs → Consumes b c ys → Consumes a c (xs ++ ys)
@@ -53,31 +60,24 @@ Consumes-then (Some x) None c xs ys p q = absurd p
 Consumes-then (Some x) (Some y) None xs ys p q = absurd q
 Consumes-then (Some x) (Some y) (Some z) xs ys p q = p ∙ ap (λ l. xs ++ l) q ∙ sym (append_assoc xs ys z)
 
-no_feed-append : (xs ys : List ℕ) → HasNoFeed xs → HasNoFeed ys → HasNoFeed (xs ++ ys)
-no_feed-append xs ys h k = list_any-append is_feed xs ys ∙ rw h k
-
-pub no_feed-one : (c : ℕ) → ¬ (c ≡ 10) → HasNoFeed (c ∷ [])
-no_feed-one c h = grind (arith, nat_tests)
+pub IsOneLine-one : (c : ℕ) → ¬ (c ≡ 10) → IsOneLine (c ∷ [])
+IsOneLine-one c h = grind (arith, nat_tests)
 
 -- a line that fills the room, and one byte more, is too long
-pub over_long : (a b c : Option (List ℕ)) (line : List ℕ) (byte : ℕ) → max_line ≤ length line → HasNoFeed line → ¬ (byte ≡ 10)
+pub over_long : (a b c : Option (List ℕ)) (line : List ℕ) (byte : ℕ) → max_line ≤ length line → IsOneLine line → ¬ (byte ≡ 10)
     → Consumes a b line → Consumes b c (byte ∷ [])
-    → (taken : List ℕ) × (is_long taken ≡ true) × HasNoFeed taken × Consumes a c taken
+    → (taken : List ℕ) × (is_long taken ≡ true) × IsOneLine taken × Consumes a c taken
 over_long a b c line byte full none other p q = (
   line ++ byte ∷ [],
   grind (arith, nat_tests, length-append line (byte ∷ [])),
-  no_feed-append line (byte ∷ []) none (no_feed-one byte other),
+  IsOneLine-append line (byte ∷ []) none (IsOneLine-one byte other),
   Consumes-then a b c line (byte ∷ []) p q,
 )
 
 -- ---- UTF-8 as a test
 
-not_utf8 : (bs : List ℕ) (b : Bool) → is_utf8 bs ≡ b → ¬ (IsUtf8 bs) → b ≡ false
-not_utf8 bs true e h = absurd (h (IsUtf8-from_is_utf8 bs e))
-not_utf8 bs false e h = refl
-
 pub is_utf8-false : (bs : List ℕ) → ¬ (IsUtf8 bs) → is_utf8 bs ≡ false
-is_utf8-false bs h = not_utf8 bs (is_utf8 bs) refl h
+is_utf8-false bs h = false_from_ne_true (is_utf8 bs) (λ e. h (IsUtf8-from_is_utf8 bs e))
 
 -- ---- what a writer holds
 

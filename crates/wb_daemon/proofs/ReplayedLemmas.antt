@@ -9,7 +9,7 @@ use Rattle.wb_office.specs.Replay.{replay}
 use Rattle.wb_office.specs.Step.{step}
 use Rattle.wb_words.specs.declared.words.Asked.{Asked}
 use Rattle.wb_words.specs.declared.words.Asked.TheVariants.{Command as asked_Command, Merge as asked_Merge}
-use Rattle.wb_daemon.specs.Line.{ended_in, lines_of}
+use Rattle.wb_daemon.specs.Line.{ended_in, input_lines}
 use Rattle.wb_daemon.specs.Lists.{Gives}
 use Rattle.wb_daemon.specs.Replays.{IsReplay, IsReplayCut, LeavesReplay, SaysNoReply}
 use Rattle.wb_daemon.specs.Run.{Asks, AsksFor, EndsInput, Fault, Heard, LineAsks, Runs, Said, Says, SaysAsked, SaysHeard, Silence, StopsInLine, answer_said, command_said, followed, heard_in, silent}
@@ -127,7 +127,7 @@ Runs-leaves gives before after lines text status h = (lines, _, Runs-replay give
 
 pub EndsInput-leaves : (gives : Gives) (known old new : Option (List ℕ)) (before after : Machine) (status : ℕ)
     → EndsInput gives known old new before after status → LeavesReplay gives before after
-EndsInput-leaves gives known old new before after status h = Runs-leaves gives before after (lines_of h.0) h.3.0 status h.3.1
+EndsInput-leaves gives known old new before after status h = Runs-leaves gives before after (input_lines h.0) h.3.0 status h.3.1
 
 StopsInLine-leaves : (gives : Gives) (seen : List ℕ) (left : Option (List ℕ)) (before : Machine) (text : List ℕ) (after : Machine)
     → StopsInLine gives seen left before text after → LeavesReplay gives before after

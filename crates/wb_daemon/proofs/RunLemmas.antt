@@ -6,7 +6,8 @@ use Rattle.std.proofs.lemmas.List.Splits.{length-slice_split, slice_split-cons_n
 use Rattle.std.specs.Io.KnownBytes.{Appends, Consumes, IsAtEnd}
 use Rattle.std.specs.List.{list_any, onto_first, slice_split}
 use Rattle.wb_states.specs.Machine.{Machine}
-use Rattle.wb_daemon.specs.Line.{ended_in, is_feed, is_long, lines_of, max_line, max_lines, through_long, AreWithinLimit, HasNoFeed}
+use Rattle.deb_control.specs.Lines.{is_feed, IsOneLine}
+use Rattle.wb_daemon.specs.Line.{ended_in, is_long, input_lines, max_line, max_lines, through_long, AreWithinLimit}
 use Rattle.wb_daemon.specs.Lists.{Gives, IsAllOf}
 use Rattle.wb_daemon.specs.Run.{Said, Says, Runs, EndsInput, RunStops, StopsBeforeReply, StopsBetween, StopsWithin, WereHeard, followed, silent}
 use Rattle.wb_daemon.specs.Turn.{Answers, AnswersInPart, GivesFed, GivesLast, LacksAnswer, LacksReply, StopsRun, StopsTurn}
@@ -26,13 +27,13 @@ fed (line ∷ lines) = line ++ 10 ∷ fed lines
 -- lines that a run answers and goes on
 abbrev pub AreLines : List (List ℕ) → Type 0
 AreLines [] = Unit {0}
-AreLines (line ∷ lines) = HasNoFeed line × (is_long line ≡ false) × AreLines lines
+AreLines (line ∷ lines) = IsOneLine line × (is_long line ≡ false) × AreLines lines
 
 fed-snoc : (lines : List (List ℕ)) (line : List ℕ) → fed (lines ++ line ∷ []) ≡ fed lines ++ (line ++ 10 ∷ [])
 fed-snoc [] line = refl
 fed-snoc (x ∷ xs) line = ap (λ l. x ++ 10 ∷ l) (fed-snoc xs line) ∙ sym (append_assoc x (10 ∷ fed xs) (line ++ 10 ∷ []))
 
-AreLines-snoc : (lines : List (List ℕ)) (line : List ℕ) → AreLines lines → HasNoFeed line → is_long line ≡ false → AreLines (lines ++ line ∷ [])
+AreLines-snoc : (lines : List (List ℕ)) (line : List ℕ) → AreLines lines → IsOneLine line → is_long line ≡ false → AreLines (lines ++ line ∷ [])
 AreLines-snoc [] line a h k = (h, k, tt)
 AreLines-snoc (x ∷ xs) line a h k = (a.0, a.1, AreLines-snoc xs line a.2 h k)
 
@@ -44,13 +45,13 @@ cond-same : {X : Type 0} (b : Bool) (x : X) → cond b x x ≡ x
 cond-same true x = refl
 cond-same false x = refl
 
-split-line : (line more : List ℕ) → HasNoFeed line → slice_split is_feed (line ++ 10 ∷ more) ≡ line ∷ slice_split is_feed more
+split-line : (line more : List ℕ) → IsOneLine line → slice_split is_feed (line ++ 10 ∷ more) ≡ line ∷ slice_split is_feed more
 split-line [] more h = refl
 split-line (c ∷ cs) more h =
     let parts = or-false (is_feed c) (list_any is_feed cs) h in
     slice_split-cons_no is_feed c (cs ++ 10 ∷ more) parts.0 ∙ ap (onto_first c) (split-line cs more parts.1)
 
-split-last : (line : List ℕ) → HasNoFeed line → slice_split is_feed line ≡ line ∷ []
+split-last : (line : List ℕ) → IsOneLine line → slice_split is_feed line ≡ line ∷ []
 split-last [] h = refl
 split-last (c ∷ cs) h =
     let parts = or-false (is_feed c) (list_any is_feed cs) h in
@@ -60,7 +61,7 @@ some_part : (parts : List (List ℕ)) → 0 < length parts → (first : List ℕ
 some_part [] h = absurd (omega arith)
 some_part (x ∷ xs) h = (x, xs, refl)
 
-split-front : (line more : List ℕ) → HasNoFeed line
+split-front : (line more : List ℕ) → IsOneLine line
     → (first : List ℕ) × (rest : List (List ℕ)) × (slice_split is_feed (line ++ more) ≡ (line ++ first) ∷ rest)
 split-front [] more h = some_part (slice_split is_feed more) (omega (arith, length-slice_split is_feed more))
 split-front (c ∷ cs) more h =
@@ -81,9 +82,9 @@ through-lines (x ∷ xs) rest a =
     ap (λ b. x ∷ cond b [] (through_long (xs ++ rest))) a.1 ∙ ap (λ l. x ∷ l) (through-lines xs rest a.2)
 
 -- the lines of an input whose last line has no line feed
-lines_of-last : (lines : List (List ℕ)) (line : List ℕ) → AreLines lines → HasNoFeed line → lines_of (fed lines ++ line) ≡ lines ++ line ∷ []
-unfolding lines_of
-lines_of-last lines line a h =
+input_lines-last : (lines : List (List ℕ)) (line : List ℕ) → AreLines lines → IsOneLine line → input_lines (fed lines ++ line) ≡ lines ++ line ∷ []
+unfolding input_lines
+input_lines-last lines line a h =
     ap through_long (split-fed lines line a ∙ ap (λ l. lines ++ l) (split-last line h))
     ∙ through-lines lines (line ∷ []) a
     ∙ ap (λ l. lines ++ line ∷ l) (cond-same (is_long line) [])
@@ -92,10 +93,10 @@ is_long-append : (line more : List ℕ) → is_long line ≡ true → is_long (l
 is_long-append line more h = grind (arith, nat_tests, length-append line more)
 
 -- the lines of an input with a line that is too long
-lines_of-long : (lines : List (List ℕ)) (line more : List ℕ) → AreLines lines → HasNoFeed line → is_long line ≡ true
-    → (last : List ℕ) × (is_long last ≡ true) × (lines_of (fed lines ++ (line ++ more)) ≡ lines ++ last ∷ [])
-unfolding lines_of
-lines_of-long lines line more a h k =
+input_lines-long : (lines : List (List ℕ)) (line more : List ℕ) → AreLines lines → IsOneLine line → is_long line ≡ true
+    → (last : List ℕ) × (is_long last ≡ true) × (input_lines (fed lines ++ (line ++ more)) ≡ lines ++ last ∷ [])
+unfolding input_lines
+input_lines-long lines line more a h k =
     let front = split-front line more h in
     let long = is_long-append line front.0 k in (
       line ++ front.0,
@@ -111,7 +112,7 @@ take-front lines line =
     ap (λ n. take n (lines ++ line ∷ [])) count ∙ take-append_seam lines (line ∷ [])
 
 -- the lines that line feeds have ended, where a line without one follows
-ended_in-fed : (lines : List (List ℕ)) (line : List ℕ) → AreLines lines → HasNoFeed line → ended_in (fed lines ++ line) ≡ lines
+ended_in-fed : (lines : List (List ℕ)) (line : List ℕ) → AreLines lines → IsOneLine line → ended_in (fed lines ++ line) ≡ lines
 unfolding ended_in
 ended_in-fed lines line a h =
     ap (λ l. take (length l - 1) l) (split-fed lines line a ∙ ap (λ l. lines ++ l) (split-last line h)) ∙ take-front lines line
@@ -205,16 +206,16 @@ nothing_left rest (inl e) = e
 nothing_left rest (inr h) = absurd h
 
 -- the lines of an input whose last line was read, in so far as it is not too long
-last_lines : (gives : Gives) (lines : List (List ℕ)) (line rest : List ℕ) → AreLines lines → HasNoFeed line → (rest ≡ []) ⊎ (is_long line ≡ true)
-    → (last : List ℕ) × (lines_of (fed lines ++ (line ++ rest)) ≡ lines ++ last ∷ [])
+last_lines : (gives : Gives) (lines : List (List ℕ)) (line rest : List ℕ) → AreLines lines → IsOneLine line → (rest ≡ []) ⊎ (is_long line ≡ true)
+    → (last : List ℕ) × (input_lines (fed lines ++ (line ++ rest)) ≡ lines ++ last ∷ [])
     × ((machine : Machine) (said : Said) → Says gives machine line said → Says gives machine last said)
 last_lines gives lines line rest a h (inl e) = (
   line,
-  ap (λ l. lines_of (fed lines ++ l)) (ap (λ r. line ++ r) e ∙ append-nil line) ∙ lines_of-last lines line a h,
+  ap (λ l. input_lines (fed lines ++ l)) (ap (λ r. line ++ r) e ∙ append-nil line) ∙ input_lines-last lines line a h,
   λ _ _ q. q,
 )
 last_lines gives lines line rest a h (inr k) =
-    let long = lines_of-long lines line rest a h k in
+    let long = input_lines-long lines line rest a h k in
     (long.0, long.2, λ machine said q. Says-long gives machine line long.0 said k long.1 q)
 
 or-true : (b : Bool) → (b || true) ≡ true
@@ -227,7 +228,7 @@ list_any-last (x ∷ xs) line h = ap (λ b. is_long x || b) (list_any-last xs li
 
 module _ {gives : Gives} {input now old new : Option (List ℕ)} {before after : Machine} {status count : ℕ} (far : SoFar gives input now old new before after status count) where
   ended : (bytes last : List ℕ) (written : Option (List ℕ)) (next : Machine) (more : ℕ)
-      → IsAllOf input bytes → lines_of bytes ≡ far.lines ++ last ∷ [] → AreWithinLimit (far.lines ++ last ∷ [])
+      → IsAllOf input bytes → input_lines bytes ≡ far.lines ++ last ∷ [] → AreWithinLimit (far.lines ++ last ∷ [])
       → Answers gives last after next new written more → EndsInput gives input old written before next (max status more)
   ended bytes last written next more p same few a = (
     bytes,
@@ -258,18 +259,18 @@ module _ {gives : Gives} {input now old new : Option (List ℕ)} {before after :
       let whole = whole_input ⊥ input now left (fed far.lines) [] far.taken p (inl e) in
       subst (λ n. EndsInput gives input old new before after n) (max-zero status)
       (ended (fed far.lines ++ ([] ++ whole.0)) [] new after 0 whole.1
-      (ap (λ l. lines_of (fed far.lines ++ l)) (nothing_left whole.0 whole.2) ∙ lines_of-last far.lines [] far.are refl)
+      (ap (λ l. input_lines (fed far.lines ++ l)) (nothing_left whole.0 whole.2) ∙ input_lines-last far.lines [] far.are refl)
       (inr (far.lines, refl, far.counted ∙ full))
       (answers-blank gives after [] new refl refl))
 
   -- ---- how a run stops
 
-  between : (line : List ℕ) → HasNoFeed line → StopsBetween gives (fed far.lines ++ line) before far.text after
+  between : (line : List ℕ) → IsOneLine line → StopsBetween gives (fed far.lines ++ line) before far.text after
   between line h =
       (status, subst (λ l. Runs gives before l (record { text = far.text; machine = after; status = status })) (sym (ended_in-fed far.lines line far.are h)) far.runs)
 
   -- the reader failed within a line
-  pub stops-read : (line : List ℕ) (left : Option (List ℕ)) → HasNoFeed line → Consumes now left line → StopsRun gives Read before after input left old new
+  pub stops-read : (line : List ℕ) (left : Option (List ℕ)) → IsOneLine line → Consumes now left line → StopsRun gives Read before after input left old new
   stops-read line left h p =
       (fed far.lines ++ line, far.text, Consumes-then input now left (fed far.lines) line far.taken p, far.written, between line h)
 
@@ -336,7 +337,7 @@ module _ {gives : Gives} {input now old new : Option (List ℕ)} {before after :
   heard line left (inr g) = (
     fed far.lines ++ line,
     Consumes-then input now left (fed far.lines) line far.taken g.1,
-    inr (sym (lines_of-last far.lines line far.are g.0), at_last line left g.2),
+    inr (sym (input_lines-last far.lines line far.are g.0), at_last line left g.2),
   )
 
   stops-unanswered : (cause : Cause) (line : List ℕ) (left written : Option (List ℕ)) (next : Machine)

@@ -1,7 +1,8 @@
--- The lines that a run reads, and the words of a line (this project's own).
-use Rattle.std.specs.Prelude.{◌≡◌, ◌⊎◌, ℕ, ◌-◌, ◌≤◌, Bool, true, false, not, ◌||◌, ◌==◌, nat_lt, if◌then◌else◌, List, [], ◌∷◌, ◌++◌, length, take, filter, Option}
-use Rattle.std.specs.List.{list_all, list_any, slice_split}
+-- The lines that a run reads (this project's own).
+use Rattle.std.specs.Prelude.{◌≡◌, ◌⊎◌, ℕ, ◌-◌, ◌≤◌, Bool, true, nat_lt, if◌then◌else◌, List, [], ◌∷◌, ◌++◌, length, take, Option}
+use Rattle.std.specs.List.{list_all, slice_split}
 use Rattle.std.specs.Io.KnownBytes.{Consumes, IsAtEnd}
+use Rattle.deb_control.specs.Lines.{is_blank, is_feed, IsOneLine}
 use Rattle.wb_daemon.specs.declared.line.LineRead.{LineRead}
 use Rattle.wb_daemon.specs.declared.line.LineRead.TheVariants.{Fed, Last, Long, Fault}
 use Rattle.wb_daemon.specs.declared.line.ByteRead.{ByteRead}
@@ -14,14 +15,6 @@ max_line = 65536
 -- the greatest number of lines that end with a line feed
 abbrev pub max_lines : ℕ
 max_lines = 1_000_000_000
-
--- a line feed
-abbrev pub is_feed : ℕ → Bool
-is_feed c = c == 10
-
--- a space or a tab
-abbrev pub is_blank : ℕ → Bool
-is_blank c = (c == 32) || (c == 9)
 
 -- a line that is too long
 abbrev pub is_long : List ℕ → Bool
@@ -37,8 +30,8 @@ through_long [] = []
 through_long (line ∷ lines) = line ∷ (if is_long line then [] else through_long lines)
 
 -- the lines of an input: they are parted by line feeds, and one that is too long is the last
-unfoldable pub lines_of : List ℕ → List (List ℕ)
-lines_of input = through_long (slice_split is_feed input)
+unfoldable pub input_lines : List ℕ → List (List ℕ)
+input_lines input = through_long (slice_split is_feed input)
 
 -- the lines that are ended by a line feed
 unfoldable pub ended_in : List ℕ → List (List ℕ)
@@ -50,14 +43,6 @@ AreWithinLimit lines =
     (length lines ≤ max_lines)
     ⊎ ((before : List (List ℕ)) × (lines ≡ before ++ [] ∷ []) × (length before ≡ max_lines))
 
--- the words of a line: its parts between spaces and tabs, without the empty ones
-unfoldable pub words_of : List ℕ → List (List ℕ)
-words_of line = filter (λ word. not (length word == 0)) (slice_split is_blank line)
-
--- no byte of it is a line feed
-abbrev pub HasNoFeed : List ℕ → Type 0
-HasNoFeed line = list_any is_feed line ≡ false
-
 -- the bytes that a read of one byte took
 abbrev pub bytes_of : ByteRead → List ℕ
 bytes_of (byte.Byte c) = c ∷ []
@@ -66,7 +51,7 @@ bytes_of byte.Fault = []
 
 -- what a read took from the reader: a line and its line feed, the last line, more than a line may have, or what came before a fault
 abbrev pub TookLine : List ℕ → Option (List ℕ) → Option (List ℕ) → LineRead → Type 0
-TookLine room old new (Fed len) = (len ≤ max_line) × HasNoFeed (take len room) × Consumes old new (take len room ++ 10 ∷ [])
-TookLine room old new (Last len) = (len ≤ max_line) × HasNoFeed (take len room) × Consumes old new (take len room) × IsAtEnd new
-TookLine room old new Long = (line : List ℕ) × (is_long line ≡ true) × HasNoFeed line × Consumes old new line
-TookLine room old new Fault = (line : List ℕ) × HasNoFeed line × Consumes old new line
+TookLine room old new (Fed len) = (len ≤ max_line) × IsOneLine (take len room) × Consumes old new (take len room ++ 10 ∷ [])
+TookLine room old new (Last len) = (len ≤ max_line) × IsOneLine (take len room) × Consumes old new (take len room) × IsAtEnd new
+TookLine room old new Long = (line : List ℕ) × (is_long line ≡ true) × IsOneLine line × Consumes old new line
+TookLine room old new Fault = (line : List ℕ) × IsOneLine line × Consumes old new line

@@ -14,7 +14,8 @@ use Rattle.wb_words.specs.declared.words.Asked.{Asked}
 use Rattle.wb_words.specs.declared.words.Asked.TheVariants.{Command as asked_Command, Merge as asked_Merge}
 use Rattle.wb_words.specs.declared.words.PartNames.{PartNames}
 use Rattle.wb_api.specs.Encoding.{reply_text, refusal_text, memory_text, line_fault_text, file_fault_text}
-use Rattle.wb_daemon.specs.Line.{is_blank_line, is_long, lines_of, ended_in, max_lines, words_of, AreWithinLimit}
+use Rattle.deb_control.specs.Lines.{words_in}
+use Rattle.wb_daemon.specs.Line.{is_blank_line, is_long, input_lines, ended_in, max_lines, AreWithinLimit}
 use Rattle.wb_daemon.specs.Lists.{Gives, GivesMerge, IsAllOf}
 
 -- what is said to lines: the text, the office after it, and the status: 0 accepted, 1 refused, 2 no command, 3 a list that cannot be read
@@ -55,7 +56,7 @@ command_said machine command =
 
 -- what a line asks for: the line is UTF-8, and its words ask for it
 unfoldable pub asked_of_line : List ℕ → Option Asked
-asked_of_line line = if is_utf8 line then asked_in (words_of line) else None
+asked_of_line line = if is_utf8 line then asked_in (words_in line) else None
 
 -- what is heard in a line: nothing where it is blank, what it asks for, or that it is at fault
 pub data Heard : Type 0 where
@@ -130,13 +131,13 @@ Runs gives machine (line ∷ lines) whole =
 -- a run that ended with its input: to each line, in order, was written what is said to it, the office is as it is after them, and the status is the greatest
 abbrev pub RunEnds : Gives → List ℕ → Option (List ℕ) → Option (List ℕ) → Machine → Machine → ℕ → Type 0
 RunEnds gives input old_text new_text before after status =
-    (text : List ℕ) × Runs gives before (lines_of input) (record { text = text; machine = after; status = status })
+    (text : List ℕ) × Runs gives before (input_lines input) (record { text = text; machine = after; status = status })
     × Appends old_text new_text text
 
 -- a run that ended with its input: some input, which is what the reader had left where that is known
 abbrev pub EndsInput : Gives → Option (List ℕ) → Option (List ℕ) → Option (List ℕ) → Machine → Machine → ℕ → Type 0
 EndsInput gives known old_text new_text before after status =
-    (input : List ℕ) × IsAllOf known input × AreWithinLimit (lines_of input)
+    (input : List ℕ) × IsAllOf known input × AreWithinLimit (input_lines input)
     × RunEnds gives input old_text new_text before after status
 
 -- a run that stopped between two lines: every line that a line feed had ended was answered, and no more was acted on
@@ -158,7 +159,7 @@ NeverBegins seen before text after = (seen ≡ []) × (text ≡ []) × (after �
 abbrev pub WereHeard : List ℕ → Option (List ℕ) → List (List ℕ) → Type 0
 WereHeard seen left lines =
     (lines ≡ ended_in seen)
-    ⊎ ((lines ≡ lines_of seen) × (IsAtEnd left ⊎ IsTrue (list_any is_long lines)))
+    ⊎ ((lines ≡ input_lines seen) × (IsAtEnd left ⊎ IsTrue (list_any is_long lines)))
 
 -- a run that stopped within an answer: that to the last of these lines, of which a front alone was written; the office is as it is after that line
 pub record StopsWithin (gives : Gives) (lines : List (List ℕ)) (before : Machine) (text : List ℕ) (after : Machine) : Type 0 where

@@ -5,7 +5,8 @@ use Rattle.std.specs.Io.KnownBytes.{Appends, Consumes, IsAtEnd}
 use Rattle.wb_states.specs.Machine.{Machine}
 use Rattle.wb_states.specs.declared.command.Command.{Command}
 use Rattle.wb_words.specs.declared.words.Asked.{Asked}
-use Rattle.wb_daemon.specs.Line.{is_long, HasNoFeed}
+use Rattle.deb_control.specs.Lines.{IsOneLine}
+use Rattle.wb_daemon.specs.Line.{is_long}
 use Rattle.wb_daemon.specs.Lists.{Gives}
 use Rattle.wb_daemon.specs.Run.{Said, Says, SaysAsked, command_said, memory_said, with_feed, Accepts, EndsInput, LineAsks, NeverBegins, StopsAtLimit, StopsBeforeReply, StopsBetween, StopsWithin, WereHeard}
 use Rattle.wb_daemon.specs.declared.answer.Answer.{Answer}
@@ -56,16 +57,16 @@ LacksAnswer gives line before after old new cause = ⊥
 
 -- the reader gave a line and its line feed
 abbrev pub GivesFed : List ℕ → Option (List ℕ) → Option (List ℕ) → Type 0
-GivesFed line old new = (is_long line ≡ false) × HasNoFeed line × Consumes old new (line ++ 10 ∷ [])
+GivesFed line old new = (is_long line ≡ false) × IsOneLine line × Consumes old new (line ++ 10 ∷ [])
 
 -- the reader gave the last line: nothing follows, or it is too long
 abbrev pub GivesLast : List ℕ → Option (List ℕ) → Option (List ℕ) → Type 0
-GivesLast line old new = HasNoFeed line × Consumes old new line × (IsAtEnd new ⊎ (is_long line ≡ true))
+GivesLast line old new = IsOneLine line × Consumes old new line × (IsAtEnd new ⊎ (is_long line ≡ true))
 
 -- why a turn stopped: a read failed within the line, or the line was not answered
 abbrev pub StopsTurn : Gives → Cause → Machine → Machine → Option (List ℕ) → Option (List ℕ) → Option (List ℕ) → Option (List ℕ) → Type 0
 StopsTurn gives Read before after old_input new_input old new =
-    (line : List ℕ) × HasNoFeed line × Consumes old_input new_input line × (after ≡ before) × (new ≡ old)
+    (line : List ℕ) × IsOneLine line × Consumes old_input new_input line × (after ≡ before) × (new ≡ old)
 StopsTurn gives cause before after old_input new_input old new =
     (line : List ℕ) × (GivesFed line old_input new_input ⊎ GivesLast line old_input new_input)
     × LacksAnswer gives line before after old new cause

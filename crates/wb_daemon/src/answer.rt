@@ -9,7 +9,7 @@ ghost use Rattle.wb_states.specs.Machine.{IsConsistent, Machine};
 ghost use Rattle.wb_states.specs.declared.command.Command.{Command};
 ghost use Rattle.wb_daemon.specs.Turn.{said_by, AnswersAsked, AnswersCommand};
 
-use crate::line::{text_of, words_of};
+use crate::line::{text_of, words_in};
 use crate::lists::{Lists, merge_of};
 use std::alloc::Global;
 use std::borrow::CowStr;
@@ -48,7 +48,7 @@ fn asked_of_line(alloc: Global, line: &[u8]) -> Result<Asked, WordsFault>
     let Some(text) = text_of(line) else {
         return Err(WordsFault::NoCommand);
     };
-    let Ok(words) = words_of(alloc, text) else {
+    let Ok(words) = words_in(alloc, text) else {
         return Err(WordsFault::Memory);
     };
     asked_of(alloc, &words)

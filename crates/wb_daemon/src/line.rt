@@ -3,7 +3,8 @@ ghost use Rattle.std.specs.Prelude.{◌≡◌, IfOk, IfSome, None, map, length, 
 ghost use Rattle.std.specs.Str.{is_utf8};
 ghost use Rattle.std.specs.Io.KnownBytes.{Consumes, IsAtEnd};
 ghost use Rattle.wb_daemon.specs.declared.line.ByteRead.TheVariants.{End};
-ghost use Rattle.wb_daemon.specs.Line.{bytes_of, is_blank_line, max_line, words_of, TookLine};
+ghost use Rattle.deb_control.specs.Lines.{words_in};
+ghost use Rattle.wb_daemon.specs.Line.{bytes_of, is_blank_line, max_line, TookLine};
 
 use std::alloc::{AllocError, Global};
 use std::io::Read;
@@ -74,8 +75,8 @@ pub(crate) fn is_blank_line(line: &[u8]) -> bool
 }
 
 /// The words of the line. The only error is that there is no memory for the list.
-pub(crate) fn words_of<'a>(alloc: Global, text: &'a str) -> Result<Vec<&'a str>, AllocError>
-    ensures value { IfOk result (λ words. map (λ w. w.now) words.items ≡ words_of text.entry.now) }
+pub(crate) fn words_in<'a>(alloc: Global, text: &'a str) -> Result<Vec<&'a str>, AllocError>
+    ensures value { IfOk result (λ words. map (λ w. w.now) words.items ≡ words_in text.entry.now) }
 {
     text.split(' ')
         .flat_map(|part| part.split('\t'))
