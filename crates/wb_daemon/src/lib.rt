@@ -2,12 +2,11 @@
 #![tactic(auto)]
 
 mod answer;
-mod laws;
+pub mod laws;
 mod line;
 mod lists;
 mod run;
 mod write;
 
-pub use laws::runs_are_replays;
 pub use lists::Lists;
 pub use run::run_lines;
