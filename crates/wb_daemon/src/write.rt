@@ -9,8 +9,10 @@ use std::io::Write;
 /// Writes the bytes. Gives whether all were written: a write that takes no byte or fails ends it, also one
 /// that was interrupted, and then a front of the bytes was written.
 fn write_bytes<W: Write>(writer: &mut W, bytes: &[u8]) -> bool
-    ensures value { result ≡ true → Appends (W.contents writer.old) (W.contents writer.new) bytes.now }
-    ensures err { result ≡ false → AppendsFront (W.contents writer.old) (W.contents writer.new) bytes.now }
+    ensures value { result ≡ true
+        → Appends (W.contents writer.old) (W.contents writer.new) bytes.now }
+    ensures err { result ≡ false
+        → AppendsFront (W.contents writer.old) (W.contents writer.new) bytes.now }
 {
     let mut done = 0;
     while done < bytes.len() {
@@ -25,7 +27,8 @@ fn write_bytes<W: Write>(writer: &mut W, bytes: &[u8]) -> bool
 
 /// Writes the text and a line feed. Gives whether all was written; where not, a front of it was.
 pub(crate) fn write_line<W: Write>(writer: &mut W, text: &[u8]) -> bool
-    ensures value { result ≡ true → Appends (W.contents writer.old) (W.contents writer.new) (with_feed text.now) }
+    ensures value { result ≡ true
+        → Appends (W.contents writer.old) (W.contents writer.new) (with_feed text.now) }
     ensures err { result ≡ false
         → AppendsFront (W.contents writer.old) (W.contents writer.new) (with_feed text.now) }
 {
