@@ -1,3 +1,4 @@
+pub mod AnsweredLemmas
 pub mod AnswerLemmas
 pub mod LineLemmas
 pub mod ListLemmas

@@ -1,3 +1,4 @@
+pub mod Answered
 pub mod Line
 pub mod Lists
 pub mod Replays
