@@ -7,7 +7,7 @@ use Rattle.std.specs.Str.{IsUtf8, is_utf8}
 use Rattle.std.proofs.lemmas.Str.{IsUtf8-from_is_utf8}
 use Rattle.std.proofs.lemmas.Bool.{false_from_ne_true, ne_eqb}
 use Rattle.std.proofs.lemmas.Bool.Decides.{nat_tests}
-use Rattle.deb_control.specs.Lines.{has_char, is_blank, IsOneLine}
+use Rattle.deb_control.specs.Lines.{is_filled, is_blank, IsOneLine}
 use Rattle.wb_api.proofs.OneLineLemmas.{IsOneLine-append}
 use Rattle.wb_daemon.specs.Line.{is_long, max_line}
 
@@ -48,9 +48,9 @@ tabs-spaces [] = refl
 tabs-spaces (c ∷ cs) = cut_one c cs (eqb c 32) (eqb c 9) refl refl (tabs-spaces cs)
 
 -- a text that is not empty has a character
-pub has_char-length : (text : List ℕ) → not (eqb (length text) 0) ≡ has_char text
-has_char-length [] = refl
-has_char-length (c ∷ cs) = ap not (ne_eqb (length (c ∷ cs)) 0 (λ h. omega (arith, h)))
+pub is_filled-length : (text : List ℕ) → not (eqb (length text) 0) ≡ is_filled text
+is_filled-length [] = refl
+is_filled-length (c ∷ cs) = ap not (ne_eqb (length (c ∷ cs)) 0 (λ h. omega (arith, h)))
 
 -- ---- what a reader has left
 

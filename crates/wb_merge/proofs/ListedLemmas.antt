@@ -21,7 +21,8 @@ use Rattle.deb_relations.proofs.PrintedLemmas.{reduced-utf8, reading_of-reads}
 use Rattle.wb_states.specs.declared.refusal.Refusal.{Refusal}
 use Rattle.wb_states.specs.Limits.{rebuild_limit, relations_limit}
 use Rattle.wb_states.specs.Moves.{waits_for}
-use Rattle.wb_states.specs.Names.{is_source_name, is_label_text}
+use Rattle.deb_relations.specs.Names.{is_package_name}
+use Rattle.wb_states.specs.Names.{is_label_text}
 use Rattle.wb_states.specs.Record.{IsTextWithin, is_empty_text}
 use Rattle.wb_states.proofs.KeyLemmas.{text_cmp_total, text_cmp-same}
 use Rattle.wb_merge.specs.declared.listing.Listed.{Listed}
@@ -34,7 +35,7 @@ use Rattle.wb_merge.proofs.CheckLemmas.{both-true}
 
 -- what is listed of a source package has its forms
 pub record IsGoodListed (source : List ℕ) (listed : Listed) : Type 0 where
-  pub name : IsTrue (is_source_name source)
+  pub name : IsTrue (is_package_name source)
   pub version : IsOk (reading_of listed.version)
   pub priority : IsTrue (is_empty_text listed.priority || is_label_text listed.priority)
   pub section : IsTrue (is_empty_text listed.section || is_label_text listed.section)
@@ -138,7 +139,7 @@ unfolding is_candidate
 candidate-good arch name row good is =
     let same : name ≡ row.name = (bytes_eq-Decides name row.name).0 (both-true (bytes_eq name row.name) _ is).0 in
     record {
-      name = subst (λ n. IsTrue (is_source_name n)) (sym same) good.name;
+      name = subst (λ n. IsTrue (is_package_name n)) (sym same) good.name;
       version = reading_of-ok row.version good.version;
       priority = good.priority;
       section = good.section;

@@ -5,17 +5,17 @@ use Rattle.deb_control.specs.Paragraphs.{Place, begun}
 use Rattle.wb_states.specs.declared.refusal.ListKind.TheVariants.{Sources, Packages}
 use Rattle.wb_merge.specs.Rows.{SourceRow, BinaryRow, source_row_of, binary_row_of, source_rows, binary_rows}
 use Rattle.wb_merge.specs.Offers.{HasPassed, after_rows, rows_at}
-use Rattle.deb_control.specs.Lines.{is_feed, is_separator, has_line, lines_of, paragraphs_in}
+use Rattle.deb_control.specs.Lines.{is_feed, is_separator, is_filled, lines_of, paragraphs_in}
 
 -- one line more makes one run more at most
 run_more : (b : Bool) (line : List ℕ) (runs : List (List (List ℕ)))
-    → length (filter has_line (cond b ([] ∷ runs) (onto_first line runs))) ≤ length (filter has_line runs) + 1
+    → length (filter is_filled (cond b ([] ∷ runs) (onto_first line runs))) ≤ length (filter is_filled runs) + 1
 run_more true line runs = omega arith
 run_more false line [] = omega arith
 run_more false line ([] ∷ runs) = omega arith
 run_more false line ((first ∷ run) ∷ runs) = omega arith
 
-runs-le : (parts : List ℕ → Bool) (lines : List (List ℕ)) → length (filter has_line (slice_split parts lines)) ≤ length lines
+runs-le : (parts : List ℕ → Bool) (lines : List (List ℕ)) → length (filter is_filled (slice_split parts lines)) ≤ length lines
 runs-le parts [] = omega arith
 runs-le parts (line ∷ lines) = omega (arith, run_more (parts line) line (slice_split parts lines), runs-le parts lines)
 

@@ -16,7 +16,8 @@ use Rattle.wb_states.specs.declared.refusal.ListingFault.{ListingFault}
 use Rattle.wb_states.specs.declared.refusal.ListingFault.TheVariants.{Missing, BadValue}
 use Rattle.wb_states.specs.declared.refusal.Refusal.{Refusal}
 use Rattle.wb_states.specs.declared.refusal.Refusal.TheVariants.{BadListing}
-use Rattle.wb_states.specs.Names.{is_source_name, is_label_text}
+use Rattle.deb_relations.specs.Names.{is_package_name}
+use Rattle.wb_states.specs.Names.{is_label_text}
 use Rattle.wb_states.specs.Record.{is_empty_text}
 use Rattle.wb_states.specs.Refusals.{name_of_field}
 use Rattle.wb_merge.specs.Rows.{SourceRow, BinaryRow, value_named, text_named, is_label_or_empty, has_source_version, last_digits, rebuild_number, wanted_fault, spare_fault, source_fault, source_row, with_source, binary_row, unless_faulty, source_row_of, binary_row_of, row_in, onto_rows, rows_behind, source_rows, binary_rows}
@@ -102,7 +103,7 @@ label-is text is = is
 -- ---- the rows of a Sources list
 
 pub record IsGoodSource (row : SourceRow) : Type 0 where
-  pub name : IsTrue (is_source_name row.name)
+  pub name : IsTrue (is_package_name row.name)
   pub version : fault_of row.version ≡ None
   pub priority : IsTrue (is_empty_text row.priority || is_label_text row.priority)
   pub section : IsTrue (is_empty_text row.section || is_label_text row.section)
@@ -120,14 +121,14 @@ unfolding source_row_of source_fault
 source-good fields row is =
     let made = faultless-row (source_fault fields) (source_row fields) row is in
     let none = first_some-None (
-    wanted_fault Package is_source_name fields
+    wanted_fault Package is_package_name fields
     ∷ wanted_fault Version is_version_text fields
     ∷ wanted_fault Architecture (λ text. not (is_empty_text text)) fields
     ∷ spare_fault Priority is_label_or_empty fields
     ∷ spare_fault Section is_label_or_empty fields
     ∷ []) made.0 in
     let good : IsGoodSource (source_row fields) = record {
-      name = wanted-is Package is_source_name fields none.0;
+      name = wanted-is Package is_package_name fields none.0;
       version = version-is (text_named (codes "Version") fields) (wanted-is Version is_version_text fields none.1.0);
       priority = label-is (text_named (codes "Priority") fields) (spare-is Priority is_label_or_empty fields empty-label none.1.1.1.0);
       section = label-is (text_named (codes "Section") fields) (spare-is Section is_label_or_empty fields empty-label none.1.1.1.1.0);

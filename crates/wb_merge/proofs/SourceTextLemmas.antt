@@ -8,7 +8,7 @@ use Rattle.std.proofs.lemmas.List.Folds.{list_any-append}
 use Rattle.std.proofs.Math.Seq.{take-append_seam, drop-append-add}
 use Rattle.deb_version.specs.Syntax.{is_version_text}
 use Rattle.wb_states.specs.Holds.{has_value}
-use Rattle.wb_states.specs.Names.{is_source_char, is_source_name}
+use Rattle.deb_relations.specs.Names.{is_package_name, is_package_char, is_lower_or_digit}
 use Rattle.wb_merge.specs.Rows.{is_space, in_brackets, source_name, has_source_version, source_version, is_source_text, with_version, NamesSource}
 use Rattle.wb_merge.proofs.CheckLemmas.{both-true, neither}
 use Rattle.wb_merge.proofs.NameLemmas.{bytes_eq-is}
@@ -16,25 +16,26 @@ use Rattle.wb_merge.proofs.SourceLemmas.{closed, last_is}
 
 -- ---- the first space
 
-no_space-char : (c : ℕ) → is_source_char c ≡ true → is_space c ≡ false
+no_space-char : (c : ℕ) → is_package_char c ≡ true → is_space c ≡ false
+unfolding is_package_char is_lower_or_digit
 no_space-char c h =
     elim (is_space c) as (λ b. is_space c ≡ b → b ≡ false) [
-      | true ↦ λ e. absurd (never (sym (ap is_source_char (eqb-true c 32 e)) ∙ h))
+      | true ↦ λ e. absurd (never (sym (ap is_package_char (eqb-true c 32 e)) ∙ h))
       | false ↦ λ _. refl
     ] refl
   where
     never : false ≡ true → ⊥
     never e = cc
 
-no_space-all : (name : List ℕ) → list_all is_source_char name ≡ true → list_any is_space name ≡ false
+no_space-all : (name : List ℕ) → list_all is_package_char name ≡ true → list_any is_space name ≡ false
 no_space-all [] h = refl
 no_space-all (c ∷ cs) h =
-    let parts = both-true (is_source_char c) (list_all is_source_char cs) h in
+    let parts = both-true (is_package_char c) (list_all is_package_char cs) h in
     λ i. no_space-char c parts.0 i || no_space-all cs parts.1 i
 
-no_space-name : (name : List ℕ) → is_source_name name ≡ true → list_any is_space name ≡ false
-unfolding is_source_name
-no_space-name name h = no_space-all name (both-true _ _ (both-true _ _ h).1).1
+no_space-name : (name : List ℕ) → is_package_name name ≡ true → list_any is_space name ≡ false
+unfolding is_package_name
+no_space-name name h = no_space-all name (both-true _ _ (both-true _ _ h).1).0
 
 place-none : (name : List ℕ) → list_any is_space name ≡ false → position_or_len is_space name ≡ length name
 place-none [] h = refl
@@ -50,13 +51,13 @@ place-behind (c ∷ cs) rest h =
 
 -- ---- a name alone
 
-pub name-alone : (name : List ℕ) → is_source_name name ≡ true → NamesSource name name None
+pub name-alone : (name : List ℕ) → is_package_name name ≡ true → NamesSource name name None
 unfolding is_source_text source_name has_source_version
 name-alone name h =
     let none = no_space-name name h in
     let named : source_name name ≡ name = ap (λ (n : ℕ). take n name) (place-none name none) ∙ take_all (length name) name (omega arith) in
     record {
-      good = λ i. (ap is_source_name named ∙ h) i && (not (none i) || has_value is_version_text (source_version name));
+      good = λ i. (ap is_package_name named ∙ h) i && (not (none i) || has_value is_version_text (source_version name));
       named = named;
       written = ap (λ (b : Bool). cond b (source_version name) None) none;
     }
@@ -67,7 +68,7 @@ name-alone name h =
 in_text : (name version : List ℕ) → with_version name version ≡ name ++ 32 ∷ 40 ∷ (version ++ 41 ∷ [])
 in_text name version = append_assoc (name ++ codes " (") version (codes ")") ∙ append_assoc name (codes " (") (version ++ codes ")")
 
-pub name-with_version : (name version : List ℕ) → is_source_name name ≡ true → is_version_text version ≡ true → NamesSource (with_version name version) name (Some version)
+pub name-with_version : (name version : List ℕ) → is_package_name name ≡ true → is_version_text version ≡ true → NamesSource (with_version name version) name (Some version)
 unfolding is_source_text source_name has_source_version source_version
 name-with_version name version h v =
     let none = no_space-name name h in
@@ -82,7 +83,7 @@ name-with_version name version h v =
     ∙ ap in_brackets (drop-append-add name (32 ∷ rest) 1)
     ∙ closed (version ++ 41 ∷ []) version refl in
     record {
-      good = λ i. (ap is_source_name named ∙ h) i && (not (spaced i) || (ap (has_value is_version_text) inner ∙ v) i);
+      good = λ i. (ap is_package_name named ∙ h) i && (not (spaced i) || (ap (has_value is_version_text) inner ∙ v) i);
       named = named;
       written = (λ i. cond (spaced i) (inner i) None);
     }

@@ -2,7 +2,7 @@
 use Rattle.std.proofs.Common.{◌≡◌, ℕ, ◌<◌, Bool, true, false, not, eqb, ◌&&◌, ◌||◌, List, [], ◌∷◌, ◌++◌, length, filter, refl, sym, ap, ◌∙◌, arith}
 use Rattle.std.specs.List.{slice_split, flat_map, onto_first, list_any}
 use Rattle.std.proofs.lemmas.List.Splits.{length-slice_split, slice_split-cons_yes, slice_split-cons_no}
-use Rattle.deb_control.specs.Lines.{has_char, is_blank, words_in}
+use Rattle.deb_control.specs.Lines.{is_filled, is_blank, words_in}
 use Rattle.wb_states.specs.Record.{is_empty_text}
 
 abbrev spaces : List ℕ → List (List ℕ)
@@ -46,7 +46,7 @@ abbrev pub passes_as_word : (List ℕ → Bool) → List ℕ → Bool
 passes_as_word test part = not (is_empty_text part) && test part
 
 any-filter : (test : List ℕ → Bool) (parts : List (List ℕ))
-    → list_any (passes_as_word test) parts ≡ list_any test (filter has_char parts)
+    → list_any (passes_as_word test) parts ≡ list_any test (filter is_filled parts)
 any-filter test [] = refl
 any-filter test ([] ∷ parts) = any-filter test parts
 any-filter test ((c ∷ cs) ∷ parts) = ap (λ (b : Bool). test (c ∷ cs) || b) (any-filter test parts)

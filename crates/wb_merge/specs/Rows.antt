@@ -17,7 +17,8 @@ use Rattle.wb_states.specs.declared.refusal.ListField.TheVariants.{Package, Vers
 use Rattle.wb_states.specs.declared.refusal.ListingFault.{ListingFault}
 use Rattle.wb_states.specs.declared.refusal.ListingFault.TheVariants.{Control, Missing, BadValue}
 use Rattle.wb_states.specs.Holds.{has_value}
-use Rattle.wb_states.specs.Names.{is_source_name, is_label_text}
+use Rattle.deb_relations.specs.Names.{is_package_name}
+use Rattle.wb_states.specs.Names.{is_label_text}
 use Rattle.wb_states.specs.Record.{is_empty_text}
 use Rattle.wb_states.specs.Refusals.{name_of_field}
 
@@ -66,7 +67,7 @@ source_version text = in_brackets (after_first is_space text)
 -- whether a text names a source: a name, and perhaps a version in brackets (Debian Policy 5.6.1; exactly one space parts them, this project's own)
 unfoldable pub is_source_text : List ℕ → Bool
 is_source_text text =
-    is_source_name (source_name text) && (not (has_source_version text) || has_value is_version_text (source_version text))
+    is_package_name (source_name text) && (not (has_source_version text) || has_value is_version_text (source_version text))
 
 -- a name with a version in brackets behind it (Debian Policy 5.6.1)
 abbrev pub with_version : List ℕ → List ℕ → List ℕ
@@ -127,7 +128,7 @@ first_some (one ∷ later) = option_or one (first_some later)
 -- what is wrong with a paragraph of a Sources list: its fields in their order (Debian Policy 5.3)
 unfoldable pub source_fault : List Entry → Option ListingFault
 source_fault fields = first_some (
-    wanted_fault Package is_source_name fields
+    wanted_fault Package is_package_name fields
     ∷ wanted_fault Version is_version_text fields
     ∷ wanted_fault Architecture (λ text. not (is_empty_text text)) fields
     ∷ spare_fault Priority is_label_or_empty fields
@@ -137,7 +138,7 @@ source_fault fields = first_some (
 -- what is wrong with a paragraph of a Packages list: its fields in their order (Debian Policy 5.3)
 unfoldable pub binary_fault : List Entry → Option ListingFault
 binary_fault fields = first_some (
-    wanted_fault Package is_source_name fields
+    wanted_fault Package is_package_name fields
     ∷ wanted_fault Version is_version_text fields
     ∷ wanted_fault Architecture (λ text. not (is_empty_text text)) fields
     ∷ spare_fault Source is_source_text fields

@@ -4,7 +4,7 @@ ghost use Rattle.deb_control.specs.declared.fault.ControlFaultKind.TheVariants.{
 ghost use Rattle.deb_version.specs.Syntax.{is_version_text};
 ghost use Rattle.wb_states.specs.declared.refusal.ListingFault.TheVariants.{Control, Missing, BadValue};
 ghost use Rattle.wb_states.specs.declared.refusal.ListField.TheVariants.{Package, Version as VersionField, Architecture};
-ghost use Rattle.wb_states.specs.Names.{is_source_name};
+ghost use Rattle.deb_relations.specs.Names.{is_package_name};
 ghost use Rattle.wb_states.specs.Record.{is_empty_text};
 ghost use Rattle.wb_states.specs.Refusals.{name_of_field};
 ghost use Rattle.wb_merge.specs.Rows.{value_named, text_named, is_label_or_empty, wanted_fault, spare_fault};
@@ -89,9 +89,9 @@ fn formed(text: Text, has_form: bool, field: ListField) -> Result<Text, ListingF
 #[tactic(auto, unfolding(crate::specs::Rows::wanted_fault))]
 pub(crate) fn package_name(alloc: Global, paragraph: &Paragraph<'_>) -> Result<Text, ListingFault>
     ensures value { IfOk result (λ name. name ≡ text_named (codes "Package") paragraph.now) }
-    ensures ok { OnOk result (wanted_fault Package is_source_name paragraph.now ≡ None) }
+    ensures ok { OnOk result (wanted_fault Package is_package_name paragraph.now ≡ None) }
     ensures refused { IfErr result (λ fault. fault ≢ Control Memory
-        → wanted_fault Package is_source_name paragraph.now ≡ Some fault) }
+        → wanted_fault Package is_package_name paragraph.now ≡ Some fault) }
 {
     let field = ListField::Package;
     let name = wanted(alloc, paragraph, field)?;

@@ -19,7 +19,7 @@ ghost use Rattle.wb_states.specs.declared.refusal.ListKind.TheVariants.{Sources,
 ghost use Rattle.wb_states.specs.declared.state.State.TheVariants.{NotForUs};
 ghost use Rattle.wb_states.specs.Limits.{rebuild_limit};
 ghost use Rattle.wb_states.specs.Moves.{build_text_of};
-ghost use Rattle.wb_states.specs.Names.{is_source_name};
+ghost use Rattle.deb_relations.specs.Names.{is_package_name};
 ghost use Rattle.wb_states.specs.State.{is_held};
 ghost use Rattle.wb_merge.specs.Merge.{ends_hold, HasSameHold};
 ghost use Rattle.wb_merge.specs.Merged.{Records, BecomesAt, after_at, all_kept, is_same_record, merge_counts, merged, recorded_names};
@@ -153,9 +153,9 @@ pub fn rebuild_numbers_read_back()
 /// A source package's name, alone or with a version in brackets behind it, is read as that name and that
 /// version, and no other text names a source package (Debian Policy 5.6.1).
 pub fn source_texts_read_back()
-    ensures plain { (name : List ℕ) → IsTrue (is_source_name name) → NamesSource name name None }
+    ensures plain { (name : List ℕ) → IsTrue (is_package_name name) → NamesSource name name None }
     ensures versioned { (name version : List ℕ)
-        → IsTrue (is_source_name name) → IsTrue (is_version_text version)
+        → IsTrue (is_package_name name) → IsTrue (is_version_text version)
         → NamesSource (with_version name version) name (Some version) }
     ensures only { (text : List ℕ) → IsTrue (is_source_text text) → (text ≡ source_name text)
         ⊎ ((version : List ℕ) × (text ≡ with_version (source_name text) version)) }

@@ -9,14 +9,11 @@ ghost use Rattle.wb_merge.specs.Offers.{with_listed, with_build, with_package};
 
 use crate::rows::{BinaryRow, SourceRow};
 use crate::{Built, Listed};
-use deb_relations::{ArchWords, Available, RelationFault, Relations, Text};
+use deb_relations::{ArchWords, Available, RELATIONS_LIMIT, RelationFault, Relations, Text};
 use deb_version::compare;
 use std::alloc::{AllocError, Global};
 use std::collections::BTreeMap;
 use wb_states::Refusal;
-
-/// The greatest length of what a source package needs to be built, in bytes (this project's own).
-const RELATIONS_LIMIT: usize = 65536;
 
 /// Relations reduced for the architecture and printed, where the text can be read.
 #[tactic(auto, unfolding(crate::specs::Listing::printed_for))]

@@ -14,7 +14,8 @@ use Rattle.wb_states.specs.declared.moves.Move.{Move}
 use Rattle.wb_states.specs.declared.moves.Move.TheVariants as to
 use Rattle.wb_states.specs.Limits.{rebuild_limit, note_limit}
 use Rattle.wb_states.specs.Machine.{Machine, arch_words}
-use Rattle.wb_states.specs.Names.{is_arch_name, is_builder_name, is_source_name}
+use Rattle.deb_relations.specs.Names.{is_package_name}
+use Rattle.wb_states.specs.Names.{is_arch_name, is_builder_name}
 use Rattle.wb_states.specs.Queue.{Entry}
 use Rattle.wb_states.specs.Record.{IsTextWithin}
 use Rattle.wb_states.proofs.QueueLemmas.{head_of-waits}
@@ -75,8 +76,8 @@ asked-good machine handed (of.Next arch builder after) entry move utf8 given pas
     let may : IsTrue (set.contains machine.builders (builder, entry.0.0)) = subst (λ a. IsTrue (set.contains machine.builders (builder, a))) (sym here) (not-false _ pass.others) in
     same-move machine handed entry.0.0 (to.Take builder (machine.handed + 1)) move is (names.1, (may, (refl, given)))
 asked-good machine handed (of.Take arch builder source version) entry move utf8 given pass target is =
-    let names = both-true (is_arch_name arch) (is_builder_name builder && is_source_name source) (not-false _ pass.names) in
-    let later = both-true (is_builder_name builder) (is_source_name source) names.1 in
+    let names = both-true (is_arch_name arch) (is_builder_name builder && is_package_name source) (not-false _ pass.names) in
+    let later = both-true (is_builder_name builder) (is_package_name source) names.1 in
     let here : entry.0.0 ≡ arch = ap (λ (key : List ℕ × List ℕ). key.0) (record_named-is machine arch source entry target).1 in
     let may : IsTrue (set.contains machine.builders (builder, entry.0.0)) = subst (λ a. IsTrue (set.contains machine.builders (builder, a))) (sym here) (not-false _ pass.others) in
     same-move machine handed entry.0.0 (to.Take builder (machine.handed + 1)) move is (later.0, (may, (refl, given)))

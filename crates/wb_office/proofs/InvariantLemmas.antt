@@ -11,7 +11,8 @@ use Rattle.wb_states.specs.declared.record.Record.{Record}
 use Rattle.wb_states.specs.Limits.{count_limit, note_limit, relations_limit}
 use Rattle.wb_states.specs.Machine.{Machine, arch_words, IsRecord, IsConsistent}
 use Rattle.wb_states.specs.Moves.{moved, move_refusal}
-use Rattle.wb_states.specs.Names.{is_arch_name, is_os_cpu_word, is_builder_name, is_source_name, is_label_text}
+use Rattle.deb_relations.specs.Names.{is_package_name}
+use Rattle.wb_states.specs.Names.{is_arch_name, is_os_cpu_word, is_builder_name, is_label_text}
 use Rattle.wb_states.specs.Queue.{Entry}
 use Rattle.wb_states.specs.Record.{IsWellFormed, is_empty_text}
 use Rattle.wb_office.specs.Moving.{again_of, moving}
@@ -122,8 +123,8 @@ change-keeps machine (of.AddBuilder name arch) old utf8 pass again =
     let names = both-true (is_builder_name name) (is_arch_name arch) (not-false _ pass.names) in
     with_builder machine name arch old (record { name = names.0; known = not-false _ pass.arch }) (room-for machine pass.room)
 change-keeps machine (of.Enter arch source version priority section) old utf8 pass again =
-    let names = both-true (is_arch_name arch) (is_source_name source && (is_label_text priority && is_label_text section)) (not-false _ pass.names) in
-    let later = both-true (is_source_name source) (is_label_text priority && is_label_text section) names.1 in
+    let names = both-true (is_arch_name arch) (is_package_name source && (is_label_text priority && is_label_text section)) (not-false _ pass.names) in
+    let later = both-true (is_package_name source) (is_label_text priority && is_label_text section) names.1 in
     let labels = both-true (is_label_text priority) (is_label_text section) later.1 in
     let is : IsRecord (record machine { handed = machine.handed }) arch source (entered version priority section) = record {
       name = later.0;

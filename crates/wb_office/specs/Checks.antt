@@ -22,7 +22,8 @@ use Rattle.wb_states.specs.Holds.{has_value, taken_as}
 use Rattle.wb_states.specs.Limits.{count_limit, note_limit, rebuild_limit, relations_limit}
 use Rattle.wb_states.specs.Machine.{Machine, archs_of}
 use Rattle.wb_states.specs.Moves.{move_refusal}
-use Rattle.wb_states.specs.Names.{is_arch_name, is_os_cpu_word, is_builder_name, is_source_name, is_label_text}
+use Rattle.deb_relations.specs.Names.{is_package_name}
+use Rattle.wb_states.specs.Names.{is_arch_name, is_os_cpu_word, is_builder_name, is_label_text}
 use Rattle.wb_states.specs.Queue.{head_of}
 use Rattle.wb_merge.specs.Rows.{first_some}
 use Rattle.wb_office.specs.Moving.{again_of, moving}
@@ -37,17 +38,17 @@ when false refusal = None
 
 -- an architecture and a source package, of which one has not its form
 abbrev pub has_bad_key : List ℕ → List ℕ → Bool
-has_bad_key arch source = not (is_arch_name arch && is_source_name source)
+has_bad_key arch source = not (is_arch_name arch && is_package_name source)
 
 -- a name, a priority or a section of the command has not its form
 abbrev pub has_bad_name : Command → Bool
 has_bad_name (AddArch name os cpu) = not (is_arch_name name && (is_os_cpu_word os && is_os_cpu_word cpu))
 has_bad_name (AddBuilder name arch) = not (is_builder_name name && is_arch_name arch)
 has_bad_name (Enter arch source version priority section) =
-    not (is_arch_name arch && (is_source_name source && (is_label_text priority && is_label_text section)))
+    not (is_arch_name arch && (is_package_name source && (is_label_text priority && is_label_text section)))
 has_bad_name (Next arch builder after) = not (is_arch_name arch && is_builder_name builder)
 has_bad_name (Take arch builder source version) =
-    not (is_arch_name arch && (is_builder_name builder && is_source_name source))
+    not (is_arch_name arch && (is_builder_name builder && is_package_name source))
 has_bad_name (GiveBack arch source version) = has_bad_key arch source
 has_bad_name (DepWait arch source version relations) = has_bad_key arch source
 has_bad_name (Fail arch source version note) = has_bad_key arch source
