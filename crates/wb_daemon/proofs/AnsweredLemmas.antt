@@ -1,6 +1,5 @@
 -- Each line that is answered is answered with one line.
 use Rattle.std.proofs.Common.{◌≡◌, ℕ, suc, Bool, true, false, not, ◌&&◌, ◌||◌, cond, List, [], ◌∷◌, ◌++◌, filter, length, Option, Some, None, Result, Ok, Err, inl, inr, refl, sym, ap, subst, ◌∙◌}
-use Rattle.std.specs.List.{AllByRecursion, flat_map}
 use Rattle.std.specs.Str.{is_utf8}
 use Rattle.deb_control.specs.Lines.{IsOneLine}
 use Rattle.wb_states.specs.Commands.{name_of_command}
@@ -16,7 +15,7 @@ use Rattle.wb_api.proofs.OneLineLemmas.{reply_text-one, refusal_text-one}
 use Rattle.wb_daemon.specs.Answered.{HasLines, is_answered}
 use Rattle.wb_daemon.specs.Line.{is_blank_line, is_long}
 use Rattle.wb_daemon.specs.Lists.{Gives}
-use Rattle.wb_daemon.specs.Run.{Asks, Fault, Heard, Runs, Said, Says, SaysAsked, SaysHeard, Silence, answer_said, asked_of_line, command_said, followed, heard_in, heard_of, with_feed}
+use Rattle.wb_daemon.specs.Run.{Fault, Runs, Said, Says, SaysAsked, SaysHeard, Silence, answer_said, asked_of_line, command_said, heard_in, heard_of, with_feed}
 
 -- what is said to a line: nothing where it is not answered, else one line
 abbrev SaidTo : Bool → Said → Type 0

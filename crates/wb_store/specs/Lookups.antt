@@ -1,16 +1,13 @@
 -- What is looked up in the tables of the office (this project's own).
-use Rattle.std.specs.Prelude.{ℕ, Bool, false, List, filter, nat_eq, bytes_eq, Option, Some, None, map, ◌&&◌, length}
-use Rattle.std.specs.declared.cmp.Ordering.{Ordering}
-use Rattle.std.specs.Ordering.{nat_cmp, on}
+use Rattle.std.specs.Prelude.{ℕ, Bool, List, filter, nat_eq, bytes_eq, map, ◌&&◌, length}
 use Rattle.std.specs.Borrow.{Bor}
-use Rattle.std.specs.Option.{unwrap_or}
 use Rattle.std.specs.FinMap as finite
 use Rattle.wb_states.specs.declared.record.Record.{Record}
 use Rattle.wb_states.specs.declared.state.State.{State}
 use Rattle.wb_states.specs.declared.state.State.TheVariants.{NeedsBuild, Building, Built, Uploaded, Installed, DepWait, BdUninstallable, Failed, NotForUs}
 use Rattle.wb_states.specs.State.{code_of}
 use Rattle.wb_states.specs.Machine.{Machine}
-use Rattle.wb_states.specs.Queue.{Entry, first_of, sorted_by}
+use Rattle.wb_states.specs.Queue.{Entry}
 use Rattle.wb_store.specs.declared.counts.StateCounts.{StateCounts}
 
 -- the name of the source package of a record, and the record
