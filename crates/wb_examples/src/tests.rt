@@ -6,6 +6,7 @@ mod moves;
 mod names;
 mod queue;
 mod run;
+mod stores;
 mod tables;
 mod versions;
 mod words;

@@ -1,5 +1,6 @@
 //! A run whose reader or writer fails in the middle.
 use super::lists::MemoryLists;
+use std::alloc::Global;
 use std::io::{self, ErrorKind, Read, Write};
 use std::test::Fail;
 use wb_daemon::run_lines;
@@ -52,6 +53,17 @@ const LINES: &str = "add-arch amd64 linux amd64\nadd-builder b1 amd64\n\nnext am
 const REPLIES: &str =
     "{\"accepted\":1,\"ok\":\"add-arch\"}\n{\"accepted\":2,\"ok\":\"add-builder\"}\n{\"code\":7,\"refused\":\"QueueEmpty\"}\n";
 
+/// The status of a run from this reader to this writer.
+fn status_of<R: Read, W: Write>(
+    alloc: Global,
+    office: &mut Office,
+    reader: &mut R,
+    writer: &mut W,
+) -> u8 {
+    let mut lists = MemoryLists { rows: &[] };
+    run_lines(alloc, office, reader, writer, &mut lists)
+}
+
 #[test]
 fn each_read_fails_in_turn(rt: HostRuntime) -> Result<(), Fail> {
     for reads in 0..LINES.len() + 2 {
@@ -61,14 +73,7 @@ fn each_read_fails_in_turn(rt: HostRuntime) -> Result<(), Fail> {
             reads,
         };
         let mut writer: Vec<u8> = Vec::new(rt.alloc());
-        let mut lists = MemoryLists { rows: &[] };
-        let status = run_lines(
-            rt.alloc(),
-            &mut office,
-            &mut reader,
-            &mut writer,
-            &mut lists,
-        );
+        let status = status_of(rt.alloc(), &mut office, &mut reader, &mut writer);
         let ended = LINES.as_bytes()[..reads.min(LINES.len())]
             .iter()
             .filter(|byte| **byte == b'\n')
@@ -94,14 +99,7 @@ fn each_write_fails_in_turn(rt: HostRuntime) -> Result<(), Fail> {
             taken: Vec::new(rt.alloc()),
             room,
         };
-        let mut lists = MemoryLists { rows: &[] };
-        let status = run_lines(
-            rt.alloc(),
-            &mut office,
-            &mut reader,
-            &mut writer,
-            &mut lists,
-        );
+        let status = status_of(rt.alloc(), &mut office, &mut reader, &mut writer);
         let whole = room == REPLIES.len();
         assert_eq!(rt; status, if whole { 1 } else { 3 }, "with room for {room}");
         assert_eq!(rt; writer.taken.as_slice(), &REPLIES.as_bytes()[..room]);

@@ -1,10 +1,8 @@
 //! What is kept of a source package after lines in a row: the fields that no answer shows, too.
-use super::lists::MemoryLists;
+use super::lists::printed;
 use deb_relations::Text;
-use std::alloc::Global;
 use std::process::Abort;
 use std::test::Fail;
-use wb_daemon::run_lines;
 use wb_office::Office;
 use wb_states::State;
 
@@ -48,6 +46,34 @@ static LISTS: [(&str, &str); 7] = [
     ),
 ];
 
+/// What is kept of a source package that waits as the list `sources` has it.
+const LISTED: Kept<'static> = Kept {
+    state: State::NeedsBuild,
+    version: "1.0",
+    priority: "extra",
+    section: "net",
+    earlier: false,
+    number: 0,
+    waits: "",
+    depends: Some("debhelper-compat (= 13), libx-dev (>= 2), gcc:native, liby-dev"),
+    note: "",
+    message: "",
+};
+
+/// What is kept of one that waits as the list `newer` has it.
+const BARE: Kept<'static> = Kept {
+    state: State::NeedsBuild,
+    version: "1.1",
+    priority: "",
+    section: "",
+    earlier: false,
+    number: 0,
+    waits: "",
+    depends: Some(""),
+    note: "",
+    message: "",
+};
+
 /// Lines in a row, and what is kept of `ss` after them.
 static WAITS: [(&str, Kept<'static>); 9] = [
     (
@@ -57,134 +83,60 @@ static WAITS: [(&str, Kept<'static>); 9] = [
             version: "1.0",
             priority: "optional",
             section: "devel",
-            earlier: false,
-            number: 0,
             waits: "libx-dev (>= 2)",
-            depends: Some(""),
-            note: "",
-            message: "",
+            ..BARE
         },
     ),
     (
         "merge sources amd64=before",
         Kept {
             state: State::DepWait,
-            version: "1.0",
-            priority: "extra",
-            section: "net",
-            earlier: false,
-            number: 0,
             waits: "libx-dev (>= 2)",
-            depends: Some("debhelper-compat (= 13), libx-dev (>= 2), gcc:native, liby-dev"),
-            note: "",
-            message: "",
+            ..LISTED
         },
     ),
-    (
-        "merge sources amd64=packages",
-        Kept {
-            state: State::NeedsBuild,
-            version: "1.0",
-            priority: "extra",
-            section: "net",
-            earlier: false,
-            number: 0,
-            waits: "",
-            depends: Some("debhelper-compat (= 13), libx-dev (>= 2), gcc:native, liby-dev"),
-            note: "",
-            message: "",
-        },
-    ),
+    ("merge sources amd64=packages", LISTED),
     (
         "fail amd64 ss 1.0 no space",
         Kept {
             state: State::Failed,
-            version: "1.0",
-            priority: "extra",
-            section: "net",
-            earlier: false,
-            number: 0,
-            waits: "",
-            depends: Some("debhelper-compat (= 13), libx-dev (>= 2), gcc:native, liby-dev"),
             note: "no space",
-            message: "",
+            ..LISTED
         },
     ),
     (
         "merge sources amd64=packages",
         Kept {
             state: State::Failed,
-            version: "1.0",
-            priority: "extra",
-            section: "net",
-            earlier: false,
-            number: 0,
-            waits: "",
-            depends: Some("debhelper-compat (= 13), libx-dev (>= 2), gcc:native, liby-dev"),
             note: "no space",
-            message: "",
+            ..LISTED
         },
     ),
     (
         "dep-wait amd64 ss 1.0 libx-dev",
         Kept {
             state: State::DepWait,
-            version: "1.0",
-            priority: "extra",
-            section: "net",
-            earlier: false,
-            number: 0,
             waits: "libx-dev",
-            depends: Some("debhelper-compat (= 13), libx-dev (>= 2), gcc:native, liby-dev"),
-            note: "",
-            message: "",
+            ..LISTED
         },
     ),
     (
         "not-for-us amd64 ss 1.0 x86 only",
         Kept {
             state: State::NotForUs,
-            version: "1.0",
-            priority: "extra",
-            section: "net",
-            earlier: false,
-            number: 0,
-            waits: "",
-            depends: Some("debhelper-compat (= 13), libx-dev (>= 2), gcc:native, liby-dev"),
             note: "x86 only",
-            message: "",
+            ..LISTED
         },
     ),
     (
         "merge newer amd64=packages",
         Kept {
             state: State::NotForUs,
-            version: "1.1",
-            priority: "",
-            section: "",
-            earlier: false,
-            number: 0,
-            waits: "",
-            depends: Some(""),
             note: "x86 only",
-            message: "",
+            ..BARE
         },
     ),
-    (
-        "give-back amd64 ss 1.1",
-        Kept {
-            state: State::NeedsBuild,
-            version: "1.1",
-            priority: "",
-            section: "",
-            earlier: false,
-            number: 0,
-            waits: "",
-            depends: Some(""),
-            note: "",
-            message: "",
-        },
-    ),
+    ("give-back amd64 ss 1.1", BARE),
 ];
 
 /// The same of a source package that is built, rebuilt and superseded.
@@ -193,130 +145,73 @@ static REBUILD: [(&str, Kept<'static>); 8] = [
         "add-arch amd64 linux amd64\nadd-builder b1 amd64\nmerge sources amd64=built",
         Kept {
             state: State::Installed,
-            version: "1.0",
-            priority: "extra",
-            section: "net",
             earlier: true,
-            number: 0,
-            waits: "",
-            depends: Some("debhelper-compat (= 13), libx-dev (>= 2), gcc:native, liby-dev"),
-            note: "",
-            message: "",
+            ..LISTED
         },
     ),
     (
         "rebuild amd64 ss 1.0 2 against the new libbar",
         Kept {
-            state: State::NeedsBuild,
-            version: "1.0",
-            priority: "extra",
-            section: "net",
             earlier: true,
             number: 2,
-            waits: "",
-            depends: Some("debhelper-compat (= 13), libx-dev (>= 2), gcc:native, liby-dev"),
-            note: "",
             message: "against the new libbar",
+            ..LISTED
         },
     ),
     (
         "next amd64 b1\nput-back 1\nmerge sources amd64=built",
         Kept {
-            state: State::NeedsBuild,
-            version: "1.0",
-            priority: "extra",
-            section: "net",
             earlier: true,
             number: 2,
-            waits: "",
-            depends: Some("debhelper-compat (= 13), libx-dev (>= 2), gcc:native, liby-dev"),
-            note: "",
             message: "against the new libbar",
+            ..LISTED
         },
     ),
     (
         "merge sources amd64=rebuilt",
         Kept {
             state: State::Installed,
-            version: "1.0",
-            priority: "extra",
-            section: "net",
             earlier: true,
             number: 3,
-            waits: "",
-            depends: Some("debhelper-compat (= 13), libx-dev (>= 2), gcc:native, liby-dev"),
-            note: "",
             message: "against the new libbar",
+            ..LISTED
         },
     ),
     (
         "merge sources amd64=before",
         Kept {
-            state: State::NeedsBuild,
-            version: "1.0",
-            priority: "extra",
-            section: "net",
             earlier: true,
             number: 3,
-            waits: "",
-            depends: Some("debhelper-compat (= 13), libx-dev (>= 2), gcc:native, liby-dev"),
-            note: "",
             message: "against the new libbar",
+            ..LISTED
         },
     ),
     (
         "merge newer amd64=built",
         Kept {
-            state: State::NeedsBuild,
-            version: "1.1",
-            priority: "",
-            section: "",
             earlier: true,
-            number: 0,
-            waits: "",
-            depends: Some(""),
-            note: "",
-            message: "",
+            ..BARE
         },
     ),
     (
         "merge broken amd64=before",
         Kept {
-            state: State::NeedsBuild,
             version: "1.2",
-            priority: "",
-            section: "",
             earlier: true,
-            number: 0,
-            waits: "",
             depends: None,
-            note: "",
-            message: "",
+            ..BARE
         },
     ),
     (
         "merge sources amd64=before",
         Kept {
-            state: State::NeedsBuild,
             version: "1.2",
-            priority: "",
-            section: "",
             earlier: true,
-            number: 0,
-            waits: "",
             depends: None,
-            note: "",
-            message: "",
+            ..BARE
         },
     ),
 ];
-
-fn run(alloc: Global, office: &mut Office, lines: &str) -> u8 {
-    let mut reader = lines.as_bytes();
-    let mut writer: Vec<u8> = Vec::new(alloc);
-    let mut lists = MemoryLists { rows: &LISTS };
-    run_lines(alloc, office, &mut reader, &mut writer, &mut lists)
-}
 
 fn assert_kept(
     rt: &(impl Abort + AllocGlobal),
@@ -349,7 +244,7 @@ fn assert_kept(
 fn in_a_row(rt: &(impl Abort + AllocGlobal), cases: &[(&str, Kept)]) -> Result<(), Fail> {
     let mut office = Office::new(rt.alloc());
     for (lines, want) in cases {
-        let status = run(rt.alloc(), &mut office, lines);
+        let (_, status) = printed(rt.alloc(), &mut office, lines, &LISTS)?;
         assert_eq!(rt; status, 0, "{lines}");
         assert_kept(rt, &office, lines, want)?;
     }

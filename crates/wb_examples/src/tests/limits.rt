@@ -1,63 +1,21 @@
 //! An office whose counts are at their limit, and texts that are too long.
-use super::lists::MemoryLists;
-use deb_relations::Text;
-use deb_version::Version;
+use super::lists::printed;
+use super::stores::{add, held, put, waiting};
 use std::alloc::Global;
 use std::process::Abort;
 use std::test::Fail;
-use wb_daemon::run_lines;
 use wb_office::Office;
-use wb_states::{Counts, OsCpu, Record, State};
+use wb_states::Counts;
 use wb_store::Store;
 
 const LIMIT: u64 = 1_000_000_000_000;
 
-fn record(alloc: Global, state: State, holder: Option<Text>) -> Result<Record, Fail> {
-    let take = if holder.is_some() { Some(LIMIT) } else { None };
-    Ok(Record {
-        state,
-        version: Version::parse(alloc, "1.0")?,
-        priority: Text::copied(alloc, "optional")?,
-        section: Text::copied(alloc, "devel")?,
-        earlier: false,
-        number: 0,
-        holder,
-        take,
-        waits: Text::new(alloc),
-        depends: None,
-        note: Text::new(alloc),
-        message: Text::new(alloc),
-    })
-}
-
-fn put(alloc: Global, store: &mut Store, source: &str, record: Record) -> Result<(), Fail> {
-    store.put(
-        Text::copied(alloc, "amd64")?,
-        Text::copied(alloc, source)?,
-        record,
-    )?;
-    Ok(())
-}
-
-fn add(alloc: Global, store: &mut Store) -> Result<(), Fail> {
-    let words = OsCpu {
-        os: Text::copied(alloc, "linux")?,
-        cpu: Text::copied(alloc, "amd64")?,
-    };
-    store.add_arch(Text::copied(alloc, "amd64")?, words)?;
-    store.add_builder(Text::copied(alloc, "b1")?, Text::copied(alloc, "amd64")?)?;
-    Ok(())
-}
-
 /// An office in which b1 builds `held` and `waiting` waits, with these counts.
 fn office_at(alloc: Global, counts: Counts) -> Result<Office, Fail> {
     let mut store = Store::new(alloc);
-    add(alloc, &mut store)?;
-    let holder = Text::copied(alloc, "b1")?;
-    let held = record(alloc, State::Building, Some(holder))?;
-    put(alloc, &mut store, "held", held)?;
-    let waiting = record(alloc, State::NeedsBuild, None)?;
-    put(alloc, &mut store, "waiting", waiting)?;
+    add(alloc, &mut store, "amd64")?;
+    put(alloc, &mut store, "amd64", "held", held(alloc, LIMIT)?)?;
+    put(alloc, &mut store, "amd64", "waiting", waiting(alloc)?)?;
     store.set_counts(counts);
     Ok(Office::over(alloc, store))
 }
@@ -110,14 +68,6 @@ static TAKES_AT_LIMIT: [(&str, &str); 4] = [
     ),
 ];
 
-fn answer(alloc: Global, office: &mut Office, line: &str) -> Result<String, Fail> {
-    let mut reader = line.as_bytes();
-    let mut writer: Vec<u8> = Vec::new(alloc);
-    let mut lists = MemoryLists { rows: &LISTS };
-    run_lines(alloc, office, &mut reader, &mut writer, &mut lists);
-    Ok(String::from_utf8(writer)?)
-}
-
 fn each_answers(
     rt: &(impl Abort + AllocGlobal),
     counts: Counts,
@@ -125,7 +75,7 @@ fn each_answers(
 ) -> Result<(), Fail> {
     let mut office = office_at(rt.alloc(), counts)?;
     for (line, want) in cases {
-        let text = answer(rt.alloc(), &mut office, line)?;
+        let (text, _) = printed(rt.alloc(), &mut office, line, &LISTS)?;
         assert_eq!(rt; text.trim_end(), *want, "{line}");
     }
     Ok(())
@@ -173,7 +123,7 @@ fn waits_that_are_printed_too_long(rt: HostRuntime) -> Result<(), Fail> {
         (13107, r#"{"accepted":1,"ok":"waits"}"#),
     ] {
         let line = long_waits(rt.alloc(), count)?;
-        let text = answer(rt.alloc(), &mut office, line.as_str())?;
+        let (text, _) = printed(rt.alloc(), &mut office, line.as_str(), &LISTS)?;
         assert_eq!(rt; text.trim_end(), want, "{count}");
     }
     Ok(())

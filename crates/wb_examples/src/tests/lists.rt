@@ -1,6 +1,8 @@
-//! Lists that stand in memory.
+//! Lists that stand in memory, and runs that find them.
 use std::alloc::{AllocError, Global};
-use wb_daemon::Lists;
+use std::test::Fail;
+use wb_daemon::{Lists, run_lines};
+use wb_office::Office;
 
 /// Lists in memory: the name and the text of each.
 pub(super) struct MemoryLists<'a> {
@@ -24,4 +26,18 @@ impl<'a> Lists for MemoryLists<'a> {
         }
         Ok(None)
     }
+}
+
+/// What a run over the input prints, where these are the lists, and its status.
+pub(super) fn printed(
+    alloc: Global,
+    office: &mut Office,
+    input: &str,
+    rows: &[(&str, &str)],
+) -> Result<(String, u8), Fail> {
+    let mut reader = input.as_bytes();
+    let mut writer: Vec<u8> = Vec::new(alloc);
+    let mut lists = MemoryLists { rows };
+    let status = run_lines(alloc, office, &mut reader, &mut writer, &mut lists);
+    Ok((String::from_utf8(writer)?, status))
 }

@@ -1,6 +1,6 @@
 //! Every pair of a state and a move.
+use super::stores::{held, waiting};
 use deb_relations::{ArchWords, Relations, Text};
-use deb_version::Version;
 use std::alloc::Global;
 use std::test::Fail;
 use wb_states::{Move, Record, Refusal, State, move_record};
@@ -23,38 +23,20 @@ fn text(alloc: Global, text: &str) -> Result<Text, Fail> {
     Ok(Text::copied(alloc, text)?)
 }
 
-fn record_of(
-    alloc: Global,
-    state: State,
-    holder: Option<Text>,
-    waits: &str,
-) -> Result<Record, Fail> {
-    let take = if holder.is_some() { Some(7) } else { None };
-    Ok(Record {
-        state,
-        version: Version::parse(alloc, "1.0-1")?,
-        priority: text(alloc, "optional")?,
-        section: text(alloc, "devel")?,
-        earlier: true,
-        number: 1,
-        holder,
-        take,
-        waits: text(alloc, waits)?,
-        depends: None,
-        note: text(alloc, "before")?,
-        message: Text::new(alloc),
-    })
-}
-
+/// A record in this state, of which the fields that a move may change are set.
 fn record_in(alloc: Global, state: State) -> Result<Record, Fail> {
-    match state {
-        State::Building | State::Built | State::Uploaded => {
-            let holder = text(alloc, "b1")?;
-            record_of(alloc, state, Some(holder), "")
-        }
-        State::DepWait => record_of(alloc, state, None, "bb"),
-        _ => record_of(alloc, state, None, ""),
+    let mut record = match state {
+        State::Building | State::Built | State::Uploaded => held(alloc, 7)?,
+        _ => waiting(alloc)?,
+    };
+    if state == State::DepWait {
+        record.waits = text(alloc, "bb")?;
     }
+    record.state = state;
+    record.earlier = true;
+    record.number = 1;
+    record.note = text(alloc, "before")?;
+    Ok(record)
 }
 
 fn relations(alloc: Global) -> Result<Relations, Fail> {

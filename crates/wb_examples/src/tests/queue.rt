@@ -1,26 +1,19 @@
 //! The queue of records that are set by hand.
+use super::stores::waiting;
 use deb_relations::Text;
-use deb_version::Version;
 use std::alloc::Global;
 use std::test::Fail;
 use wb_states::{Move, Record, Refusal, State, build_text, move_record};
 use wb_store::Store;
 
-fn waiting(alloc: Global, earlier: bool, priority: &str, section: &str) -> Result<Record, Fail> {
-    Ok(Record {
-        state: State::NeedsBuild,
-        version: Version::parse(alloc, "2.0")?,
-        priority: Text::copied(alloc, priority)?,
-        section: Text::copied(alloc, section)?,
-        earlier,
-        number: 0,
-        holder: None,
-        take: None,
-        waits: Text::new(alloc),
-        depends: None,
-        note: Text::copied(alloc, "given back")?,
-        message: Text::new(alloc),
-    })
+/// A record that waits with these fields, and was given back.
+fn queued(alloc: Global, earlier: bool, priority: &str, section: &str) -> Result<Record, Fail> {
+    let mut record = waiting(alloc)?;
+    record.priority = Text::copied(alloc, priority)?;
+    record.section = Text::copied(alloc, section)?;
+    record.earlier = earlier;
+    record.note = Text::copied(alloc, "given back")?;
+    Ok(record)
 }
 
 fn take_head(
@@ -52,7 +45,7 @@ fn order_of_four_sources(rt: HostRuntime) -> Result<(), Fail> {
         ("nn", true, "optional", "non-free/libs"),
     ];
     for (source, earlier, priority, section) in rows {
-        let record = waiting(alloc, earlier, priority, section)?;
+        let record = queued(alloc, earlier, priority, section)?;
         store.put(amd64.clone()?, Text::copied(alloc, source)?, record)?;
     }
     for (take_number, want) in [(1, "nn"), (2, "mm"), (3, "zz"), (4, "aa")] {
@@ -70,9 +63,9 @@ fn order_of_four_sources(rt: HostRuntime) -> Result<(), Fail> {
 #[test]
 fn only_what_waits_is_taken(rt: HostRuntime) -> Result<(), Fail> {
     let alloc = rt.alloc();
-    let mut record = waiting(alloc, false, "optional", "devel")?;
+    let mut record = waiting(alloc)?;
     record.number = 7;
-    assert_eq!(rt; build_text(alloc, &record)?.as_str(), "2.0+b7");
+    assert_eq!(rt; build_text(alloc, &record)?.as_str(), "1.0+b7");
     record.state = State::Built;
     let change = Move::Take {
         holder: Text::copied(alloc, "b1")?,

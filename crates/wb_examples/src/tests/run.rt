@@ -1,18 +1,8 @@
 //! What a run prints and how it ends.
-use super::lists::MemoryLists;
-use std::alloc::Global;
+use super::lists::printed;
 use std::process::Abort;
 use std::test::Fail;
-use wb_daemon::run_lines;
 use wb_office::Office;
-
-fn printed(alloc: Global, office: &mut Office, input: &str) -> Result<(String, u8), Fail> {
-    let mut reader = input.as_bytes();
-    let mut writer: Vec<u8> = Vec::new(alloc);
-    let mut lists = MemoryLists { rows: &[] };
-    let status = run_lines(alloc, office, &mut reader, &mut writer, &mut lists);
-    Ok((String::from_utf8(writer)?, status))
-}
 
 const FIVE_LINES: &str = "\
 add-arch amd64 linux amd64
@@ -32,7 +22,7 @@ const FIVE_REPLIES: &str = r#"{"accepted":1,"ok":"add-arch"}
 #[test]
 fn five_lines(rt: HostRuntime) -> Result<(), Fail> {
     let mut office = Office::new(rt.alloc());
-    let (text, status) = printed(rt.alloc(), &mut office, FIVE_LINES)?;
+    let (text, status) = printed(rt.alloc(), &mut office, FIVE_LINES, &[])?;
     assert_eq!(rt; text.as_str(), FIVE_REPLIES);
     assert_eq!(rt; status, 1);
     assert_eq!(rt; office.accepted(), 4);
@@ -150,7 +140,7 @@ static INPUTS: [(&str, &str, u8); 13] = [
 fn in_a_row(rt: &(impl Abort + AllocGlobal), cases: &[(&str, &str, u8)]) -> Result<(), Fail> {
     let mut office = Office::new(rt.alloc());
     for case in cases {
-        let (text, status) = printed(rt.alloc(), &mut office, case.0)?;
+        let (text, status) = printed(rt.alloc(), &mut office, case.0, &[])?;
         assert_eq!(rt; text.trim_end(), case.1, "{}", case.0);
         assert_eq!(rt; status, case.2, "{}", case.0);
     }
@@ -160,7 +150,7 @@ fn in_a_row(rt: &(impl Abort + AllocGlobal), cases: &[(&str, &str, u8)]) -> Resu
 fn each_alone(rt: &(impl Abort + AllocGlobal), cases: &[(&str, &str, u8)]) -> Result<(), Fail> {
     for case in cases {
         let mut office = Office::new(rt.alloc());
-        let (text, status) = printed(rt.alloc(), &mut office, case.0)?;
+        let (text, status) = printed(rt.alloc(), &mut office, case.0, &[])?;
         assert_eq!(rt; text.as_str(), case.1, "{:?}", case.0);
         assert_eq!(rt; status, case.2, "{:?}", case.0);
     }

@@ -1,47 +1,8 @@
 //! The calls of the store, each once.
+use super::stores::{add, held, put};
 use deb_relations::Text;
-use deb_version::Version;
-use std::alloc::Global;
 use std::test::Fail;
-use wb_states::{OsCpu, Record, State};
 use wb_store::Store;
-
-fn held(alloc: Global, take_number: u64) -> Result<Record, Fail> {
-    Ok(Record {
-        state: State::Building,
-        version: Version::parse(alloc, "1.0-1")?,
-        priority: Text::copied(alloc, "optional")?,
-        section: Text::copied(alloc, "devel")?,
-        earlier: false,
-        number: 0,
-        holder: Some(Text::copied(alloc, "b1")?),
-        take: Some(take_number),
-        waits: Text::new(alloc),
-        depends: None,
-        note: Text::new(alloc),
-        message: Text::new(alloc),
-    })
-}
-
-fn add(alloc: Global, store: &mut Store, name: &str) -> Result<(), Fail> {
-    let words = OsCpu {
-        os: Text::copied(alloc, "linux")?,
-        cpu: Text::copied(alloc, name)?,
-    };
-    store.add_arch(Text::copied(alloc, name)?, words)?;
-    store.add_builder(Text::copied(alloc, "b1")?, Text::copied(alloc, name)?)?;
-    Ok(())
-}
-
-fn put(alloc: Global, store: &mut Store, arch: &str, take_number: u64) -> Result<(), Fail> {
-    let record = held(alloc, take_number)?;
-    store.put(
-        Text::copied(alloc, arch)?,
-        Text::copied(alloc, "hello")?,
-        record,
-    )?;
-    Ok(())
-}
 
 #[test]
 fn builders(rt: HostRuntime) -> Result<(), Fail> {
@@ -62,8 +23,8 @@ fn builders(rt: HostRuntime) -> Result<(), Fail> {
 fn holds(rt: HostRuntime) -> Result<(), Fail> {
     let alloc = rt.alloc();
     let mut store = Store::new(alloc);
-    put(alloc, &mut store, "amd64", 7)?;
-    put(alloc, &mut store, "arm64", 5)?;
+    put(alloc, &mut store, "amd64", "hello", held(alloc, 7)?)?;
+    put(alloc, &mut store, "arm64", "hello", held(alloc, 5)?)?;
     let builder = Text::copied(alloc, "b1")?;
     let rows = store.held_by(&builder)?;
     assert_eq!(rt; rows.len(), 2);
@@ -77,7 +38,7 @@ fn holds(rt: HostRuntime) -> Result<(), Fail> {
 fn records(rt: HostRuntime) -> Result<(), Fail> {
     let alloc = rt.alloc();
     let mut store = Store::new(alloc);
-    put(alloc, &mut store, "amd64", 1)?;
+    put(alloc, &mut store, "amd64", "hello", held(alloc, 1)?)?;
     let arch = Text::copied(alloc, "amd64")?;
     let source = Text::copied(alloc, "hello")?;
     assert_eq!(rt; store.all_of(&arch)?.len(), 1);
