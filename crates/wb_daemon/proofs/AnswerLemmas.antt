@@ -1,5 +1,5 @@
 -- Lemmas on what may be said to a line.
-use Rattle.std.proofs.Common.{◌≡◌, ℕ, Bool, true, false, not, ◌&&◌, cond, List, [], Option, None, Some, Ok, IfSome, IsOk, IsTrue, ◌⊎◌, inl, inr, refl, sym, ap, ◌∙◌, subst, arith}
+use Rattle.std.proofs.Common.{◌≡◌, ℕ, Bool, true, false, not, ◌&&◌, cond, List, [], Option, None, Some, Ok, IsOk, IsTrue, ◌⊎◌, inl, inr, refl, sym, ap, ◌∙◌, subst, arith}
 use Rattle.std.proofs.lemmas.Bool.{false≢true}
 use Rattle.std.specs.Str.{is_utf8}
 use Rattle.std.specs.Io.KnownBytes.{Appends}
@@ -183,7 +183,3 @@ pub answers-long_cut : (gives : Gives) (line : List ℕ) (machine : Machine) (ol
     → AppendsFront old new (with_feed line_fault_text) → AnswersInPart gives line machine machine old new
 answers-long_cut gives line machine old new h p =
     (fault_said machine, Says-heard gives machine line Fault _ (heard_in-long line h) refl, refl, p)
-
-pub if_some-weaker : {X : Type 0} (o : Option X) (P Q : X → Type 0) → ((x : X) → P x → Q x) → IfSome o P → IfSome o Q
-if_some-weaker None P Q f h = tt
-if_some-weaker (Some x) P Q f h = f x h

@@ -1,7 +1,9 @@
 -- Lemmas on runs over lines, as far as a loop has come.
-use Rattle.std.proofs.Common.{◌≡◌, ℕ, ◌+◌, ◌-◌, ◌<◌, ◌≤◌, Bool, true, false, ◌||◌, cond, max, List, [], ◌∷◌, ◌++◌, length, take, Option, None, Some, IsTrue, ◌⊎◌, inl, inr, refl, sym, ap, ◌∙◌, subst, append_assoc, append-nil, length-append, length-take, arith}
+use Rattle.std.proofs.Common.{◌≡◌, ℕ, ◌+◌, ◌-◌, ◌<◌, ◌≤◌, Bool, true, false, cond, max, List, [], ◌∷◌, ◌++◌, length, take, Option, None, Some, IsTrue, ◌⊎◌, inl, inr, refl, sym, ap, ◌∙◌, subst, append_assoc, append-nil, length-append, length-take, arith}
 use Rattle.std.proofs.Math.Nat.{max-zero, zero-max}
+use Rattle.std.proofs.lemmas.Bool.{or_left, or_parts, or_right}
 use Rattle.std.proofs.lemmas.Bool.Decides.{nat_tests}
+use Rattle.std.proofs.lemmas.List.Folds.{list_any-append}
 use Rattle.std.proofs.lemmas.List.Splits.{length-slice_split, slice_split-cons_no}
 use Rattle.std.specs.Io.KnownBytes.{Appends, Consumes, IsAtEnd}
 use Rattle.std.specs.List.{list_any, onto_first, slice_split}
@@ -37,10 +39,6 @@ AreLines-snoc : (lines : List (List ℕ)) (line : List ℕ) → AreLines lines �
 AreLines-snoc [] line a h k = (h, k, tt)
 AreLines-snoc (x ∷ xs) line a h k = (a.0, a.1, AreLines-snoc xs line a.2 h k)
 
-or-false : (a b : Bool) → (a || b) ≡ false → (a ≡ false) × (b ≡ false)
-or-false true b h = cc
-or-false false b h = (refl, h)
-
 cond-same : {X : Type 0} (b : Bool) (x : X) → cond b x x ≡ x
 cond-same true x = refl
 cond-same false x = refl
@@ -48,13 +46,13 @@ cond-same false x = refl
 split-line : (line more : List ℕ) → IsOneLine line → slice_split is_feed (line ++ 10 ∷ more) ≡ line ∷ slice_split is_feed more
 split-line [] more h = refl
 split-line (c ∷ cs) more h =
-    let parts = or-false (is_feed c) (list_any is_feed cs) h in
+    let parts = or_parts (is_feed c) (list_any is_feed cs) h in
     slice_split-cons_no is_feed c (cs ++ 10 ∷ more) parts.0 ∙ ap (onto_first c) (split-line cs more parts.1)
 
 split-last : (line : List ℕ) → IsOneLine line → slice_split is_feed line ≡ line ∷ []
 split-last [] h = refl
 split-last (c ∷ cs) h =
-    let parts = or-false (is_feed c) (list_any is_feed cs) h in
+    let parts = or_parts (is_feed c) (list_any is_feed cs) h in
     slice_split-cons_no is_feed c cs parts.0 ∙ ap (onto_first c) (split-last cs parts.1)
 
 some_part : (parts : List (List ℕ)) → 0 < length parts → (first : List ℕ) × (rest : List (List ℕ)) × (parts ≡ first ∷ rest)
@@ -65,7 +63,7 @@ split-front : (line more : List ℕ) → IsOneLine line
     → (first : List ℕ) × (rest : List (List ℕ)) × (slice_split is_feed (line ++ more) ≡ (line ++ first) ∷ rest)
 split-front [] more h = some_part (slice_split is_feed more) (omega (arith, length-slice_split is_feed more))
 split-front (c ∷ cs) more h =
-    let parts = or-false (is_feed c) (list_any is_feed cs) h in
+    let parts = or_parts (is_feed c) (list_any is_feed cs) h in
     let before = split-front cs more parts.1 in
     (before.0, before.1, slice_split-cons_no is_feed c (cs ++ more) parts.0 ∙ ap (onto_first c) before.2)
 
@@ -218,13 +216,9 @@ last_lines gives lines line rest a h (inr k) =
     let long = input_lines-long lines line rest a h k in
     (long.0, long.2, λ machine said q. Says-long gives machine line long.0 said k long.1 q)
 
-or-true : (b : Bool) → (b || true) ≡ true
-or-true true = refl
-or-true false = refl
-
-list_any-last : (lines : List (List ℕ)) (line : List ℕ) → is_long line ≡ true → list_any is_long (lines ++ line ∷ []) ≡ true
-list_any-last [] line h = ap (λ b. b || false) h
-list_any-last (x ∷ xs) line h = ap (λ b. is_long x || b) (list_any-last xs line h) ∙ or-true (is_long x)
+some_long : (lines : List (List ℕ)) (line : List ℕ) → is_long line ≡ true → list_any is_long (lines ++ line ∷ []) ≡ true
+some_long lines line h =
+    list_any-append is_long lines (line ∷ []) ∙ or_right (list_any is_long lines) (list_any is_long (line ∷ [])) (or_left (is_long line) false h)
 
 module _ {gives : Gives} {input now old new : Option (List ℕ)} {before after : Machine} {status count : ℕ} (far : SoFar gives input now old new before after status count) where
   ended : (bytes last : List ℕ) (written : Option (List ℕ)) (next : Machine) (more : ℕ)
@@ -309,7 +303,7 @@ module _ {gives : Gives} {input now old new : Option (List ℕ)} {before after :
 
   at_last : (line : List ℕ) (left : Option (List ℕ)) → IsAtEnd left ⊎ (is_long line ≡ true) → IsAtEnd left ⊎ IsTrue (list_any is_long (far.lines ++ line ∷ []))
   at_last line left (inl h) = inl h
-  at_last line left (inr h) = inr (list_any-last far.lines line h)
+  at_last line left (inr h) = inr (some_long far.lines line h)
 
   before_reply : (line : List ℕ) (written : Option (List ℕ)) (next : Machine) → LacksReply gives line after next new written
       → StopsBeforeReply gives (far.lines ++ line ∷ []) before far.text next

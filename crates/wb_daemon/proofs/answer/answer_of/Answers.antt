@@ -1,15 +1,15 @@
 -- What may be said to what a line asks for may be said to the line.
 use Rattle.std.proofs.Common.{◌≡◌, ap, refl, arith}
+use Rattle.std.proofs.lemmas.Option.{IfSome_then}
 use Rattle.wb_words.specs.declared.fault.WordsFault.TheVariants.{NoCommand, Memory}
 use Rattle.wb_daemon.specs.Run.{with_feed}
-use Rattle.wb_daemon.proofs.AnswerLemmas.{LineAsks-asked, Says-asked, Says-fault, Says-memory, if_some-weaker}
+use Rattle.wb_daemon.proofs.AnswerLemmas.{LineAsks-asked, Says-asked, Says-fault, Says-memory}
 use Rattle.wb_daemon.proofs.answer.answer_of.Goals as goal
 
 pub returns-in-Ok-clause-value : goal.returns-in-Ok-clause-value
 returns-in-Ok-clause-value g c =
-    if_some-weaker c.answer_asked.result _ _
+    IfSome_then c.answer_asked.result c.answer_asked.ensures.value
     (λ answer h. (h.0, Says-asked (g.L.Lists.gives c.args.lists.now) c.args.office.now c.args.line.now c.in-Ok.asked _ c.requires.short c.requires.words c.in-Ok.ensures.value h.1))
-    c.answer_asked.ensures.value
 
 pub returns-in-Ok-clause-memory : goal.returns-in-Ok-clause-memory
 returns-in-Ok-clause-memory g c = λ e.
