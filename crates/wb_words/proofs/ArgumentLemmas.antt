@@ -1,10 +1,11 @@
 -- The words and the numbers of arguments, as std's functions read them.
-use Rattle.std.proofs.Common.{◌≡◌, ◌++◌, ℕ, true, false, List, [], ◌∷◌, map, refl, ap, arith}
-use Rattle.std.specs.Prelude.{Result, Ok, Err, Some, None, codes, flat_map, if◌then◌else◌}
+use Rattle.std.proofs.Common.{◌≡◌, ◌++◌, ℕ, true, false, List, [], ◌∷◌, map, refl, ap, sym, arith}
+use Rattle.std.specs.Prelude.{Result, Ok, Err, Some, None, codes, if◌then◌else◌}
 use Rattle.std.specs.Result.{result_ok}
 use Rattle.std.specs.Borrow.{Bor}
 use Rattle.std.specs.List.{join_by}
 use Rattle.std.specs.Str.Parse.{ParsesUnsigned, digits_value, without_leading_plus}
+use Rattle.std.proofs.lemmas.List.Folds.{flat_map-map}
 use Rattle.clap.specs.Words.{Accepts, Text}
 use Rattle.clap.specs.ValueTests.{is_unsigned_in}
 use Rattle.clap.specs.declared.builder.value_parser.ValueParser.TheVariants as vp
@@ -13,17 +14,12 @@ use Rattle.wb_words.specs.Arguments.{greatest_number, joined, number_in}
 
 -- ---- words
 
--- spaces before texts, whether they stand behind references or not
-later_words : (words : List (Bor Text)) → flat_map (λ (word : Bor Text). codes " " ++ word.now) words
-    ≡ flat_map (λ (word : Text). codes " " ++ word) (map (λ word. word.now) words)
-later_words [] = refl
-later_words (word ∷ words) = ap (λ (more : Text). (codes " " ++ word.now) ++ more) (later_words words)
-
 -- texts are joined alike, whether they stand behind references or not
 pub join_by-joined : (words : List (Bor Text)) → join_by (λ (word : Bor Text). word.now) (codes " ") words
     ≡ joined (map (λ word. word.now) words)
 join_by-joined [] = refl
-join_by-joined (word ∷ words) = ap (λ (more : Text). word.now ++ more) (later_words words)
+join_by-joined (word ∷ words) =
+    ap (λ (more : Text). word.now ++ more) (sym (flat_map-map (λ (text : Text). codes " " ++ text) (λ (later : Bor Text). later.now) words))
 
 pub ruleset argument_laws = (join_by-joined)
 
