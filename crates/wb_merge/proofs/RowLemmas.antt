@@ -13,14 +13,14 @@ use Rattle.wb_states.specs.declared.refusal.ListField.{ListField}
 use Rattle.wb_states.specs.declared.refusal.ListField.TheVariants.{Package, Version, Architecture, Priority, Section}
 use Rattle.wb_states.specs.declared.refusal.ListKind.{ListKind}
 use Rattle.wb_states.specs.declared.refusal.ListingFault.{ListingFault}
-use Rattle.wb_states.specs.declared.refusal.ListingFault.TheVariants.{Missing, BadValue}
+use Rattle.wb_states.specs.declared.refusal.ListingFault.TheVariants.{BadValue}
 use Rattle.wb_states.specs.declared.refusal.Refusal.{Refusal}
 use Rattle.wb_states.specs.declared.refusal.Refusal.TheVariants.{BadListing}
 use Rattle.deb_relations.specs.Names.{is_package_name}
 use Rattle.wb_states.specs.Names.{is_label_text}
 use Rattle.wb_states.specs.Record.{is_empty_text}
 use Rattle.wb_states.specs.Refusals.{name_of_field}
-use Rattle.wb_merge.specs.Rows.{SourceRow, BinaryRow, value_named, text_named, is_label_or_empty, has_source_version, last_digits, rebuild_number, wanted_fault, spare_fault, source_fault, source_row, with_source, binary_row, unless_faulty, source_row_of, binary_row_of, row_in, onto_rows, rows_behind, source_rows, binary_rows}
+use Rattle.wb_merge.specs.Rows.{SourceRow, BinaryRow, value_named, text_named, is_label_or_empty, has_source_version, last_digits, rebuild_number, wanted_fault, spare_fault, form_fault, spare_form_fault, source_fault, source_row, with_source, binary_row, unless_faulty, source_row_of, binary_row_of, row_in, onto_rows, rows_behind, source_rows, binary_rows}
 use Rattle.wb_merge.proofs.CheckLemmas.{both-true, first_some-None}
 
 -- ---- rows that were read are those of paragraphs without a fault
@@ -68,11 +68,7 @@ wanted-is : (field : ListField) (test : List ℕ → Bool) (fields : List Entry)
     → IsTrue (test (unwrap_or (value_named (name_of_field field) fields) []))
 unfolding wanted_fault
 wanted-is field test fields is = at (value_named (name_of_field field) fields) is where
-  fault_in : Option (List ℕ) → Option ListingFault
-  fault_in None = Some (Missing field)
-  fault_in (Some text) = cond (test text) None (Some (BadValue field))
-
-  at : (found : Option (List ℕ)) → fault_in found ≡ None → IsTrue (test (unwrap_or found []))
+  at : (found : Option (List ℕ)) → form_fault field test found ≡ None → IsTrue (test (unwrap_or found []))
   at None is = cc
   at (Some text) is = passed (test text) (BadValue field) is
 
@@ -80,11 +76,7 @@ spare-is : (field : ListField) (test : List ℕ → Bool) (fields : List Entry) 
     → IsTrue (test (unwrap_or (value_named (name_of_field field) fields) []))
 unfolding spare_fault
 spare-is field test fields empty is = at (value_named (name_of_field field) fields) is where
-  fault_in : Option (List ℕ) → Option ListingFault
-  fault_in None = None
-  fault_in (Some text) = cond (test text) None (Some (BadValue field))
-
-  at : (found : Option (List ℕ)) → fault_in found ≡ None → IsTrue (test (unwrap_or found []))
+  at : (found : Option (List ℕ)) → spare_form_fault field test found ≡ None → IsTrue (test (unwrap_or found []))
   at None is = empty
   at (Some text) is = passed (test text) (BadValue field) is
 

@@ -102,23 +102,23 @@ rebuild_number version =
 
 -- ---- faults
 
--- what is wrong with the value of a field that has to be there: it is missing, or has not its form
-abbrev form_fault : ListField → (List ℕ → Bool) → Option (List ℕ) → Option ListingFault
-form_fault field has_form None = Some (Missing field)
-form_fault field has_form (Some text) = if has_form text then None else Some (BadValue field)
-
--- what is wrong with a field that has to be there
-unfoldable pub wanted_fault : ListField → (List ℕ → Bool) → List Entry → Option ListingFault
-wanted_fault field has_form fields = form_fault field has_form (value_named (name_of_field field) fields)
-
 -- what is wrong with the value of a field that may be missing: it has not its form
-abbrev spare_form_fault : ListField → (List ℕ → Bool) → Option (List ℕ) → Option ListingFault
+abbrev pub spare_form_fault : ListField → (List ℕ → Bool) → Option (List ℕ) → Option ListingFault
 spare_form_fault field has_form None = None
 spare_form_fault field has_form (Some text) = if has_form text then None else Some (BadValue field)
 
 -- what is wrong with a field that may be missing
 unfoldable pub spare_fault : ListField → (List ℕ → Bool) → List Entry → Option ListingFault
 spare_fault field has_form fields = spare_form_fault field has_form (value_named (name_of_field field) fields)
+
+-- what is wrong with the value of a field that has to be there: it is missing, or has not its form
+abbrev pub form_fault : ListField → (List ℕ → Bool) → Option (List ℕ) → Option ListingFault
+form_fault field has_form None = Some (Missing field)
+form_fault field has_form (Some text) = spare_form_fault field has_form (Some text)
+
+-- what is wrong with a field that has to be there
+unfoldable pub wanted_fault : ListField → (List ℕ → Bool) → List Entry → Option ListingFault
+wanted_fault field has_form fields = form_fault field has_form (value_named (name_of_field field) fields)
 
 -- the first of some that is there
 abbrev pub first_some : {X : Type 0} → List (Option X) → Option X
