@@ -11,7 +11,7 @@ use Rattle.wb_states.specs.declared.reply.PartEnd.TheVariants.{Merged as part_Me
 use Rattle.wb_states.specs.declared.reply.PartReply.{PartReply}
 use Rattle.wb_states.specs.declared.reply.Reply.{Reply}
 use Rattle.wb_states.specs.declared.reply.Reply.TheVariants.{Done, Job, Again, Merged}
-use Rattle.wb_api.specs.Encoding.{reply_text, job_text, refusal_members, refusal_text, end_text, part_text, parts_text}
+use Rattle.wb_api.specs.Encoding.{reply_text, assignment_text, refusal_members, refusal_text, end_text, part_text, parts_text}
 use Rattle.wb_api.specs.Values.{value_of_reply, value_of_refusal, value_of_end, values_of_parts}
 
 -- no number of a refusal is a float
@@ -143,7 +143,7 @@ has_float-value_of_reply name (Merged accepted parts) = rw (items_have_float-val
 -- what a reply's object is printed as
 pub compact_text-value_of_reply : (name : List ℕ) (reply : Reply)
     → compact_text (value_of_reply name reply) ≡ reply_text name reply
-unfolding serde_json_on_literals reply_text job_text
+unfolding serde_json_on_literals reply_text assignment_text
 compact_text-value_of_reply name (Done accepted) = refl
 compact_text-value_of_reply name (Job accepted assignment) = refl
 compact_text-value_of_reply name (Again accepted assignment) = refl

@@ -19,7 +19,7 @@ use Rattle.wb_states.specs.declared.reply.PartReply.{PartReply}
 use Rattle.wb_states.specs.declared.reply.Reply.{Reply}
 use Rattle.wb_states.specs.declared.reply.Reply.TheVariants.{Done, Job, Again, Merged}
 use Rattle.wb_states.specs.declared.reply.Assignment.{Assignment}
-use Rattle.wb_api.specs.Encoding.{name_of_relations, reply_text, job_text, refusal_members, refusal_text, end_text, part_text, parts_text}
+use Rattle.wb_api.specs.Encoding.{name_of_relations, reply_text, assignment_text, refusal_members, refusal_text, end_text, part_text, parts_text}
 
 -- a text behind another
 pub IsOneLine-append : (xs ys : List ℕ) → IsOneLine xs → IsOneLine ys → IsOneLine (xs ++ ys)
@@ -63,9 +63,9 @@ escape-one (x ∷ text) = IsOneLine-append (escape_byte x) (escape text) (escape
 quoted-one : (text : List ℕ) → IsOneLine (quoted text)
 quoted-one text = IsOneLine-append (escape text) (34 ∷ []) (escape-one text) refl
 
-job_text-one : (name : List ℕ) (accepted : ℕ) (given : Assignment) → IsOneLine (job_text name accepted given)
-unfolding job_text
-job_text-one name accepted given =
+assignment_text-one : (name : List ℕ) (accepted : ℕ) (given : Assignment) → IsOneLine (assignment_text name accepted given)
+unfolding assignment_text
+assignment_text-one name accepted given =
     behind (decimal accepted) _ (decimal-one accepted) ∙ behind (quoted given.arch) _ (quoted-one given.arch)
     ∙ behind (quoted given.build) _ (quoted-one given.build) ∙ behind (quoted given.message) _ (quoted-one given.message)
     ∙ behind (decimal given.number) _ (decimal-one given.number) ∙ behind (quoted name) _ (quoted-one name)
@@ -123,7 +123,7 @@ parts_text-one (part ∷ next ∷ parts) =
 pub reply_text-one : (name : List ℕ) (reply : Reply) → IsOneLine (reply_text name reply)
 unfolding reply_text
 reply_text-one name (Done accepted) = behind (decimal accepted) _ (decimal-one accepted) ∙ behind (quoted name) _ (quoted-one name)
-reply_text-one name (Job accepted given) = job_text-one name accepted given
-reply_text-one name (Again accepted given) = job_text-one (codes "again") accepted given
+reply_text-one name (Job accepted given) = assignment_text-one name accepted given
+reply_text-one name (Again accepted given) = assignment_text-one (codes "again") accepted given
 reply_text-one name (Merged accepted parts) =
     behind (decimal accepted) _ (decimal-one accepted) ∙ behind (parts_text parts) _ (parts_text-one parts)

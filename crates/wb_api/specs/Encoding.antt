@@ -24,8 +24,8 @@ use Rattle.wb_states.specs.declared.reply.Reply.{Reply}
 use Rattle.wb_states.specs.declared.reply.Reply.TheVariants.{Done, Job, Again, Merged}
 
 -- the text of an assignment, with this value of `ok` (this project's own)
-unfoldable pub job_text : List ℕ → ℕ → Assignment → List ℕ
-job_text ok accepted assignment = concat
+unfoldable pub assignment_text : List ℕ → ℕ → Assignment → List ℕ
+assignment_text ok accepted assignment = concat
     (codes "{\"accepted\":" ∷ decimal accepted ∷
     codes ",\"arch\":" ∷ quoted assignment.arch ∷
     codes ",\"build\":" ∷ quoted assignment.build ∷
@@ -96,8 +96,8 @@ unfoldable pub reply_text : List ℕ → Reply → List ℕ
 reply_text name (Done accepted) = concat
     (codes "{\"accepted\":" ∷ decimal accepted ∷
     codes ",\"ok\":" ∷ quoted name ∷ codes "}" ∷ [])
-reply_text name (Job accepted assignment) = job_text name accepted assignment
-reply_text name (Again accepted assignment) = job_text (codes "again") accepted assignment
+reply_text name (Job accepted assignment) = assignment_text name accepted assignment
+reply_text name (Again accepted assignment) = assignment_text (codes "again") accepted assignment
 reply_text name (Merged accepted parts) = concat
     (codes "{\"accepted\":" ∷ decimal accepted ∷
     codes ",\"ok\":\"merge\",\"parts\":[" ∷ parts_text parts ∷ codes "]}" ∷ [])

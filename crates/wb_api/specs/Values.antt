@@ -20,8 +20,8 @@ use Rattle.wb_states.specs.declared.reply.Reply.TheVariants.{Done, Job, Again, M
 use Rattle.wb_api.specs.Encoding.{name_of_relations}
 
 -- the object of an assignment, with this value of `ok` (this project's own)
-abbrev pub value_of_job : List ℕ → ℕ → Assignment → Data
-value_of_job ok accepted assignment = object
+abbrev pub value_of_assignment : List ℕ → ℕ → Assignment → Data
+value_of_assignment ok accepted assignment = object
     (member (codes "accepted") (number (unsigned accepted))
     (member (codes "arch") (string assignment.arch)
     (member (codes "build") (string assignment.build)
@@ -118,8 +118,8 @@ abbrev pub value_of_reply : List ℕ → Reply → Data
 value_of_reply name (Done accepted) = object
     (member (codes "accepted") (number (unsigned accepted))
     (member (codes "ok") (string name) no_members))
-value_of_reply name (Job accepted assignment) = value_of_job name accepted assignment
-value_of_reply name (Again accepted assignment) = value_of_job (codes "again") accepted assignment
+value_of_reply name (Job accepted assignment) = value_of_assignment name accepted assignment
+value_of_reply name (Again accepted assignment) = value_of_assignment (codes "again") accepted assignment
 value_of_reply name (Merged accepted parts) = object
     (member (codes "accepted") (number (unsigned accepted))
     (member (codes "ok") (string (codes "merge"))

@@ -4,7 +4,7 @@ ghost use Rattle.std.specs.String.{string_bytes};
 ghost use Rattle.serde_json.specs.Data.{array};
 ghost use Rattle.serde_json.specs.View.{view, items_view};
 ghost use Rattle.wb_api.specs.Encoding.{reply_text};
-ghost use Rattle.wb_api.specs.Values.{value_of_counts, value_of_job, value_of_part, value_of_reply, values_of_parts, with_arch};
+ghost use Rattle.wb_api.specs.Values.{value_of_counts, value_of_assignment, value_of_part, value_of_reply, values_of_parts, with_arch};
 
 use crate::refusal::value_of_refusal;
 use serde_json::{Value, json, put};
@@ -35,11 +35,11 @@ fn value_of_reply(alloc: Global, name: &str, reply: &Reply) -> Result<Value, All
         Reply::Job {
             accepted,
             assignment,
-        } => value_of_job(alloc, name, *accepted, assignment),
+        } => value_of_assignment(alloc, name, *accepted, assignment),
         Reply::Again {
             accepted,
             assignment,
-        } => value_of_job(alloc, "again", *accepted, assignment),
+        } => value_of_assignment(alloc, "again", *accepted, assignment),
         Reply::Merged { accepted, parts } => {
             let parts = values_of_parts(alloc, parts.as_slice())?;
             json!(in alloc; {"accepted": *accepted, "ok": "merge", "parts": parts})
@@ -47,13 +47,13 @@ fn value_of_reply(alloc: Global, name: &str, reply: &Reply) -> Result<Value, All
     }
 }
 
-fn value_of_job(
+fn value_of_assignment(
     alloc: Global,
     ok: &str,
     accepted: u64,
     assignment: &Assignment,
 ) -> Result<Value, AllocError>
-    ensures { IfOk result (λ value. view value ≡ value_of_job ok.now accepted assignment.now) }
+    ensures { IfOk result (λ value. view value ≡ value_of_assignment ok.now accepted assignment.now) }
 {
     json!(in alloc; {
         "accepted": accepted,
