@@ -13,3 +13,4 @@ pub mod BadLineLemmas
 pub mod RoomLemmas
 pub mod TextLines
 pub mod FoundLemmas
+pub mod WordLemmas

@@ -107,32 +107,32 @@ passed_more start (c ∷ cs) p begins =
           ∙ ap (λ (v : List (List ℕ)). v ++ lines_of more) (sym pushed);
     }
 
--- a run of lines, and then a separator or the end
-slice_split-run : (xs : List (List ℕ)) (y : List ℕ) (ys : List (List ℕ)) → list_any is_separator xs ≡ false → is_separator y ≡ true
-    → slice_split is_separator (xs ++ y ∷ ys) ≡ xs ∷ slice_split is_separator ys
-slice_split-run [] y ys none separator = rw separator refl
-slice_split-run (x ∷ xs) y ys none separator = elim (cases_Bool (is_separator x)) [
+-- items that do not pass, and then one that does or the end
+pub slice_split-run : {X : Type 0} (test : X → Bool) (xs : List X) (y : X) (ys : List X) → list_any test xs ≡ false → test y ≡ true
+    → slice_split test (xs ++ y ∷ ys) ≡ xs ∷ slice_split test ys
+slice_split-run test [] y ys none one = rw one refl
+slice_split-run test (x ∷ xs) y ys none one = elim (cases_Bool (test x)) [
   | inl t ↦ absurd (cc (rw t at none))
-  | inr f ↦ rw f (ap (onto_first x) (slice_split-run xs y ys (rw f at none) separator))
+  | inr f ↦ rw f (ap (onto_first x) (slice_split-run test xs y ys (rw f at none) one))
 ]
 
-slice_split-end : (xs : List (List ℕ)) → list_any is_separator xs ≡ false → slice_split is_separator xs ≡ xs ∷ []
-slice_split-end [] none = refl
-slice_split-end (x ∷ xs) none = elim (cases_Bool (is_separator x)) [
+pub slice_split-end : {X : Type 0} (test : X → Bool) (xs : List X) → list_any test xs ≡ false → slice_split test xs ≡ xs ∷ []
+slice_split-end test [] none = refl
+slice_split-end test (x ∷ xs) none = elim (cases_Bool (test x)) [
   | inl t ↦ absurd (cc (rw t at none))
-  | inr f ↦ rw f (ap (onto_first x) (slice_split-end xs (rw f at none)))
+  | inr f ↦ rw f (ap (onto_first x) (slice_split-end test xs (rw f at none)))
 ]
 
--- the paragraphs where such a run comes first
+-- the paragraphs where a run of lines comes first
 pub paragraphs_in-run : (run after : List (List ℕ)) → is_filled run ≡ true → list_any is_separator run ≡ false → begin_no_paragraph after ≡ true
     → paragraphs_in (run ++ after) ≡ run ∷ paragraphs_in after
 unfolding paragraphs_in
 paragraphs_in-run run [] some plain stops =
     ap (λ (v : List (List ℕ)). filter is_filled (slice_split is_separator v)) (append-nil run)
-    ∙ ap (filter is_filled) (slice_split-end run plain)
+    ∙ ap (filter is_filled) (slice_split-end is_separator run plain)
     ∙ rw some refl
 paragraphs_in-run run (line ∷ lines) some plain stops =
-    ap (filter is_filled) (slice_split-run run line lines plain stops)
+    ap (filter is_filled) (slice_split-run is_separator run line lines plain stops)
     ∙ rw some refl
     ∙ ap (λ (v : List (List (List ℕ))). run ∷ v) (sym (paragraphs_in-separator line lines stops))
 

@@ -8,6 +8,7 @@ use Rattle.std.proofs.lemmas.List.Splits.{length-slice_split, slice_split-cons_n
 use Rattle.std.specs.Io.KnownBytes.{Appends, Consumes, IsAtEnd}
 use Rattle.std.specs.List.{list_any, onto_first, slice_split}
 use Rattle.wb_states.specs.Machine.{Machine}
+use Rattle.deb_control.proofs.RunLemmas.{slice_split-run, slice_split-end}
 use Rattle.deb_control.specs.Lines.{is_feed, IsOneLine}
 use Rattle.wb_daemon.specs.Line.{ended_in, is_long, input_lines, max_line, max_lines, through_long, AreWithinLimit}
 use Rattle.wb_daemon.specs.Lists.{Gives, IsAllOf}
@@ -43,18 +44,6 @@ cond-same : {X : Type 0} (b : Bool) (x : X) → cond b x x ≡ x
 cond-same true x = refl
 cond-same false x = refl
 
-split-line : (line more : List ℕ) → IsOneLine line → slice_split is_feed (line ++ 10 ∷ more) ≡ line ∷ slice_split is_feed more
-split-line [] more h = refl
-split-line (c ∷ cs) more h =
-    let parts = or_parts (is_feed c) (list_any is_feed cs) h in
-    slice_split-cons_no is_feed c (cs ++ 10 ∷ more) parts.0 ∙ ap (onto_first c) (split-line cs more parts.1)
-
-split-last : (line : List ℕ) → IsOneLine line → slice_split is_feed line ≡ line ∷ []
-split-last [] h = refl
-split-last (c ∷ cs) h =
-    let parts = or_parts (is_feed c) (list_any is_feed cs) h in
-    slice_split-cons_no is_feed c cs parts.0 ∙ ap (onto_first c) (split-last cs parts.1)
-
 some_part : (parts : List (List ℕ)) → 0 < length parts → (first : List ℕ) × (rest : List (List ℕ)) × (parts ≡ first ∷ rest)
 some_part [] h = absurd (omega arith)
 some_part (x ∷ xs) h = (x, xs, refl)
@@ -71,7 +60,7 @@ split-fed : (lines : List (List ℕ)) (more : List ℕ) → AreLines lines → s
 split-fed [] more a = refl
 split-fed (x ∷ xs) more a =
     ap (slice_split is_feed) (append_assoc x (10 ∷ fed xs) more)
-    ∙ split-line x (fed xs ++ more) a.0
+    ∙ slice_split-run is_feed x 10 (fed xs ++ more) a.0 refl
     ∙ ap (λ l. x ∷ l) (split-fed xs more a.2)
 
 through-lines : (lines rest : List (List ℕ)) → AreLines lines → through_long (lines ++ rest) ≡ lines ++ through_long rest
@@ -83,7 +72,7 @@ through-lines (x ∷ xs) rest a =
 input_lines-last : (lines : List (List ℕ)) (line : List ℕ) → AreLines lines → IsOneLine line → input_lines (fed lines ++ line) ≡ lines ++ line ∷ []
 unfolding input_lines
 input_lines-last lines line a h =
-    ap through_long (split-fed lines line a ∙ ap (λ l. lines ++ l) (split-last line h))
+    ap through_long (split-fed lines line a ∙ ap (λ l. lines ++ l) (slice_split-end is_feed line h))
     ∙ through-lines lines (line ∷ []) a
     ∙ ap (λ l. lines ++ line ∷ l) (cond-same (is_long line) [])
 
@@ -113,7 +102,7 @@ take-front lines line =
 ended_in-fed : (lines : List (List ℕ)) (line : List ℕ) → AreLines lines → IsOneLine line → ended_in (fed lines ++ line) ≡ lines
 unfolding ended_in
 ended_in-fed lines line a h =
-    ap (λ l. take (length l - 1) l) (split-fed lines line a ∙ ap (λ l. lines ++ l) (split-last line h)) ∙ take-front lines line
+    ap (λ l. take (length l - 1) l) (split-fed lines line a ∙ ap (λ l. lines ++ l) (slice_split-end is_feed line h)) ∙ take-front lines line
 
 -- ---- one line more
 

@@ -16,7 +16,6 @@ pub mod RebuildLemmas
 pub mod RecordLemmas
 pub mod RelistedLemmas
 pub mod RowLemmas
-pub mod SettledLemmas
 pub mod SourceLemmas
 pub mod SourceTextLemmas
 pub mod TotalLemmas

@@ -25,7 +25,7 @@ use Rattle.wb_office.proofs.MergingLemmas.{merging-keeps}
 use Rattle.wb_office.proofs.MovedLemmas.{IsGoodMove, moved-well, moved-holder, moved-waits, moved-number}
 use Rattle.wb_office.proofs.MovingLemmas.{moving-may}
 use Rattle.wb_office.proofs.PassLemmas.{Passes, step-either, not-false}
-use Rattle.wb_merge.proofs.SettledLemmas.{empty_within}
+use Rattle.wb_states.proofs.SettledLemmas.{empty_within}
 use Rattle.wb_merge.proofs.CheckLemmas.{both-true, neither}
 
 -- ---- a source package that is entered

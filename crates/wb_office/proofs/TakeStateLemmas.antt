@@ -12,11 +12,12 @@ use Rattle.wb_states.specs.declared.moves.Move.TheVariants as to
 use Rattle.wb_states.specs.declared.record.Record.{Record}
 use Rattle.wb_states.specs.declared.refusal.Refusal.TheVariants.{WrongState}
 use Rattle.wb_states.specs.declared.state.State.{State}
-use Rattle.wb_states.specs.declared.state.State.TheVariants.{NeedsBuild, Building, Built, Installed, NotForUs}
+use Rattle.wb_states.specs.declared.state.State.TheVariants.{NeedsBuild, Installed, NotForUs}
 use Rattle.wb_states.specs.Machine.{IsConsistent, IsRecord, Machine, empty_office, pair_cmp}
 use Rattle.wb_states.specs.Moves.{moved, settled_in, may_go, move_refusal, value_refusal}
 use Rattle.wb_states.specs.State.{is_held}
 use Rattle.wb_states.proofs.KeyLemmas.{pair_cmp_total, pair_cmp-same, insert_all}
+use Rattle.wb_states.proofs.MoveFormLemmas.{held-before-built, held-before-uploaded}
 use Rattle.wb_merge.specs.declared.listing.Listed.{Listed}
 use Rattle.wb_merge.specs.declared.listing.Built.{Built as WasBuilt}
 use Rattle.wb_merge.specs.Merge.{by_order, relisted, blank_record, new_state, new_record, newer_state, newer_record, same_state, same_record, listed_record, after}
@@ -42,24 +43,11 @@ allowed-from move current is =
     clash : Some (WrongState current.state) ≡ None → ⊥
     clash e = cc
 
--- what is built is held
-pub built-held : (state : State) → may_go to.Built state ≡ true → is_held state ≡ true
-unfolding may_go
-built-held Building is = refl
-built-held _ is = cc
-
--- what is uploaded is held
-pub uploaded-held : (state : State) → may_go to.Uploaded state ≡ true → is_held state ≡ true
-unfolding may_go
-uploaded-held Building is = refl
-uploaded-held Built is = refl
-uploaded-held _ is = cc
-
 pub moved-take : (move : Move) (current : Record) → may_go move current.state ≡ true → HasTakeByState current → HasTakeByState (moved move current)
 unfolding moved
 moved-take (to.Take holder take_number) current from old = refl
-moved-take to.Built current from old = old ∙ built-held current.state from
-moved-take to.Uploaded current from old = old ∙ uploaded-held current.state from
+moved-take to.Built current from old = old ∙ held-before-built current.state from
+moved-take to.Uploaded current from old = old ∙ held-before-uploaded current.state from
 moved-take (to.Waits relations arch) current from old = refl
 moved-take to.PutBack current from old = refl
 moved-take to.GiveBack current from old = refl

@@ -5,4 +5,5 @@ pub mod MapLemmas
 pub mod MoveFormLemmas
 pub mod MoveRowLemmas
 pub mod QueueLemmas
+pub mod SettledLemmas
 pub mod WaitLemmas

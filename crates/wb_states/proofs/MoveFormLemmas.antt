@@ -1,7 +1,6 @@
 -- A move that brings what has its form keeps the form of a record.
 use Rattle.std.proofs.Common.{◌≡◌, ℕ, ◌≤◌, Bool, true, false, cond, not, nat_lt, length, List, [], Option, Some, None, Ok, IsTrue, IfSome, is_some, refl, sym, ap, subst, ◌∙◌, arith}
 use Rattle.std.proofs.lemmas.Bool.Decides.{nat_tests}
-use Rattle.std.proofs.lemmas.Str.{IsUtf8-nil}
 use Rattle.deb_relations.specs.declared.arch.ArchWords.{ArchWords}
 use Rattle.deb_relations.specs.declared.fault.RelationFault.TheVariants.{TooLong}
 use Rattle.deb_relations.specs.declared.relations.Alternative.{Alternative}
@@ -20,6 +19,7 @@ use Rattle.wb_states.specs.Names.{is_builder_name}
 use Rattle.wb_states.specs.Record.{IsWellFormed, IsTextWithin, is_empty_text}
 use Rattle.wb_states.specs.State.{is_held, is_dep_wait}
 use Rattle.wb_states.specs.Table.{row_of, HasForm}
+use Rattle.wb_states.proofs.SettledLemmas.{empty_within}
 use Rattle.wb_states.proofs.MoveRowLemmas.{move_of-done, move_of-row, move_of-value, take-from, built-from, uploaded-from, put_back-from, rebuild-from, rebuild-free}
 
 -- ---- waits that are not refused
@@ -41,9 +41,6 @@ waits-there waits is =
     short false e h = grind (arith, nat_tests)
 
 -- ---- what a record has in its state
-
-empty-within : (limit : ℕ) → IsTextWithin limit []
-empty-within limit = record { utf8 = IsUtf8-nil; within = omega arith }
 
 -- a holder, a take number, waits and a note that a record may have in a state
 record Fits (state : State) (holder : Option (List ℕ)) (take : Option ℕ) (waits note : List ℕ) : Type 0 where
@@ -78,7 +75,7 @@ fits-free state note free ready short = record {
   taken = sym free;
   builder = tt;
   waiting = sym ready;
-  short_waits = empty-within relations_limit;
+  short_waits = empty_within relations_limit;
   short_note = short;
 }
 
@@ -93,15 +90,15 @@ fits-waits relations arch text reads allowed =
       builder = tt;
       waiting = ap not there.0;
       short_waits = record { utf8 = reduced-utf8 text relations arch reads; within = there.1 };
-      short_note = empty-within note_limit;
+      short_note = empty_within note_limit;
     }
 
-held-before-built : (state : State) → may_go to.Built state ≡ true → is_held state ≡ true
+pub held-before-built : (state : State) → may_go to.Built state ≡ true → is_held state ≡ true
 unfolding may_go
 held-before-built Building is = refl
 held-before-built _ is = absurd cc
 
-held-before-uploaded : (state : State) → may_go to.Uploaded state ≡ true → is_held state ≡ true
+pub held-before-uploaded : (state : State) → may_go to.Uploaded state ≡ true → is_held state ≡ true
 unfolding may_go
 held-before-uploaded Building is = refl
 held-before-uploaded Built is = refl
@@ -117,7 +114,7 @@ row-well (to.Take holder take_number) old well form may allowed =
       builder = form;
       waiting = well.waiting ∙ (take-from holder take_number old.state may).waits;
       short_waits = well.waits;
-      short_note = empty-within note_limit;
+      short_note = empty_within note_limit;
     })
 row-well to.Built old well form may allowed =
     well-with old well Built old.holder old.take old.waits [] (record {
@@ -126,7 +123,7 @@ row-well to.Built old well form may allowed =
       builder = well.builder;
       waiting = well.waiting ∙ (built-from old.state may).waits;
       short_waits = well.waits;
-      short_note = empty-within note_limit;
+      short_note = empty_within note_limit;
     })
 row-well to.Uploaded old well form may allowed =
     well-with old well Uploaded old.holder old.take old.waits [] (record {
@@ -135,7 +132,7 @@ row-well to.Uploaded old well form may allowed =
       builder = well.builder;
       waiting = well.waiting ∙ (uploaded-from old.state may).waits;
       short_waits = well.waits;
-      short_note = empty-within note_limit;
+      short_note = empty_within note_limit;
     })
 row-well (to.Waits relations arch) old well form may allowed =
     well-with old well DepWait None None (waits_for relations arch) [] (fits-waits relations arch form.0 form.1 allowed)
@@ -146,10 +143,10 @@ row-well to.PutBack old well form may allowed =
       builder = tt;
       waiting = well.waiting ∙ (put_back-from old.state may).waits;
       short_waits = well.waits;
-      short_note = empty-within note_limit;
+      short_note = empty_within note_limit;
     })
 row-well to.GiveBack old well form may allowed =
-    well-with old well NeedsBuild None None [] [] (fits-free NeedsBuild [] refl refl (empty-within note_limit))
+    well-with old well NeedsBuild None None [] [] (fits-free NeedsBuild [] refl refl (empty_within note_limit))
 row-well (to.DepWait relations arch) old well form may allowed =
     well-with old well DepWait None None (waits_for relations arch) [] (fits-waits relations arch form.0 form.1 allowed)
 row-well (to.Fail note) old well form may allowed =
@@ -167,7 +164,7 @@ row-well (to.Rebuild number message) old well form may allowed = record {
   waiting = well.waiting ∙ (rebuild-from number message old.state may).waits;
   waits = well.waits;
   depends = well.depends;
-  note = empty-within note_limit;
+  note = empty_within note_limit;
   message = form.1;
 }
 

@@ -264,7 +264,7 @@ waiting_apart arch es h =
     let arch_is : y.0.0 ≡ x.0.0 = ((is_waiting-is arch y).0 waits_y).0 ∙ sym ((is_waiting-is arch x).0 waits_x).0 in
     λ i. (arch_is i, name i))
 
-entry_cmp_total : IsTotalOrder entry_cmp
+pub entry_cmp_total : IsTotalOrder entry_cmp
 entry_cmp_total = on_total (λ entry. place_of entry.1 entry.0.1) place_cmp_total
 
 pub sorted-queue_of : (machine : Machine) (arch : List ℕ) → IsStrictlySortedBy entry_cmp (queue_of machine arch)

@@ -4,12 +4,11 @@ use Rattle.std.specs.declared.cmp.Ordering.{Ordering}
 use Rattle.std.specs.declared.cmp.Ordering.TheVariants.{Less, Equal, Greater}
 use Rattle.std.specs.Ordering.{is_lt, ordering_reverse}
 use Rattle.std.specs.Cmp.{IsTotalOrder}
-use Rattle.std.specs.Cmp.{on_total}
 use Rattle.std.specs.FinMap as finite
 use Rattle.wb_states.specs.declared.state.State.TheVariants.{NeedsBuild}
 use Rattle.wb_states.specs.Machine.{Machine}
-use Rattle.wb_states.specs.Queue.{Entry, first_of, sorted_by, with_item, entry_cmp, is_waiting, place_of, place_cmp_total, queue_of, head_of}
-use Rattle.wb_states.proofs.QueueLemmas.{head_of-waits}
+use Rattle.wb_states.specs.Queue.{Entry, first_of, sorted_by, with_item, entry_cmp, is_waiting, queue_of, head_of}
+use Rattle.wb_states.proofs.QueueLemmas.{entry_cmp_total, head_of-waits}
 
 -- the sooner of a first and an item, where the first stays at a tie
 abbrev pub sooner : {X : Type 0} → (X → X → Ordering) → X → Option X → X
@@ -72,9 +71,6 @@ module _ {X : Type 0} {R : X → X → Ordering} (o : IsTotalOrder R) where
   pub scan-all : (xs : List X) → scan R None xs ≡ first_of (sorted_by R xs)
   scan-all [] = refl
   scan-all (x ∷ xs) = scan-some x xs ∙ sym (first_of-with_item x (sorted_by R xs))
-
-entry_cmp_total : IsTotalOrder entry_cmp
-entry_cmp_total = on_total (λ entry. place_of entry.1 entry.0.1) place_cmp_total
 
 -- the scan of an architecture's waiting records finds the head of its queue
 pub scan-head : (machine : Machine) (arch : List ℕ) → scan entry_cmp None (filter (is_waiting arch) (finite.entries machine.records)) ≡ head_of machine arch

@@ -6,7 +6,7 @@ use Rattle.std.proofs.lemmas.Iterator.Adapters.{YieldsList-from_flat_map}
 use Rattle.std.proofs.lemmas.Iterator.Consumers.{YieldsList-at, YieldsList-from_filter, map_from_collect}
 use Rattle.std.proofs.lemmas.Result.{IfOk-weaker}
 use Rattle.deb_control.specs.Lines.{is_filled, words_in}
-use Rattle.wb_daemon.proofs.LineLemmas.{is_filled-length, tabs-spaces}
+use Rattle.deb_control.proofs.WordLemmas.{is_filled-length, tabs-spaces}
 use Rattle.wb_daemon.proofs.line.words_in.Goals as goal
 
 pub returns : goal.returns
