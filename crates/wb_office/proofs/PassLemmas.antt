@@ -1,11 +1,11 @@
 -- What is known of a command that no check refuses, and what a step then does.
-use Rattle.std.proofs.Common.{◌≡◌, Bool, true, false, not, [], ◌∷◌, Option, Some, None, IsTrue, refl, sym, option_map}
+use Rattle.std.proofs.Common.{◌≡◌, Bool, true, false, not, Option, Some, None, IsTrue, refl, sym, option_map}
 use Rattle.wb_states.specs.declared.command.Command.{Command}
 use Rattle.wb_states.specs.declared.refusal.Refusal.{Refusal}
-use Rattle.wb_states.specs.declared.refusal.Refusal.TheVariants.{UnknownArch, UnknownBuilder, WrongArch, UnknownSource, QueueEmpty, NotHeld, AfterAhead, AlreadyThere, BadName, BadVersion, BadRelations, BadNumber, TextTooLong, Spent, RepeatedArch}
+use Rattle.wb_states.specs.declared.refusal.Refusal.TheVariants.{BadVersion, BadRelations}
 use Rattle.wb_states.specs.Machine.{Machine}
 use Rattle.wb_merge.proofs.CheckLemmas.{option_or-None, first_some-None}
-use Rattle.wb_office.specs.Checks.{when, text_refusal, state_refusal, first_refusal, has_bad_name, version_fault, relation_fault, has_bad_number, has_long_text, repeats_arch, lacks_arch, merge_refusal, lacks_builder, is_for_other_archs, is_ahead, is_not_held, lacks_source, other_version, refused_move, has_empty_queue, is_there_already, is_spent}
+use Rattle.wb_office.specs.Checks.{when, text_refusal, state_refusal, first_refusal, has_bad_name, version_fault, relation_fault, has_bad_number, has_long_text, repeats_arch, lacks_arch, lacks_builder, is_for_other_archs, is_ahead, is_not_held, lacks_source, refused_move, is_there_already, is_spent, text_checks, state_checks}
 use Rattle.wb_office.specs.Moving.{again_of}
 use Rattle.wb_office.specs.Step.{outcome, step, change, counted}
 
@@ -43,28 +43,8 @@ pub passes : (machine : Machine) (command : Command) → first_refusal machine c
 unfolding first_refusal text_refusal state_refusal
 passes machine command is =
     let both = option_or-None (text_refusal command) (state_refusal machine command) is in
-    let texts = first_some-None (
-    when (has_bad_name command) BadName
-    ∷ option_map BadVersion (version_fault command)
-    ∷ option_map (λ fault. BadRelations (Some fault)) (relation_fault command)
-    ∷ when (has_bad_number command) BadNumber
-    ∷ when (has_long_text command) TextTooLong
-    ∷ when (repeats_arch command) RepeatedArch
-    ∷ []) both.0 in
-    let states = first_some-None (
-    when (lacks_arch machine command) UnknownArch
-    ∷ merge_refusal machine command
-    ∷ when (lacks_builder machine command) UnknownBuilder
-    ∷ when (is_for_other_archs machine command) WrongArch
-    ∷ when (is_ahead machine command) (AfterAhead machine.handed)
-    ∷ when (is_not_held machine command) NotHeld
-    ∷ when (lacks_source machine command) UnknownSource
-    ∷ other_version machine command
-    ∷ refused_move machine command
-    ∷ when (has_empty_queue machine command) QueueEmpty
-    ∷ when (is_there_already machine command) AlreadyThere
-    ∷ when (is_spent machine command) Spent
-    ∷ []) both.1 in
+    let texts = first_some-None (text_checks command) both.0 in
+    let states = first_some-None (state_checks machine command) both.1 in
     let later = states.1.1.1.1.1 in
     record {
       names = when-None _ _ texts.0;

@@ -214,20 +214,24 @@ is_spent machine _ = nat_le count_limit machine.accepted
 
 -- ---- the one order
 
--- the refusal of a command's texts, the first in the one order
-unfoldable pub text_refusal : Command → Option Refusal
-text_refusal command = first_some (
+-- the checks of a command's texts, in the one order
+abbrev pub text_checks : Command → List (Option Refusal)
+text_checks command =
     when (has_bad_name command) BadName
     ∷ option_map BadVersion (version_fault command)
     ∷ option_map (λ fault. BadRelations (Some fault)) (relation_fault command)
     ∷ when (has_bad_number command) BadNumber
     ∷ when (has_long_text command) TextTooLong
     ∷ when (repeats_arch command) RepeatedArch
-    ∷ [])
+    ∷ []
 
--- the refusal of a command by what the office has, the first in the one order
-unfoldable pub state_refusal : Machine → Command → Option Refusal
-state_refusal machine command = first_some (
+-- the refusal of a command's texts, the first in the one order
+unfoldable pub text_refusal : Command → Option Refusal
+text_refusal command = first_some (text_checks command)
+
+-- the checks of a command against what the office has, in the one order
+abbrev pub state_checks : Machine → Command → List (Option Refusal)
+state_checks machine command =
     when (lacks_arch machine command) UnknownArch
     ∷ merge_refusal machine command
     ∷ when (lacks_builder machine command) UnknownBuilder
@@ -240,7 +244,11 @@ state_refusal machine command = first_some (
     ∷ when (has_empty_queue machine command) QueueEmpty
     ∷ when (is_there_already machine command) AlreadyThere
     ∷ when (is_spent machine command) Spent
-    ∷ [])
+    ∷ []
+
+-- the refusal of a command by what the office has, the first in the one order
+unfoldable pub state_refusal : Machine → Command → Option Refusal
+state_refusal machine command = first_some (state_checks machine command)
 
 -- the refusal of a command, the first in the one order, or none where it is accepted
 unfoldable pub first_refusal : Machine → Command → Option Refusal

@@ -30,59 +30,26 @@ name_of NotForUs = codes "Not-For-Us"
 -- the state in which a source package waits in the queue for a builder
 abbrev pub is_needs_build : State → Bool
 is_needs_build NeedsBuild = true
-is_needs_build Building = false
-is_needs_build Built = false
-is_needs_build Uploaded = false
-is_needs_build Installed = false
-is_needs_build DepWait = false
-is_needs_build BdUninstallable = false
-is_needs_build Failed = false
-is_needs_build NotForUs = false
+is_needs_build _ = false
 
 -- the states in which a builder holds a source package
 abbrev pub is_held : State → Bool
-is_held NeedsBuild = false
 is_held Building = true
 is_held Built = true
 is_held Uploaded = true
-is_held Installed = false
-is_held DepWait = false
-is_held BdUninstallable = false
-is_held Failed = false
-is_held NotForUs = false
+is_held _ = false
 
 -- the state in which a source package waits for others
 abbrev pub is_dep_wait : State → Bool
-is_dep_wait NeedsBuild = false
-is_dep_wait Building = false
-is_dep_wait Built = false
-is_dep_wait Uploaded = false
-is_dep_wait Installed = false
 is_dep_wait DepWait = true
-is_dep_wait BdUninstallable = false
-is_dep_wait Failed = false
-is_dep_wait NotForUs = false
+is_dep_wait _ = false
 
 -- the state of what the archive has
 abbrev pub is_installed : State → Bool
-is_installed NeedsBuild = false
-is_installed Building = false
-is_installed Built = false
-is_installed Uploaded = false
 is_installed Installed = true
-is_installed DepWait = false
-is_installed BdUninstallable = false
-is_installed Failed = false
-is_installed NotForUs = false
+is_installed _ = false
 
 -- the state of what is not to be built on the architecture
 abbrev pub is_not_for_us : State → Bool
-is_not_for_us NeedsBuild = false
-is_not_for_us Building = false
-is_not_for_us Built = false
-is_not_for_us Uploaded = false
-is_not_for_us Installed = false
-is_not_for_us DepWait = false
-is_not_for_us BdUninstallable = false
-is_not_for_us Failed = false
 is_not_for_us NotForUs = true
+is_not_for_us _ = false
