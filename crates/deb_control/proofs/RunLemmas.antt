@@ -1,5 +1,5 @@
 -- The paragraphs of bytes from the front on: separators that go, and lines that make up the first paragraph.
-use Rattle.std.proofs.Common.{◌≡◌, ◌∙◌, sym, ap, refl, ℕ, ◌<◌, ◌≤◌, ◌-◌, Bool, true, false, not, length, take, List, [], ◌∷◌, ◌++◌, inl, inr, arith, append_assoc}
+use Rattle.std.proofs.Common.{◌≡◌, ◌∙◌, sym, ap, refl, ℕ, ◌<◌, ◌-◌, Bool, true, false, not, length, take, List, [], ◌∷◌, ◌++◌, inl, inr, arith, append_assoc}
 use Rattle.std.proofs.lemmas.Bool.{cases_Bool, not-true, not-false}
 use Rattle.std.proofs.lemmas.List.{length-append, take_at, append-nil}
 use Rattle.std.specs.List.{before_first, after_first, slice_split, onto_first, list_any, list_all, filter}
@@ -163,10 +163,6 @@ first_paragraph start left begins stops p = from p.front p.joined p.lines p.plai
         ap paragraphs_in lines
         ∙ paragraphs_in-run (lines_of (c ∷ cs)) (lines_of left) (is_filled-lines_of c cs) plain (begin_no_paragraph-lines_of left stops)
         ∙ ap (λ (v : List ℕ). lines_of v ∷ paragraphs_in (lines_of left)) (sym (front_is start left (c ∷ cs) joined))
-
--- nothing that is left is longer than the whole
-pub length-passed : (start left : List ℕ) → Passed start left → length left ≤ length start
-length-passed start left p = omega (arith, length-append p.front left, ap length p.joined)
 
 -- where a paragraph was passed, less is left
 pub length-behind_paragraph : (start left : List ℕ) → begins_paragraph start ≡ true → begins_paragraph left ≡ false → Passed start left → length left < length start
