@@ -83,6 +83,7 @@ pub struct ControlFault {
     /// The number of the paragraph, counted from 1; at `Ended` the number
     /// that the fault before it had.
     pub paragraph: u64,
+    /// What is wrong.
     pub kind: ControlFaultKind,
 }
 
