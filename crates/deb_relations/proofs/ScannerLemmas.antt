@@ -7,7 +7,7 @@ use Rattle.std.proofs.lemmas.Str.{IsCharBoundary-start, IsCharBoundary-after_asc
 use Rattle.std.proofs.lemmas.Bool.{false≢true}
 use Rattle.std.proofs.lemmas.Bool.Decides.{nat_tests}
 use Rattle.deb_version.specs.declared.fault.VersionFault.{VersionFault}
-use Rattle.deb_version.specs.Syntax.{Parts, parts_of, fault_of, outcome, reading_of, is_version_text}
+use Rattle.deb_version.specs.Syntax.{Parts, parts_of, fault_of, ok_unless, reading_of, is_version_text}
 use Rattle.deb_relations.specs.declared.scanner.Class.{Class}
 use Rattle.deb_relations.specs.declared.scanner.Class.TheVariants.{White, Solid, Package, Arch, Profile, Op}
 use Rattle.deb_relations.specs.declared.fault.RelationFault.{RelationFault}
@@ -94,7 +94,7 @@ pub cut-parts : (c : ℕ) (t : List ℕ) (r : Option (Bor (List ℕ) × Bor (Lis
 cut-parts c t None h = sym (cut-none c t (all-not c t h))
 cut-parts c t (Some x) h = sym (ap (cut c) h.0 ∙ cut-here c x.0.now x.1.now (all-not c x.0.now h.1))
 
-version-by : (o : Option VersionFault) (parts : Parts) → IsOk (outcome o parts) → is_none o ≡ true
+version-by : (o : Option VersionFault) (parts : Parts) → IsOk (ok_unless o parts) → is_none o ≡ true
 version-by None parts h = refl
 version-by (Some fault) parts h = absurd (false≢true h)
 
@@ -102,7 +102,7 @@ pub version-read : (t : List ℕ) → IsOk (reading_of t) → is_version_text t 
 unfolding is_version_text reading_of
 version-read t h = version-by (fault_of t) (parts_of t) h
 
-fault-by : (o : Option VersionFault) (parts : Parts) (fault : VersionFault) → outcome o parts ≡ Err fault → o ≡ Some fault
+fault-by : (o : Option VersionFault) (parts : Parts) (fault : VersionFault) → ok_unless o parts ≡ Err fault → o ≡ Some fault
 fault-by None parts fault h = absurd (cc)
 fault-by (Some other) parts fault h = cc
 

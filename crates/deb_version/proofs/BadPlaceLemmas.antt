@@ -7,7 +7,7 @@ use Rattle.std.proofs.lemmas.List.Sums.{passes_at_first}
 use borrow.Author.Tests.{ltb-true}
 use Rattle.deb_version.specs.declared.fault.VersionFault.{VersionFault}
 use Rattle.deb_version.specs.declared.fault.VersionFault.TheVariants.{EpochEmpty, EpochNotNumber, EpochTooLarge, UpstreamBad, RevisionBad}
-use Rattle.deb_version.specs.Syntax.{reading_of, outcome, parts_of, fault_of, rest_fault, length_fault, epoch_fault, number_fault, upstream_fault, revision_fault, upstream_part_fault, revision_part_fault, has_revision, upstream_text, revision_text, upstream_start, upstream_end, has_epoch, epoch_text, all_digits, value_of, is_upstream_char, is_revision_char}
+use Rattle.deb_version.specs.Syntax.{reading_of, ok_unless, parts_of, fault_of, rest_fault, length_fault, epoch_fault, number_fault, upstream_fault, revision_fault, upstream_part_fault, revision_part_fault, has_revision, upstream_text, revision_text, upstream_start, upstream_end, has_epoch, epoch_text, all_digits, value_of, is_upstream_char, is_revision_char, version_limit, epoch_limit}
 use Rattle.deb_version.proofs.CutLemmas.{some-from_cond}
 use Rattle.deb_version.proofs.ReadingLemmas.{upstream_place, revision_place}
 
@@ -87,16 +87,16 @@ revision-stands t = revision-by t (has_revision t) refl
 
 length-stands : (t : List ℕ) → StandsIn t (length_fault t)
 unfolding length_fault
-length-stands t = choice t (length t == 0) _ _ tt (choice t (ltb 1000 (length t)) _ _ tt tt)
+length-stands t = choice t (length t == 0) _ _ tt (choice t (ltb version_limit (length t)) _ _ tt tt)
 
 number-stands : (t digits : List ℕ) → StandsIn t (number_fault digits)
 unfolding number_fault
 number-stands t digits =
-    let large : Option VersionFault = cond (ltb 2147483647 (value_of digits)) (Some EpochTooLarge) None in
+    let large : Option VersionFault = cond (ltb epoch_limit (value_of digits)) (Some EpochTooLarge) None in
     let good : Option VersionFault = cond (not (all_digits digits)) (Some EpochNotNumber) large in
     choice t (length digits == 0) (Some EpochEmpty) good tt
     (choice t (not (all_digits digits)) (Some EpochNotNumber) large tt
-    (choice t (ltb 2147483647 (value_of digits)) (Some EpochTooLarge) None tt tt))
+    (choice t (ltb epoch_limit (value_of digits)) (Some EpochTooLarge) None tt tt))
 
 epoch-stands : (t : List ℕ) → StandsIn t (epoch_fault t)
 unfolding epoch_fault
@@ -108,7 +108,7 @@ fault-stands t =
     either t (length_fault t) _ (length-stands t)
     (either t (epoch_fault t) _ (epoch-stands t) (either t (upstream_fault t) _ (upstream-stands t) (revision-stands t)))
 
-refused-by : (t : List ℕ) (o : Option VersionFault) (fault : VersionFault) → StandsIn t o → outcome o (parts_of t) ≡ Err fault → StandsIn t (Some fault)
+refused-by : (t : List ℕ) (o : Option VersionFault) (fault : VersionFault) → StandsIn t o → ok_unless o (parts_of t) ≡ Err fault → StandsIn t (Some fault)
 refused-by t None fault s e = cc
 refused-by t (Some f) fault s e =
     let same : f ≡ fault = cc in subst (λ x. StandsIn t (Some x)) same s

@@ -12,7 +12,7 @@ use Rattle.std.proofs.lemmas.Bool.Decides.{nat_tests}
 use borrow.Author.Tests.{ltb-false, eqb-true}
 use Rattle.deb_version.specs.declared.fault.VersionFault.{VersionFault}
 use Rattle.deb_version.specs.declared.fault.VersionFault.TheVariants.{Empty, EpochEmpty, EpochNotNumber, EpochTooLarge, UpstreamEmpty, UpstreamBad, RevisionEmpty, RevisionBad, TooLong}
-use Rattle.deb_version.specs.Syntax.{Parts, is_colon, is_hyphen, is_upstream_char, is_revision_char, all_digits, value_of, has_epoch, epoch_text, epoch_of, rest_of, has_revision, upstream_text, revision_text, upstream_start, upstream_end, parts_of, length_fault, number_fault, upstream_part_fault, revision_part_fault, epoch_fault, upstream_fault, revision_fault, rest_fault, fault_of, outcome, reading_of}
+use Rattle.deb_version.specs.Syntax.{Parts, is_colon, is_hyphen, is_upstream_char, is_revision_char, all_digits, value_of, has_epoch, epoch_text, epoch_of, rest_of, has_revision, upstream_text, revision_text, upstream_start, upstream_end, parts_of, length_fault, number_fault, upstream_part_fault, revision_part_fault, epoch_fault, upstream_fault, revision_fault, rest_fault, fault_of, ok_unless, reading_of, version_limit, epoch_limit}
 use Rattle.deb_version.specs.Grammar.{epoch_part, revision_part, IsEpoch, IsUpstream, IsRevision, IsVersion}
 use Rattle.deb_version.proofs.CutLemmas.{list_any-first}
 use Rattle.deb_version.proofs.LawLemmas.{text_parts}
@@ -97,16 +97,16 @@ unfolding number_fault
 epoch-is digits e =
     let first = cond-None (eqb (length digits) 0) EpochEmpty _ e in
     let second = cond-None (not (all_digits digits)) EpochNotNumber _ first.1 in
-    let third = cond-None (ltb 2147483647 (value_of digits)) EpochTooLarge _ second.1 in
+    let third = cond-None (ltb epoch_limit (value_of digits)) EpochTooLarge _ second.1 in
     (some-length (length digits) first.0, not-false (all_digits digits) second.0, refl, ltb-false _ _ third.0)
 
 epoch-only : (digits : List ℕ) (number : ℕ) → IsEpoch (Some digits) number → number_fault digits ≡ None
 unfolding number_fault
 epoch-only digits number h =
-    let small : value_of digits ≤ 2147483647 = omega (arith, h.2, h.3) in
+    let small : value_of digits ≤ epoch_limit = omega (arith, h.2, h.3) in
     fault-None (eqb (length digits) 0) EpochEmpty _ (length-some (length digits) h.0)
     (fault-None (not (all_digits digits)) EpochNotNumber _ (ap not h.1)
-    (fault-None (ltb 2147483647 (value_of digits)) EpochTooLarge None (grind (arith, nat_tests)) refl))
+    (fault-None (ltb epoch_limit (value_of digits)) EpochTooLarge None (grind (arith, nat_tests)) refl))
 
 -- the cuts of what is joined
 any-none : (b c : Bool) → (b || c) ≡ false → (b ≡ false) × (c ≡ false)
@@ -243,17 +243,17 @@ none-cond : (b : Bool) (text : List ℕ) → cond b (Some text) None ≡ None �
 none-cond true text e = cc
 none-cond false text e = refl
 
-size-is : (text : List ℕ) → length_fault text ≡ None → length text ≤ 1000
+size-is : (text : List ℕ) → length_fault text ≡ None → length text ≤ version_limit
 unfolding length_fault
 size-is text e =
     let two = cond-None (eqb (length text) 0) Empty _ e in
-    ltb-false _ _ (cond-None (ltb 1000 (length text)) TooLong None two.1).0
+    ltb-false _ _ (cond-None (ltb version_limit (length text)) TooLong None two.1).0
 
-size-only : (text : List ℕ) → 0 < length text → length text ≤ 1000 → length_fault text ≡ None
+size-only : (text : List ℕ) → 0 < length text → length text ≤ version_limit → length_fault text ≡ None
 unfolding length_fault
 size-only text some small =
     fault-None (eqb (length text) 0) Empty _ (length-some (length text) some)
-    (fault-None (ltb 1000 (length text)) TooLong None (grind (arith, nat_tests)) refl)
+    (fault-None (ltb version_limit (length text)) TooLong None (grind (arith, nat_tests)) refl)
 
 -- where no epoch is written the upstream version has no colon
 upstream-no_colon : (text : List ℕ) → has_epoch text ≡ false → list_any is_colon (upstream_text text) ≡ false
@@ -289,14 +289,14 @@ parts-are text e =
       revision = revision-cond (has_revision text) (upstream_end text + 1) (revision_text text) third.1;
     }
 
-outcome-Ok : (f : Option VersionFault) (found parts : Parts) → outcome f found ≡ Ok parts → (f ≡ None) × (found ≡ parts)
-outcome-Ok None found parts e = (refl, cc)
-outcome-Ok (Some fault) found parts e = cc
+ok_unless-Ok : (f : Option VersionFault) (found parts : Parts) → ok_unless f found ≡ Ok parts → (f ≡ None) × (found ≡ parts)
+ok_unless-Ok None found parts e = (refl, cc)
+ok_unless-Ok (Some fault) found parts e = cc
 
 pub versions-is : (text : List ℕ) (parts : Parts) → reading_of text ≡ Ok parts → IsVersion text parts
 unfolding reading_of
 versions-is text parts e =
-    let two = outcome-Ok (fault_of text) (parts_of text) parts e in subst (IsVersion text) two.1 (parts-are text two.0)
+    let two = ok_unless-Ok (fault_of text) (parts_of text) parts e in subst (IsVersion text) two.1 (parts-are text two.0)
 
 abbrev made : ℕ → List ℕ → Option (List ℕ) → Parts
 made epoch upstream revision = record { epoch = epoch; upstream = upstream; revision = revision }
@@ -330,4 +330,4 @@ versions-only text parts v =
     ap (upstream_part_fault (upstream_start text)) back.front ∙ upstream-only (upstream_start text) parts.upstream v.upstream in
     let faultless : fault_of text ≡ None =
     no-fault (length_fault text) (epoch_fault text) _ (revision_fault text) (size-only text some v.size) front.fault good back.fault in
-    ap (λ f. outcome f (parts_of text)) faultless ∙ ap Ok (same-parts text parts front.value back.front back.back)
+    ap (λ f. ok_unless f (parts_of text)) faultless ∙ ap Ok (same-parts text parts front.value back.front back.back)

@@ -1,7 +1,7 @@
 -- The texts that are versions, said as a grammar (Debian Policy 5.6.12).
 use Rattle.std.specs.Prelude.{◌≡◌, ℕ, ◌≤◌, ◌<◌, true, false, List, [], ◌∷◌, ◌++◌, length, Option, None, Some, IfSome}
 use Rattle.std.specs.List.{list_any, list_all}
-use Rattle.deb_version.specs.Syntax.{Parts, is_colon, is_hyphen, is_upstream_char, is_revision_char, all_digits, value_of}
+use Rattle.deb_version.specs.Syntax.{Parts, is_colon, is_hyphen, is_upstream_char, is_revision_char, all_digits, value_of, version_limit, epoch_limit}
 
 -- the epoch as it is written, with the colon behind it, or nothing (Policy 5.6.12)
 abbrev pub epoch_part : Option (List ℕ) → List ℕ
@@ -17,7 +17,7 @@ revision_part (Some revision) = 45 ∷ revision
 abbrev pub IsEpoch : Option (List ℕ) → ℕ → Type 0
 IsEpoch None number = number ≡ 0
 IsEpoch (Some digits) number =
-    (0 < length digits) × (all_digits digits ≡ true) × (number ≡ value_of digits) × (number ≤ 2147483647)
+    (0 < length digits) × (all_digits digits ≡ true) × (number ≡ value_of digits) × (number ≤ epoch_limit)
 
 -- an upstream version: one or more of its characters (Policy 5.6.12)
 abbrev pub IsUpstream : List ℕ → Type 0
@@ -31,7 +31,7 @@ IsRevision revision = (0 < length revision) × (list_all is_revision_char revisi
 pub record IsVersion (text : List ℕ) (parts : Parts) : Type 0 where
   pub written : Option (List ℕ)
   pub joined : text ≡ epoch_part written ++ (parts.upstream ++ revision_part parts.revision)
-  pub size : length text ≤ 1000
+  pub size : length text ≤ version_limit
   pub epoch : IsEpoch written parts.epoch
   pub upstream : IsUpstream parts.upstream
   pub no_colon : written ≡ None → list_any is_colon parts.upstream ≡ false

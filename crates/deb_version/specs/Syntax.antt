@@ -90,16 +90,24 @@ parts_of text = record {
   revision = if has_revision text then Some (revision_text text) else None;
 }
 
--- no text, or more than 1000 bytes of it (this project's own)
-unfoldable pub length_fault : List ℕ → Option VersionFault
-length_fault text = if length text == 0 then Some Empty else (if nat_lt 1000 (length text) then Some TooLong else None)
+-- how many bytes the text of a version may have (this project's own)
+abbrev pub version_limit : ℕ
+version_limit = 1000
 
--- what is wrong with the text of an epoch: one or more digits of at most 2147483647 (Policy 5.6.12, the limit this project's own)
+-- how large an epoch may be (this project's own)
+abbrev pub epoch_limit : ℕ
+epoch_limit = 2147483647
+
+-- no text, or one above the limit (this project's own)
+unfoldable pub length_fault : List ℕ → Option VersionFault
+length_fault text = if length text == 0 then Some Empty else (if nat_lt version_limit (length text) then Some TooLong else None)
+
+-- what is wrong with the text of an epoch: one or more digits, up to the limit (Policy 5.6.12, the limit this project's own)
 unfoldable pub number_fault : List ℕ → Option VersionFault
 number_fault digits =
     if length digits == 0 then Some EpochEmpty
     else (if not (all_digits digits) then Some EpochNotNumber
-    else (if nat_lt 2147483647 (value_of digits) then Some EpochTooLarge else None))
+    else (if nat_lt epoch_limit (value_of digits) then Some EpochTooLarge else None))
 
 -- what is wrong with an upstream version that begins at the place start of the whole text (Policy 5.6.12)
 unfoldable pub upstream_part_fault : ℕ → List ℕ → Option VersionFault
@@ -137,14 +145,14 @@ fault_of text = option_or (length_fault text) (option_or (epoch_fault text) (res
 unfoldable pub is_version_text : List ℕ → Bool
 is_version_text text = is_none (fault_of text)
 
--- the fault where there is one, else the parts (this project's own)
-abbrev pub outcome : Option VersionFault → Parts → Result Parts VersionFault
-outcome None parts = Ok parts
-outcome (Some fault) parts = Err fault
+-- the value, unless there is a fault (this project's own)
+abbrev pub ok_unless : {X E : Type 0} → Option E → X → Result X E
+ok_unless None value = Ok value
+ok_unless (Some fault) value = Err fault
 
 -- the reading of a text: its parts where nothing is wrong with it, else its first fault (Policy 5.6.12)
 unfoldable pub reading_of : List ℕ → Result Parts VersionFault
-reading_of text = outcome (fault_of text) (parts_of text)
+reading_of text = ok_unless (fault_of text) (parts_of text)
 
 -- a text is its parts, joined by the colon and the hyphen that cut them: `[epoch:]upstream[-revision]` (Policy 5.6.12)
 abbrev pub TextIsItsParts : Type 0

@@ -3,7 +3,7 @@
 ghost use Rattle.std.specs.Prelude.{◌≡◌, ◌+◌, ◌-◌, ◌<◌, ◌≤◌, ◌^◌, length, not, true, false, IfOk, IfErr, IfSome, IfNone, MatchOption};
 ghost use Rattle.std.specs.List.{list_any, list_all, position, position_or_len, suffix_len};
 ghost use Rattle.std.specs.Char.{is_ascii_digit};
-ghost use Rattle.deb_version.specs.Syntax.{is_upstream_char, is_revision_char, is_colon, is_hyphen, all_digits, value_of, value_after, number_fault, epoch_of, upstream_start, upstream_end, rest_of, epoch_fault, rest_fault, upstream_part_fault, revision_part_fault, fault_of, Remembers};
+ghost use Rattle.deb_version.specs.Syntax.{is_upstream_char, is_revision_char, is_colon, is_hyphen, all_digits, value_of, value_after, epoch_limit, number_fault, epoch_of, upstream_start, upstream_end, rest_of, epoch_fault, rest_fault, upstream_part_fault, revision_part_fault, fault_of, Remembers};
 
 use crate::fault::VersionFault;
 
@@ -78,7 +78,7 @@ fn are_digits(text: &[u8]) -> bool
 // The number that the digits write, where it is at most the limit of an epoch.
 fn number_of(digits: &[u8]) -> Option<u32>
     requires { all_digits digits.now ≡ true }
-    ensures none { IfNone result (2147483647 < value_of digits.now) }
+    ensures none { IfNone result (epoch_limit < value_of digits.now) }
     ensures value { IfSome result (λ n. n ≡ value_of digits.now) }
     ensures fits { IfSome result (λ n. n < 2147483648) }
 {
