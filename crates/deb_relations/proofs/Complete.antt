@@ -100,10 +100,6 @@ behind-no-package : (c : ℕ) → is_behind_name c ≡ true → is_package_char 
 unfolding is_behind_name is_next is_white is_package_char is_lower_or_digit
 behind-no-package c h = grind (arith, nat_tests)
 
-next-no-colon : (c : ℕ) → is_next c ≡ true → eqb c 58 ≡ false
-unfolding is_next is_white
-next-no-colon c h = grind (arith, nat_tests)
-
 pub lower-not-white : (c : ℕ) → is_lower_or_digit c ≡ true → is_white c ≡ false
 unfolding is_white is_lower_or_digit
 lower-not-white c h = grind (arith, nat_tests)
@@ -267,10 +263,6 @@ restriction-complete t None rest h o =
 restriction-complete t (Some asked) rest h o =
     let found : between 40 41 t ≡ Some (Some (h.0, rest)) = between-complete 40 41 t h.0 rest h.1.0 refl (restriction-inside h.0 asked h.1.1) in
     ap (read_between asked_inside None t) found ∙ ap (λ x. with_rest rest (some_of x)) (asked-complete h.0 asked h.1.1)
-
--- the characters of the words of a list
-is_term_char : ℕ → Bool
-is_term_char c = is_profile_char c || eqb c 33
 
 module _ (p : ℕ → Bool) (white : (c : ℕ) → is_white c ≡ true → p c ≡ true) where
   onto-all : (c : ℕ) (ps : List (List ℕ)) → list_all (list_all p) (onto_first c ps) ≡ true → (list_all (list_all p) ps ≡ true) × ((is_filled ps ≡ true) → p c ≡ true)

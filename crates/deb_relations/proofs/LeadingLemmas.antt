@@ -94,10 +94,6 @@ all-both p (x ∷ xs) ys h k =
     let two : (p x ≡ true) × (list_all p xs ≡ true) = both-true (p x) (list_all p xs) h in
     and-true (p x) (list_all p (xs ++ ys)) two.0 (all-both p xs ys two.1 k)
 
-opens-behind : (p q : ℕ → Bool) (c : ℕ) (cs : List ℕ) (b : Bool) → p c ≡ b → ((x : ℕ) → q x ≡ true → p x ≡ true) → opens q (cond b (skip p cs) (c ∷ cs)) → b ≡ false → q c ≡ true
-opens-behind p q c cs true e f h k = absurd (cc)
-opens-behind p q c cs false e f h k = h
-
 -- a front of a list that passes, up to its end or to an item that does not, is the leading
 pub leading-is : (t : ℕ → Bool) (cs : List ℕ) (n : ℕ) → n ≤ length cs
     → ((k : ℕ) → k < n → t (get_or cs k 0) ≡ true) → (n < length cs → t (get_or cs n 0) ≡ false)

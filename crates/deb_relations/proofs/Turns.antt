@@ -16,9 +16,6 @@ use Rattle.deb_relations.specs.Text.{leading}
 abbrev pub some_pair : List ℕ → List ℕ → Option (List ℕ × List ℕ)
 some_pair a b = Some (a, b)
 
-abbrev pub found_pair : List ℕ → List ℕ → Option (Option (List ℕ × List ℕ))
-found_pair a b = Some (Some (a, b))
-
 abbrev pub no_pair : Option (List ℕ × List ℕ)
 no_pair = None
 
