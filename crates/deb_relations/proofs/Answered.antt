@@ -1,12 +1,13 @@
 -- What the reading of a text is, by its length and by what its groups are read as.
 use Rattle.std.proofs.Common.{◌≡◌, ◌≢◌, subst, ℕ, ◌<◌, ◌≤◌, Bool, true, false, cond, ltb, List, length, Option, None, Some, Result, Ok, Err, sym, ap, ◌∙◌, arith, refl}
+use Rattle.std.specs.Option.{ok_or}
 use Rattle.std.proofs.lemmas.Bool.Decides.{nat_tests}
 use Rattle.deb_relations.specs.declared.fault.RelationFault.{RelationFault}
 use Rattle.deb_relations.specs.declared.fault.RelationFault.TheVariants.{TooLong}
 use Rattle.deb_relations.specs.declared.relations.Alternative.{Alternative}
 use Rattle.deb_relations.specs.Grammar.{Reads, relations_limit}
 use Rattle.deb_relations.specs.Reader.{read_groups}
-use Rattle.deb_relations.specs.Reading.{groups_fault, outcome, reading_of}
+use Rattle.deb_relations.specs.Reading.{groups_fault, reading_of}
 use Rattle.deb_relations.proofs.Complete.{reads-complete}
 use Rattle.deb_relations.proofs.FaultTells.{Tells, groups-tell}
 use Rattle.deb_relations.proofs.Sound.{reads-sound}
@@ -31,17 +32,17 @@ short-is n h = grind (arith, nat_tests)
 
 pub reading-long : (t : List ℕ) → relations_limit < length t → reading_of t ≡ Err TooLong
 unfolding reading_of
-reading-long t l = ap (λ b. cond b (Err TooLong) (outcome (read_groups t) (groups_fault t))) (is-long (length t) l)
+reading-long t l = ap (λ b. cond b (Err TooLong) (ok_or (read_groups t) (groups_fault t))) (is-long (length t) l)
 
-reading-short : (t : List ℕ) → length t ≤ relations_limit → reading_of t ≡ outcome (read_groups t) (groups_fault t)
+reading-short : (t : List ℕ) → length t ≤ relations_limit → reading_of t ≡ ok_or (read_groups t) (groups_fault t)
 unfolding reading_of
-reading-short t l = ap (λ b. cond b (Err TooLong) (outcome (read_groups t) (groups_fault t))) (is-short (length t) l)
+reading-short t l = ap (λ b. cond b (Err TooLong) (ok_or (read_groups t) (groups_fault t))) (is-short (length t) l)
 
 pub reading-groups : (t : List ℕ) (groups : Groups) → length t ≤ relations_limit → read_groups t ≡ Some groups → reading_of t ≡ Ok groups
-reading-groups t groups l h = reading-short t l ∙ ap (λ o. outcome o (groups_fault t)) h
+reading-groups t groups l h = reading-short t l ∙ ap (λ o. ok_or o (groups_fault t)) h
 
 pub reading-fault : (t : List ℕ) (fault : RelationFault) → length t ≤ relations_limit → read_groups t ≡ None → fault ≡ groups_fault t → reading_of t ≡ Err fault
-reading-fault t fault l h e = reading-short t l ∙ ap (λ o. outcome o (groups_fault t)) h ∙ ap Err (sym e)
+reading-fault t fault l h e = reading-short t l ∙ ap (λ o. ok_or o (groups_fault t)) h ∙ ap Err (sym e)
 
 -- the three readings of a text: too long, its groups, or the fault of a text without a reading
 pub data Read (t : List ℕ) (answer : Answer) : Type 0 where
@@ -49,11 +50,11 @@ pub data Read (t : List ℕ) (answer : Answer) : Type 0 where
   whole : (made : Groups) → length t ≤ relations_limit → read_groups t ≡ Some made → answer ≡ Ok made → Read t answer
   faulty : length t ≤ relations_limit → answer ≡ Err (groups_fault t) → Read t answer
 
-read-by : (t : List ℕ) → length t ≤ relations_limit → (o : Option Groups) → read_groups t ≡ o → Read t (outcome o (groups_fault t))
+read-by : (t : List ℕ) → length t ≤ relations_limit → (o : Option Groups) → read_groups t ≡ o → Read t (ok_or o (groups_fault t))
 read-by t l None e = faulty l refl
 read-by t l (Some made) e = whole made l e refl
 
-read-at : (t : List ℕ) (b : Bool) → ltb relations_limit (length t) ≡ b → Read t (cond b (Err TooLong) (outcome (read_groups t) (groups_fault t)))
+read-at : (t : List ℕ) (b : Bool) → ltb relations_limit (length t) ≡ b → Read t (cond b (Err TooLong) (ok_or (read_groups t) (groups_fault t)))
 read-at t true e = long (long-is (length t) e) refl
 read-at t false e = read-by t (short-is (length t) e) (read_groups t) refl
 

@@ -8,7 +8,8 @@ use Rattle.deb_relations.specs.declared.relations.Alternative.{Alternative}
 use Rattle.deb_relations.specs.Grammar.{is_said}
 use Rattle.deb_relations.specs.Reduction.{is_filled}
 use Rattle.deb_relations.specs.Reader.{cut, both, all_some, push_group, with_group, read_name, read_alternative, with_name, read_group}
-use Rattle.deb_relations.specs.Reading.{first_passes, begins_with_name, is_group_begun, takes_memory}
+use Rattle.deb_relations.specs.Reading.{begins_with_name, is_group_begun, takes_memory}
+use Rattle.deb_relations.specs.Text.{begins}
 use Rattle.deb_relations.proofs.Cuts.{Halves, cut-is, split-last}
 use Rattle.deb_relations.proofs.Turns.{split-has}
 
@@ -28,15 +29,15 @@ IsBegun rest text = (rest ≡ text) ⊎ (is_group_begun text ≡ true)
 pub begun-piece : (rest text : List ℕ) (p : Halves) → IsBegun rest text → cut 124 rest ≡ Some p → begins_with_name p.0 ≡ true → is_group_begun text ≡ true
 unfolding is_group_begun
 begun-piece rest text p (inl same) e named =
-    ap (λ xs. first_passes begins_with_name (slice_split (λ c. eqb c 124) xs)) (sym same)
-    ∙ ap (first_passes begins_with_name) (cut-is 124 rest p e).step ∙ named
+    ap (λ xs. begins begins_with_name (slice_split (λ c. eqb c 124) xs)) (sym same)
+    ∙ ap (begins begins_with_name) (cut-is 124 rest p e).step ∙ named
 begun-piece rest text p (inr begun) e named = begun
 
 pub begun-last : (rest text : List ℕ) → IsBegun rest text → cut 124 rest ≡ None → begins_with_name rest ≡ true → is_group_begun text ≡ true
 unfolding is_group_begun
 begun-last rest text (inl same) e named =
-    ap (λ xs. first_passes begins_with_name (slice_split (λ c. eqb c 124) xs)) (sym same)
-    ∙ ap (first_passes begins_with_name) (split-last 124 rest e) ∙ named
+    ap (λ xs. begins begins_with_name (slice_split (λ c. eqb c 124) xs)) (sym same)
+    ∙ ap (begins begins_with_name) (split-last 124 rest e) ∙ named
 begun-last rest text (inr begun) e named = begun
 
 both-first : (o : Option Alternative) (more : Option (List Alternative)) (group : List Alternative) → both o more ≡ Some group → (a : Alternative) × (o ≡ Some a)
@@ -44,7 +45,7 @@ both-first None more group e = cc
 both-first (Some a) more group e = (a, refl)
 
 pieces-begun : (pieces : List (List ℕ)) (group : List Alternative) → is_filled pieces ≡ true → all_some read_alternative pieces ≡ Some group
-    → first_passes begins_with_name pieces ≡ true
+    → begins begins_with_name pieces ≡ true
 pieces-begun [] group some e = cc
 pieces-begun (piece ∷ pieces) group some e =
     let first = both-first (read_alternative piece) (all_some read_alternative pieces) group e in read-name piece first.0 first.1
@@ -62,18 +63,18 @@ HasBegun rest text =
 pub groups-begun : (rest text : List ℕ) (p : Halves) → HasBegun rest text → cut 44 rest ≡ Some p → is_said p.0 ≡ true → is_group_begun p.0 ≡ true → takes_memory text ≡ true
 unfolding takes_memory
 groups-begun rest text p (inl same) e said named =
-    ap (first_passes is_group_begun) (sym same)
-    ∙ ap (λ xs. first_passes is_group_begun (filter is_said xs)) (cut-is 44 rest p e).step
-    ∙ ap (λ b. first_passes is_group_begun (cond b (p.0 ∷ filter is_said (slice_split (λ c. eqb c 44) p.1)) (filter is_said (slice_split (λ c. eqb c 44) p.1)))) said
+    ap (begins is_group_begun) (sym same)
+    ∙ ap (λ xs. begins is_group_begun (filter is_said xs)) (cut-is 44 rest p e).step
+    ∙ ap (λ b. begins is_group_begun (cond b (p.0 ∷ filter is_said (slice_split (λ c. eqb c 44) p.1)) (filter is_said (slice_split (λ c. eqb c 44) p.1)))) said
     ∙ named
 groups-begun rest text p (inr begun) e said named = begun
 
 pub last-begun : (rest text : List ℕ) → HasBegun rest text → cut 44 rest ≡ None → is_said rest ≡ true → is_group_begun rest ≡ true → takes_memory text ≡ true
 unfolding takes_memory
 last-begun rest text (inl same) e said named =
-    ap (first_passes is_group_begun) (sym same)
-    ∙ ap (λ xs. first_passes is_group_begun (filter is_said xs)) (split-last 44 rest e)
-    ∙ ap (λ b. first_passes is_group_begun (cond b (rest ∷ []) [])) said
+    ap (begins is_group_begun) (sym same)
+    ∙ ap (λ xs. begins is_group_begun (filter is_said xs)) (split-last 44 rest e)
+    ∙ ap (λ b. begins is_group_begun (cond b (rest ∷ []) [])) said
     ∙ named
 last-begun rest text (inr begun) e said named = begun
 

@@ -2,6 +2,7 @@
 use Rattle.std.proofs.Common.{◌≡◌, ℕ, suc, ◌+◌, ◌-◌, ◌<◌, Bool, true, false, ◌&&◌, cond, eqb, List, [], ◌∷◌, ◌++◌, length, get_or, refl, sym, ap, subst, ◌∙◌, arith, append_assoc, append-nil, length-append, Option, Some, None, is_some, Err}
 use Rattle.std.specs.Prelude.{nat_lt}
 use Rattle.std.specs.List.{list_all, slice_split, join_with_byte}
+use Rattle.std.specs.Option.{ok_or}
 use Rattle.std.proofs.Math.Seq.{get_or-append_seam}
 use Rattle.std.proofs.lemmas.List.Splits.{join_with_byte-slice_split}
 use Rattle.deb_version.specs.declared.fault.VersionFault.{VersionFault}
@@ -16,7 +17,7 @@ use Rattle.deb_relations.specs.declared.relations.Alternative.{Alternative}
 use Rattle.deb_relations.specs.Reduction.{is_filled}
 use Rattle.deb_relations.specs.Grammar.{is_white, is_blank_text, is_op_char, op_of, TakesQualifier, TakesRestriction, TakesArchs, InBrackets, relations_limit}
 use Rattle.deb_relations.specs.Reader.{skip, strip, is_solid, asked_inside, with_rest, some_of, read_between, read_groups, restriction_of, asked_of, both, between, lists_of, with_qualifier, with_name, with_asked, with_archs, with_profiles, read_name, read_qualifier, read_restriction, terms_of, read_archs, read_profiles, profile_of, read_alternative}
-use Rattle.deb_relations.specs.Reading.{place_of, end_before, span, name_fault, version_fault, fault_behind_operator, operator_fault, asked_fault, bracket_fault, restriction_fault, words_fault, archs_fault, list_fault, lists_fault, profiles_fault, or_behind, fault_behind_restriction, fault_behind_qualifier, fault_behind_name, alternative_fault, first_fault, is_alternative, group_fault, is_group_or_blank, groups_fault, reading_of, outcome}
+use Rattle.deb_relations.specs.Reading.{place_of, end_before, span, name_fault, version_fault, fault_behind_operator, operator_fault, asked_fault, bracket_fault, restriction_fault, words_fault, archs_fault, list_fault, lists_fault, profiles_fault, or_behind, fault_behind_restriction, fault_behind_qualifier, fault_behind_name, alternative_fault, first_fault, is_alternative, group_fault, is_group_or_blank, groups_fault, reading_of}
 use Rattle.deb_relations.proofs.LeadingLemmas.{stops, leading-skip, skip-stops}
 use Rattle.deb_relations.proofs.Sound.{between-sound, name-sound, qualifier-sound, restriction-sound, archs-sound}
 use Rattle.deb_relations.specs.Text.{leading}
@@ -298,11 +299,11 @@ groups-stray text =
     split-stray 44 text is_group_or_blank group_fault (group-stray text) (length text) text
     (record { front = []; back = []; split = sym (append-nil text); place = omega arith })
 
-strays-end : (text : List ℕ) (place : ℕ) (o : Option (List (List Alternative))) → outcome o (groups_fault text) ≡ Err (Stray place) → groups_fault text ≡ Stray place
+strays-end : (text : List ℕ) (place : ℕ) (o : Option (List (List Alternative))) → ok_or o (groups_fault text) ≡ Err (Stray place) → groups_fault text ≡ Stray place
 strays-end text place None e = cc
 strays-end text place (Some groups) e = cc
 
-strays-by : (b : Bool) (text : List ℕ) (place : ℕ) → cond b (Err TooLong) (outcome (read_groups text) (groups_fault text)) ≡ Err (Stray place) → groups_fault text ≡ Stray place
+strays-by : (b : Bool) (text : List ℕ) (place : ℕ) → cond b (Err TooLong) (ok_or (read_groups text) (groups_fault text)) ≡ Err (Stray place) → groups_fault text ≡ Stray place
 strays-by true text place e = cc
 strays-by false text place e = strays-end text place (read_groups text) e
 

@@ -31,6 +31,10 @@ is_comma c = c == 44
 abbrev pub is_bar : ℕ → Bool
 is_bar c = c == 124
 
+-- the angle bracket that closes a list of build profiles (Policy 7.1)
+abbrev pub is_right_angle : ℕ → Bool
+is_right_angle c = c == 62
+
 -- of which the name of a build profile is made (this project's own)
 unfoldable pub is_profile_char : ℕ → Bool
 is_profile_char c = is_ascii_alphanumeric c || (c == 46 || (c == 43 || (c == 45 || c == 95)))

@@ -1,7 +1,8 @@
 -- The forms of the words of relations: the names of packages (Debian Policy 5.6.1), and what architectures are made of (11.1.1).
-use Rattle.std.specs.Prelude.{ℕ, ◌==◌, Bool, false, ◌&&◌, ◌||◌, List, [], ◌∷◌, length, nat_lt}
+use Rattle.std.specs.Prelude.{ℕ, ◌==◌, Bool, ◌&&◌, ◌||◌, List, length, nat_lt}
 use Rattle.std.specs.Char.{is_ascii_lowercase, is_ascii_digit}
 use Rattle.std.specs.List.{list_all}
+use Rattle.deb_relations.specs.Text.{begins}
 
 -- a lower-case letter or a digit (Policy 5.6.1)
 unfoldable pub is_lower_or_digit : ℕ → Bool
@@ -17,8 +18,7 @@ is_arch_char c = is_lower_or_digit c || c == 45
 
 -- whether a text begins with a lower-case letter or a digit (Policy 5.6.1)
 abbrev pub begins_with_lower_or_digit : List ℕ → Bool
-begins_with_lower_or_digit [] = false
-begins_with_lower_or_digit (c ∷ cs) = is_lower_or_digit c
+begins_with_lower_or_digit text = begins is_lower_or_digit text
 
 -- the name of a package, of 2 to 200 bytes (Policy 5.6.1, the upper limit this project's own)
 unfoldable pub is_package_name : List ℕ → Bool

@@ -10,7 +10,7 @@ use Rattle.deb_relations.specs.declared.relations.Term.{Term}
 use Rattle.deb_relations.specs.declared.relations.Restriction.{Restriction}
 use Rattle.deb_relations.specs.declared.relations.Alternative.{Alternative}
 use Rattle.deb_relations.specs.Reduction.{is_filled}
-use Rattle.deb_relations.specs.Grammar.{is_white, is_blank_text, is_op_char, is_word, is_said, op_of, words, are_alike}
+use Rattle.deb_relations.specs.Grammar.{is_white, is_blank_text, is_comma, is_bar, is_right_angle, is_op_char, is_word, is_said, op_of, words, are_alike}
 use Rattle.deb_relations.specs.Names.{is_package_char, is_arch_char, is_package_name}
 use Rattle.deb_relations.specs.Text.{leading}
 
@@ -169,7 +169,7 @@ lists_of (piece ∷ (next ∷ more)) = both (profile_of piece) (lists_of (next �
 
 -- the lists of build profiles of a text, each in angle brackets (Policy 7.1)
 unfoldable pub read_profiles : List ℕ → Option (List (List Term))
-read_profiles text = lists_of (slice_split (λ c. c == 62) text)
+read_profiles text = lists_of (slice_split is_right_angle text)
 
 -- an alternative of these parts and of its build profiles, where they were read (Policy 7.1)
 abbrev pub with_profiles : List ℕ → Option (List ℕ) → Option Restriction → List Term → Option (List (List Term)) → Option Alternative
@@ -203,11 +203,11 @@ read_alternative text = with_name (read_name text)
 
 -- the alternatives of a group (Policy 7.1)
 unfoldable pub read_group : List ℕ → Option (List Alternative)
-read_group text = all_some read_alternative (slice_split (λ c. c == 124) text)
+read_group text = all_some read_alternative (slice_split is_bar text)
 
 -- the groups that are said (Policy 7.1)
 unfoldable pub read_groups : List ℕ → Option (List (List Alternative))
-read_groups text = all_some read_group (filter is_said (slice_split (λ c. c == 44) text))
+read_groups text = all_some read_group (filter is_said (slice_split is_comma text))
 
 -- groups, and one more behind them, where it was read (Policy 7.1)
 abbrev pub push_group : List (List Alternative) → Option (List Alternative) → Option (List (List Alternative))

@@ -1,7 +1,8 @@
 -- What a text of relations is read as: its groups, else the first fault from the left, piece by piece (Debian Policy 7.1).
 use Rattle.std.specs.Prelude.{◌≡◌, ℕ, ◌-◌, ◌+◌, ◌==◌, Bool, true, false, not, ◌&&◌, ◌||◌, List, [], ◌∷◌, ◌++◌, length, if◌then◌else◌, nat_lt, is_some, filter}
-use Rattle.std.specs.Prelude.{Option, None, Some, Result, Ok, Err}
+use Rattle.std.specs.Prelude.{Option, None, Some, Result, Err}
 use Rattle.std.specs.List.{list_all, slice_split}
+use Rattle.std.specs.Option.{ok_or}
 use Rattle.deb_version.specs.declared.fault.VersionFault.{VersionFault}
 use Rattle.deb_version.specs.declared.operator.Op.{Op}
 use Rattle.deb_version.specs.Syntax.{fault_of}
@@ -10,9 +11,9 @@ use Rattle.deb_relations.specs.declared.fault.RelationFault.TheVariants.{BadName
 use Rattle.deb_relations.specs.declared.relations.Kind.TheVariants.{Arch}
 use Rattle.deb_relations.specs.declared.relations.Alternative.{Alternative}
 use Rattle.deb_relations.specs.Reduction.{is_filled}
-use Rattle.deb_relations.specs.Grammar.{is_white, is_blank_text, is_said, is_op_char, op_of, relations_limit}
+use Rattle.deb_relations.specs.Grammar.{is_white, is_blank_text, is_comma, is_bar, is_right_angle, is_said, is_op_char, op_of, relations_limit}
 use Rattle.deb_relations.specs.Reader.{skip, strip, is_solid, between, read_name, read_qualifier, read_restriction, terms_of, read_archs, profile_of, read_alternative, read_group, read_groups}
-use Rattle.deb_relations.specs.Text.{leading}
+use Rattle.deb_relations.specs.Text.{begins, leading}
 
 -- where a text begins that ends at the place end of the whole text (this project's own)
 abbrev pub place_of : ℕ → List ℕ → ℕ
@@ -84,7 +85,7 @@ lists_fault end (piece ∷ (next ∷ more)) =
 
 -- the fault of what stands behind the architectures (Policy 7.1)
 unfoldable pub profiles_fault : ℕ → List ℕ → RelationFault
-profiles_fault end text = lists_fault end (slice_split (λ c. c == 62) text)
+profiles_fault end text = lists_fault end (slice_split is_right_angle text)
 
 -- the fault of a part of an alternative where that has no reading, else of what is left behind it (this project's own)
 abbrev pub or_behind : {X : Type 0} → RelationFault → (List ℕ → RelationFault) → Option (X × List ℕ) → RelationFault
@@ -119,7 +120,7 @@ is_alternative piece = is_some (read_alternative piece)
 
 -- the fault of a group that ends at the place end: of its first alternative without a reading (Policy 7.1)
 unfoldable pub group_fault : ℕ → List ℕ → RelationFault
-group_fault end text = first_fault is_alternative alternative_fault end (slice_split (λ c. c == 124) text)
+group_fault end text = first_fault is_alternative alternative_fault end (slice_split is_bar text)
 
 -- whether a text is blank, or has a reading as a group (this project's own)
 unfoldable pub is_group_or_blank : List ℕ → Bool
@@ -127,21 +128,11 @@ is_group_or_blank piece = is_blank_text piece || is_some (read_group piece)
 
 -- the fault of a whole text: of its first group that is not blank and has no reading (Policy 7.1)
 unfoldable pub groups_fault : List ℕ → RelationFault
-groups_fault text = first_fault is_group_or_blank group_fault (length text) (slice_split (λ c. c == 44) text)
-
--- what was read where there is something, else the fault (this project's own)
-abbrev pub outcome : {X : Type 0} → Option X → RelationFault → Result X RelationFault
-outcome None fault = Err fault
-outcome (Some groups) fault = Ok groups
+groups_fault text = first_fault is_group_or_blank group_fault (length text) (slice_split is_comma text)
 
 -- the reading of a text: too long above the limit, else its groups, else its first fault (Policy 7.1, the limit this project's own)
 unfoldable pub reading_of : List ℕ → Result (List (List Alternative)) RelationFault
-reading_of text = if nat_lt relations_limit (length text) then Err TooLong else outcome (read_groups text) (groups_fault text)
-
--- whether the first of the pieces passes (this project's own)
-abbrev pub first_passes : (List ℕ → Bool) → List (List ℕ) → Bool
-first_passes passes [] = false
-first_passes passes (piece ∷ _) = passes piece
+reading_of text = if nat_lt relations_limit (length text) then Err TooLong else ok_or (read_groups text) (groups_fault text)
 
 -- whether an alternative begins with a package name (Policy 7.1)
 unfoldable pub begins_with_name : List ℕ → Bool
@@ -149,11 +140,11 @@ begins_with_name text = is_some (read_name text)
 
 -- whether the first alternative of a group begins with a package name (Policy 7.1)
 unfoldable pub is_group_begun : List ℕ → Bool
-is_group_begun text = first_passes begins_with_name (slice_split (λ c. c == 124) text)
+is_group_begun text = begins begins_with_name (slice_split is_bar text)
 
 -- whether the first group that is said begins with a package name, the first thing for which memory is taken (this project's own)
 unfoldable pub takes_memory : List ℕ → Bool
-takes_memory text = first_passes is_group_begun (filter is_said (slice_split (λ c. c == 44) text))
+takes_memory text = begins is_group_begun (filter is_said (slice_split is_comma text))
 
 -- of which the text of a version is made: neither white space nor a closing parenthesis (Policy 7.1)
 unfoldable pub is_asked_char : ℕ → Bool
