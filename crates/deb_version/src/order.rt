@@ -149,7 +149,8 @@ impl PartialEq for ByOrder<'_> {
 
     ghost eq = { on (λ v. v.0.now) (eq_by_cmp version_cmp) };
 
-    ghost laws = { partial_equiv_from_equiv (on_equiv (λ v. v.0.now) (eq_by_cmp_equiv version_cmp_total)) };
+    ghost laws = { partial_equiv_from_equiv
+        (on_equiv (λ v. v.0.now) (eq_by_cmp_equiv version_cmp_total)) };
 
     fn eq(&self, other: &Self) -> bool {
         compare(self.0, other.0).is_eq()

@@ -31,7 +31,8 @@ impl Model for Version {
 
     ghost view = { λ v. string_bytes v.text };
 
-    ghost invariant = { λ v. Remembers (string_bytes v.text) v.epoch v.upstream_start v.upstream_end };
+    ghost invariant = { λ v.
+        Remembers (string_bytes v.text) v.epoch v.upstream_start v.upstream_end };
 }
 
 impl Version {
