@@ -1,12 +1,10 @@
 -- A record that is settled in a state has its form, and has its holder, its take number and its waits or none.
-use Rattle.std.proofs.Common.{◌≡◌, ℕ, ◌≤◌, Bool, true, false, not, ◌||◌, cond, nat_eq, List, [], Option, None, IsOk, IsTrue, IfSome, is_some, inl, refl, sym, ap, ◌∙◌, arith}
+use Rattle.std.proofs.Common.{◌≡◌, ℕ, ◌≤◌, Bool, true, false, not, ◌||◌, cond, nat_eq, List, [], Option, None, IsOk, IsTrue, IfSome, is_some, refl, sym, ap, ◌∙◌, arith}
 use Rattle.std.proofs.lemmas.Str.{IsUtf8-nil}
 use Rattle.deb_version.specs.Syntax.{reading_of}
-use Rattle.deb_relations.specs.declared.arch.ArchWords.{ArchWords}
 use Rattle.wb_states.specs.declared.record.Record.{Record}
 use Rattle.wb_states.specs.declared.state.State.{State}
 use Rattle.wb_states.specs.Limits.{rebuild_limit, note_limit, relations_limit}
-use Rattle.wb_states.specs.Machine.{AreWaits}
 use Rattle.wb_states.specs.Moves.{settled_in, note_after}
 use Rattle.wb_states.specs.Names.{is_builder_name, is_label_text}
 use Rattle.wb_states.specs.Record.{IsWellFormed, IsTextWithin, is_empty_text}
@@ -106,8 +104,3 @@ settled-well state current note fields short stands = record {
 -- a note that is kept or dropped
 pub kept-note : (state : State) (current : Record) → IsTextWithin note_limit current.note → IsTextWithin note_limit (note_after None state current)
 kept-note state current is = text-kept note_limit (nat_eq (code_of state) (code_of current.state)) current.note is
-
--- waits that are kept or dropped
-pub waits-kept : (words : ArchWords) (test : Bool) (waits : List ℕ) → AreWaits words waits → AreWaits words (cond test waits [])
-waits-kept words true waits is = is
-waits-kept words false waits is = inl refl
