@@ -1,5 +1,6 @@
 -- A move makes of a record what its row of the table says.
 use Rattle.std.proofs.Common.{◌≡◌, ℕ, Bool, true, false, cond, not, List, [], ◌∷◌, Option, Some, None, Ok, is_some, refl, sym, ap, ◌∙◌, nat_eq}
+use Rattle.deb_version.specs.Syntax.{ok_unless}
 use Rattle.deb_relations.specs.declared.arch.ArchWords.{ArchWords}
 use Rattle.deb_relations.specs.declared.relations.Alternative.{Alternative}
 use Rattle.wb_states.specs.declared.moves.Move.{Move}
@@ -11,12 +12,12 @@ use Rattle.wb_states.specs.declared.state.State.{State}
 use Rattle.wb_states.specs.declared.state.State.TheVariants.{NeedsBuild, Building, Built, Uploaded, Installed, DepWait}
 use Rattle.wb_states.specs.State.{code_of, is_held, is_dep_wait}
 use Rattle.wb_states.specs.Record.{IsWellFormed, is_empty_text}
-use Rattle.wb_states.specs.Moves.{may_go, note_after, move_refusal, value_refusal, unless_refused, moved, move_of}
+use Rattle.wb_states.specs.Moves.{may_go, note_after, move_refusal, value_refusal, moved, move_of}
 use Rattle.wb_states.specs.Table.{row_of}
 
 -- ---- a move that is not refused
 
-done-is : (refusal : Option Refusal) (after new : Record) → unless_refused refusal after ≡ Ok new → (refusal ≡ None) × (new ≡ after)
+done-is : (refusal : Option Refusal) (after new : Record) → ok_unless refusal after ≡ Ok new → (refusal ≡ None) × (new ≡ after)
 done-is None after new is = (refl, cc)
 done-is (Some refusal) after new is = absurd cc
 

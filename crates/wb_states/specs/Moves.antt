@@ -1,8 +1,9 @@
 -- The moves of a record from state to state, and what each sets (this project's own, in wanna-build's terms).
 -- The table of moves is read here column by column: the states from which a move goes, the state in which it ends, and what it sets.
-use Rattle.std.specs.Prelude.{ℕ, Bool, true, not, nat_eq, nat_le, nat_lt, IsTrue, List, [], ◌∷◌, ◌++◌, length, codes, Option, Some, None, Result, Ok, Err, if◌then◌else◌}
+use Rattle.std.specs.Prelude.{ℕ, Bool, true, not, nat_eq, nat_le, nat_lt, IsTrue, List, [], ◌∷◌, ◌++◌, length, codes, Option, Some, None, Result, if◌then◌else◌}
 use Rattle.std.specs.List.{list_any}
 use Rattle.std.specs.Fmt.{decimal}
+use Rattle.deb_version.specs.Syntax.{ok_unless}
 use Rattle.deb_relations.specs.declared.arch.ArchWords.{ArchWords}
 use Rattle.deb_relations.specs.declared.relations.Alternative.{Alternative}
 use Rattle.deb_relations.specs.declared.fault.RelationFault.TheVariants.{TooLong}
@@ -118,14 +119,9 @@ unfoldable pub move_refusal : Move → Record → Option Refusal
 move_refusal move current =
     if may_go move current.state then value_refusal move current else Some (WrongState current.state)
 
--- a refusal where there is one, else the record
-abbrev pub unless_refused : Option Refusal → Record → Result Record Refusal
-unless_refused (Some refusal) after = Err refusal
-unless_refused None after = Ok after
-
 -- the record after a move, or why it is refused
 unfoldable pub move_of : Move → Record → Result Record Refusal
-move_of move current = unless_refused (move_refusal move current) (moved move current)
+move_of move current = ok_unless (move_refusal move current) (moved move current)
 
 -- the version of the binaries: the source version, followed by `+bN` for a binary-only rebuild N
 abbrev pub build_text_of : Record → List ℕ
