@@ -1,17 +1,13 @@
 -- The forms of names: priorities and sections (Debian Policy 2.5 and 2.4), and, this project's own, architectures and builders.
-use Rattle.std.specs.Prelude.{ℕ, Bool, false, not, ◌&&◌, ◌||◌, List, [], ◌∷◌, length, nat_le, nat_eq, codes, bytes_eq}
+use Rattle.std.specs.Prelude.{ℕ, Bool, not, ◌&&◌, ◌||◌, List, length, nat_le, nat_eq, codes, bytes_eq}
 use Rattle.std.specs.Char.{is_ascii_alphanumeric, is_ascii_graphic}
 use Rattle.std.specs.List.{list_all}
 use Rattle.deb_relations.specs.Names.{is_lower_or_digit, is_arch_char, begins_with_lower_or_digit}
+use Rattle.deb_relations.specs.Text.{begins}
 
 -- a text of this many bytes, both ends included
 abbrev pub has_length : ℕ → ℕ → List ℕ → Bool
 has_length least most text = nat_le least (length text) && nat_le (length text) most
-
--- the first byte passes the test
-abbrev pub begins : (ℕ → Bool) → List ℕ → Bool
-begins test [] = false
-begins test (c ∷ _) = test c
 
 -- one of the words that name no single architecture (Debian Policy 5.6.8)
 abbrev pub is_no_single_arch : List ℕ → Bool

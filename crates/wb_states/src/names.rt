@@ -3,7 +3,8 @@ ghost use Rattle.std.specs.Prelude.{◌≡◌};
 ghost use Rattle.std.specs.Char.{is_ascii_alphanumeric, is_ascii_graphic};
 ghost use Rattle.std.specs.List.{list_all};
 ghost use Rattle.deb_relations.specs.Names.{is_lower_or_digit, is_arch_char, begins_with_lower_or_digit, is_package_name};
-ghost use Rattle.wb_states.specs.Names.{is_arch_name, is_os_cpu_word, is_builder_name, is_label_text, has_length, begins, is_builder_char};
+ghost use Rattle.deb_relations.specs.Text.{begins};
+ghost use Rattle.wb_states.specs.Names.{is_arch_name, is_os_cpu_word, is_builder_name, is_label_text, has_length, is_builder_char};
 
 use deb_relations::is_package_name;
 
@@ -24,7 +25,7 @@ pub fn is_arch(text: &str) -> bool
     ensures value { result ≡ is_arch_name text.now }
 {
     is_long_between(text, 1, 40)
-        && begins_lower(text)
+        && begins_with_lower_or_digit(text)
         && is_all_arch(text)
         && !(text == "all" || text == "any" || text == "source")
 }
@@ -35,7 +36,7 @@ pub fn is_arch(text: &str) -> bool
 pub fn is_os_cpu(text: &str) -> bool
     ensures value { result ≡ is_os_cpu_word text.now }
 {
-    is_long_between(text, 1, 20) && is_all_lower(text) && !(text == "any")
+    is_long_between(text, 1, 20) && is_all_lower_or_digit(text) && !(text == "any")
 }
 
 /// Whether `text` is the name of a builder: 1 to 64 bytes, letters, digits, `.`, `_` and `-`, of which
@@ -44,7 +45,7 @@ pub fn is_os_cpu(text: &str) -> bool
 pub fn is_builder(text: &str) -> bool
     ensures value { result ≡ is_builder_name text.now }
 {
-    is_long_between(text, 1, 64) && begins_letter(text) && is_all_builder(text)
+    is_long_between(text, 1, 64) && begins_with_letter_or_digit(text) && is_all_builder(text)
 }
 
 /// Whether `text` is a priority or a section: 1 to 64 bytes from `!` to `~` (Debian Policy 2.5 and 2.4;
@@ -63,22 +64,22 @@ fn is_long_between(text: &str, least: usize, most: usize) -> bool
 }
 
 #[tactic(auto, unfolding(deb_relations::specs::Names::is_lower_or_digit))]
-fn is_lower(c: u8) -> bool
+fn is_lower_or_digit(c: u8) -> bool
     ensures { result ≡ is_lower_or_digit c }
 {
     c.is_ascii_lowercase() || c.is_ascii_digit()
 }
 
-fn begins_lower(text: &str) -> bool
+fn begins_with_lower_or_digit(text: &str) -> bool
     ensures { result ≡ begins_with_lower_or_digit text.now }
 {
     match text.as_bytes() {
         [] => false,
-        [first, ..] => is_lower(*first),
+        [first, ..] => is_lower_or_digit(*first),
     }
 }
 
-fn begins_letter(text: &str) -> bool
+fn begins_with_letter_or_digit(text: &str) -> bool
     ensures { result ≡ begins is_ascii_alphanumeric text.now }
 {
     match text.as_bytes() {
@@ -87,17 +88,17 @@ fn begins_letter(text: &str) -> bool
     }
 }
 
-fn is_all_lower(text: &str) -> bool
+fn is_all_lower_or_digit(text: &str) -> bool
     ensures { result ≡ list_all is_lower_or_digit text.now }
 {
-    text.bytes().all(|c| is_lower(c))
+    text.bytes().all(|c| is_lower_or_digit(c))
 }
 
 #[tactic(auto, unfolding(deb_relations::specs::Names::is_arch_char))]
 fn is_all_arch(text: &str) -> bool
     ensures { result ≡ list_all is_arch_char text.now }
 {
-    text.bytes().all(|c| is_lower(c) || c == b'-')
+    text.bytes().all(|c| is_lower_or_digit(c) || c == b'-')
 }
 
 fn is_all_builder(text: &str) -> bool
