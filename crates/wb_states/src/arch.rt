@@ -5,6 +5,8 @@ use deb_relations::Text;
 /// (Debian Policy 11.1.1): each 1 to 20 lower-case letters and digits, and not `any`.
 #[derive(Clone, Debug, Drop)]
 pub struct OsCpu {
+    /// The operating system.
     pub os: Text,
+    /// The processor.
     pub cpu: Text,
 }

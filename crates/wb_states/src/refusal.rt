@@ -34,11 +34,17 @@ impl ListKind {
 /// A field of a list that a merge reads (Debian Policy 5.6).
 #[derive(Clone, Copy, Debug, PartialEq, Eq)]
 pub enum ListField {
+    /// The name of a binary package (Debian Policy 5.6.7), or in Sources of a source package.
     Package,
+    /// The version of the package (Debian Policy 5.6.12).
     Version,
+    /// The architectures of the package (Debian Policy 5.6.8).
     Architecture,
+    /// The priority of the package (Debian Policy 5.6.6).
     Priority,
+    /// The section of the package (Debian Policy 5.6.5).
     Section,
+    /// The source package of a binary package, perhaps with its version (Debian Policy 5.6.1).
     Source,
 }
 

@@ -48,6 +48,7 @@ pub enum PartEnd {
 pub struct PartReply {
     /// The architecture of the part.
     pub arch: Text,
+    /// How the part ended.
     pub end: PartEnd,
 }
 
