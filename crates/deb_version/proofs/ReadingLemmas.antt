@@ -39,11 +39,11 @@ placed bad (Some place) h = h place
 
 length_fault-memory : (t : List ℕ) → is_memory (length_fault t) ≡ false
 unfolding length_fault
-length_fault-memory t = search (choice, placed, rules)
+length_fault-memory t = search (choice, rules)
 
 number_fault-memory : (digits : List ℕ) → is_memory (number_fault digits) ≡ false
 unfolding number_fault
-number_fault-memory digits = search (choice, placed, rules)
+number_fault-memory digits = search (choice, rules)
 
 upstream_part_fault-memory : (start : ℕ) (part : List ℕ) → is_memory (upstream_part_fault start part) ≡ false
 unfolding upstream_part_fault
