@@ -61,7 +61,8 @@ impl Store {
     /// A copy of all records, for a change that is made whole or not at all. The only error is that there is
     /// no memory for it (this project's own).
     pub fn copy_records(&self) -> Result<BTreeMap<(Text, Text), Record>, AllocError>
-        ensures value { IfOk result (λ records. map.from_entries records.entries ≡ self.now.records) }
+        ensures value { IfOk result (λ records. map.from_entries records.entries
+            ≡ self.now.records) }
     {
         self.records.clone()
     }
