@@ -5,10 +5,10 @@ use Rattle.std.specs.FinMap as finite
 use Rattle.wb_states.specs.declared.record.Record.{Record}
 use Rattle.wb_states.specs.declared.reply.MergeCounts.{MergeCounts}
 use Rattle.wb_merge.specs.Listing.{ArchiveListing}
-use Rattle.wb_merge.specs.Merged.{Records, after_at, merged, names_of, is_added, is_changed, is_kept, is_removed, is_same_record, number_where, counts_over, merge_counts, after_named}
+use Rattle.wb_merge.specs.Merged.{Records, after_at, merged, names_of, is_added, is_changed, is_kept, is_removed, is_same_record, number_where, counts_over, merge_counts, all_kept, after_named}
 use Rattle.wb_merge.specs.declared.merge.Change.{Change}
 use Rattle.wb_merge.specs.declared.merge.Change.TheVariants.{Absent, Added, Changed, Kept, Removed}
-use Rattle.wb_merge.specs.Steps.{Key, record_at, IsSetAt, AreWithin, change_of, counted, no_counts}
+use Rattle.wb_merge.specs.Steps.{Key, record_at, IsSetAt, AreWithin, change_of, counted}
 use Rattle.wb_merge.proofs.NameLemmas.{IsApart}
 use Rattle.wb_merge.proofs.MergeLemmas.{half_merged, names-apart, half-start, half-here, named-here, half-next, half-end}
 
@@ -99,8 +99,8 @@ none-plus n = omega arith
 plus-none : (n : ℕ) → n + 0 ≡ n
 plus-none n = omega arith
 
-plus-no_counts : (counts : MergeCounts) → plus no_counts counts ≡ counts
-plus-no_counts counts = λ i. record {
+plus-all_kept : (counts : MergeCounts) → plus (all_kept 0) counts ≡ counts
+plus-all_kept counts = λ i. record {
   added = none-plus counts.added i;
   changed = none-plus counts.changed i;
   kept = none-plus counts.kept i;
@@ -124,9 +124,6 @@ within-next limit counts Changed h = record { added = omega arith; changed = ome
 within-next limit counts Kept h = record { added = omega arith; changed = omega arith; kept = omega arith; removed = omega arith }
 within-next limit counts Removed h = record { added = omega arith; changed = omega arith; kept = omega arith; removed = omega arith }
 
-pub within-more : (limit more : ℕ) (counts : MergeCounts) → limit ≤ more → AreWithin limit counts → AreWithin more counts
-within-more limit more counts le h = record { added = omega arith; changed = omega arith; kept = omega arith; removed = omega arith }
-
 -- ---- the loop over the names
 
 -- the records and the counts while these names are left
@@ -135,12 +132,12 @@ pub record IsHalfMerged (old records : Records) (arch : List ℕ) (listing : Arc
   pub half : (key : Key) → finite.get records key ≡ half_merged old arch listing left key
   pub so_far : plus counts (counts_over old arch listing left) ≡ merge_counts old arch listing
 
-pub half_merged-start : (old : Records) (arch : List ℕ) (listing : ArchiveListing) → IsHalfMerged old old arch listing no_counts (names_of old arch listing)
+pub half_merged-start : (old : Records) (arch : List ℕ) (listing : ArchiveListing) → IsHalfMerged old old arch listing (all_kept 0) (names_of old arch listing)
 unfolding merge_counts
 half_merged-start old arch listing = record {
   apart = names-apart old arch listing;
   half = half-start old arch listing;
-  so_far = plus-no_counts (counts_over old arch listing (names_of old arch listing));
+  so_far = plus-all_kept (counts_over old arch listing (names_of old arch listing));
 }
 
 pub half_merged-next : (old records new : Records) (arch : List ℕ) (listing : ArchiveListing) (counts : MergeCounts) (name : List ℕ) (left : List (List ℕ))

@@ -1,5 +1,5 @@
 -- What rows give that are offered one after another: at each name the first greatest of what they list.
-use Rattle.std.proofs.Common.{◌≡◌, ℕ, Bool, true, false, cond, ◌&&◌, List, [], ◌∷◌, map, filter, bytes_eq, Option, Some, None, Result, Ok, Err, refl, sym, ap, ◌∙◌}
+use Rattle.std.proofs.Common.{◌≡◌, ℕ, Bool, true, false, cond, ◌&&◌, List, [], ◌∷◌, map, filter, bytes_eq, Option, Some, None, refl, sym, ap, ◌∙◌}
 use Rattle.std.specs.List.{list_any, fold}
 use Rattle.std.specs.declared.cmp.Ordering.{Ordering}
 use Rattle.std.specs.Ordering.{eq_by_cmp, is_gt}
@@ -7,39 +7,11 @@ use Rattle.std.specs.FinMap as finite
 use Rattle.std.proofs.lemmas.Map.Text.{is_eq-slice_cmp}
 use Rattle.deb_relations.specs.Text.{text_cmp}
 use Rattle.wb_states.proofs.KeyLemmas.{text_cmp_total, text_cmp-same}
-use Rattle.wb_states.specs.declared.refusal.Refusal.{Refusal}
-use Rattle.wb_merge.specs.Rows.{onto_rows}
 use Rattle.wb_merge.specs.Listing.{better, best_from, map_at, is_better}
-use Rattle.wb_merge.specs.Offers.{offered, after_rows}
+use Rattle.wb_merge.specs.Offers.{offered}
 use Rattle.wb_merge.proofs.CheckLemmas.{neither}
 use Rattle.wb_merge.proofs.ListingLemmas.{map_at-get}
 use Rattle.wb_merge.proofs.NameLemmas.{bytes_eq-is}
-
--- ---- rows one after another
-
-pub after-row : {S X : Type 0} (add : S → X → S) (start : S) (row : X) (rows : Result (List X) Refusal)
-    → after_rows add start (onto_rows (Ok row) rows) ≡ after_rows add (add start row) rows
-after-row add start row (Ok rows) = refl
-after-row add start row (Err refusal) = refl
-
--- at the end of the rows
-pub after-ended : {S X : Type 0} (add : S → X → S) (start : S) (rows : Result (List X) Refusal) (whole : Result S Refusal)
-    → rows ≡ Ok [] → after_rows add start rows ≡ whole → whole ≡ Ok start
-after-ended add start rows whole ended is = sym is ∙ ap (after_rows add start) ended
-
-refused-same : {S : Type 0} (x : Result S Refusal) (r s : Refusal) → x ≡ Err r → x ≡ Err s → s ≡ r
-refused-same x r s p q = cc
-
-refused-not : {S : Type 0} (x : Result S Refusal) (r : Refusal) (s : S) → x ≡ Err r → x ≡ Ok s → ⊥
-refused-not x r s p q = cc
-
--- at a refusal
-pub after-refused : {S X : Type 0} (add : S → X → S) (start first : S) (rows all : Result (List X) Refusal) (refusal : Refusal)
-    → rows ≡ Err refusal → after_rows add start rows ≡ after_rows add first all → all ≡ Err refusal
-after-refused add start first rows (Ok all) refusal e is =
-    absurd (refused-not (after_rows add start rows) refusal (fold add first all) (ap (after_rows add start) e) is)
-after-refused add start first rows (Err other) refusal e is =
-    ap (λ (r : Refusal). Err r) (refused-same (after_rows add start rows) refusal other (ap (after_rows add start) e) is)
 
 -- ---- the better of two
 

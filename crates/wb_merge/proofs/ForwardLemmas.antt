@@ -2,7 +2,7 @@
 use Rattle.std.proofs.Common.{◌≡◌, ◌≢◌, ℕ, ◌≤◌, Bool, true, false, cond, ◌||◌, List, refl, sym, ap, subst, ◌∙◌, Option, Some, None, is_some, bytes_eq, nat_le, arith}
 use Rattle.std.specs.declared.cmp.Ordering.{Ordering}
 use Rattle.std.specs.declared.cmp.Ordering.TheVariants.{Less, Equal, Greater}
-use Rattle.std.specs.Ordering.{ordering_reverse}
+use Rattle.std.specs.Ordering.{ordering_reverse, match_ordering}
 use Rattle.std.proofs.lemmas.Bool.Decides.{nat_tests}
 use Rattle.std.proofs.lemmas.Cmp.{tied_itself}
 use Rattle.std.specs.FinMap as finite
@@ -16,7 +16,7 @@ use Rattle.wb_states.specs.State.{is_held, is_not_for_us, is_installed, is_dep_w
 use Rattle.wb_merge.specs.declared.listing.Listed.{Listed}
 use Rattle.wb_merge.specs.declared.listing.Built.{Built}
 use Rattle.wb_merge.specs.Listing.{ArchiveListing}
-use Rattle.wb_merge.specs.Merge.{after, by_order, covers, built_number, are_waits_met, relisted, newer_record, same_record, same_state, newer_state, listed_record, ends_hold, HasSameHold}
+use Rattle.wb_merge.specs.Merge.{after, covers, built_number, are_waits_met, relisted, newer_record, same_record, same_state, newer_state, listed_record, ends_hold, HasSameHold}
 use Rattle.wb_merge.specs.Merged.{Records, after_at, BecomesAt}
 use Rattle.wb_merge.specs.Steps.{Key}
 use Rattle.wb_merge.proofs.MergeLemmas.{merged-get}
@@ -87,7 +87,7 @@ version_itself version = tied_itself version_cmp_total version
 number-covered : (built : Option Built) (version : List ℕ) (number : ℕ) → covers built version number ≡ true → number ≤ built_number built version number
 number-covered None version number e = absurd cc
 number-covered (Some built) version number e =
-    elim (version_cmp built.version version) as (λ r. by_order r false (nat_le number built.number) true ≡ true → number ≤ by_order r number built.number number) [
+    elim (version_cmp built.version version) as (λ r. match_ordering r false (nat_le number built.number) true ≡ true → number ≤ match_ordering r number built.number number) [
       | Less ↦ λ e. omega arith
       | Equal ↦ λ e. grind (arith, nat_tests)
       | Greater ↦ λ e. omega arith
@@ -103,7 +103,7 @@ number-same false false built version number e = omega arith
 
 module _ (listed : Listed) (built : Option Built) (available : Pairs) (current : Record) where
   abbrev made_by : Ordering → Record
-  made_by r = by_order r (newer_record listed built current) (same_record listed built available current) current
+  made_by r = match_ordering r (newer_record listed built current) (same_record listed built available current) current
 
   version-by : (r : Ordering) → version_cmp current.version listed.version ≡ r → version_cmp (made_by r).version current.version ≢ Less
   unfolding newer_record same_record relisted
@@ -161,7 +161,7 @@ module _ (listed : Listed) (built : Option Built) (available : Pairs) (current :
       (cond (is_dep_wait current.state) (cond (are_waits_met available current.waits) NeedsBuild current.state) current.state)))) lasts
       ∙ held-state current.state held
 
-  hold-by : (r : Ordering) → is_held current.state ≡ true → by_order r true (covers built listed.version current.number) false ≡ false → HasSameHold current (made_by r)
+  hold-by : (r : Ordering) → is_held current.state ≡ true → match_ordering r true (covers built listed.version current.number) false ≡ false → HasSameHold current (made_by r)
   unfolding newer_record same_record relisted
   hold-by Less held lasts = absurd cc
   hold-by Equal held lasts =
@@ -188,7 +188,7 @@ module _ (listed : Listed) (built : Option Built) (available : Pairs) (current :
   covered-free true state = refl
   covered-free false state = refl
 
-  ended-by : (r : Ordering) → by_order r true (covers built listed.version current.number) false ≡ true → is_held (made_by r).state ≡ false
+  ended-by : (r : Ordering) → match_ordering r true (covers built listed.version current.number) false ≡ true → is_held (made_by r).state ≡ false
   unfolding newer_record same_record relisted
   ended-by Less ends = newer-free (is_not_for_us current.state) (covers built listed.version 0)
   ended-by Equal ends =

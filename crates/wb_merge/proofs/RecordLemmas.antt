@@ -4,6 +4,7 @@ use Rattle.std.proofs.lemmas.Bool.{eqb-true, eq-eqb}
 use Rattle.std.specs.Map.{lookup}
 use Rattle.std.specs.BTreeMap.{is_at}
 use Rattle.std.specs.Ordering.{eq_by_cmp}
+use Rattle.std.specs.Option.{option_eq}
 use Rattle.std.specs.FinMap as finite
 use Rattle.wb_states.specs.declared.record.Record.{Record}
 use Rattle.wb_states.specs.declared.state.State.{State}
@@ -12,7 +13,7 @@ use Rattle.wb_states.specs.Machine.{pair_cmp}
 use Rattle.wb_states.proofs.CodeLemmas.{code_of-differ}
 use Rattle.wb_states.proofs.MapLemmas.{get-lookup}
 use Rattle.wb_states.proofs.KeyLemmas.{pair_cmp_total}
-use Rattle.wb_merge.specs.Merged.{Records, is_same_option, is_same_flag, has_same_source, has_same_place, has_same_texts, is_same_record}
+use Rattle.wb_merge.specs.Merged.{Records, is_same_flag, has_same_source, has_same_place, has_same_texts, is_same_record}
 use Rattle.wb_merge.specs.declared.merge.Change.TheVariants.{Kept, Changed}
 use Rattle.wb_merge.specs.Steps.{Key, IsSetAt, change_of}
 use Rattle.wb_merge.proofs.CheckLemmas.{both-true}
@@ -46,7 +47,7 @@ same-flag true b e = sym e
 same-flag false true e = absurd cc
 same-flag false false e = refl
 
-same-option : {X : Type 0} (test : X → X → Bool) → ((x y : X) → test x y ≡ true → x ≡ y) → (x y : Option X) → is_same_option test x y ≡ true → x ≡ y
+same-option : {X : Type 0} (test : X → X → Bool) → ((x y : X) → test x y ≡ true → x ≡ y) → (x y : Option X) → option_eq test x y ≡ true → x ≡ y
 same-option test is None None e = refl
 same-option test is None (Some y) e = absurd cc
 same-option test is (Some x) None e = absurd cc
@@ -89,7 +90,7 @@ flag-itself : (flag : Bool) → is_same_flag flag flag ≡ true
 flag-itself true = refl
 flag-itself false = refl
 
-option-itself : {X : Type 0} (test : X → X → Bool) → ((x : X) → test x x ≡ true) → (o : Option X) → is_same_option test o o ≡ true
+option-itself : {X : Type 0} (test : X → X → Bool) → ((x : X) → test x x ≡ true) → (o : Option X) → option_eq test o o ≡ true
 option-itself test itself None = refl
 option-itself test itself (Some x) = itself x
 

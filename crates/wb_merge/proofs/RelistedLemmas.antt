@@ -2,6 +2,7 @@
 use Rattle.std.proofs.Common.{ℕ, ◌≤◌, Bool, true, false, cond, List, [], Option, Some, None, IfSome, refl, arith}
 use Rattle.std.specs.declared.cmp.Ordering.{Ordering}
 use Rattle.std.specs.declared.cmp.Ordering.TheVariants.{Less, Equal, Greater}
+use Rattle.std.specs.Ordering.{match_ordering}
 use Rattle.deb_version.specs.Order.{version_cmp}
 use Rattle.deb_relations.specs.Satisfaction.{Pairs}
 use Rattle.wb_states.specs.declared.record.Record.{Record}
@@ -13,7 +14,7 @@ use Rattle.wb_states.specs.Record.{IsWellFormed, IsTextWithin}
 use Rattle.wb_states.specs.State.{is_held, is_dep_wait, is_not_for_us}
 use Rattle.wb_merge.specs.declared.listing.Listed.{Listed}
 use Rattle.wb_merge.specs.declared.listing.Built.{Built}
-use Rattle.wb_merge.specs.Merge.{by_order, covers, built_number, relisted, blank_record, new_state, new_number, new_record, newer_state, newer_number, newer_record, same_state, same_number, same_record, listed_record}
+use Rattle.wb_merge.specs.Merge.{covers, built_number, relisted, blank_record, new_state, new_number, new_record, newer_state, newer_number, newer_record, same_state, same_number, same_record, listed_record}
 use Rattle.wb_merge.proofs.ChosenLemmas.{new-chosen, newer-chosen, same-chosen}
 use Rattle.wb_merge.proofs.ListedLemmas.{IsGoodListed, IsSmallBuilt}
 use Rattle.wb_states.proofs.SettledLemmas.{HasFields, MayStand, empty_within, fields-of, if-kept, stands-free, stands-well, settled-well, kept-note}
@@ -27,7 +28,7 @@ chosen-small false one other first second = second
 built-small : (built : Option Built) (version : List ℕ) (other : ℕ) → IfSome built IsSmallBuilt → other ≤ rebuild_limit → built_number built version other ≤ rebuild_limit
 built-small None version other small is = is
 built-small (Some built) version other small is = at (version_cmp built.version version) where
-  at : (order : Ordering) → by_order order other built.number other ≤ rebuild_limit
+  at : (order : Ordering) → match_ordering order other built.number other ≤ rebuild_limit
   at Less = is
   at Equal = small
   at Greater = is
@@ -136,7 +137,7 @@ pub listed-well : (source : List ℕ) (listed : Listed) (built : Option Built) (
     → IsWellFormed current → IsWellFormed (listed_record listed built available current)
 unfolding listed_record
 listed-well source listed built available current good small old = at (version_cmp current.version listed.version) where
-  at : (order : Ordering) → IsWellFormed (by_order order (newer_record listed built current) (same_record listed built available current) current)
+  at : (order : Ordering) → IsWellFormed (match_ordering order (newer_record listed built current) (same_record listed built available current) current)
   at Less = newer-well source listed built current good small old
   at Equal = same-well source listed built available current good small old
   at Greater = old
@@ -188,7 +189,7 @@ same-left listed built available current =
 pub listed-left : (listed : Listed) (built : Option Built) (available : Pairs) (current : Record) → HasLeft current (listed_record listed built available current)
 unfolding listed_record
 listed-left listed built available current = at (version_cmp current.version listed.version) where
-  at : (order : Ordering) → HasLeft current (by_order order (newer_record listed built current) (same_record listed built available current) current)
+  at : (order : Ordering) → HasLeft current (match_ordering order (newer_record listed built current) (same_record listed built available current) current)
   at Less = newer-left listed built current
   at Equal = same-left listed built available current
   at Greater = record { holder = λ P is. is; take = λ P is. is; waits = λ P none is. is }

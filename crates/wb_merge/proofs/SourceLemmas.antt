@@ -50,9 +50,6 @@ opened text inner (Some x) e is = sym (ap in_brackets e ∙ closed inner x.now i
 
 -- ---- the number at the end of a version
 
-same_bytes : (c : ℕ) → bytes_eq (c ∷ []) (c ∷ []) ≡ true
-same_bytes c = grind (arith, nat_tests)
-
 no_more : (rest : List ℕ) → begins_digit rest ≡ false → leading is_ascii_digit rest ≡ []
 no_more [] none = refl
 no_more (c ∷ cs) none = rw none refl

@@ -1,6 +1,7 @@
 -- A merge of the listing that was merged before changes nothing.
 use Rattle.std.proofs.Common.{◌≡◌, ℕ, Bool, true, false, cond, ◌||◌, List, [], refl, sym, ap, ◌∙◌, Option, Some, None, is_some, bytes_eq, nat_le, arith}
 use Rattle.std.specs.declared.cmp.Ordering.TheVariants.{Less, Equal, Greater}
+use Rattle.std.specs.Ordering.{match_ordering}
 use Rattle.std.proofs.lemmas.Bool.{le-leb}
 use Rattle.std.proofs.lemmas.Cmp.{tied_itself}
 use Rattle.std.specs.FinMap as finite
@@ -15,7 +16,7 @@ use Rattle.wb_states.proofs.KeyLemmas.{pair_cmp_total, pair_cmp-same}
 use Rattle.wb_merge.specs.declared.listing.Listed.{Listed}
 use Rattle.wb_merge.specs.declared.listing.Built.{Built}
 use Rattle.wb_merge.specs.Listing.{ArchiveListing}
-use Rattle.wb_merge.specs.Merge.{after, by_order, covers, built_number, are_waits_met, relisted, blank_record, new_record, newer_record, same_record, listed_record}
+use Rattle.wb_merge.specs.Merge.{after, covers, built_number, are_waits_met, relisted, blank_record, new_record, newer_record, same_record, listed_record}
 use Rattle.wb_merge.specs.Merged.{Records, after_at, merged}
 use Rattle.wb_merge.specs.Steps.{Key}
 use Rattle.wb_merge.proofs.MergeLemmas.{merged-get}
@@ -58,8 +59,8 @@ covers-number : (built : Option Built) (version : List ℕ) (number : ℕ) → c
     → covers built version (built_number built version number) ≡ true
 covers-number None version number e = absurd cc
 covers-number (Some built) version number e =
-    elim (version_cmp built.version version) as (λ r. by_order r false (nat_le number built.number) true ≡ true
-    → by_order r false (nat_le (by_order r number built.number number) built.number) true ≡ true) [
+    elim (version_cmp built.version version) as (λ r. match_ordering r false (nat_le number built.number) true ≡ true
+    → match_ordering r false (nat_le (match_ordering r number built.number number) built.number) true ≡ true) [
       | Less ↦ λ e. e
       | Equal ↦ λ e. le-leb built.number built.number (omega arith)
       | Greater ↦ λ e. refl
@@ -69,8 +70,8 @@ number-twice : (built : Option Built) (version : List ℕ) (number : ℕ)
     → built_number built version (built_number built version number) ≡ built_number built version number
 number-twice None version number = refl
 number-twice (Some built) version number =
-    elim (version_cmp built.version version) as (λ r. by_order r (by_order r number built.number number) built.number (by_order r number built.number number)
-    ≡ by_order r number built.number number) [
+    elim (version_cmp built.version version) as (λ r. match_ordering r (match_ordering r number built.number number) built.number (match_ordering r number built.number number)
+    ≡ match_ordering r number built.number number) [
       | Less ↦ refl
       | Equal ↦ refl
       | Greater ↦ refl
@@ -190,7 +191,7 @@ module _ (listed : Listed) (built : Option Built) (available : Pairs) where
   -- a record of the listed version is brought in line with the listing as one of an equal version
   tied : (current : Record) → version_cmp current.version listed.version ≡ Equal → listed_record listed built available current ≡ same_record listed built available current
   unfolding listed_record
-  tied current e = ap (λ r. by_order r (newer_record listed built current) (same_record listed built available current) current) e
+  tied current e = ap (λ r. match_ordering r (newer_record listed built current) (same_record listed built available current) current) e
 
   -- a record of which all that an earlier version had is cleared
   abbrev as_listed : Record → Record
@@ -213,11 +214,11 @@ module _ (listed : Listed) (built : Option Built) (available : Pairs) where
   unfolding listed_record newer_record same_record relisted
   listed-twice current =
       elim (version_cmp current.version listed.version) as (λ r. version_cmp current.version listed.version ≡ r
-      → listed_record listed built available (by_order r (newer_record listed built current) (same_record listed built available current) current)
-      ≡ by_order r (newer_record listed built current) (same_record listed built available current) current) [
+      → listed_record listed built available (match_ordering r (newer_record listed built current) (same_record listed built available current) current)
+      ≡ match_ordering r (newer_record listed built current) (same_record listed built available current) current) [
         | Less ↦ λ e. tied (newer_record listed built current) (tied_itself version_cmp_total listed.version) ∙ newer-twice current
         | Equal ↦ λ e. tied (same_record listed built available current) e ∙ made-twice current.state current.number current
-        | Greater ↦ λ e. ap (λ r. by_order r (newer_record listed built current) (same_record listed built available current) current) e
+        | Greater ↦ λ e. ap (λ r. match_ordering r (newer_record listed built current) (same_record listed built available current) current) e
       ] refl
 
 new-version : (listed : Listed) (built : Option Built) → version_cmp (new_record listed built).version listed.version ≡ Equal

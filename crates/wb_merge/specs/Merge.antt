@@ -1,7 +1,6 @@
 -- What a merge makes of the record of one source package, case by case (this project's own, in wanna-build's terms).
 use Rattle.std.specs.Prelude.{◌≡◌, ℕ, Bool, true, false, ◌||◌, nat_le, List, [], Option, Some, None, Result, Ok, Err, is_some, if◌then◌else◌}
-use Rattle.std.specs.declared.cmp.Ordering.{Ordering}
-use Rattle.std.specs.declared.cmp.Ordering.TheVariants.{Less, Equal, Greater}
+use Rattle.std.specs.Ordering.{match_ordering}
 use Rattle.deb_version.specs.Order.{version_cmp}
 use Rattle.deb_relations.specs.declared.fault.RelationFault.{RelationFault}
 use Rattle.deb_relations.specs.declared.relations.Alternative.{Alternative}
@@ -15,21 +14,15 @@ use Rattle.wb_states.specs.State.{is_installed, is_dep_wait, is_not_for_us}
 use Rattle.wb_merge.specs.declared.listing.Listed.{Listed}
 use Rattle.wb_merge.specs.declared.listing.Built.{Built}
 
--- one of three, by an order
-abbrev pub by_order : {X : Type 0} → Ordering → X → X → X → X
-by_order Less less equal greater = less
-by_order Equal less equal greater = equal
-by_order Greater less equal greater = greater
-
 -- whether what was built covers a version and a number: it is of a later version, or of an equal one with at least this number
 abbrev pub covers : Option Built → List ℕ → ℕ → Bool
 covers None version number = false
-covers (Some built) version number = by_order (version_cmp built.version version) false (nat_le number built.number) true
+covers (Some built) version number = match_ordering (version_cmp built.version version) false (nat_le number built.number) true
 
 -- the number of what was built, where it is of this version, else another
 abbrev pub built_number : Option Built → List ℕ → ℕ → ℕ
 built_number None version other = other
-built_number (Some built) version other = by_order (version_cmp built.version version) other built.number other
+built_number (Some built) version other = match_ordering (version_cmp built.version version) other built.number other
 
 -- whether relations were read and are met by what is available (Debian Policy 7.1)
 abbrev pub is_reading_met : Pairs → Result (List (List Alternative)) RelationFault → Bool
@@ -127,7 +120,7 @@ same_record listed built available current =
 -- what becomes of a record whose source package is listed: it is of an earlier version, of the same, or of a later one, which stays as it is
 unfoldable pub listed_record : Listed → Option Built → Pairs → Record → Record
 listed_record listed built available current =
-    by_order (version_cmp current.version listed.version) (newer_record listed built current)
+    match_ordering (version_cmp current.version listed.version) (newer_record listed built current)
     (same_record listed built available current) current
 
 -- the record of a source package after a merge: none where it is not listed
@@ -141,7 +134,7 @@ after (Some current) (Some listed) built available = Some (listed_record listed 
 -- whether a listing ends a hold: it has a later version than the record's, or the same one, built with at least the record's number
 abbrev pub ends_hold : Listed → Option Built → Record → Bool
 ends_hold listed built current =
-    by_order (version_cmp current.version listed.version) true (covers built listed.version current.number) false
+    match_ordering (version_cmp current.version listed.version) true (covers built listed.version current.number) false
 
 -- a record that is held as the one before it was: by the same builder, under the same take number, in the same state
 pub record HasSameHold (current new : Record) : Type 0 where

@@ -1,5 +1,6 @@
 -- The records after a merge of one architecture, at each key, and what it counts (this project's own).
 use Rattle.std.specs.Prelude.{◌≡◌, ℕ, Bool, true, false, not, ◌&&◌, nat_eq, List, ◌++◌, length, filter, map, bytes_eq, Option, Some, None, if◌then◌else◌}
+use Rattle.std.specs.Option.{option_eq}
 use Rattle.std.specs.FinMap as finite
 use Rattle.wb_states.specs.declared.record.Record.{Record}
 use Rattle.wb_states.specs.declared.reply.MergeCounts.{MergeCounts}
@@ -36,13 +37,6 @@ pub record BecomesAt (old : Records) (arch : List ℕ) (listing : ArchiveListing
 
 -- ---- what is counted
 
--- whether two values that may be missing are equal, by this test
-abbrev pub is_same_option : {X : Type 0} → (X → X → Bool) → Option X → Option X → Bool
-is_same_option test None None = true
-is_same_option test None (Some y) = false
-is_same_option test (Some x) None = false
-is_same_option test (Some x) (Some y) = test x y
-
 -- whether two flags are equal
 abbrev pub is_same_flag : Bool → Bool → Bool
 is_same_flag true flag = flag
@@ -57,13 +51,13 @@ has_same_source one other =
 -- whether the fields that say where it stands are equal
 unfoldable pub has_same_place : Record → Record → Bool
 has_same_place one other =
-    nat_eq (code_of one.state) (code_of other.state) && (is_same_option bytes_eq one.holder other.holder
-    && is_same_option nat_eq one.take other.take)
+    nat_eq (code_of one.state) (code_of other.state) && (option_eq bytes_eq one.holder other.holder
+    && option_eq nat_eq one.take other.take)
 
 -- whether the texts of relations, notes and messages are equal
 unfoldable pub has_same_texts : Record → Record → Bool
 has_same_texts one other =
-    bytes_eq one.waits other.waits && (is_same_option bytes_eq one.depends other.depends
+    bytes_eq one.waits other.waits && (option_eq bytes_eq one.depends other.depends
     && (bytes_eq one.note other.note && bytes_eq one.message other.message))
 
 -- whether two records are equal in all fields

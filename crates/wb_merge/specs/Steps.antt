@@ -37,10 +37,6 @@ counted counts Changed = record counts { changed = counts.changed + 1 }
 counted counts Kept = record counts { kept = counts.kept + 1 }
 counted counts Removed = record counts { removed = counts.removed + 1 }
 
--- nothing is counted yet
-abbrev pub no_counts : MergeCounts
-no_counts = record { added = 0; changed = 0; kept = 0; removed = 0 }
-
 -- counts of which none is above a number
 pub record AreWithin (limit : ℕ) (counts : MergeCounts) : Type 0 where
   pub added : counts.added ≤ limit

@@ -1,10 +1,10 @@
 //! The merge of one architecture into the records of the office.
 ghost use Rattle.std.specs.Prelude.{◌≡◌, ◌-◌, ◌^◌, bytes_eq, is_some, None, Some, Ok, IfOk, IfErr, OnOk};
-ghost use Rattle.std.specs.Option.{option_map};
+ghost use Rattle.std.specs.Option.{option_map, option_eq};
 ghost use Rattle.std.specs.Map.Iter.{deref};
 ghost use Rattle.std.specs.FinMap as map;
 ghost use Rattle.wb_states.specs.declared.refusal.Refusal.TheVariants.{Memory};
-ghost use Rattle.wb_merge.specs.Merged.{merged, merge_counts, names_of, is_same_option, has_same_source, has_same_place, has_same_texts, is_same_record, recorded_names, after_named};
+ghost use Rattle.wb_merge.specs.Merged.{merged, merge_counts, names_of, has_same_source, has_same_place, has_same_texts, is_same_record, recorded_names, after_named};
 ghost use Rattle.wb_merge.specs.Steps.{record_at, IsSetAt, AreWithin, change_of, counted};
 
 use crate::Listing;
@@ -30,7 +30,7 @@ enum Change {
 }
 
 fn is_same_text(one: &Option<Text>, other: &Option<Text>) -> bool
-    ensures { result ≡ is_same_option bytes_eq one.now other.now }
+    ensures { result ≡ option_eq bytes_eq one.now other.now }
 {
     match (one, other) {
         (Some(one), Some(other)) => one == other,

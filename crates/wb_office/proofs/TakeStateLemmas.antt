@@ -2,6 +2,7 @@
 use Rattle.std.proofs.Common.{◌≡◌, true, false, cond, List, [], ◌∷◌, Option, Some, None, IfSome, is_some, refl, sym, subst, ◌∙◌}
 use Rattle.std.specs.declared.cmp.Ordering.{Ordering}
 use Rattle.std.specs.declared.cmp.Ordering.TheVariants.{Less, Equal, Greater}
+use Rattle.std.specs.Ordering.{match_ordering}
 use Rattle.std.specs.FinMap as map
 use Rattle.deb_version.specs.Order.{version_cmp}
 use Rattle.deb_relations.specs.Satisfaction.{Pairs}
@@ -20,7 +21,7 @@ use Rattle.wb_states.proofs.KeyLemmas.{pair_cmp_total, pair_cmp-same, insert_all
 use Rattle.wb_states.proofs.MoveFormLemmas.{held-before-built, held-before-uploaded}
 use Rattle.wb_merge.specs.declared.listing.Listed.{Listed}
 use Rattle.wb_merge.specs.declared.listing.Built.{Built as WasBuilt}
-use Rattle.wb_merge.specs.Merge.{by_order, relisted, blank_record, new_state, new_record, newer_state, newer_record, same_state, same_record, listed_record, after}
+use Rattle.wb_merge.specs.Merge.{relisted, blank_record, new_state, new_record, newer_state, newer_record, same_state, same_record, listed_record, after}
 use Rattle.wb_office.specs.Checks.{refused_move}
 use Rattle.wb_office.specs.HandOuts.{HasTakeByState, HasTakesByState}
 use Rattle.wb_office.specs.Moving.{moving}
@@ -99,7 +100,7 @@ listed-take : (listed : Listed) (built : Option WasBuilt) (available : Pairs) (c
 unfolding listed_record
 listed-take listed built available current old =
     by (version_cmp current.version listed.version) where
-      by : (order : Ordering) → HasTakeByState (by_order order (newer_record listed built current) (same_record listed built available current) current)
+      by : (order : Ordering) → HasTakeByState (match_ordering order (newer_record listed built current) (same_record listed built available current) current)
       by Less = newer-take listed built current
       by Equal = same-take listed built available current old
       by Greater = old

@@ -1,13 +1,14 @@
 use Rattle.std.proofs.Common.{◌+◌, ◌∙◌, sym, subst, drop, arith}
 use Rattle.std.specs.FinMap as finite
 use Rattle.wb_states.specs.declared.reply.MergeCounts.{MergeCounts}
-use Rattle.wb_merge.specs.Steps.{AreWithin, no_counts}
+use Rattle.wb_merge.specs.Merged.{all_kept}
+use Rattle.wb_merge.specs.Steps.{AreWithin}
 use Rattle.wb_merge.proofs.CountLemmas.{IsHalfMerged, half_merged-start, half_merged-step, half_merged-done, within-next}
 use Rattle.wb_merge.proofs.merge.merge_records.Goals as goal
 
 pub loop-name-init : goal.loop-name-init
 loop-name-init c = record {
-  half = subst (IsHalfMerged (finite.from_entries c.args.records.now.entries) (finite.from_entries c.args.records.now.entries) c.args.arch.now c.args.listing.now no_counts)
+  half = subst (IsHalfMerged (finite.from_entries c.args.records.now.entries) (finite.from_entries c.args.records.now.entries) c.args.arch.now c.args.listing.now (all_kept 0))
       (sym (c.deref-name-items.ensures.value ∙ c.in_ok-names.ensures.value))
       (half_merged-start (finite.from_entries c.args.records.now.entries) c.args.arch.now c.args.listing.now);
   within = record { added = omega arith; changed = omega arith; kept = omega arith; removed = omega arith };
