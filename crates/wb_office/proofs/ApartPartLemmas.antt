@@ -16,7 +16,7 @@ use Rattle.wb_merge.proofs.CheckLemmas.{neither}
 use Rattle.wb_office.specs.Checks.{first_refusal, has_repeated_arch}
 use Rattle.wb_office.specs.Moving.{again_of}
 use Rattle.wb_office.specs.Parts.{part_listing, records_after, records_with}
-use Rattle.wb_office.specs.Step.{change, counted, outcome, step}
+use Rattle.wb_office.specs.Step.{state_after, counted, outcome, step}
 use Rattle.wb_office.proofs.FrameLemmas.{part-others, parts-others}
 use Rattle.wb_office.proofs.PassLemmas.{passes}
 
@@ -61,11 +61,11 @@ merged-part machine sources (one ∷ before) part behind records key once here =
 
 -- a command that is accepted, and by which nothing is told again, is done
 accepted-done : (machine : Machine) (command : Command) → again_of machine command ≡ None → is_ok (step machine command).0 ≡ true
-    → (first_refusal machine command ≡ None) × ((step machine command).1 ≡ counted machine (change machine command))
+    → (first_refusal machine command ≡ None) × ((step machine command).1 ≡ counted machine (state_after machine command))
 unfolding step
 accepted-done machine command again is =
     (elim (first_refusal machine command) as (λ r. first_refusal machine command ≡ r → is_ok (outcome r (again_of machine command) machine command).0 ≡ true
-    → (first_refusal machine command ≡ None) × ((outcome (first_refusal machine command) (again_of machine command) machine command).1 ≡ counted machine (change machine command))) [
+    → (first_refusal machine command ≡ None) × ((outcome (first_refusal machine command) (again_of machine command) machine command).1 ≡ counted machine (state_after machine command))) [
       | Some refusal ↦ λ _ holds. absurd (clash holds)
       | None ↦ λ first _. (first, λ i. (outcome (first i) (again i) machine command).1)
     ]) refl is

@@ -1,5 +1,6 @@
 -- The move that an accepted command makes brings what has its form.
-use Rattle.std.proofs.Common.{◌≡◌, ℕ, ◌+◌, ◌≤◌, false, ◌&&◌, ◌||◌, nat_eq, nat_lt, length, List, Some, None, Result, Ok, Err, IsTrue, refl, sym, ap, subst, arith}
+use Rattle.std.proofs.Common.{◌≡◌, ℕ, ◌+◌, ◌≤◌, false, ◌&&◌, ◌||◌, nat_eq, nat_lt, length, List, Some, None, Result, Ok, Err, IsTrue, refl, sym, ap, subst, arith, []}
+use Rattle.std.specs.Result.{result_err, result_unwrap_or}
 use Rattle.std.proofs.lemmas.Bool.Decides.{nat_tests}
 use Rattle.std.specs.FinSet as set
 use Rattle.std.specs.Str.{IsUtf8}
@@ -20,8 +21,7 @@ use Rattle.wb_states.specs.Queue.{Entry}
 use Rattle.wb_states.specs.Record.{IsTextWithin}
 use Rattle.wb_states.proofs.QueueLemmas.{head_of-waits}
 use Rattle.wb_merge.proofs.CheckLemmas.{both-true, neither}
-use Rattle.wb_office.specs.Checks.{fault_in}
-use Rattle.wb_office.specs.Moving.{groups_in, target_of, move_asked}
+use Rattle.wb_office.specs.Moving.{target_of, move_asked}
 use Rattle.wb_office.specs.Utf8.{HasUtf8Texts}
 use Rattle.wb_office.proofs.MovedLemmas.{IsGoodMove}
 use Rattle.wb_office.proofs.MovingLemmas.{record_named-is}
@@ -32,9 +32,9 @@ short-text : (limit : ℕ) (text : List ℕ) → IsUtf8 text → nat_lt limit (l
 short-text limit text utf8 short = record { utf8 = utf8; within = grind (arith, nat_tests) }
 
 -- relations without a fault were read
-groups-read : (relations : List ℕ) → fault_in (reading_of relations) ≡ None → Reads relations (groups_in (reading_of relations))
+groups-read : (relations : List ℕ) → result_err (reading_of relations) ≡ None → Reads relations (result_unwrap_or (reading_of relations) [])
 groups-read relations is =
-    (elim (reading_of relations) as (λ (read : Result (List (List Alternative)) RelationFault). reading_of relations ≡ read → fault_in read ≡ None → Reads relations (groups_in read)) [
+    (elim (reading_of relations) as (λ (read : Result (List (List Alternative)) RelationFault). reading_of relations ≡ read → result_err read ≡ None → Reads relations (result_unwrap_or read [])) [
       | Ok groups ↦ λ reads _. reading_of-reads relations groups reads
       | Err fault ↦ λ _ h. absurd (some fault h)
     ]) refl is
@@ -86,10 +86,10 @@ asked-good machine handed (of.Uploaded take_number) entry move utf8 given pass t
 asked-good machine handed (of.PutBack take_number) entry move utf8 given pass target is = same-move machine handed entry.0.0 to.PutBack move is tt
 asked-good machine handed (of.GiveBack arch source version) entry move utf8 given pass target is = same-move machine handed entry.0.0 to.GiveBack move is tt
 asked-good machine handed (of.Waits take_number relations) entry move utf8 given pass target is =
-    same-move machine handed entry.0.0 (to.Waits (groups_in (reading_of relations)) (arch_words machine entry.0.0)) move is
+    same-move machine handed entry.0.0 (to.Waits (result_unwrap_or (reading_of relations) []) (arch_words machine entry.0.0)) move is
     (refl, (relations, groups-read relations pass.relations))
 asked-good machine handed (of.DepWait arch source version relations) entry move utf8 given pass target is =
-    same-move machine handed entry.0.0 (to.DepWait (groups_in (reading_of relations)) (arch_words machine entry.0.0)) move is
+    same-move machine handed entry.0.0 (to.DepWait (result_unwrap_or (reading_of relations) []) (arch_words machine entry.0.0)) move is
     (refl, (relations, groups-read relations pass.relations))
 asked-good machine handed (of.Fail arch source version note) entry move utf8 given pass target is =
     same-move machine handed entry.0.0 (to.Fail note) move is (short-text note_limit note utf8 pass.short)

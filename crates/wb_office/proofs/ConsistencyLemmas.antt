@@ -1,9 +1,8 @@
 -- The invariant of the office holds of the empty office, and of one with an architecture, a builder or a record more.
 use Rattle.std.proofs.Common.{◌≡◌, ℕ, ◌+◌, ◌<◌, ◌≤◌, ◌⊎◌, inl, inr, unwrap_or, [], Bool, true, false, ◌||◌, Option, Some, None, IsTrue, IfSome, is_some, refl, sym, ap, subst, ◌∙◌, List, arith, cond}
 use Rattle.std.specs.declared.cmp.Ordering.{Ordering}
-use Rattle.std.specs.Ordering.{eq_by_cmp, is_eq}
+use Rattle.std.specs.Ordering.{eq_by_cmp}
 use Rattle.std.specs.Cmp.{IsTotalOrder}
-use Rattle.std.proofs.lemmas.Cmp.{tied_itself}
 use Rattle.std.specs.FinMap as map
 use Rattle.std.specs.FinSet as set
 use Rattle.wb_states.specs.declared.arch.OsCpu.{OsCpu}
@@ -67,10 +66,6 @@ contains_key-insert {V = V} {R = R} total m k v q h = ap is_some (map.get-insert
   there : (b : Bool) (found : Option V) → is_some found ≡ true → is_some (cond b (Some v) found) ≡ true
   there true found h = refl
   there false found h = h
-
-pub contains_key-inserted : {K V : Type 0} {R : K → K → Ordering} → IsTotalOrder R → (m : map.FinMap R V) (k : K) (v : V)
-    → IsTrue (map.contains_key (map.insert m k v) k)
-contains_key-inserted {V = V} {R = R} total m k v = ap is_some (map.get-insert total m k v k) ∙ ap (λ r. is_some (cond (is_eq r) (Some v) (map.get m k))) (tied_itself total k)
 
 -- an item that was there is there after an insertion
 pub contains-insert : {K : Type 0} {R : K → K → Ordering} → IsTotalOrder R → (s : set.FinSet R) (k q : K) → IsTrue (set.contains s q) → IsTrue (set.contains (set.insert s k) q)

@@ -22,7 +22,7 @@ use Rattle.wb_merge.specs.Merge.{after}
 use Rattle.wb_office.specs.Checks.{first_refusal, is_not_held, refused_move, take_named}
 use Rattle.wb_office.specs.Moving.{again_of, move_asked, moving}
 use Rattle.wb_office.specs.Replay.{replay}
-use Rattle.wb_office.specs.Step.{after_move, change, entered, outcome, step}
+use Rattle.wb_office.specs.Step.{after_move, state_after, entered, outcome, step}
 use Rattle.wb_office.proofs.HandOutLemmas.{step-handed}
 use Rattle.wb_office.proofs.HeldLemmas.{step-Built, taken_step-NotHeld}
 use Rattle.wb_office.proofs.MergedLemmas.{records_after-keeps}
@@ -102,33 +102,33 @@ moving-free take_number machine command below old allowed =
           (moved-free take_number asked.1 asked.0.1 (asked-other take_number machine command _ asked.1 below may.asks) had) old
     ]) refl
 
-change-free : (take_number : ℕ) (machine : Machine) (command : Command) → take_number ≤ machine.handed → IsFree take_number machine → refused_move machine command ≡ None
-    → IsFree take_number (change machine command)
-change-free take_number machine (of.AddArch name os cpu) below old allowed = old
-change-free take_number machine (of.AddBuilder name arch) below old allowed = old
-change-free take_number machine (of.Enter arch source version priority section) below old allowed =
+state_after-free : (take_number : ℕ) (machine : Machine) (command : Command) → take_number ≤ machine.handed → IsFree take_number machine → refused_move machine command ≡ None
+    → IsFree take_number (state_after machine command)
+state_after-free take_number machine (of.AddArch name os cpu) below old allowed = old
+state_after-free take_number machine (of.AddBuilder name arch) below old allowed = old
+state_after-free take_number machine (of.Enter arch source version priority section) below old allowed =
     insert_all pair_cmp_total pair_cmp-same (λ key. IsNotTaken take_number) machine.records (arch, source) (entered version priority section) tt old
-change-free take_number machine (of.Merge sources parts) below old allowed =
+state_after-free take_number machine (of.Merge sources parts) below old allowed =
     records_after-keeps (λ key. IsNotTaken take_number) machine sources parts
     (λ part listing is source found had. after-free take_number found (map.get listing.listed source) (map.get listing.built source) listing.available had) machine.records old
-change-free take_number machine (of.Next arch builder after) below old allowed = moving-free take_number machine (of.Next arch builder after) below old allowed
-change-free take_number machine (of.Take arch builder source version) below old allowed = moving-free take_number machine (of.Take arch builder source version) below old allowed
-change-free take_number machine (of.Built number) below old allowed = moving-free take_number machine (of.Built number) below old allowed
-change-free take_number machine (of.Uploaded number) below old allowed = moving-free take_number machine (of.Uploaded number) below old allowed
-change-free take_number machine (of.Waits number relations) below old allowed = moving-free take_number machine (of.Waits number relations) below old allowed
-change-free take_number machine (of.PutBack number) below old allowed = moving-free take_number machine (of.PutBack number) below old allowed
-change-free take_number machine (of.GiveBack arch source version) below old allowed = moving-free take_number machine (of.GiveBack arch source version) below old allowed
-change-free take_number machine (of.DepWait arch source version relations) below old allowed =
+state_after-free take_number machine (of.Next arch builder after) below old allowed = moving-free take_number machine (of.Next arch builder after) below old allowed
+state_after-free take_number machine (of.Take arch builder source version) below old allowed = moving-free take_number machine (of.Take arch builder source version) below old allowed
+state_after-free take_number machine (of.Built number) below old allowed = moving-free take_number machine (of.Built number) below old allowed
+state_after-free take_number machine (of.Uploaded number) below old allowed = moving-free take_number machine (of.Uploaded number) below old allowed
+state_after-free take_number machine (of.Waits number relations) below old allowed = moving-free take_number machine (of.Waits number relations) below old allowed
+state_after-free take_number machine (of.PutBack number) below old allowed = moving-free take_number machine (of.PutBack number) below old allowed
+state_after-free take_number machine (of.GiveBack arch source version) below old allowed = moving-free take_number machine (of.GiveBack arch source version) below old allowed
+state_after-free take_number machine (of.DepWait arch source version relations) below old allowed =
     moving-free take_number machine (of.DepWait arch source version relations) below old allowed
-change-free take_number machine (of.Fail arch source version note) below old allowed = moving-free take_number machine (of.Fail arch source version note) below old allowed
-change-free take_number machine (of.NotForUs arch source version note) below old allowed =
+state_after-free take_number machine (of.Fail arch source version note) below old allowed = moving-free take_number machine (of.Fail arch source version note) below old allowed
+state_after-free take_number machine (of.NotForUs arch source version note) below old allowed =
     moving-free take_number machine (of.NotForUs arch source version note) below old allowed
-change-free take_number machine (of.Rebuild arch source version number message) below old allowed =
+state_after-free take_number machine (of.Rebuild arch source version number message) below old allowed =
     moving-free take_number machine (of.Rebuild arch source version number message) below old allowed
 
 step-free : (take_number : ℕ) (machine : Machine) (command : Command) → take_number ≤ machine.handed → IsFree take_number machine → IsFree take_number (step machine command).1
 step-free take_number machine command below old =
-    step-either (IsFree take_number) machine command old (λ pass _. change-free take_number machine command below old pass.move)
+    step-either (IsFree take_number) machine command old (λ pass _. state_after-free take_number machine command below old pass.move)
 
 replay-free : (take_number : ℕ) (machine : Machine) (commands : List Command) → take_number ≤ machine.handed → IsFree take_number machine
     → IsFree take_number (replay machine commands)

@@ -19,7 +19,7 @@ use Rattle.wb_merge.proofs.MergeLemmas.{merged-get}
 use Rattle.wb_office.specs.Checks.{refused_move}
 use Rattle.wb_office.specs.Moving.{MayChange, moving, target_of}
 use Rattle.wb_office.specs.Parts.{part_listing, records_after, records_with}
-use Rattle.wb_office.specs.Step.{after_move, change, entered, step}
+use Rattle.wb_office.specs.Step.{after_move, state_after, entered, step}
 use Rattle.wb_office.proofs.MovingLemmas.{moving-may}
 use Rattle.wb_office.proofs.PassLemmas.{step-either}
 
@@ -67,27 +67,27 @@ moving-others machine command key allowed apart =
           insert-other machine.records asked.0.0 key (moved asked.1 asked.0.1) (λ same. apart (asked.0, (may.target, same)))
     ]) refl
 
-change-others : (machine : Machine) (command : Command) (key : List ℕ × List ℕ) → refused_move machine command ≡ None → (MayChange machine command key → ⊥)
-    → map.get (change machine command).records key ≡ map.get machine.records key
-change-others machine (of.AddArch name os cpu) key allowed apart = refl
-change-others machine (of.AddBuilder name arch) key allowed apart = refl
-change-others machine (of.Enter arch source version priority section) key allowed apart =
+state_after-others : (machine : Machine) (command : Command) (key : List ℕ × List ℕ) → refused_move machine command ≡ None → (MayChange machine command key → ⊥)
+    → map.get (state_after machine command).records key ≡ map.get machine.records key
+state_after-others machine (of.AddArch name os cpu) key allowed apart = refl
+state_after-others machine (of.AddBuilder name arch) key allowed apart = refl
+state_after-others machine (of.Enter arch source version priority section) key allowed apart =
     insert-other machine.records (arch, source) key (entered version priority section) apart
-change-others machine (of.Merge sources parts) key allowed apart = parts-others machine sources parts machine.records key apart
-change-others machine (of.Next arch builder after) key allowed apart = moving-others machine (of.Next arch builder after) key allowed apart
-change-others machine (of.Take arch builder source version) key allowed apart = moving-others machine (of.Take arch builder source version) key allowed apart
-change-others machine (of.Built number) key allowed apart = moving-others machine (of.Built number) key allowed apart
-change-others machine (of.Uploaded number) key allowed apart = moving-others machine (of.Uploaded number) key allowed apart
-change-others machine (of.Waits number relations) key allowed apart = moving-others machine (of.Waits number relations) key allowed apart
-change-others machine (of.PutBack number) key allowed apart = moving-others machine (of.PutBack number) key allowed apart
-change-others machine (of.GiveBack arch source version) key allowed apart = moving-others machine (of.GiveBack arch source version) key allowed apart
-change-others machine (of.DepWait arch source version relations) key allowed apart = moving-others machine (of.DepWait arch source version relations) key allowed apart
-change-others machine (of.Fail arch source version note) key allowed apart = moving-others machine (of.Fail arch source version note) key allowed apart
-change-others machine (of.NotForUs arch source version note) key allowed apart = moving-others machine (of.NotForUs arch source version note) key allowed apart
-change-others machine (of.Rebuild arch source version number message) key allowed apart =
+state_after-others machine (of.Merge sources parts) key allowed apart = parts-others machine sources parts machine.records key apart
+state_after-others machine (of.Next arch builder after) key allowed apart = moving-others machine (of.Next arch builder after) key allowed apart
+state_after-others machine (of.Take arch builder source version) key allowed apart = moving-others machine (of.Take arch builder source version) key allowed apart
+state_after-others machine (of.Built number) key allowed apart = moving-others machine (of.Built number) key allowed apart
+state_after-others machine (of.Uploaded number) key allowed apart = moving-others machine (of.Uploaded number) key allowed apart
+state_after-others machine (of.Waits number relations) key allowed apart = moving-others machine (of.Waits number relations) key allowed apart
+state_after-others machine (of.PutBack number) key allowed apart = moving-others machine (of.PutBack number) key allowed apart
+state_after-others machine (of.GiveBack arch source version) key allowed apart = moving-others machine (of.GiveBack arch source version) key allowed apart
+state_after-others machine (of.DepWait arch source version relations) key allowed apart = moving-others machine (of.DepWait arch source version relations) key allowed apart
+state_after-others machine (of.Fail arch source version note) key allowed apart = moving-others machine (of.Fail arch source version note) key allowed apart
+state_after-others machine (of.NotForUs arch source version note) key allowed apart = moving-others machine (of.NotForUs arch source version note) key allowed apart
+state_after-others machine (of.Rebuild arch source version number message) key allowed apart =
     moving-others machine (of.Rebuild arch source version number message) key allowed apart
 
 pub step-others : (machine : Machine) (command : Command) (key : List ℕ × List ℕ) → (MayChange machine command key → ⊥)
     → map.get (step machine command).1.records key ≡ map.get machine.records key
 step-others machine command key apart =
-    step-either (λ after. map.get after.records key ≡ map.get machine.records key) machine command refl (λ pass _. change-others machine command key pass.move apart)
+    step-either (λ after. map.get after.records key ≡ map.get machine.records key) machine command refl (λ pass _. state_after-others machine command key pass.move apart)

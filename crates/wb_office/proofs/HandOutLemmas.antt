@@ -1,5 +1,6 @@
 -- Take numbers rise, and a source package is handed out again only where the hold was ended.
 use Rattle.std.proofs.Common.{◌≡◌, ℕ, ◌+◌, ◌≤◌, true, false, cond, List, [], ◌∷◌, ◌++◌, inl, inr, Option, Some, None, Ok, IfSome, is_ok, is_some, eq-eqb, nat_eq, option_and_then, refl, sym, ap, subst, ◌∙◌, arith}
+use Rattle.std.specs.List.{cons_option}
 use Rattle.std.specs.Ordering.{is_eq}
 use Rattle.std.proofs.lemmas.Cmp.{tied_itself}
 use Rattle.std.specs.FinMap as map
@@ -17,10 +18,10 @@ use Rattle.wb_states.specs.Queue.{Entry}
 use Rattle.wb_states.specs.State.{is_held}
 use Rattle.wb_states.proofs.KeyLemmas.{pair_cmp_total}
 use Rattle.wb_office.specs.Checks.{first_refusal}
-use Rattle.wb_office.specs.HandOuts.{HandOut, IsBeingBuilt, HasTakeByState, HasTakesByState, Ends, Rise, given_by, hand_out, hand_outs, onto_hand_outs, holds, is_held_as}
+use Rattle.wb_office.specs.HandOuts.{HandOut, IsBeingBuilt, HasTakeByState, HasTakesByState, Ends, Rise, given_by, hand_out, hand_outs, holds, is_held_as}
 use Rattle.wb_office.specs.Moving.{target_of, moving, with_move, again_of}
 use Rattle.wb_office.specs.Replay.{replay}
-use Rattle.wb_office.specs.Step.{outcome, step, change, counted, after_move, after_take, reply_to, assignment_reply}
+use Rattle.wb_office.specs.Step.{outcome, step, state_after, counted, after_move, after_take, reply_to, assignment_reply}
 use Rattle.wb_office.proofs.MovingLemmas.{MayMove, moving-may}
 use Rattle.wb_office.proofs.PassLemmas.{Passes, passes, step-either}
 use Rattle.wb_office.proofs.TakeStateLemmas.{allowed-from, replay-takes, step-takes}
@@ -51,7 +52,7 @@ abbrev AsksFor : Machine → Command → List ℕ → Type 0
 AsksFor machine command builder =
     ((entry : Entry) → with_move machine command entry ≡ Some (entry, to.Take builder (machine.handed + 1)))
     × (reply_to machine command ≡ assignment_reply machine (target_of machine command))
-    × (change machine command ≡ after_take machine (moving machine command))
+    × (state_after machine command ≡ after_take machine (moving machine command))
 
 assigned-given : (machine : Machine) (builder : List ℕ) (found : Option Entry) (given : HandOut) → given_by builder (Ok (assignment_reply machine found)) ≡ Some given
     → (entry : Entry) × ((found ≡ Some entry) × ((given.key ≡ entry.0) × ((given.take ≡ machine.handed + 1) × (given.builder ≡ builder))))
@@ -61,7 +62,7 @@ assigned-given machine builder (Some entry) given is =
     (entry, (refl, (sym (ap (λ (g : HandOut). g.key) same), (sym (ap (λ (g : HandOut). g.take) same), sym (ap (λ (g : HandOut). g.builder) same)))))
 
 accepted-given : (machine : Machine) (command : Command) (builder : List ℕ) (given : HandOut) → AsksFor machine command builder → Passes machine command
-    → given_by builder (Ok (reply_to machine command)) ≡ Some given → IsHandedOut machine (counted machine (change machine command)) given
+    → given_by builder (Ok (reply_to machine command)) ≡ Some given → IsHandedOut machine (counted machine (state_after machine command)) given
 unfolding moving
 accepted-given machine command builder given asks pass is =
     let assigned = assigned-given machine builder (target_of machine command) given (sym (ap (λ reply. given_by builder (Ok reply)) asks.1) ∙ is) in
@@ -69,7 +70,7 @@ accepted-given machine command builder given asks pass is =
     let move : Move = to.Take builder (machine.handed + 1) in
     let found : moving machine command ≡ Some (entry, move) = ap (option_and_then (with_move machine command)) assigned.1.0 ∙ asks.0 entry in
     let may : MayMove machine command (entry, move) = moving-may machine command (entry, move) pass.move found in
-    let done : change machine command ≡ after_take machine (Some (entry, move)) = asks.2 ∙ ap (after_take machine) found in
+    let done : state_after machine command ≡ after_take machine (Some (entry, move)) = asks.2 ∙ ap (after_take machine) found in
     record {
       entry = entry;
       builder = builder;
@@ -112,25 +113,25 @@ move-handed machine None = omega arith
 move-handed machine (Some asked) = omega arith
 
 -- no command takes a take number back
-change-handed : (machine : Machine) (command : Command) → machine.handed ≤ (change machine command).handed
-change-handed machine (of.AddArch name os cpu) = omega arith
-change-handed machine (of.AddBuilder name arch) = omega arith
-change-handed machine (of.Enter arch source version priority section) = omega arith
-change-handed machine (of.Next arch builder after) = omega arith
-change-handed machine (of.Take arch builder source version) = omega arith
-change-handed machine (of.Merge sources parts) = omega arith
-change-handed machine (of.Built take_number) = move-handed machine (moving machine (of.Built take_number))
-change-handed machine (of.Uploaded take_number) = move-handed machine (moving machine (of.Uploaded take_number))
-change-handed machine (of.Waits take_number relations) = move-handed machine (moving machine (of.Waits take_number relations))
-change-handed machine (of.PutBack take_number) = move-handed machine (moving machine (of.PutBack take_number))
-change-handed machine (of.GiveBack arch source version) = move-handed machine (moving machine (of.GiveBack arch source version))
-change-handed machine (of.DepWait arch source version relations) = move-handed machine (moving machine (of.DepWait arch source version relations))
-change-handed machine (of.Fail arch source version note) = move-handed machine (moving machine (of.Fail arch source version note))
-change-handed machine (of.NotForUs arch source version note) = move-handed machine (moving machine (of.NotForUs arch source version note))
-change-handed machine (of.Rebuild arch source version number message) = move-handed machine (moving machine (of.Rebuild arch source version number message))
+state_after-handed : (machine : Machine) (command : Command) → machine.handed ≤ (state_after machine command).handed
+state_after-handed machine (of.AddArch name os cpu) = omega arith
+state_after-handed machine (of.AddBuilder name arch) = omega arith
+state_after-handed machine (of.Enter arch source version priority section) = omega arith
+state_after-handed machine (of.Next arch builder after) = omega arith
+state_after-handed machine (of.Take arch builder source version) = omega arith
+state_after-handed machine (of.Merge sources parts) = omega arith
+state_after-handed machine (of.Built take_number) = move-handed machine (moving machine (of.Built take_number))
+state_after-handed machine (of.Uploaded take_number) = move-handed machine (moving machine (of.Uploaded take_number))
+state_after-handed machine (of.Waits take_number relations) = move-handed machine (moving machine (of.Waits take_number relations))
+state_after-handed machine (of.PutBack take_number) = move-handed machine (moving machine (of.PutBack take_number))
+state_after-handed machine (of.GiveBack arch source version) = move-handed machine (moving machine (of.GiveBack arch source version))
+state_after-handed machine (of.DepWait arch source version relations) = move-handed machine (moving machine (of.DepWait arch source version relations))
+state_after-handed machine (of.Fail arch source version note) = move-handed machine (moving machine (of.Fail arch source version note))
+state_after-handed machine (of.NotForUs arch source version note) = move-handed machine (moving machine (of.NotForUs arch source version note))
+state_after-handed machine (of.Rebuild arch source version number message) = move-handed machine (moving machine (of.Rebuild arch source version number message))
 
 pub step-handed : (machine : Machine) (command : Command) → machine.handed ≤ (step machine command).1.handed
-step-handed machine command = step-either (λ after. machine.handed ≤ after.handed) machine command (omega arith) (λ _ _. change-handed machine command)
+step-handed machine command = step-either (λ after. machine.handed ≤ after.handed) machine command (omega arith) (λ _ _. state_after-handed machine command)
 
 -- what rises from above a number rises from above each lesser one
 rise-from : (number other : ℕ) (given : List HandOut) → number ≤ other → Rise other given → Rise number given
@@ -141,7 +142,7 @@ pub rise : (machine : Machine) (commands : List Command) → Rise machine.handed
 rise machine [] = tt
 rise machine (command ∷ commands) =
     let later = rise (step machine command).1 commands in
-    (elim (hand_out machine command) as (λ found. hand_out machine command ≡ found → Rise machine.handed (onto_hand_outs found (hand_outs (step machine command).1 commands))) [
+    (elim (hand_out machine command) as (λ found. hand_out machine command ≡ found → Rise machine.handed (cons_option found (hand_outs (step machine command).1 commands))) [
       | None ↦ λ _. rise-from machine.handed (step machine command).1.handed (hand_outs (step machine command).1 commands) (step-handed machine command) later
       | Some given ↦ λ is.
           let known = hand_out-is machine command given is in

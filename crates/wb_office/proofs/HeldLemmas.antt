@@ -1,6 +1,7 @@
 -- What the commands answer that move a record by its take number.
 use Rattle.std.specs.Option.{option_or}
 use Rattle.std.proofs.Common.{◌≡◌, ℕ, ◌+◌, List, [], ◌∷◌, Option, Some, None, Ok, Err, refl, sym, ap, ◌∙◌, nat_le, is_none, option_and_then, option_map}
+use Rattle.std.specs.Result.{result_err, result_unwrap_or}
 use Rattle.deb_relations.specs.declared.arch.ArchWords.{ArchWords}
 use Rattle.deb_relations.specs.declared.relations.Alternative.{Alternative}
 use Rattle.deb_relations.specs.Reading.{reading_of}
@@ -16,9 +17,9 @@ use Rattle.wb_states.specs.Machine.{Machine, arch_words}
 use Rattle.wb_states.specs.Moves.{move_refusal}
 use Rattle.wb_states.specs.Queue.{Entry}
 use Rattle.wb_merge.specs.Rows.{first_some}
-use Rattle.wb_office.specs.Checks.{when, fault_in, text_refusal, state_refusal}
+use Rattle.wb_office.specs.Checks.{when, text_refusal, state_refusal}
 use Rattle.wb_office.specs.Found.{outcome_unless, move_step, relations_refusal, taken_at, taken_step}
-use Rattle.wb_office.specs.Moving.{groups_in, moving}
+use Rattle.wb_office.specs.Moving.{moving}
 use Rattle.wb_office.specs.Step.{step, counted, after_move}
 use Rattle.wb_office.proofs.StepLemmas.{step-state, step-text}
 
@@ -50,20 +51,20 @@ step-PutBack machine take_number =
     step-state machine (PutBack take_number) refl refl ∙ taken-answer machine (λ _. to.PutBack) (taken_as machine take_number)
 
 waits_move : Machine → List ℕ → Entry → Move
-waits_move machine relations entry = to.Waits (groups_in (reading_of relations)) (arch_words machine entry.0.0)
+waits_move machine relations entry = to.Waits (result_unwrap_or (reading_of relations) []) (arch_words machine entry.0.0)
 
 waits-text : (take_number : ℕ) (relations : List ℕ) (groups : List (List Alternative)) → reading_of relations ≡ Ok groups
     → text_refusal (Waits take_number relations) ≡ None
 unfolding text_refusal
 waits-text take_number relations groups reads =
-    ap (λ reading. option_or (option_map (λ fault. BadRelations (Some fault)) (fault_in reading)) None) reads
+    ap (λ reading. option_or (option_map (λ fault. BadRelations (Some fault)) (result_err reading)) None) reads
 
 step-Waits : (machine : Machine) (take_number : ℕ) (relations : List ℕ) (groups : List (List Alternative)) → reading_of relations ≡ Ok groups
     → step machine (Waits take_number relations) ≡ taken_step machine take_number (waits_move machine relations)
 unfolding state_refusal moving taken_step waits_move
 step-Waits machine take_number relations groups reads =
     step-state machine (Waits take_number relations) (waits-text take_number relations groups reads) refl
-    ∙ taken-answer machine (λ entry. to.Waits (groups_in (reading_of relations)) (arch_words machine entry.0.0)) (taken_as machine take_number)
+    ∙ taken-answer machine (λ entry. to.Waits (result_unwrap_or (reading_of relations) []) (arch_words machine entry.0.0)) (taken_as machine take_number)
 
 pub waits-BadRelations : (machine : Machine) (take_number : ℕ) (relations : List ℕ) (refusal : Refusal) → relations_refusal relations ≡ Some refusal
     → step machine (Waits take_number relations) ≡ (Err refusal, machine)
@@ -83,7 +84,7 @@ pub waits-moves : (machine : Machine) (take_number : ℕ) (relations : List ℕ)
 unfolding taken_step waits_move
 waits-moves machine take_number relations groups words entry reads found named =
     step-Waits machine take_number relations groups reads ∙ ap (taken_at machine (waits_move machine relations)) found
-    ∙ (λ i. move_step machine entry (to.Waits (groups_in (reads i)) (sym named i)))
+    ∙ (λ i. move_step machine entry (to.Waits (result_unwrap_or (reads i) []) (sym named i)))
 
 pub taken_step-NotHeld : (machine : Machine) (take_number : ℕ) (moves : Entry → Move) → taken_as machine take_number ≡ None
     → taken_step machine take_number moves ≡ (Err NotHeld, machine)

@@ -17,7 +17,7 @@ use Rattle.wb_states.specs.Queue.{Entry}
 use Rattle.wb_states.specs.Record.{IsWellFormed, is_empty_text}
 use Rattle.wb_office.specs.Moving.{again_of, moving}
 use Rattle.wb_office.specs.Replay.{replay}
-use Rattle.wb_office.specs.Step.{step, change, counted, entered, after_move, after_take}
+use Rattle.wb_office.specs.Step.{step, state_after, counted, entered, after_move, after_take}
 use Rattle.wb_office.specs.Utf8.{HasUtf8Texts, HaveUtf8Texts}
 use Rattle.wb_office.proofs.AskedLemmas.{HasHanded, asked-good}
 use Rattle.wb_office.proofs.ConsistencyLemmas.{IsFreshOrKept, with_arch, with_builder, with_record, with_counts}
@@ -113,16 +113,16 @@ moving-keeps machine command old utf8 given pass room =
 room-for : (machine : Machine) → nat_le count_limit machine.accepted ≡ false → machine.accepted < count_limit
 room-for machine is = leb-false count_limit machine.accepted is
 
-change-keeps : (machine : Machine) (command : Command) → IsConsistent machine → HasUtf8Texts command → Passes machine command → again_of machine command ≡ None
-    → IsConsistent (counted machine (change machine command))
-change-keeps machine (of.AddArch name os cpu) old utf8 pass again =
+state_after-keeps : (machine : Machine) (command : Command) → IsConsistent machine → HasUtf8Texts command → Passes machine command → again_of machine command ≡ None
+    → IsConsistent (counted machine (state_after machine command))
+state_after-keeps machine (of.AddArch name os cpu) old utf8 pass again =
     let names = both-true (is_arch_name name) (is_os_cpu_word os && is_os_cpu_word cpu) (not-false _ pass.names) in
     let words = both-true (is_os_cpu_word os) (is_os_cpu_word cpu) names.1 in
     with_arch machine name (record { os = os; cpu = cpu }) old (record { name = names.0; os = words.0; cpu = words.1 }) pass.there (room-for machine pass.room)
-change-keeps machine (of.AddBuilder name arch) old utf8 pass again =
+state_after-keeps machine (of.AddBuilder name arch) old utf8 pass again =
     let names = both-true (is_builder_name name) (is_arch_name arch) (not-false _ pass.names) in
     with_builder machine name arch old (record { name = names.0; known = not-false _ pass.arch }) (room-for machine pass.room)
-change-keeps machine (of.Enter arch source version priority section) old utf8 pass again =
+state_after-keeps machine (of.Enter arch source version priority section) old utf8 pass again =
     let names = both-true (is_arch_name arch) (is_package_name source && (is_label_text priority && is_label_text section)) (not-false _ pass.names) in
     let later = both-true (is_package_name source) (is_label_text priority && is_label_text section) names.1 in
     let labels = both-true (is_label_text priority) (is_label_text section) later.1 in
@@ -136,32 +136,32 @@ change-keeps machine (of.Enter arch source version priority section) old utf8 pa
     } in
     let given = old.handed in
     with_record machine (arch, source) (entered version priority section) machine.handed old is tt (omega arith) given (room-for machine pass.room)
-change-keeps machine (of.Next arch builder after) old utf8 pass again =
+state_after-keeps machine (of.Next arch builder after) old utf8 pass again =
     let counts = nat_le count_limit machine.accepted || nat_le count_limit machine.handed in
     let spent = neither (nat_le count_limit machine.accepted) (nat_le count_limit machine.handed) (sym (ap (λ found. is_none found && counts) again) ∙ pass.room) in
     taking-keeps machine (of.Next arch builder after) old utf8 refl pass (leb-false count_limit machine.handed spent.1) (room-for machine spent.0)
-change-keeps machine (of.Take arch builder source version) old utf8 pass again =
+state_after-keeps machine (of.Take arch builder source version) old utf8 pass again =
     let spent = neither (nat_le count_limit machine.accepted) (nat_le count_limit machine.handed) pass.room in
     taking-keeps machine (of.Take arch builder source version) old utf8 refl pass (leb-false count_limit machine.handed spent.1) (room-for machine spent.0)
-change-keeps machine (of.Merge sources parts) old utf8 pass again = merging-keeps machine sources parts old (room-for machine pass.room)
-change-keeps machine (of.Built take_number) old utf8 pass again = moving-keeps machine (of.Built take_number) old utf8 tt pass (room-for machine pass.room)
-change-keeps machine (of.Uploaded take_number) old utf8 pass again = moving-keeps machine (of.Uploaded take_number) old utf8 tt pass (room-for machine pass.room)
-change-keeps machine (of.Waits take_number relations) old utf8 pass again =
+state_after-keeps machine (of.Merge sources parts) old utf8 pass again = merging-keeps machine sources parts old (room-for machine pass.room)
+state_after-keeps machine (of.Built take_number) old utf8 pass again = moving-keeps machine (of.Built take_number) old utf8 tt pass (room-for machine pass.room)
+state_after-keeps machine (of.Uploaded take_number) old utf8 pass again = moving-keeps machine (of.Uploaded take_number) old utf8 tt pass (room-for machine pass.room)
+state_after-keeps machine (of.Waits take_number relations) old utf8 pass again =
     moving-keeps machine (of.Waits take_number relations) old utf8 tt pass (room-for machine pass.room)
-change-keeps machine (of.PutBack take_number) old utf8 pass again = moving-keeps machine (of.PutBack take_number) old utf8 tt pass (room-for machine pass.room)
-change-keeps machine (of.GiveBack arch source version) old utf8 pass again =
+state_after-keeps machine (of.PutBack take_number) old utf8 pass again = moving-keeps machine (of.PutBack take_number) old utf8 tt pass (room-for machine pass.room)
+state_after-keeps machine (of.GiveBack arch source version) old utf8 pass again =
     moving-keeps machine (of.GiveBack arch source version) old utf8 tt pass (room-for machine pass.room)
-change-keeps machine (of.DepWait arch source version relations) old utf8 pass again =
+state_after-keeps machine (of.DepWait arch source version relations) old utf8 pass again =
     moving-keeps machine (of.DepWait arch source version relations) old utf8 tt pass (room-for machine pass.room)
-change-keeps machine (of.Fail arch source version note) old utf8 pass again =
+state_after-keeps machine (of.Fail arch source version note) old utf8 pass again =
     moving-keeps machine (of.Fail arch source version note) old utf8 tt pass (room-for machine pass.room)
-change-keeps machine (of.NotForUs arch source version note) old utf8 pass again =
+state_after-keeps machine (of.NotForUs arch source version note) old utf8 pass again =
     moving-keeps machine (of.NotForUs arch source version note) old utf8 tt pass (room-for machine pass.room)
-change-keeps machine (of.Rebuild arch source version number message) old utf8 pass again =
+state_after-keeps machine (of.Rebuild arch source version number message) old utf8 pass again =
     moving-keeps machine (of.Rebuild arch source version number message) old utf8 tt pass (room-for machine pass.room)
 
 pub step-keeps : (machine : Machine) (command : Command) → HasUtf8Texts command → IsConsistent machine → IsConsistent (step machine command).1
-step-keeps machine command utf8 old = step-either IsConsistent machine command old (change-keeps machine command old utf8)
+step-keeps machine command utf8 old = step-either IsConsistent machine command old (state_after-keeps machine command old utf8)
 
 pub replay-keeps : (machine : Machine) (commands : List Command) → HaveUtf8Texts commands → IsConsistent machine → IsConsistent (replay machine commands)
 replay-keeps machine [] utf8 old = old

@@ -1,6 +1,7 @@
 -- What the commands that name a source package answer to their texts.
 use Rattle.std.specs.Option.{option_or}
-use Rattle.std.proofs.Common.{◌≡◌, ◌≢◌, ℕ, ◌||◌, Bool, true, false, List, Some, None, Ok, Err, refl, sym, ap, ◌∙◌, nat_eq, nat_lt, length, option_map, if◌then◌else◌}
+use Rattle.std.proofs.Common.{◌≡◌, ◌≢◌, ℕ, ◌||◌, Bool, true, false, List, Some, None, Ok, Err, refl, sym, ap, ◌∙◌, nat_eq, nat_lt, length, option_map, if◌then◌else◌, []}
+use Rattle.std.specs.Result.{result_err, result_unwrap_or}
 use Rattle.deb_version.specs.Syntax.{fault_of}
 use Rattle.deb_relations.specs.declared.arch.ArchWords.{ArchWords}
 use Rattle.deb_relations.specs.declared.relations.Alternative.{Alternative}
@@ -11,9 +12,8 @@ use Rattle.wb_states.specs.declared.refusal.Refusal.{Refusal}
 use Rattle.wb_states.specs.declared.refusal.Refusal.TheVariants.{BadName, BadVersion, BadRelations, BadNumber, TextTooLong, Memory}
 use Rattle.wb_states.specs.Limits.{note_limit, rebuild_limit}
 use Rattle.wb_states.specs.Machine.{Machine, arch_words}
-use Rattle.wb_office.specs.Checks.{when, fault_in, has_bad_key, text_refusal}
+use Rattle.wb_office.specs.Checks.{when, has_bad_key, text_refusal}
 use Rattle.wb_office.specs.Found.{key_refusal, named_step, relations_refusal}
-use Rattle.wb_office.specs.Moving.{groups_in}
 use Rattle.wb_office.specs.Step.{step}
 use Rattle.wb_office.proofs.NamedLemmas.{step-GiveBack, step-DepWait, step-Fail, step-NotForUs, step-Rebuild}
 use Rattle.wb_office.proofs.StepLemmas.{step-text, two-None, two-Some, two-later}
@@ -33,14 +33,14 @@ pub dep_wait-refused : (machine : Machine) (arch source version relations : List
     → step machine (DepWait arch source version relations) ≡ (Err refusal, machine)
 unfolding text_refusal
 dep_wait-refused machine arch source version relations refusal is =
-    step-text machine (DepWait arch source version relations) refusal (two-Some (when (has_bad_key arch source) BadName) (option_map BadVersion (fault_of version)) (option_or (option_map (λ fault. BadRelations (Some fault)) (fault_in (reading_of relations))) None) refusal is)
+    step-text machine (DepWait arch source version relations) refusal (two-Some (when (has_bad_key arch source) BadName) (option_map BadVersion (fault_of version)) (option_or (option_map (λ fault. BadRelations (Some fault)) (result_err (reading_of relations))) None) refusal is)
 
 pub dep_wait-BadRelations : (machine : Machine) (arch source version relations : List ℕ) (later refusal : Refusal)
     → option_or (key_refusal arch source version) (Some later) ≡ Some refusal → relations_refusal relations ≡ Some later
     → step machine (DepWait arch source version relations) ≡ (Err refusal, machine)
 unfolding text_refusal relations_refusal
 dep_wait-BadRelations machine arch source version relations later refusal is bad =
-    step-text machine (DepWait arch source version relations) refusal (two-later (when (has_bad_key arch source) BadName) (option_map BadVersion (fault_of version)) (option_or (option_map (λ fault. BadRelations (Some fault)) (fault_in (reading_of relations))) None) later refusal is
+    step-text machine (DepWait arch source version relations) refusal (two-later (when (has_bad_key arch source) BadName) (option_map BadVersion (fault_of version)) (option_or (option_map (λ fault. BadRelations (Some fault)) (result_err (reading_of relations))) None) later refusal is
     (ap (λ first. option_or first None) bad))
 
 -- the same where the relations may be refused for want of memory, which is never told of a key that is refused
@@ -64,9 +64,9 @@ pub dep_wait-is : (machine : Machine) (arch source version relations : List ℕ)
     → step machine (DepWait arch source version relations) ≡ named_step machine arch source version (to.DepWait groups words)
 unfolding text_refusal
 dep_wait-is machine arch source version relations groups words is reads named =
-    step-DepWait machine arch source version relations (two-None (when (has_bad_key arch source) BadName) (option_map BadVersion (fault_of version)) (option_or (option_map (λ fault. BadRelations (Some fault)) (fault_in (reading_of relations))) None) is
-    ∙ ap (λ reading. option_or (option_map (λ fault. BadRelations (Some fault)) (fault_in reading)) None) reads)
-    ∙ (λ i. named_step machine arch source version (to.DepWait (groups_in (reads i)) (sym named i)))
+    step-DepWait machine arch source version relations (two-None (when (has_bad_key arch source) BadName) (option_map BadVersion (fault_of version)) (option_or (option_map (λ fault. BadRelations (Some fault)) (result_err (reading_of relations))) None) is
+    ∙ ap (λ reading. option_or (option_map (λ fault. BadRelations (Some fault)) (result_err reading)) None) reads)
+    ∙ (λ i. named_step machine arch source version (to.DepWait (result_unwrap_or (reads i) []) (sym named i)))
 
 pub fail-refused : (machine : Machine) (arch source version note : List ℕ) (refusal : Refusal) → key_refusal arch source version ≡ Some refusal
     → step machine (Fail arch source version note) ≡ (Err refusal, machine)

@@ -1,5 +1,6 @@
 -- What the commands answer that move the record of a source package by its name.
 use Rattle.std.proofs.Common.{◌≡◌, ℕ, ◌+◌, Bool, true, false, not, List, [], ◌∷◌, Option, Some, None, Ok, Err, refl, ap, ◌∙◌, nat_le, is_some, option_and_then, option_map}
+use Rattle.std.specs.Result.{result_unwrap_or}
 use Rattle.std.specs.FinMap as map
 use Rattle.wb_states.specs.declared.command.Command.TheVariants.{GiveBack, DepWait, Fail, NotForUs, Rebuild}
 use Rattle.wb_states.specs.declared.moves.Move.{Move}
@@ -16,7 +17,7 @@ use Rattle.deb_relations.specs.Reading.{reading_of}
 use Rattle.wb_merge.specs.Rows.{first_some}
 use Rattle.wb_office.specs.Checks.{when, differing, text_refusal, state_refusal}
 use Rattle.wb_office.specs.Found.{outcome_unless, move_step, found_refusal, named_at, named_step}
-use Rattle.wb_office.specs.Moving.{groups_in, moving, record_named, with_move}
+use Rattle.wb_office.specs.Moving.{moving, record_named, with_move}
 use Rattle.wb_office.specs.Step.{Outcome, step, counted, after_move}
 use Rattle.wb_office.proofs.StepLemmas.{step-state, outcome_unless-option_or, outcome_unless-last}
 
@@ -85,15 +86,15 @@ depwait-answer : (machine : Machine) (arch source version relations : List ℕ) 
           (option_and_then (with_move machine (DepWait arch source version relations)) (option_map (λ (current : Record). ((arch, source), current)) found))),
     )
     ≡ outcome_unless (when (not (map.contains_key machine.archs arch)) UnknownArch) machine
-    (named_at machine version (λ current. move_step machine ((arch, source), current) (to.DepWait (groups_in (reading_of relations)) (arch_words machine arch))) found)
+    (named_at machine version (λ current. move_step machine ((arch, source), current) (to.DepWait (result_unwrap_or (reading_of relations) []) (arch_words machine arch))) found)
 depwait-answer machine arch source version relations None =
-    named-answer machine arch source version (to.DepWait (groups_in (reading_of relations)) (arch_words machine arch)) (not (map.contains_key machine.archs arch)) None
+    named-answer machine arch source version (to.DepWait (result_unwrap_or (reading_of relations) []) (arch_words machine arch)) (not (map.contains_key machine.archs arch)) None
 depwait-answer machine arch source version relations (Some current) =
-    named-answer machine arch source version (to.DepWait (groups_in (reading_of relations)) (arch_words machine arch)) (not (map.contains_key machine.archs arch)) (Some current)
+    named-answer machine arch source version (to.DepWait (result_unwrap_or (reading_of relations) []) (arch_words machine arch)) (not (map.contains_key machine.archs arch)) (Some current)
 
 pub step-DepWait : (machine : Machine) (arch source version relations : List ℕ) → text_refusal (DepWait arch source version relations) ≡ None
     → step machine (DepWait arch source version relations)
-    ≡ named_step machine arch source version (to.DepWait (groups_in (reading_of relations)) (arch_words machine arch))
+    ≡ named_step machine arch source version (to.DepWait (result_unwrap_or (reading_of relations) []) (arch_words machine arch))
 unfolding state_refusal moving record_named named_step
 step-DepWait machine arch source version relations text =
     step-state machine (DepWait arch source version relations) text refl

@@ -19,7 +19,7 @@ use Rattle.wb_merge.specs.Rows.{first_some}
 use Rattle.wb_office.specs.Checks.{when, has_bad_name, is_ahead, is_for_other_archs, lacks_arch, lacks_builder, text_refusal, state_refusal, first_refusal}
 use Rattle.wb_office.specs.Found.{outcome_unless, builder_refusal, head_at, head_step, assignment_step, take_move, held_assignment}
 use Rattle.wb_office.specs.Moving.{again_of, moving}
-use Rattle.wb_office.specs.Step.{outcome, step, reply_to, change, counted, after_take, assignment_reply}
+use Rattle.wb_office.specs.Step.{outcome, step, reply_to, state_after, counted, after_take, assignment_reply}
 use Rattle.wb_office.proofs.StepLemmas.{step-refused, outcome-None, three-None, three-Some}
 
 -- the checks of the builder before others
@@ -112,7 +112,7 @@ next-Again machine arch builder after entry bad is later again_is =
 -- what is answered and done with what stands at the head of a queue
 head-answer : (machine : Machine) (arch builder : List ℕ) (after : Option ℕ)
     → outcome_unless (queue_checks machine builder true (head_of machine arch)) machine
-    (Ok (reply_to machine (Next arch builder after)), counted machine (change machine (Next arch builder after)))
+    (Ok (reply_to machine (Next arch builder after)), counted machine (state_after machine (Next arch builder after)))
     ≡ head_at machine builder (head_of machine arch)
 unfolding queue_checks assignment_step moving
 head-answer machine arch builder after = found (head_of machine arch) where

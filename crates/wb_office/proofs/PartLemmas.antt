@@ -1,5 +1,6 @@
 -- The refusal of a merge, and its parts one by one.
-use Rattle.std.proofs.Common.{◌≡◌, ℕ, Bool, true, false, List, [], ◌∷◌, Option, Some, None, Result, Ok, Err, is_ok, refl, ap, cond, nat_le, not, ◌∙◌}
+use Rattle.std.proofs.Common.{◌≡◌, ℕ, Bool, true, false, List, [], ◌∷◌, Option, Some, None, refl, ap, cond, nat_le, not, ◌∙◌}
+use Rattle.std.specs.Result.{result_err}
 use Rattle.std.specs.List.{list_any}
 use Rattle.std.specs.Option.{option_or}
 use Rattle.wb_states.specs.declared.command.Command.TheVariants.{Merge}
@@ -9,12 +10,10 @@ use Rattle.wb_states.specs.declared.refusal.Refusal.TheVariants.{BadName, BadNum
 use Rattle.wb_states.specs.Limits.{count_limit}
 use Rattle.wb_states.specs.Machine.{Machine}
 use Rattle.wb_states.specs.Names.{is_arch_name}
-use Rattle.wb_merge.specs.Listing.{ArchiveListing}
-use Rattle.wb_merge.specs.Merged.{Records}
 use Rattle.wb_merge.specs.Rows.{first_some}
 use Rattle.wb_office.specs.Checks.{first_refusal, has_repeated_arch, state_refusal, text_refusal, when}
 use Rattle.wb_office.specs.Moving.{moving}
-use Rattle.wb_office.specs.Parts.{end_with, is_good, is_merged, parts_refusal, part_listing, refusal_in}
+use Rattle.wb_office.specs.Parts.{is_good, parts_refusal, part_listing}
 
 joined : (is_bad is_repeated : Bool) (refused : Option Refusal) (is_full : Bool) (handed : ℕ)
     → option_or (first_some (when is_bad BadName ∷ None ∷ None ∷ when false BadNumber ∷ when false TextTooLong ∷ when is_repeated RepeatedArch ∷ []))
@@ -25,11 +24,6 @@ joined true is_repeated refused is_full handed = refl
 joined false true refused is_full handed = refl
 joined false false (Some refusal) is_full handed = refl
 joined false false None is_full handed = refl
-
--- a part is merged where it has a listing
-pub is_merged-end : (records : Records) (arch : List ℕ) (listing : Result ArchiveListing Refusal) → is_merged (end_with records arch listing) ≡ is_ok listing
-is_merged-end records arch (Ok listing) = refl
-is_merged-end records arch (Err refusal) = refl
 
 -- the refusal of a merge, by the outcomes of its checks
 pub first_refusal-Merge : (machine : Machine) (sources : List ℕ) (parts : List Part) (is_bad is_repeated : Bool) (refused : Option Refusal) (is_full : Bool)
@@ -47,4 +41,4 @@ pub parts_refusal-none : (machine : Machine) (sources : List ℕ) (parts : List 
     → parts_refusal machine sources parts ≡ None
 parts_refusal-none machine sources [] good = cc
 parts_refusal-none machine sources (part ∷ parts) good =
-    ap (λ b. cond b None (refusal_in (part_listing machine sources part))) good
+    ap (λ b. cond b None (result_err (part_listing machine sources part))) good

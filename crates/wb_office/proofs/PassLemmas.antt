@@ -7,7 +7,7 @@ use Rattle.wb_states.specs.Machine.{Machine}
 use Rattle.wb_merge.proofs.CheckLemmas.{option_or-None, first_some-None}
 use Rattle.wb_office.specs.Checks.{when, text_refusal, state_refusal, first_refusal, has_bad_name, version_fault, relation_fault, has_bad_number, has_long_text, repeats_arch, lacks_arch, lacks_builder, is_for_other_archs, is_ahead, is_not_held, lacks_source, refused_move, is_there_already, is_spent, text_checks, state_checks}
 use Rattle.wb_office.specs.Moving.{again_of}
-use Rattle.wb_office.specs.Step.{outcome, step, change, counted}
+use Rattle.wb_office.specs.Step.{outcome, step, state_after, counted}
 
 pub when-None : (test : Bool) (refusal : Refusal) → when test refusal ≡ None → test ≡ false
 when-None true refusal is = cc
@@ -66,7 +66,7 @@ passes machine command is =
 
 -- what holds of the state, and of the state after a command that is accepted and done, holds of the state after a step
 pub step-either : (P : Machine → Type 0) (machine : Machine) (command : Command) → P machine
-    → (Passes machine command → again_of machine command ≡ None → P (counted machine (change machine command))) → P (step machine command).1
+    → (Passes machine command → again_of machine command ≡ None → P (counted machine (state_after machine command))) → P (step machine command).1
 unfolding step
 step-either P machine command old new =
     (elim (first_refusal machine command) as (λ r. first_refusal machine command ≡ r → P (outcome r (again_of machine command) machine command).1) [

@@ -8,7 +8,7 @@ use Rattle.wb_merge.specs.Rows.{first_some}
 use Rattle.wb_office.specs.Checks.{text_refusal, state_refusal, first_refusal}
 use Rattle.wb_office.specs.Found.{outcome_unless}
 use Rattle.wb_office.specs.Moving.{again_of}
-use Rattle.wb_office.specs.Step.{Outcome, outcome, step, reply_to, change, counted}
+use Rattle.wb_office.specs.Step.{Outcome, outcome, step, reply_to, state_after, counted}
 
 pub step-refused : (machine : Machine) (command : Command) (refusal : Refusal) → first_refusal machine command ≡ Some refusal
     → step machine command ≡ (Err refusal, machine)
@@ -22,13 +22,13 @@ step-text machine command refusal is = ap (λ text. outcome (option_or text (sta
 
 -- where nothing is told again, a command is refused, or it is accepted
 pub outcome-None : (first : Option Refusal) (machine : Machine) (command : Command)
-    → outcome first None machine command ≡ outcome_unless first machine (Ok (reply_to machine command), counted machine (change machine command))
+    → outcome first None machine command ≡ outcome_unless first machine (Ok (reply_to machine command), counted machine (state_after machine command))
 outcome-None None machine command = refl
 outcome-None (Some refusal) machine command = refl
 
 -- a command whose texts are good, and which is told nothing again
 pub step-state : (machine : Machine) (command : Command) → text_refusal command ≡ None → again_of machine command ≡ None
-    → step machine command ≡ outcome_unless (state_refusal machine command) machine (Ok (reply_to machine command), counted machine (change machine command))
+    → step machine command ≡ outcome_unless (state_refusal machine command) machine (Ok (reply_to machine command), counted machine (state_after machine command))
 unfolding step first_refusal
 step-state machine command text again =
     (λ i. outcome (option_or (text i) (state_refusal machine command)) (again i) machine command)

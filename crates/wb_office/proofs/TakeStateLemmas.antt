@@ -26,7 +26,7 @@ use Rattle.wb_office.specs.Checks.{refused_move}
 use Rattle.wb_office.specs.HandOuts.{HasTakeByState, HasTakesByState}
 use Rattle.wb_office.specs.Moving.{moving}
 use Rattle.wb_office.specs.Replay.{replay}
-use Rattle.wb_office.specs.Step.{step, change, entered, after_move}
+use Rattle.wb_office.specs.Step.{step, state_after, entered, after_move}
 use Rattle.wb_merge.proofs.ChosenLemmas.{new-chosen, newer-chosen, same-chosen}
 use Rattle.wb_office.proofs.MergedLemmas.{records_after-keeps}
 use Rattle.wb_office.proofs.MovingLemmas.{moving-may}
@@ -124,25 +124,25 @@ moving-takes machine command old allowed =
           (moved-take asked.1 asked.0.1 (allowed-from asked.1 asked.0.1 may.allowed) had) old
     ]) refl
 
-change-takes : (machine : Machine) (command : Command) → HasTakesByState machine → refused_move machine command ≡ None → HasTakesByState (change machine command)
-change-takes machine (of.AddArch name os cpu) old allowed = old
-change-takes machine (of.AddBuilder name arch) old allowed = old
-change-takes machine (of.Enter arch source version priority section) old allowed =
+state_after-takes : (machine : Machine) (command : Command) → HasTakesByState machine → refused_move machine command ≡ None → HasTakesByState (state_after machine command)
+state_after-takes machine (of.AddArch name os cpu) old allowed = old
+state_after-takes machine (of.AddBuilder name arch) old allowed = old
+state_after-takes machine (of.Enter arch source version priority section) old allowed =
     insert_all pair_cmp_total pair_cmp-same (λ key. HasTakeByState) machine.records (arch, source) (entered version priority section) refl old
-change-takes machine (of.Merge sources parts) old allowed =
+state_after-takes machine (of.Merge sources parts) old allowed =
     records_after-keeps (λ key. HasTakeByState) machine sources parts
     (λ part listing is source found had. after-take found (map.get listing.listed source) (map.get listing.built source) listing.available had) machine.records old
-change-takes machine (of.Next arch builder after) old allowed = moving-takes machine (of.Next arch builder after) old allowed
-change-takes machine (of.Take arch builder source version) old allowed = moving-takes machine (of.Take arch builder source version) old allowed
-change-takes machine (of.Built take_number) old allowed = moving-takes machine (of.Built take_number) old allowed
-change-takes machine (of.Uploaded take_number) old allowed = moving-takes machine (of.Uploaded take_number) old allowed
-change-takes machine (of.Waits take_number relations) old allowed = moving-takes machine (of.Waits take_number relations) old allowed
-change-takes machine (of.PutBack take_number) old allowed = moving-takes machine (of.PutBack take_number) old allowed
-change-takes machine (of.GiveBack arch source version) old allowed = moving-takes machine (of.GiveBack arch source version) old allowed
-change-takes machine (of.DepWait arch source version relations) old allowed = moving-takes machine (of.DepWait arch source version relations) old allowed
-change-takes machine (of.Fail arch source version note) old allowed = moving-takes machine (of.Fail arch source version note) old allowed
-change-takes machine (of.NotForUs arch source version note) old allowed = moving-takes machine (of.NotForUs arch source version note) old allowed
-change-takes machine (of.Rebuild arch source version number message) old allowed =
+state_after-takes machine (of.Next arch builder after) old allowed = moving-takes machine (of.Next arch builder after) old allowed
+state_after-takes machine (of.Take arch builder source version) old allowed = moving-takes machine (of.Take arch builder source version) old allowed
+state_after-takes machine (of.Built take_number) old allowed = moving-takes machine (of.Built take_number) old allowed
+state_after-takes machine (of.Uploaded take_number) old allowed = moving-takes machine (of.Uploaded take_number) old allowed
+state_after-takes machine (of.Waits take_number relations) old allowed = moving-takes machine (of.Waits take_number relations) old allowed
+state_after-takes machine (of.PutBack take_number) old allowed = moving-takes machine (of.PutBack take_number) old allowed
+state_after-takes machine (of.GiveBack arch source version) old allowed = moving-takes machine (of.GiveBack arch source version) old allowed
+state_after-takes machine (of.DepWait arch source version relations) old allowed = moving-takes machine (of.DepWait arch source version relations) old allowed
+state_after-takes machine (of.Fail arch source version note) old allowed = moving-takes machine (of.Fail arch source version note) old allowed
+state_after-takes machine (of.NotForUs arch source version note) old allowed = moving-takes machine (of.NotForUs arch source version note) old allowed
+state_after-takes machine (of.Rebuild arch source version number message) old allowed =
     moving-takes machine (of.Rebuild arch source version number message) old allowed
 
 pub empty-takes : HasTakesByState empty_office
@@ -156,7 +156,7 @@ consistent-takes machine is key = at (map.get machine.records key) (is.records k
   at (Some current) is = is.fields.taken
 
 pub step-takes : (machine : Machine) (command : Command) → HasTakesByState machine → HasTakesByState (step machine command).1
-step-takes machine command old = step-either HasTakesByState machine command old (λ pass _. change-takes machine command old pass.move)
+step-takes machine command old = step-either HasTakesByState machine command old (λ pass _. state_after-takes machine command old pass.move)
 
 pub replay-takes : (machine : Machine) (commands : List Command) → HasTakesByState machine → HasTakesByState (replay machine commands)
 replay-takes machine [] old = old

@@ -1,5 +1,6 @@
 -- The refusals of the texts of commands.
 use Rattle.std.proofs.Common.{◌≡◌, ◌≢◌, ◌<◌, Bool, true, false, nat_lt, length, List, ℕ, Option, Some, None, Err, refl, sym, ◌∙◌, ap, option_map, IsOk}
+use Rattle.std.specs.Result.{result_err}
 use Rattle.std.proofs.lemmas.Bool.{ltb-true}
 use Rattle.deb_version.specs.declared.fault.VersionFault.{VersionFault}
 use Rattle.deb_version.specs.declared.fault.VersionFault.TheVariants.{Empty, EpochEmpty, EpochNotNumber, EpochTooLarge, UpstreamEmpty, UpstreamBad, RevisionEmpty, RevisionBad, TooLong, Memory as NoMemory}
@@ -10,7 +11,7 @@ use Rattle.deb_relations.specs.Reading.{reading_of as relations_of}
 use Rattle.wb_states.specs.declared.refusal.Refusal.{Refusal}
 use Rattle.wb_states.specs.declared.refusal.Refusal.TheVariants.{Memory, BadVersion, BadRelations}
 use Rattle.wb_states.specs.Limits.{relations_limit}
-use Rattle.wb_office.specs.Checks.{fault_in, refusal_of_fault}
+use Rattle.wb_office.specs.Checks.{refusal_of_fault}
 use Rattle.wb_office.specs.Found.{relations_refusal}
 
 fault_of-refused : (text : List ℕ) (fault : VersionFault) → reading_of text ≡ Err fault → fault_of text ≡ Some fault
@@ -47,7 +48,7 @@ pub relations-refused : (text : List ℕ) (fault : RelationFault) (refusal : Ref
 unfolding relations_refusal
 relations-refused text fault refusal memory others reads differs =
     let no : fault ≢ NoRelationMemory = λ e. differs (memory e) in
-    ap (λ reading. option_map (λ one. BadRelations (Some one)) (fault_in reading)) (reads no) ∙ ap Some (sym (others no))
+    ap (λ reading. option_map (λ one. BadRelations (Some one)) (result_err reading)) (reads no) ∙ ap Some (sym (others no))
 
 -- where no memory was left for a version, it has no fault
 pub version-memory : (text : List ℕ) (fault : VersionFault) → (fault ≡ NoMemory → IsOk (reading_of text)) → refusal_of_fault fault ≡ Memory

@@ -1,5 +1,6 @@
 -- The checks of a command, in the one order in which they are answered (this project's own).
-use Rattle.std.specs.Prelude.{◌≡◌, ℕ, Bool, true, false, not, ◌||◌, ◌&&◌, nat_le, nat_lt, nat_eq, List, [], ◌∷◌, length, bytes_eq, Option, Some, None, is_none, Result, Ok, Err, option_and_then, if◌then◌else◌}
+use Rattle.std.specs.Prelude.{◌≡◌, ℕ, Bool, true, false, not, ◌||◌, ◌&&◌, nat_le, nat_lt, nat_eq, List, [], ◌∷◌, length, bytes_eq, Option, Some, None, is_none, option_and_then, if◌then◌else◌}
+use Rattle.std.specs.Result.{result_err}
 use Rattle.std.specs.Option.{option_map, option_or}
 use Rattle.std.specs.List.{list_any}
 use Rattle.std.specs.Ordering.{is_eq}
@@ -8,7 +9,7 @@ use Rattle.std.specs.FinSet as set
 use Rattle.deb_version.specs.declared.fault.VersionFault.{VersionFault}
 use Rattle.deb_version.specs.Order.{version_cmp}
 use Rattle.deb_version.specs.Syntax.{fault_of}
-use Rattle.deb_version.specs.declared.fault.VersionFault.TheVariants.{Empty, EpochEmpty, EpochNotNumber, EpochTooLarge, UpstreamEmpty, UpstreamBad, RevisionEmpty, RevisionBad, TooLong, Memory as NoMemory}
+use Rattle.deb_version.specs.declared.fault.VersionFault.TheVariants.{Memory as NoMemory}
 use Rattle.deb_relations.specs.declared.fault.RelationFault.{RelationFault}
 use Rattle.deb_relations.specs.Reading.{reading_of}
 use Rattle.deb_relations.specs.Reduction.{is_filled}
@@ -72,15 +73,10 @@ version_named _ = None
 abbrev pub version_fault : Command → Option VersionFault
 version_fault command = option_and_then fault_of (version_named command)
 
--- the fault of a reading that failed
-abbrev pub fault_in : {X : Type 0} → Result X RelationFault → Option RelationFault
-fault_in (Ok x) = None
-fault_in (Err fault) = Some fault
-
 -- the fault of the command's relations
 abbrev pub relation_fault : Command → Option RelationFault
-relation_fault (Waits take_number relations) = fault_in (reading_of relations)
-relation_fault (DepWait arch source version relations) = fault_in (reading_of relations)
+relation_fault (Waits take_number relations) = result_err (reading_of relations)
+relation_fault (DepWait arch source version relations) = result_err (reading_of relations)
 relation_fault _ = None
 
 -- the number is that of no binary-only rebuild
@@ -271,13 +267,5 @@ pub record MayWantMemory (command : Command) : Type 0 where
 
 -- the refusal of a version's fault: want of memory is no fault of the version
 abbrev pub refusal_of_fault : VersionFault → Refusal
-refusal_of_fault Empty = BadVersion Empty
-refusal_of_fault EpochEmpty = BadVersion EpochEmpty
-refusal_of_fault EpochNotNumber = BadVersion EpochNotNumber
-refusal_of_fault EpochTooLarge = BadVersion EpochTooLarge
-refusal_of_fault UpstreamEmpty = BadVersion UpstreamEmpty
-refusal_of_fault (UpstreamBad place) = BadVersion (UpstreamBad place)
-refusal_of_fault RevisionEmpty = BadVersion RevisionEmpty
-refusal_of_fault (RevisionBad place) = BadVersion (RevisionBad place)
-refusal_of_fault TooLong = BadVersion TooLong
 refusal_of_fault NoMemory = Memory
+refusal_of_fault fault = BadVersion fault

@@ -1,5 +1,6 @@
 -- What is answered and done once it is known which record a command moves (this project's own).
 use Rattle.std.specs.Prelude.{ℕ, ◌+◌, ◌||◌, nat_le, List, [], ◌∷◌, Option, Some, None, Ok, Err}
+use Rattle.std.specs.Result.{result_err}
 use Rattle.std.specs.Option.{option_map}
 use Rattle.std.specs.FinMap as map
 use Rattle.deb_relations.specs.Reading.{reading_of}
@@ -17,7 +18,7 @@ use Rattle.wb_states.specs.Machine.{Machine}
 use Rattle.wb_states.specs.Moves.{move_refusal}
 use Rattle.wb_states.specs.Queue.{Entry, head_of}
 use Rattle.wb_merge.specs.Rows.{first_some}
-use Rattle.wb_office.specs.Checks.{differing, fault_in, is_for_other_archs, lacks_arch, lacks_builder, lacks_source, other_version, text_refusal, when}
+use Rattle.wb_office.specs.Checks.{differing, is_for_other_archs, lacks_arch, lacks_builder, lacks_source, other_version, text_refusal, when}
 use Rattle.wb_office.specs.Step.{Outcome, assignment_of, counted, after_move, after_take, assignment_reply}
 
 -- the refusal of a check, which leaves the state as it was, or else this outcome
@@ -33,7 +34,7 @@ key_refusal arch source version = text_refusal (GiveBack arch source version)
 
 -- relations that cannot be read
 unfoldable pub relations_refusal : List ℕ → Option Refusal
-relations_refusal relations = option_map (λ fault. BadRelations (Some fault)) (fault_in (reading_of relations))
+relations_refusal relations = option_map (λ fault. BadRelations (Some fault)) (result_err (reading_of relations))
 
 -- a builder that may not build for the architecture
 unfoldable pub builder_refusal : Machine → List ℕ → List ℕ → Option Refusal

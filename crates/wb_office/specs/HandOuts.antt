@@ -1,5 +1,6 @@
 -- What is handed out, and when a hold ends (this project's own).
 use Rattle.std.specs.Prelude.{◌≡◌, ℕ, ◌<◌, Bool, true, false, nat_eq, List, [], ◌∷◌, ◌⊎◌, Option, Some, None, Result, Ok, is_ok, is_some, IfSome, ⊤}
+use Rattle.std.specs.List.{cons_option}
 use Rattle.std.specs.FinMap as map
 use Rattle.wb_states.specs.declared.command.Command.{Command}
 use Rattle.wb_states.specs.declared.command.Command.TheVariants.{Next, Take}
@@ -41,16 +42,11 @@ pub record IsBeingBuilt (given : HandOut) (current : Record) : Type 0 where
   pub holder : current.holder ≡ Some given.builder
   pub take : current.take ≡ Some given.take
 
--- a hand-out before others, where there is one
-abbrev pub onto_hand_outs : Option HandOut → List HandOut → List HandOut
-onto_hand_outs None later = later
-onto_hand_outs (Some given) later = given ∷ later
-
 -- what commands hand out, in their order
 abbrev pub hand_outs : Machine → List Command → List HandOut
 hand_outs machine [] = []
 hand_outs machine (command ∷ commands) =
-    onto_hand_outs (hand_out machine command) (hand_outs (step machine command).1 commands)
+    cons_option (hand_out machine command) (hand_outs (step machine command).1 commands)
 
 -- the take numbers of hand-outs rise strictly, from above a number
 abbrev pub Rise : ℕ → List HandOut → Type 0

@@ -1,11 +1,10 @@
 -- Which record a command moves, and by which move (this project's own).
-use Rattle.std.specs.Prelude.{◌≡◌, ℕ, ◌+◌, IsTrue, bytes_eq, List, [], Option, Some, None, Result, Ok, Err, option_and_then}
+use Rattle.std.specs.Prelude.{◌≡◌, ℕ, ◌+◌, IsTrue, bytes_eq, List, [], Option, Some, None, option_and_then}
+use Rattle.std.specs.Result.{result_unwrap_or}
 use Rattle.std.specs.List.{list_any}
 use Rattle.std.specs.Option.{option_map}
 use Rattle.std.specs.FinMap as map
 use Rattle.deb_relations.specs.declared.arch.ArchWords.{ArchWords}
-use Rattle.deb_relations.specs.declared.fault.RelationFault.{RelationFault}
-use Rattle.deb_relations.specs.declared.relations.Alternative.{Alternative}
 use Rattle.deb_relations.specs.Reading.{reading_of}
 use Rattle.wb_states.specs.declared.command.Command.{Command}
 use Rattle.wb_states.specs.declared.command.Command.TheVariants.{Enter, Merge, Next, Take, Built, Uploaded, Waits, PutBack, GiveBack, DepWait, Fail, NotForUs, Rebuild}
@@ -34,22 +33,17 @@ target_of machine (NotForUs arch source version note) = record_named machine arc
 target_of machine (Rebuild arch source version number message) = record_named machine arch source
 target_of machine _ = None
 
--- the groups of relations that were read, none where they were not
-abbrev pub groups_in : Result (List (List Alternative)) RelationFault → List (List Alternative)
-groups_in (Ok groups) = groups
-groups_in (Err fault) = []
-
 -- the move that a command makes of a record of an architecture with these words
 abbrev pub move_asked : Machine → Command → ArchWords → Option Move
 move_asked machine (Next arch builder after) words = Some (to.Take builder (machine.handed + 1))
 move_asked machine (Take arch builder source version) words = Some (to.Take builder (machine.handed + 1))
 move_asked machine (Built take_number) words = Some to.Built
 move_asked machine (Uploaded take_number) words = Some to.Uploaded
-move_asked machine (Waits take_number relations) words = Some (to.Waits (groups_in (reading_of relations)) words)
+move_asked machine (Waits take_number relations) words = Some (to.Waits (result_unwrap_or (reading_of relations) []) words)
 move_asked machine (PutBack take_number) words = Some to.PutBack
 move_asked machine (GiveBack arch source version) words = Some to.GiveBack
 move_asked machine (DepWait arch source version relations) words =
-    Some (to.DepWait (groups_in (reading_of relations)) words)
+    Some (to.DepWait (result_unwrap_or (reading_of relations) []) words)
 move_asked machine (Fail arch source version note) words = Some (to.Fail note)
 move_asked machine (NotForUs arch source version note) words = Some (to.NotForUs note)
 move_asked machine (Rebuild arch source version number message) words = Some (to.Rebuild number message)

@@ -1,5 +1,6 @@
 -- The parts of a merge, in their order (this project's own).
 use Rattle.std.specs.Prelude.{ℕ, Bool, true, false, List, [], ◌∷◌, Option, Some, None, Result, Ok, Err, is_ok, if◌then◌else◌}
+use Rattle.std.specs.Result.{result_err}
 use Rattle.std.specs.List.{list_any}
 use Rattle.std.specs.FinMap as map
 use Rattle.wb_states.specs.declared.arch.OsCpu.{OsCpu}
@@ -22,11 +23,6 @@ listing_for sources part (Some words) = listing_of sources part.packages (with_w
 unfoldable pub part_listing : Machine → List ℕ → Part → Result ArchiveListing Refusal
 part_listing machine sources part = listing_for sources part (map.get machine.archs part.arch)
 
--- why a part is refused
-abbrev pub refusal_in : Result ArchiveListing Refusal → Option Refusal
-refusal_in (Ok listing) = None
-refusal_in (Err refusal) = Some refusal
-
 -- whether a part can be merged
 abbrev pub is_good : Machine → List ℕ → Part → Bool
 is_good machine sources part = is_ok (part_listing machine sources part)
@@ -35,7 +31,7 @@ is_good machine sources part = is_ok (part_listing machine sources part)
 abbrev pub parts_refusal : Machine → List ℕ → List Part → Option Refusal
 parts_refusal machine sources [] = Some UnknownArch
 parts_refusal machine sources (part ∷ parts) =
-    if list_any (is_good machine sources) (part ∷ parts) then None else refusal_in (part_listing machine sources part)
+    if list_any (is_good machine sources) (part ∷ parts) then None else result_err (part_listing machine sources part)
 
 -- whether a part was merged
 abbrev pub is_merged : PartEnd → Bool

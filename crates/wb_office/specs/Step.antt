@@ -1,5 +1,5 @@
 -- What a command does to the office: the reply or the refusal, and the state after it (this project's own).
-use Rattle.std.specs.Prelude.{ℕ, ◌+◌, false, List, [], Option, Some, None, Result, Ok, Err}
+use Rattle.std.specs.Prelude.{ℕ, ◌+◌, List, [], Option, Some, None, Result, Ok, Err}
 use Rattle.std.specs.FinMap as map
 use Rattle.std.specs.FinSet as set
 use Rattle.wb_states.specs.declared.command.Command.{Command}
@@ -10,11 +10,11 @@ use Rattle.wb_states.specs.declared.reply.Assignment.{Assignment}
 use Rattle.wb_states.specs.declared.reply.Reply.{Reply}
 use Rattle.wb_states.specs.declared.reply.Reply.TheVariants.{Done, Job, Again, Merged}
 use Rattle.wb_states.specs.declared.refusal.Refusal.{Refusal}
-use Rattle.wb_states.specs.declared.state.State.TheVariants.{NeedsBuild}
 use Rattle.wb_states.specs.Holds.{take_of}
 use Rattle.wb_states.specs.Machine.{Machine}
 use Rattle.wb_states.specs.Moves.{build_text_of, moved}
 use Rattle.wb_states.specs.Queue.{Entry}
+use Rattle.wb_merge.specs.Merge.{blank_record}
 use Rattle.wb_office.specs.Checks.{first_refusal}
 use Rattle.wb_office.specs.Moving.{again_of, moving, target_of}
 use Rattle.wb_office.specs.Parts.{part_replies, records_after}
@@ -27,20 +27,8 @@ Outcome = Result Reply Refusal × Machine
 
 -- the record of a source package that is entered: it waits for its first build
 abbrev pub entered : List ℕ → List ℕ → List ℕ → Record
-entered version priority section = record {
-  state = NeedsBuild;
-  version = version;
-  priority = priority;
-  section = section;
-  earlier = false;
-  number = 0;
-  holder = None;
-  take = None;
-  waits = [];
-  depends = Some [];
-  note = [];
-  message = [];
-}
+entered version priority section =
+    record (blank_record version) { priority = priority; section = section; depends = Some [] }
 
 -- a record is moved
 abbrev pub after_move : Machine → Option (Entry × Move) → Machine
@@ -53,17 +41,17 @@ abbrev pub after_take : Machine → Option (Entry × Move) → Machine
 after_take machine asked = record (after_move machine asked) { handed = machine.handed + 1 }
 
 -- the state after a command
-abbrev pub change : Machine → Command → Machine
-change machine (AddArch name os cpu) =
+abbrev pub state_after : Machine → Command → Machine
+state_after machine (AddArch name os cpu) =
     record machine { archs = map.insert machine.archs name (record { os = os; cpu = cpu }) }
-change machine (AddBuilder name arch) = record machine { builders = set.insert machine.builders (name, arch) }
-change machine (Enter arch source version priority section) =
+state_after machine (AddBuilder name arch) = record machine { builders = set.insert machine.builders (name, arch) }
+state_after machine (Enter arch source version priority section) =
     record machine { records = map.insert machine.records (arch, source) (entered version priority section) }
-change machine (Next arch builder after) = after_take machine (moving machine (Next arch builder after))
-change machine (Take arch builder source version) = after_take machine (moving machine (Take arch builder source version))
-change machine (Merge sources parts) =
+state_after machine (Next arch builder after) = after_take machine (moving machine (Next arch builder after))
+state_after machine (Take arch builder source version) = after_take machine (moving machine (Take arch builder source version))
+state_after machine (Merge sources parts) =
     record machine { records = records_after machine sources parts machine.records }
-change machine command = after_move machine (moving machine command)
+state_after machine command = after_move machine (moving machine command)
 
 -- ---- the reply to a command that is accepted
 
@@ -102,7 +90,7 @@ counted machine after = record after { accepted = machine.accepted + 1 }
 abbrev pub outcome : Option Refusal → Option Entry → Machine → Command → Outcome
 outcome (Some refusal) again machine command = (Err refusal, machine)
 outcome None (Some entry) machine command = (Ok (Again machine.accepted (assignment_of entry (take_of entry))), machine)
-outcome None None machine command = (Ok (reply_to machine command), counted machine (change machine command))
+outcome None None machine command = (Ok (reply_to machine command), counted machine (state_after machine command))
 
 -- the answer to a command and the state after it
 unfoldable pub step : Machine → Command → Outcome

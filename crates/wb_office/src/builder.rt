@@ -13,7 +13,7 @@ ghost use Rattle.wb_office.specs.Step.{step, assignment_of};
 
 use crate::again::assignment_again;
 use crate::checks::{
-    find_source, is_ahead, is_assignment_spent, is_for_others, lacks_arch, lacks_builder,
+    find_source, is_ahead, is_assignment_spent, is_for_other_archs, lacks_arch, lacks_builder,
 };
 use crate::forms::{is_bad_asker, is_bad_taker};
 use crate::moved::{Moved, move_checked};
@@ -162,7 +162,7 @@ pub(crate) fn check_builds(store: &Store, arch: &Text, builder: &Text) -> Result
     if is_unknown {
         return Err(Refusal::UnknownBuilder);
     }
-    let is_other = is_for_others(store, arch, builder)?;
+    let is_other = is_for_other_archs(store, arch, builder)?;
     if is_other {
         return Err(Refusal::WrongArch);
     }

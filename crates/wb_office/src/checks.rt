@@ -47,7 +47,11 @@ pub(crate) fn lacks_builder(store: &Store, builder: &Text) -> Result<bool, Alloc
 }
 
 /// Whether the builder was not added for the architecture.
-pub(crate) fn is_for_others(store: &Store, arch: &Text, builder: &Text) -> Result<bool, AllocError>
+pub(crate) fn is_for_other_archs(
+    store: &Store,
+    arch: &Text,
+    builder: &Text,
+) -> Result<bool, AllocError>
     ensures value { IfOk result (λ is_other. is_other
         ≡ not (set.contains store.now.builders (builder.now, arch.now))) }
 {

@@ -147,7 +147,7 @@ fn merge_parts(
 
 /// Why a merge is refused of which no part was merged: as its first part is, and as of an unknown
 /// architecture where it has none.
-fn refusal_of(replies: Vec<PartReply>) -> Refusal
+fn first_part_refusal(replies: Vec<PartReply>) -> Refusal
     ensures { (machine : Machine) (sources : List ℕ) (parts : List Part)
         → replies.items ≡ part_replies machine sources parts machine.records
         → list_any (is_good machine sources) parts ≡ false
@@ -189,7 +189,7 @@ fn prepare_merge(
     }
     let made = merge_parts(alloc, store, sources, parts)?;
     if !made.is_any_good {
-        return Err(refusal_of(made.replies));
+        return Err(first_part_refusal(made.replies));
     }
     if is_spent(store) {
         return Err(Refusal::Spent);

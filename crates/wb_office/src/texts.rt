@@ -33,12 +33,12 @@ pub(crate) fn read_version(alloc: Global, text: &Text) -> Result<Version, Refusa
 {
     match Version::parse(alloc, text.as_str()) {
         Ok(read) => Ok(read),
-        Err(fault) => Err(refusal_of(fault)),
+        Err(fault) => Err(version_refused(fault)),
     }
 }
 
 /// The refusal of a text that gave this fault.
-fn refusal_of(fault: VersionFault) -> Refusal
+fn version_refused(fault: VersionFault) -> Refusal
     ensures value { result ≡ refusal_of_fault fault }
 {
     match fault {

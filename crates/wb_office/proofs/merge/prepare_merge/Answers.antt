@@ -18,9 +18,9 @@ returns-then-repeats_arch-clause-refused c = λ _.
 pub returns-then-not-made-clause-refused : goal.returns-then-not-made-clause-refused
 returns-then-not-made-clause-refused c = λ _.
     let none : list_any (is_good c.args.store.now c.args.sources.now) c.args.parts.now ≡ false = search rules in
-    first_refusal-Merge c.args.store.now c.args.sources.now c.args.parts.now false false (Some c.refusal_of.result) _
+    first_refusal-Merge c.args.store.now c.args.sources.now c.args.parts.now false false (Some c.first_part_refusal.result) _
     (sym c.has_bad_arch.ensures ∙ c.if-has_bad_arch.false) (sym c.repeats_arch.ensures ∙ c.if-repeats_arch.false)
-    (c.refusal_of.ensures c.args.store.now c.args.sources.now c.args.parts.now c.in_ok-made.ensures.replies none) refl
+    (c.first_part_refusal.ensures c.args.store.now c.args.sources.now c.args.parts.now c.in_ok-made.ensures.replies none) refl
 
 pub returns-then-is_spent-clause-refused : goal.returns-then-is_spent-clause-refused
 returns-then-is_spent-clause-refused c = λ _.
