@@ -1,14 +1,13 @@
 -- What a merge counts, name by name, is what the records before and after it say.
-use Rattle.std.proofs.Common.{◌≡◌, ℕ, ◌+◌, suc, ◌≤◌, ◌<◌, get_or, drop, drop-cons, subst, Bool, true, false, cond, not, List, [], ◌∷◌, length, filter, refl, sym, ◌∙◌, Option, Some, None, arith, bytes_eq}
+use Rattle.std.proofs.Common.{◌≡◌, ℕ, ◌+◌, suc, ◌≤◌, ◌<◌, get_or, drop, drop-cons, subst, Bool, true, false, cond, List, [], ◌∷◌, length, filter, refl, sym, ◌∙◌, arith, bytes_eq}
 use Rattle.std.proofs.lemmas.List.{drop_all}
 use Rattle.std.specs.FinMap as finite
-use Rattle.wb_states.specs.declared.record.Record.{Record}
 use Rattle.wb_states.specs.declared.reply.MergeCounts.{MergeCounts}
 use Rattle.wb_merge.specs.Listing.{ArchiveListing}
-use Rattle.wb_merge.specs.Merged.{Records, after_at, merged, names_of, is_added, is_changed, is_kept, is_removed, is_same_record, number_where, counts_over, merge_counts, all_kept, after_named}
+use Rattle.wb_merge.specs.Merged.{Records, after_at, merged, names_of, is_added, is_changed, is_kept, is_removed, change_of, number_where, counts_over, merge_counts, all_kept, after_named}
 use Rattle.wb_merge.specs.declared.merge.Change.{Change}
 use Rattle.wb_merge.specs.declared.merge.Change.TheVariants.{Absent, Added, Changed, Kept, Removed}
-use Rattle.wb_merge.specs.Steps.{Key, record_at, IsSetAt, AreWithin, change_of, counted}
+use Rattle.wb_merge.specs.Steps.{Key, record_at, IsSetAt, AreWithin, counted}
 use Rattle.wb_merge.proofs.NameLemmas.{IsApart}
 use Rattle.wb_merge.proofs.MergeLemmas.{half_merged, names-apart, half-start, half-here, named-here, half-next, half-end}
 
@@ -32,12 +31,12 @@ length-more : (b : Bool) (name : List ℕ) (names : List (List ℕ)) → length 
 length-more true name names = refl
 length-more false name names = refl
 
-abbrev with_change : Option Record → Option Record → ℕ → ℕ → ℕ → ℕ → MergeCounts
-with_change old new added changed kept removed = record {
-  added = more (is_added old new) added;
-  changed = more (is_changed old new) changed;
-  kept = more (is_kept old new) kept;
-  removed = more (is_removed old new) removed;
+abbrev with_change : Change → ℕ → ℕ → ℕ → ℕ → MergeCounts
+with_change change added changed kept removed = record {
+  added = more (is_added change) added;
+  changed = more (is_changed change) changed;
+  kept = more (is_kept change) kept;
+  removed = more (is_removed change) removed;
 }
 
 abbrev counts_as : ℕ → ℕ → ℕ → ℕ → MergeCounts
@@ -46,52 +45,47 @@ counts_as added changed kept removed = record { added = added; changed = changed
 one_more : (m n : ℕ) → m + suc n ≡ (m + 1) + n
 one_more m n = omega arith
 
-counted-next : (counts : MergeCounts) (old new : Option Record) (added changed kept removed : ℕ)
-    → plus counts (with_change old new added changed kept removed) ≡ plus (counted counts (change_of old new)) (counts_as added changed kept removed)
-counted-next counts None None added changed kept removed = refl
-counted-next counts None (Some new) added changed kept removed = λ i. record {
+counted-next : (counts : MergeCounts) (change : Change) (added changed kept removed : ℕ)
+    → plus counts (with_change change added changed kept removed) ≡ plus (counted counts change) (counts_as added changed kept removed)
+counted-next counts Absent added changed kept removed = refl
+counted-next counts Added added changed kept removed = λ i. record {
   added = one_more counts.added added i;
   changed = counts.changed + changed;
   kept = counts.kept + kept;
   removed = counts.removed + removed;
 }
-counted-next counts (Some old) None added changed kept removed = λ i. record {
+counted-next counts Changed added changed kept removed = λ i. record {
+  added = counts.added + added;
+  changed = one_more counts.changed changed i;
+  kept = counts.kept + kept;
+  removed = counts.removed + removed;
+}
+counted-next counts Kept added changed kept removed = λ i. record {
+  added = counts.added + added;
+  changed = counts.changed + changed;
+  kept = one_more counts.kept kept i;
+  removed = counts.removed + removed;
+}
+counted-next counts Removed added changed kept removed = λ i. record {
   added = counts.added + added;
   changed = counts.changed + changed;
   kept = counts.kept + kept;
   removed = one_more counts.removed removed i;
 }
-counted-next counts (Some old) (Some new) added changed kept removed =
-    elim (is_same_record old new) as (λ b. plus counts (record { added = added; changed = more (not b) changed; kept = more b kept; removed = removed })
-    ≡ plus (counted counts (cond b Kept Changed)) (counts_as added changed kept removed)) [
-      | true ↦ λ i. record {
-        added = counts.added + added;
-        changed = counts.changed + changed;
-        kept = one_more counts.kept kept i;
-        removed = counts.removed + removed;
-      }
-      | false ↦ λ i. record {
-        added = counts.added + added;
-        changed = one_more counts.changed changed i;
-        kept = counts.kept + kept;
-        removed = counts.removed + removed;
-      }
-    ]
 
 counts-next : (counts : MergeCounts) (old : Records) (arch : List ℕ) (listing : ArchiveListing) (name : List ℕ) (names : List (List ℕ))
     → plus counts (counts_over old arch listing (name ∷ names))
     ≡ plus (counted counts (change_of (finite.get old (arch, name)) (after_at old arch listing (arch, name)))) (counts_over old arch listing names)
 unfolding counts_over
 counts-next counts old arch listing name names =
-    let before = finite.get old (arch, name) in
-    let new = after_at old arch listing (arch, name) in
+    let change = change_of (finite.get old (arch, name)) (after_at old arch listing (arch, name)) in
     (λ i. plus counts (record {
-      added = length-more (is_added before new) name (filter (λ name. is_added (finite.get old (arch, name)) (after_at old arch listing (arch, name))) names) i;
-      changed = length-more (is_changed before new) name (filter (λ name. is_changed (finite.get old (arch, name)) (after_at old arch listing (arch, name))) names) i;
-      kept = length-more (is_kept before new) name (filter (λ name. is_kept (finite.get old (arch, name)) (after_at old arch listing (arch, name))) names) i;
-      removed = length-more (is_removed before new) name (filter (λ name. is_removed (finite.get old (arch, name)) (after_at old arch listing (arch, name))) names) i;
+      added = length-more (is_added change) name (filter (λ name. is_added (change_of (finite.get old (arch, name)) (after_at old arch listing (arch, name)))) names) i;
+      changed = length-more (is_changed change) name (filter (λ name. is_changed (change_of (finite.get old (arch, name)) (after_at old arch listing (arch, name)))) names) i;
+      kept = length-more (is_kept change) name (filter (λ name. is_kept (change_of (finite.get old (arch, name)) (after_at old arch listing (arch, name)))) names) i;
+      removed = length-more (is_removed change) name (filter (λ name. is_removed (change_of (finite.get old (arch, name)) (after_at old arch listing (arch, name)))) names) i;
     }))
-    ∙ counted-next counts before new (number_where is_added old arch listing names) (number_where is_changed old arch listing names) (number_where is_kept old arch listing names) (number_where is_removed old arch listing names)
+    ∙ counted-next counts change (number_where is_added old arch listing names) (number_where is_changed old arch listing names) (number_where is_kept old arch listing names) (number_where is_removed old arch listing names)
 
 none-plus : (n : ℕ) → 0 + n ≡ n
 none-plus n = omega arith

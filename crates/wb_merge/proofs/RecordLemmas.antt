@@ -13,9 +13,9 @@ use Rattle.wb_states.specs.Machine.{pair_cmp}
 use Rattle.wb_states.proofs.CodeLemmas.{code_of-differ}
 use Rattle.wb_states.proofs.MapLemmas.{get-lookup}
 use Rattle.wb_states.proofs.KeyLemmas.{pair_cmp_total}
-use Rattle.wb_merge.specs.Merged.{Records, is_same_flag, has_same_source, has_same_place, has_same_texts, is_same_record}
+use Rattle.wb_merge.specs.Merged.{Records, is_same_flag, has_same_source, has_same_place, has_same_texts, is_same_record, change_of}
 use Rattle.wb_merge.specs.declared.merge.Change.TheVariants.{Kept, Changed}
-use Rattle.wb_merge.specs.Steps.{Key, IsSetAt, change_of}
+use Rattle.wb_merge.specs.Steps.{Key, IsSetAt}
 use Rattle.wb_merge.proofs.CheckLemmas.{both-true}
 use Rattle.wb_merge.proofs.NameLemmas.{bytes_eq-is, bytes_eq-itself, pair-is}
 

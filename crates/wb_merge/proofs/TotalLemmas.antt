@@ -4,7 +4,9 @@ use Rattle.std.specs.List.{list_any}
 use Rattle.std.specs.FinMap as finite
 use Rattle.wb_states.specs.declared.record.Record.{Record}
 use Rattle.wb_merge.specs.Listing.{ArchiveListing}
-use Rattle.wb_merge.specs.Merged.{Records, after_at, merged, names_of, is_added, is_changed, is_kept, is_removed, is_same_record, number_where, counts_over, merge_counts, all_kept, recorded_names}
+use Rattle.wb_merge.specs.declared.merge.Change.{Change}
+use Rattle.wb_merge.specs.declared.merge.Change.TheVariants.{Changed, Kept}
+use Rattle.wb_merge.specs.Merged.{Records, after_at, merged, names_of, is_added, is_changed, is_kept, is_removed, change_of, is_same_record, number_where, counts_over, merge_counts, all_kept, recorded_names}
 use Rattle.wb_merge.specs.Steps.{Key}
 use Rattle.wb_merge.proofs.CheckLemmas.{neither}
 use Rattle.wb_merge.proofs.NameLemmas.{IsApart, bytes_eq-flip, bytes_eq-is, bytes_eq-itself, filter-any, filter-apart, keys-apart}
@@ -81,17 +83,19 @@ parts-add p q r s each (x ∷ xs) =
       length-more (s x) x (filter s xs),
     )
 
-part-before : (old new : Option Record) → bit (is_removed old new) + (bit (is_changed old new) + bit (is_kept old new)) ≡ bit (is_some old)
+part-before : (old new : Option Record) → bit (is_removed (change_of old new)) + (bit (is_changed (change_of old new)) + bit (is_kept (change_of old new))) ≡ bit (is_some old)
 part-before None None = refl
 part-before None (Some new) = refl
 part-before (Some old) None = refl
-part-before (Some old) (Some new) = elim (is_same_record old new) as (λ b. 0 + (bit (not b) + bit b) ≡ 1) [ true ↦ refl | false ↦ refl ]
+part-before (Some old) (Some new) =
+    elim (is_same_record old new) as (λ b. bit (is_removed (cond b Kept Changed)) + (bit (is_changed (cond b Kept Changed)) + bit (is_kept (cond b Kept Changed))) ≡ 1) [ true ↦ refl | false ↦ refl ]
 
-part-after : (old new : Option Record) → bit (is_added old new) + (bit (is_changed old new) + bit (is_kept old new)) ≡ bit (is_some new)
+part-after : (old new : Option Record) → bit (is_added (change_of old new)) + (bit (is_changed (change_of old new)) + bit (is_kept (change_of old new))) ≡ bit (is_some new)
 part-after None None = refl
 part-after None (Some new) = refl
 part-after (Some old) None = refl
-part-after (Some old) (Some new) = elim (is_same_record old new) as (λ b. 0 + (bit (not b) + bit b) ≡ 1) [ true ↦ refl | false ↦ refl ]
+part-after (Some old) (Some new) =
+    elim (is_same_record old new) as (λ b. bit (is_added (cond b Kept Changed)) + (bit (is_changed (cond b Kept Changed)) + bit (is_kept (cond b Kept Changed))) ≡ 1) [ true ↦ refl | false ↦ refl ]
 
 module _ (old : Records) (arch : List ℕ) (listing : ArchiveListing) where
   abbrev names : List (List ℕ)
@@ -116,9 +120,9 @@ module _ (old : Records) (arch : List ℕ) (listing : ArchiveListing) where
       ≡ length (recorded_names old arch)
   unfolding merge_counts counts_over
   counts-before =
-      parts-add (λ name. is_removed (finite.get old (arch, name)) (after_at old arch listing (arch, name)))
-      (λ name. is_changed (finite.get old (arch, name)) (after_at old arch listing (arch, name)))
-      (λ name. is_kept (finite.get old (arch, name)) (after_at old arch listing (arch, name)))
+      parts-add (λ name. is_removed (change_of (finite.get old (arch, name)) (after_at old arch listing (arch, name))))
+      (λ name. is_changed (change_of (finite.get old (arch, name)) (after_at old arch listing (arch, name))))
+      (λ name. is_kept (change_of (finite.get old (arch, name)) (after_at old arch listing (arch, name))))
       (λ name. is_some (finite.get old (arch, name)))
       (λ name. part-before (finite.get old (arch, name)) (after_at old arch listing (arch, name))) names
       ∙ length-before
@@ -153,9 +157,9 @@ module _ (old : Records) (arch : List ℕ) (listing : ArchiveListing) where
       ≡ length (recorded_names (merged old arch listing) arch)
   unfolding merge_counts counts_over
   counts-after =
-      parts-add (λ name. is_added (finite.get old (arch, name)) (after_at old arch listing (arch, name)))
-      (λ name. is_changed (finite.get old (arch, name)) (after_at old arch listing (arch, name)))
-      (λ name. is_kept (finite.get old (arch, name)) (after_at old arch listing (arch, name)))
+      parts-add (λ name. is_added (change_of (finite.get old (arch, name)) (after_at old arch listing (arch, name))))
+      (λ name. is_changed (change_of (finite.get old (arch, name)) (after_at old arch listing (arch, name))))
+      (λ name. is_kept (change_of (finite.get old (arch, name)) (after_at old arch listing (arch, name))))
       (λ name. is_some (after_at old arch listing (arch, name)))
       (λ name. part-after (finite.get old (arch, name)) (after_at old arch listing (arch, name))) names
       ∙ length-after
@@ -166,17 +170,17 @@ filter-none : {X : Type 0} (p : X → Bool) → ((x : X) → p x ≡ false) → 
 filter-none p none [] = refl
 filter-none p none (x ∷ xs) = ap (λ b. length (cond b (x ∷ filter p xs) (filter p xs))) (none x) ∙ filter-none p none xs
 
-none-added : (current : Option Record) → is_added current current ≡ false
+none-added : (current : Option Record) → is_added (change_of current current) ≡ false
 none-added None = refl
-none-added (Some current) = refl
+none-added (Some current) = ap (λ b. is_added (cond b Kept Changed)) ((same-record-is current current).1 refl)
 
-none-removed : (current : Option Record) → is_removed current current ≡ false
+none-removed : (current : Option Record) → is_removed (change_of current current) ≡ false
 none-removed None = refl
-none-removed (Some current) = refl
+none-removed (Some current) = ap (λ b. is_removed (cond b Kept Changed)) ((same-record-is current current).1 refl)
 
-none-changed : (current : Option Record) → is_changed current current ≡ false
+none-changed : (current : Option Record) → is_changed (change_of current current) ≡ false
 none-changed None = refl
-none-changed (Some current) = ap not ((same-record-is current current).1 refl)
+none-changed (Some current) = ap (λ b. is_changed (cond b Kept Changed)) ((same-record-is current current).1 refl)
 
 module _ (old : Records) (arch : List ℕ) (listing : ArchiveListing) where
   abbrev once : Records
@@ -185,11 +189,11 @@ module _ (old : Records) (arch : List ℕ) (listing : ArchiveListing) where
   same-again : (key : Key) → after_at once arch listing key ≡ finite.get once key
   same-again key = after_at-twice old arch listing key ∙ sym (merged-get old arch listing key)
 
-  none-where : (test : Option Record → Option Record → Bool) → ((current : Option Record) → test current current ≡ false) → (names : List (List ℕ))
+  none-where : (test : Change → Bool) → ((current : Option Record) → test (change_of current current) ≡ false) → (names : List (List ℕ))
       → number_where test once arch listing names ≡ 0
   none-where test none names =
-      filter-none (λ name. test (finite.get once (arch, name)) (after_at once arch listing (arch, name)))
-      (λ name. ap (test (finite.get once (arch, name))) (same-again (arch, name)) ∙ none (finite.get once (arch, name))) names
+      filter-none (λ name. test (change_of (finite.get once (arch, name)) (after_at once arch listing (arch, name))))
+      (λ name. ap (λ new. test (change_of (finite.get once (arch, name)) new)) (same-again (arch, name)) ∙ none (finite.get once (arch, name))) names
 
   pub counts-twice : merge_counts once arch listing ≡ all_kept (length (recorded_names once arch))
   unfolding merge_counts counts_over

@@ -6,6 +6,8 @@ use Rattle.wb_states.specs.declared.record.Record.{Record}
 use Rattle.wb_states.specs.declared.reply.MergeCounts.{MergeCounts}
 use Rattle.wb_states.specs.Machine.{pair_cmp}
 use Rattle.wb_states.specs.State.{code_of}
+use Rattle.wb_merge.specs.declared.merge.Change.{Change}
+use Rattle.wb_merge.specs.declared.merge.Change.TheVariants.{Absent, Added, Changed, Kept, Removed}
 use Rattle.wb_merge.specs.Listing.{ArchiveListing, map_at}
 use Rattle.wb_merge.specs.Merge.{after}
 
@@ -64,25 +66,32 @@ has_same_texts one other =
 unfoldable pub is_same_record : Record → Record → Bool
 is_same_record one other = has_same_source one other && (has_same_place one other && has_same_texts one other)
 
--- a record where there was none
-abbrev pub is_added : Option Record → Option Record → Bool
-is_added None (Some new) = true
-is_added old new = false
+-- what became of the record of a source package
+abbrev pub change_of : Option Record → Option Record → Change
+change_of None None = Absent
+change_of None (Some new) = Added
+change_of (Some old) None = Removed
+change_of (Some old) (Some new) = if is_same_record old new then Kept else Changed
 
--- no record where there was one
-abbrev pub is_removed : Option Record → Option Record → Bool
-is_removed (Some old) None = true
-is_removed old new = false
+-- whether there is a record where there was none
+abbrev pub is_added : Change → Bool
+is_added Added = true
+is_added _ = false
 
--- a record of which no field differs
-abbrev pub is_kept : Option Record → Option Record → Bool
-is_kept (Some old) (Some new) = is_same_record old new
-is_kept old new = false
+-- whether there is no record where there was one
+abbrev pub is_removed : Change → Bool
+is_removed Removed = true
+is_removed _ = false
 
--- a record of which a field differs
-abbrev pub is_changed : Option Record → Option Record → Bool
-is_changed (Some old) (Some new) = not (is_same_record old new)
-is_changed old new = false
+-- whether no field of the record differs
+abbrev pub is_kept : Change → Bool
+is_kept Kept = true
+is_kept _ = false
+
+-- whether a field of the record differs
+abbrev pub is_changed : Change → Bool
+is_changed Changed = true
+is_changed _ = false
 
 -- the source packages of the architecture that have a record, by name
 abbrev pub recorded_names : Records → List ℕ → List (List ℕ)
@@ -93,10 +102,10 @@ unfoldable pub names_of : Records → List ℕ → ArchiveListing → List (List
 names_of old arch listing =
     recorded_names old arch ++ filter (λ name. not (finite.contains_key old (arch, name))) (finite.keys listing.listed)
 
--- how many source packages pass a test of the record before and the record after
-abbrev pub number_where : (Option Record → Option Record → Bool) → Records → List ℕ → ArchiveListing → List (List ℕ) → ℕ
+-- how many source packages pass a test of what became of their records
+abbrev pub number_where : (Change → Bool) → Records → List ℕ → ArchiveListing → List (List ℕ) → ℕ
 number_where test old arch listing names =
-    length (filter (λ name. test (finite.get old (arch, name)) (after_at old arch listing (arch, name))) names)
+    length (filter (λ name. test (change_of (finite.get old (arch, name)) (after_at old arch listing (arch, name)))) names)
 
 -- what a merge did, counted over these names
 unfoldable pub counts_over : Records → List ℕ → ArchiveListing → List (List ℕ) → MergeCounts

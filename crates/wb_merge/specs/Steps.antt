@@ -1,5 +1,5 @@
 -- One step of a merge: the record of one source package, what became of it, and the counts with it (this project's own).
-use Rattle.std.specs.Prelude.{◌≡◌, ℕ, ◌+◌, ◌≤◌, List, Option, Some, None, if◌then◌else◌}
+use Rattle.std.specs.Prelude.{◌≡◌, ℕ, ◌+◌, ◌≤◌, List, Option, if◌then◌else◌}
 use Rattle.std.specs.Ordering.{eq_by_cmp}
 use Rattle.std.specs.FinMap as finite
 use Rattle.wb_states.specs.Machine.{pair_cmp}
@@ -7,7 +7,7 @@ use Rattle.wb_states.specs.declared.record.Record.{Record}
 use Rattle.wb_states.specs.declared.reply.MergeCounts.{MergeCounts}
 use Rattle.wb_merge.specs.declared.merge.Change.{Change}
 use Rattle.wb_merge.specs.declared.merge.Change.TheVariants.{Absent, Added, Changed, Kept, Removed}
-use Rattle.wb_merge.specs.Merged.{Records, is_same_record}
+use Rattle.wb_merge.specs.Merged.{Records}
 
 -- an architecture and a source package
 abbrev pub Key : Type 0
@@ -21,13 +21,6 @@ record_at records key = finite.get records key
 unfoldable pub IsSetAt : Records → Key → Option Record → Records → Type 0
 IsSetAt old key value new =
     (other : Key) → record_at new other ≡ (if eq_by_cmp pair_cmp key other then value else record_at old other)
-
--- what became of the record of a source package
-abbrev pub change_of : Option Record → Option Record → Change
-change_of None None = Absent
-change_of None (Some new) = Added
-change_of (Some old) None = Removed
-change_of (Some old) (Some new) = if is_same_record old new then Kept else Changed
 
 -- the counts and one change more
 abbrev pub counted : MergeCounts → Change → MergeCounts

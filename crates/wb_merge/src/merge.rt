@@ -4,8 +4,8 @@ ghost use Rattle.std.specs.Option.{option_map, option_eq};
 ghost use Rattle.std.specs.Map.Iter.{deref};
 ghost use Rattle.std.specs.FinMap as map;
 ghost use Rattle.wb_states.specs.declared.refusal.Refusal.TheVariants.{Memory};
-ghost use Rattle.wb_merge.specs.Merged.{merged, merge_counts, names_of, has_same_source, has_same_place, has_same_texts, is_same_record, recorded_names, after_named};
-ghost use Rattle.wb_merge.specs.Steps.{record_at, IsSetAt, AreWithin, change_of, counted};
+ghost use Rattle.wb_merge.specs.Merged.{merged, merge_counts, names_of, has_same_source, has_same_place, has_same_texts, is_same_record, recorded_names, after_named, change_of};
+ghost use Rattle.wb_merge.specs.Steps.{record_at, IsSetAt, AreWithin, counted};
 
 use crate::Listing;
 use crate::record::after;
