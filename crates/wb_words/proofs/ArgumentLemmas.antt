@@ -10,7 +10,7 @@ use Rattle.clap.specs.Words.{Accepts, Text}
 use Rattle.clap.specs.ValueTests.{is_unsigned_in}
 use Rattle.clap.specs.declared.builder.value_parser.ValueParser.TheVariants as vp
 use Rattle.clap.proofs.ValueTestLemmas.{Accepts-accepts, accepts-Accepts}
-use Rattle.wb_words.specs.Arguments.{greatest_number, joined, number_in}
+use Rattle.wb_words.specs.Arguments.{number_limit, joined, number_in}
 
 -- ---- words
 
@@ -29,13 +29,13 @@ pub ruleset argument_laws = (join_by-joined)
 pub parsed-number_in : {E : Type 0} (text : Text) (r : Result ℕ E) → ParsesUnsigned 64 10 text r → result_ok r ≡ number_in text
 unfolding number_in
 parsed-number_in text (Ok x) h =
-    let passes : is_unsigned_in 0 greatest_number text ≡ true =
-    Accepts-accepts false (vp.Unsigned 0 greatest_number) text (h.0.0, h.0.1, omega arith, omega arith) in
+    let passes : is_unsigned_in 0 number_limit text ≡ true =
+    Accepts-accepts false (vp.Unsigned 0 number_limit) text (h.0.0, h.0.1, omega arith, omega arith) in
     rw (passes, h.1) refl
 parsed-number_in text (Err e) h =
-    elim (is_unsigned_in 0 greatest_number text) as (λ passes. is_unsigned_in 0 greatest_number text ≡ passes
+    elim (is_unsigned_in 0 number_limit text) as (λ passes. is_unsigned_in 0 number_limit text ≡ passes
     → None ≡ (if passes then Some (digits_value 10 (without_leading_plus text)) else None)) [
-      | true ↦ λ e. let read : Accepts false (vp.Unsigned 0 greatest_number) text =
-          accepts-Accepts false (vp.Unsigned 0 greatest_number) text e in absurd (h (read.0, read.1))
+      | true ↦ λ e. let read : Accepts false (vp.Unsigned 0 number_limit) text =
+          accepts-Accepts false (vp.Unsigned 0 number_limit) text e in absurd (h (read.0, read.1))
       | false ↦ λ e. refl
     ] refl

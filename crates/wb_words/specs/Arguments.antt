@@ -27,12 +27,12 @@ unfoldable pub words_of : Text → List Row → Text
 words_of id rows = joined (all_words_of id rows)
 
 -- the greatest number that is read, 2^64 - 1
-abbrev pub greatest_number : ℕ
-greatest_number = 18446744073709551615
+abbrev pub number_limit : ℕ
+number_limit = 18446744073709551615
 
 -- the whole number that a text writes in decimal digits, one plus sign before them allowed
 unfoldable pub number_in : Text → Option ℕ
-number_in text = if is_unsigned_in 0 greatest_number text
+number_in text = if is_unsigned_in 0 number_limit text
     then Some (digits_value 10 (without_leading_plus text)) else None
 
 -- the number that was given for an argument

@@ -58,7 +58,7 @@ pub(crate) fn words(alloc: Global, arguments: &ArgMatches<'_>, id: &str) -> Resu
 
 /// The whole number from 0 to 2^64 - 1 that the text writes in decimal digits, leading zeros and
 /// one plus sign before them allowed; `None` for any other text.
-fn number_written(text: &str) -> Option<u64>
+fn number_in(text: &str) -> Option<u64>
     ensures value { result ≡ number_in text.now }
 {
     text.parse::<u64>().ok()
@@ -70,7 +70,7 @@ pub(crate) fn number(arguments: &ArgMatches<'_>, id: &str) -> Option<u64>
     ensures value { result ≡ number_of id.now (rows_of (found_of arguments.now)) }
 {
     match arguments.get_str(id) {
-        Some(word) => number_written(word),
+        Some(word) => number_in(word),
         None => None,
     }
 }
@@ -81,7 +81,7 @@ pub(crate) fn optional_number(arguments: &ArgMatches<'_>, id: &str) -> Option<Op
     ensures value { result ≡ optional_number_of id.now (rows_of (found_of arguments.now)) }
 {
     match arguments.get_str(id) {
-        Some(word) => match number_written(word) {
+        Some(word) => match number_in(word) {
             Some(number) => Some(Some(number)),
             None => None,
         },

@@ -45,7 +45,7 @@ pub static USAGES: [(&str, &[(&str, ArgumentKind)]); 6] = [
 /// builders, an argument is missing, or a take number is no number. The only error is that there is
 /// no memory for its texts.
 #[tactic(auto, unfolding(crate::specs::Words::builder_command))]
-pub(crate) fn command_named(
+pub(crate) fn builder_command(
     alloc: Global,
     name: &str,
     arguments: &ArgMatches<'_>,

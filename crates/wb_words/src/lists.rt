@@ -24,7 +24,7 @@ pub static USAGES: [(&str, &[(&str, ArgumentKind)]); 1] = [(
 /// that reads lists, an argument is missing, or a word names no part. The only error is that there
 /// is no memory for the names.
 #[tactic(auto, unfolding(crate::specs::Words::list_asked))]
-pub(crate) fn asked_named(
+pub(crate) fn list_asked(
     alloc: Global,
     name: &str,
     arguments: &ArgMatches<'_>,
@@ -62,18 +62,18 @@ fn parts(
         parts ≡ parts_of id.now (rows_of (found_of arguments.now))) }
 {
     match arguments.get_strs(id) {
-        Some(words) => named_parts(alloc, words),
+        Some(words) => parts_in(alloc, words),
         None => Ok(Some(Items::new(alloc))),
     }
 }
 
 /// The parts that the words name, in their order; `None` where one of them names no part.
-fn named_parts(alloc: Global, words: &[&str]) -> Result<Option<Items<PartNames>>, AllocError>
+fn parts_in(alloc: Global, words: &[&str]) -> Result<Option<Items<PartNames>>, AllocError>
     ensures value { IfOk result (λ parts. parts ≡ parts_in (map (λ word. word.now) words.now)) }
 {
     let mut parts = Items::new(alloc);
     for word in words {
-        let Some(part) = named_part(alloc, word)? else {
+        let Some(part) = part_in(alloc, word)? else {
             return Ok(None);
         };
         parts.push(part)?;
@@ -83,7 +83,7 @@ fn named_parts(alloc: Global, words: &[&str]) -> Result<Option<Items<PartNames>>
 
 /// The part that a word names, cut at its first `=`; `None` where it has none.
 #[tactic(auto, unfolding(crate::specs::Arguments::part_in))]
-fn named_part(alloc: Global, word: &str) -> Result<Option<PartNames>, AllocError>
+fn part_in(alloc: Global, word: &str) -> Result<Option<PartNames>, AllocError>
     ensures value { IfOk result (λ part. part ≡ part_in word.now) }
 {
     let Some((arch, packages)) = word.split_once('=') else {

@@ -85,7 +85,7 @@ pub static USAGES: [(&str, &[(&str, ArgumentKind)]); 8] = [
 /// operators, an argument is missing, or the number of a rebuild is no number. The only error is
 /// that there is no memory for its texts.
 #[tactic(auto, unfolding(crate::specs::Words::operator_command))]
-pub(crate) fn command_named(
+pub(crate) fn operator_command(
     alloc: Global,
     name: &str,
     arguments: &ArgMatches<'_>,

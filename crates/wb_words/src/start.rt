@@ -65,7 +65,7 @@ argument that ends in .. takes several words.
 ";
 
 /// Whether the first word is `help`.
-fn begins_help(words: &[&str]) -> bool
+fn begins_with_help(words: &[&str]) -> bool
     ensures value { result ≡ begins_with_help (map (λ word. word.now) words.now) }
 {
     match words {
@@ -76,7 +76,7 @@ fn begins_help(words: &[&str]) -> bool
 
 /// The program's command line: the subcommand `run`, and help.
 #[tactic(auto, unfolding(crate::specs::Start::start_app))]
-fn command_line<'a>(alloc: Global) -> Result<Command<'a>, AllocError>
+fn start_app<'a>(alloc: Global) -> Result<Command<'a>, AllocError>
     ensures value { IfOk result (λ command. app_of command ≡ start_app) }
 {
     Command::new(alloc, "wb")
@@ -98,10 +98,10 @@ pub fn start_of<'a>(alloc: Global, words: &'a [&'a str]) -> Result<Start, Error>
     ensures refused { IfErr result (λ error. kind_of error ≢ OutOfMemory
         → IsNoStart (map (λ word. word.now) words.entry.now)) }
 {
-    if begins_help(words) {
+    if begins_with_help(words) {
         return Ok(Start::Help);
     }
-    match command_line(alloc)?.try_get_matches_from(words) {
+    match start_app(alloc)?.try_get_matches_from(words) {
         Ok(_) => Ok(Start::Run),
         Err(error) => match error.kind() {
             ErrorKind::DisplayHelp => Ok(Start::Help),

@@ -63,7 +63,7 @@ fn with_subcommands<'a>(
 
 /// The command of a line: its first word is a subcommand, and there is no help.
 #[tactic(auto, unfolding(crate::specs::Usages::wb_app))]
-pub(crate) fn command_line<'a>(alloc: Global) -> Result<Command<'a>, AllocError>
+pub(crate) fn wb_app<'a>(alloc: Global) -> Result<Command<'a>, AllocError>
     ensures value { IfOk result (λ command. app_of command ≡ wb_app) }
 {
     let bare = Command::new(alloc, "wb")

@@ -4,7 +4,7 @@ ghost use Rattle.clap.specs.Words.{found_of, rows_of};
 ghost use Rattle.wb_words.specs.declared.fault.WordsFault.TheVariants.{Memory};
 ghost use Rattle.wb_words.specs.Words.{asked_in, asked_named, command_named};
 
-use crate::tree::command_line;
+use crate::tree::wb_app;
 use crate::{WordsFault, builder, lists, operator};
 use clap::ArgMatches;
 use deb_relations::{Items, Text};
@@ -38,7 +38,7 @@ pub enum Asked {
 /// builders, or an argument is missing or no number. The only error is that there is no memory for
 /// its texts.
 #[tactic(auto, unfolding(crate::specs::Words::command_named))]
-fn command(
+fn command_named(
     alloc: Global,
     name: &str,
     arguments: &ArgMatches<'_>,
@@ -46,9 +46,9 @@ fn command(
     ensures value { IfOk result (λ command.
         command ≡ command_named name.now (rows_of (found_of arguments.now))) }
 {
-    match operator::command_named(alloc, name, arguments)? {
+    match operator::operator_command(alloc, name, arguments)? {
         Some(command) => Ok(Some(command)),
-        None => builder::command_named(alloc, name, arguments),
+        None => builder::builder_command(alloc, name, arguments),
     }
 }
 
@@ -56,13 +56,17 @@ fn command(
 /// or an argument is missing or of another form. The only error is that there is no memory for its
 /// texts.
 #[tactic(auto, unfolding(crate::specs::Words::asked_named))]
-fn named(alloc: Global, name: &str, arguments: &ArgMatches<'_>) -> Result<Option<Asked>, AllocError>
+fn asked_named(
+    alloc: Global,
+    name: &str,
+    arguments: &ArgMatches<'_>,
+) -> Result<Option<Asked>, AllocError>
     ensures value { IfOk result (λ asked.
         asked ≡ asked_named (name.now, rows_of (found_of arguments.now))) }
 {
-    match command(alloc, name, arguments)? {
+    match command_named(alloc, name, arguments)? {
         Some(command) => Ok(Some(Asked::Command { command })),
-        None => lists::asked_named(alloc, name, arguments),
+        None => lists::list_asked(alloc, name, arguments),
     }
 }
 
@@ -81,11 +85,11 @@ pub fn asked_of<'a>(alloc: Global, words: &'a [&'a str]) -> Result<Asked, WordsF
     ensures refused { IfErr result (λ fault. fault ≢ Memory
         → asked_in (map (λ word. word.now) words.entry.now) ≡ None) }
 {
-    let matches = command_line(alloc)?.try_get_matches_from(words)?;
+    let matches = wb_app(alloc)?.try_get_matches_from(words)?;
     let Some((name, arguments)) = matches.subcommand() else {
         return Err(WordsFault::NoCommand);
     };
-    match named(alloc, name, arguments)? {
+    match asked_named(alloc, name, arguments)? {
         Some(asked) => Ok(asked),
         None => Err(WordsFault::NoCommand),
     }

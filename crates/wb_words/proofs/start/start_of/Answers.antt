@@ -7,10 +7,10 @@ pub returns : goal.returns
 returns c = record {
   value = tt;
   refused = λ other. (
-    sym c.begins_help.ensures.value ∙ c.if-begins_help.false,
+    sym c.begins_with_help.ensures.value ∙ c.if-begins_with_help.false,
     (
       kind_of c.in-Err.error,
-      start_faults-failed _ _ c.in-Err.error c.in_ok-command_line.ensures.value c.in-Err.ensures.kinds other,
+      start_faults-failed _ _ c.in-Err.error c.in_ok-start_app.ensures.value c.in-Err.ensures.kinds other,
       λ is_help. c.in_default.not-DisplayHelp (c.kind.ensures ∙ is_help),
     ),
   );

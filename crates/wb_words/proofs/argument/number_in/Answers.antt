@@ -1,6 +1,6 @@
 use Rattle.std.proofs.Common.{◌∙◌}
 use Rattle.wb_words.proofs.ArgumentLemmas.{parsed-number_in}
-use Rattle.wb_words.proofs.argument.number_written.Goals as goal
+use Rattle.wb_words.proofs.argument.number_in.Goals as goal
 
 pub returns : goal.returns
 returns c = record {

@@ -1,7 +1,7 @@
 use Rattle.std.proofs.Common.{◌≡◌, ◌++◌, map, drop}
 use Rattle.std.specs.Prelude.{option_map}
 use Rattle.wb_words.specs.Arguments.{parts_in}
-use Rattle.wb_words.proofs.lists.named_parts.Given as goal
+use Rattle.wb_words.proofs.lists.parts_in.Given as goal
 
 abbrev pub invariant-loop-word : goal.invariant-loop-word
 invariant-loop-word l = option_map (λ parts. l.parts ++ parts)
