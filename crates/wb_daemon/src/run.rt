@@ -210,7 +210,7 @@ pub fn run_lines<R: Read, W: Write, L: Lists>(
         ⊎ RunStops (L.gives lists.old) (R.remaining reader.old) (R.remaining reader.new)
         (W.contents writer.old) (W.contents writer.new) office.old office.new }
     ensures replay { LeavesReplay (L.gives lists.old) office.old office.new }
-    ensures kept { IsConsistent office.old → IsConsistent office.new }
+    ensures consistent { IsConsistent office.old → IsConsistent office.new }
 {
     match run_in_room(alloc, office, reader, writer, lists) {
         RunEnd::Ended(status) => status,
