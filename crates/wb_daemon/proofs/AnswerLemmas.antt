@@ -16,7 +16,7 @@ use Rattle.deb_control.specs.Lines.{words_in}
 use Rattle.wb_daemon.specs.Line.{is_blank_line, is_long}
 use Rattle.wb_daemon.specs.Lists.{Gives, GivesMerge, GivesNoMore}
 use Rattle.wb_daemon.specs.Run.{Said, Says, Accepts, AsksFor, LineAsks, SaysHeard, Heard, Silence, Fault, Asks, heard_in, heard_of, asked_of_line, fault_said, memory_said, needs_memory, with_feed}
-use Rattle.wb_daemon.specs.Turn.{Answers, AnswersAsked, AnswersInPart, AppendsFront, GivesFed, GivesLast, LacksAnswer, StopsTurn, Turns}
+use Rattle.wb_daemon.specs.Turn.{Answers, AnswersAsked, AnswersInPart, AppendsFront, TookFedLine, TookLastLine, LacksAnswer, StopsTurn, Turns}
 use Rattle.wb_daemon.specs.declared.run.Cause.{Cause}
 use Rattle.wb_daemon.specs.declared.run.Cause.TheVariants as why
 use Rattle.wb_daemon.specs.declared.run.Turn.{Turn}
@@ -162,7 +162,7 @@ LineAsks-asked gives line asked command h k e a = (asked, heard_in-read line h k
 
 -- a line that was not answered stops the turn
 pub stops_turn : (gives : Gives) (cause : Cause) (line : List ℕ) (before after : Machine) (i j a b : Option (List ℕ))
-    → GivesFed line i j ⊎ GivesLast line i j → LacksAnswer gives line before after a b cause → StopsTurn gives cause before after i j a b
+    → TookFedLine line i j ⊎ TookLastLine line i j → LacksAnswer gives line before after a b cause → StopsTurn gives cause before after i j a b
 stops_turn gives why.Read line before after i j a b g h = absurd h
 stops_turn gives why.Write line before after i j a b g h = (line, g, h)
 stops_turn gives why.Reply line before after i j a b g h = (line, g, h)

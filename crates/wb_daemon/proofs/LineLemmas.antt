@@ -7,7 +7,7 @@ use Rattle.std.proofs.lemmas.Bool.{false_from_ne_true}
 use Rattle.std.proofs.lemmas.Bool.Decides.{nat_tests}
 use Rattle.deb_control.specs.Lines.{IsOneLine}
 use Rattle.wb_api.proofs.OneLineLemmas.{IsOneLine-append}
-use Rattle.wb_daemon.specs.Line.{is_long, max_line}
+use Rattle.wb_daemon.specs.Line.{is_long, line_limit}
 
 pub Consumes-then : (a b c : Option (List ℕ)) (xs ys : List ℕ) → Consumes a b xs → Consumes b c ys → Consumes a c (xs ++ ys)
 Consumes-then None b c xs ys p q = tt
@@ -19,7 +19,7 @@ pub IsOneLine-one : (c : ℕ) → ¬ (c ≡ 10) → IsOneLine (c ∷ [])
 IsOneLine-one c h = grind (arith, nat_tests)
 
 -- a line that fills the room, and one byte more, is too long
-pub over_long : (a b c : Option (List ℕ)) (line : List ℕ) (byte : ℕ) → max_line ≤ length line → IsOneLine line → ¬ (byte ≡ 10)
+pub over_long : (a b c : Option (List ℕ)) (line : List ℕ) (byte : ℕ) → line_limit ≤ length line → IsOneLine line → ¬ (byte ≡ 10)
     → Consumes a b line → Consumes b c (byte ∷ [])
     → (taken : List ℕ) × (is_long taken ≡ true) × IsOneLine taken × Consumes a c taken
 over_long a b c line byte full none other p q = (

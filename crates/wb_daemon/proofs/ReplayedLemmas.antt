@@ -13,7 +13,7 @@ use Rattle.wb_daemon.specs.Line.{ended_in, input_lines}
 use Rattle.wb_daemon.specs.Lists.{Gives}
 use Rattle.wb_daemon.specs.Replays.{IsReplay, IsReplayCut, LeavesReplay, SaysNoReply}
 use Rattle.wb_daemon.specs.Run.{Asks, AsksFor, EndsInput, Fault, Heard, LineAsks, Runs, Said, Says, SaysAsked, SaysHeard, Silence, StopsInLine, answer_said, command_said, followed, heard_in, silent}
-use Rattle.wb_daemon.specs.Turn.{StopsRun}
+use Rattle.wb_daemon.specs.Turn.{StopsForCause}
 use Rattle.wb_daemon.specs.declared.run.Cause.{Cause}
 use Rattle.wb_daemon.specs.declared.run.Cause.TheVariants as why
 use Rattle.wb_daemon.proofs.RunLemmas.{Runs-snoc}
@@ -135,11 +135,11 @@ StopsInLine-leaves gives seen left before text after h =
     let cut = StopsInLine-replay gives seen left before text after h in (cut.0, cut.1, cut.4, cut.5)
 
 -- what a run leaves that stopped, for whatever cause
-pub StopsRun-leaves : (gives : Gives) (cause : Cause) (before after : Machine) (input left old new : Option (List ℕ))
-    → StopsRun gives cause before after input left old new → LeavesReplay gives before after
-StopsRun-leaves gives why.Read before after input left old new h = Runs-leaves gives before after (ended_in h.0) h.1 h.4.0 h.4.1
-StopsRun-leaves gives why.Write before after input left old new h = StopsInLine-leaves gives h.0 left before h.1 after (h.4.0, h.4.1, inl h.4.2)
-StopsRun-leaves gives why.Reply before after input left old new h = StopsInLine-leaves gives h.0 left before h.1 after (h.4.0, h.4.1, inr h.4.2)
-StopsRun-leaves gives why.Lines before after input left old new h = Runs-leaves gives before after (ended_in h.4.0) h.1 h.4.4.0 h.4.4.1
-StopsRun-leaves gives why.Room before after input left old new h =
+pub StopsForCause-leaves : (gives : Gives) (cause : Cause) (before after : Machine) (input left old new : Option (List ℕ))
+    → StopsForCause gives cause before after input left old new → LeavesReplay gives before after
+StopsForCause-leaves gives why.Read before after input left old new h = Runs-leaves gives before after (ended_in h.0) h.1 h.4.0 h.4.1
+StopsForCause-leaves gives why.Write before after input left old new h = StopsInLine-leaves gives h.0 left before h.1 after (h.4.0, h.4.1, inl h.4.2)
+StopsForCause-leaves gives why.Reply before after input left old new h = StopsInLine-leaves gives h.0 left before h.1 after (h.4.0, h.4.1, inr h.4.2)
+StopsForCause-leaves gives why.Lines before after input left old new h = Runs-leaves gives before after (ended_in h.4.0) h.1 h.4.4.0 h.4.4.1
+StopsForCause-leaves gives why.Room before after input left old new h =
     ([], silent before, Runs-replay gives [] before (silent before) refl, h.4.2)

@@ -10,10 +10,10 @@ use Rattle.std.specs.List.{list_any, onto_first, slice_split}
 use Rattle.wb_states.specs.Machine.{Machine}
 use Rattle.deb_control.proofs.RunLemmas.{slice_split-run, slice_split-end}
 use Rattle.deb_control.specs.Lines.{is_feed, IsOneLine}
-use Rattle.wb_daemon.specs.Line.{ended_in, is_long, input_lines, max_line, max_lines, through_long, AreWithinLimit}
+use Rattle.wb_daemon.specs.Line.{ended_in, is_long, input_lines, line_limit, lines_limit, through_long, AreWithinLimit}
 use Rattle.wb_daemon.specs.Lists.{Gives, IsAllOf}
 use Rattle.wb_daemon.specs.Run.{Said, Says, Runs, EndsInput, RunStops, StopsBeforeReply, StopsBetween, StopsWithin, WereHeard, followed, silent}
-use Rattle.wb_daemon.specs.Turn.{Answers, AnswersInPart, GivesFed, GivesLast, LacksAnswer, LacksReply, StopsRun, StopsTurn}
+use Rattle.wb_daemon.specs.Turn.{Answers, AnswersInPart, TookFedLine, TookLastLine, LacksAnswer, LacksReply, StopsForCause, StopsTurn}
 use Rattle.wb_daemon.specs.declared.run.Cause.{Cause}
 use Rattle.wb_daemon.specs.declared.run.Cause.TheVariants.{Read, Write, Reply, Lines, Room}
 use Rattle.wb_daemon.proofs.LineLemmas.{Appends-same, Appends-then, Consumes-then}
@@ -164,7 +164,7 @@ module _ {gives : Gives} {input now old new : Option (List ℕ)} {before after :
       subst (Consumes input left) (sym (fed-snoc far.lines line)) (Consumes-then input now left (fed far.lines) (line ++ 10 ∷ []) far.taken p)
 
   pub so_far-line : (line : List ℕ) (left written : Option (List ℕ)) (next : Machine) (more : ℕ)
-      → GivesFed line now left → Answers gives line after next new written more
+      → TookFedLine line now left → Answers gives line after next new written more
       → SoFar gives input left old written before next (max status more) (count + 1)
   so_far-line line left written next more g a = record {
     lines = far.lines ++ line ∷ [];
@@ -226,8 +226,8 @@ module _ {gives : Gives} {input now old new : Option (List ℕ)} {before after :
   )
 
   -- the last line was answered
-  pub ends-line : (line : List ℕ) (left written : Option (List ℕ)) (next : Machine) (more greatest : ℕ) → count < max_lines → greatest ≡ max status more
-      → GivesLast line now left → Answers gives line after next new written more → EndsInput gives input old written before next greatest
+  pub ends-line : (line : List ℕ) (left written : Option (List ℕ)) (next : Machine) (more greatest : ℕ) → count < lines_limit → greatest ≡ max status more
+      → TookLastLine line now left → Answers gives line after next new written more → EndsInput gives input old written before next greatest
   ends-line line left written next more greatest few e g a =
       let whole = whole_input (is_long line ≡ true) input now left (fed far.lines) line far.taken g.1 g.2 in
       let last = last_lines gives far.lines line whole.0 far.are g.0 whole.2 in
@@ -237,7 +237,7 @@ module _ {gives : Gives} {input now old new : Option (List ℕ)} {before after :
       (a.0, a.1, last.2 _ _ a.2, a.3))
 
   -- nothing follows the last line that a run may have
-  pub ends-nothing : (left : Option (List ℕ)) → count ≡ max_lines → Consumes now left [] → IsAtEnd left → EndsInput gives input old new before after status
+  pub ends-nothing : (left : Option (List ℕ)) → count ≡ lines_limit → Consumes now left [] → IsAtEnd left → EndsInput gives input old new before after status
   ends-nothing left full p e =
       let whole = whole_input ⊥ input now left (fed far.lines) [] far.taken p (inl e) in
       subst (λ n. EndsInput gives input old new before after n) (max-zero status)
@@ -253,12 +253,12 @@ module _ {gives : Gives} {input now old new : Option (List ℕ)} {before after :
       (status, subst (λ l. Runs gives before l (record { text = far.text; machine = after; status = status })) (sym (ended_in-fed far.lines line far.are h)) far.runs)
 
   -- the reader failed within a line
-  pub stops-read : (line : List ℕ) (left : Option (List ℕ)) → IsOneLine line → Consumes now left line → StopsRun gives Read before after input left old new
+  pub stops-read : (line : List ℕ) (left : Option (List ℕ)) → IsOneLine line → Consumes now left line → StopsForCause gives Read before after input left old new
   stops-read line left h p =
       (fed far.lines ++ line, far.text, Consumes-then input now left (fed far.lines) line far.taken p, far.written, between line h)
 
   -- a byte follows the last line that a run may have
-  pub stops-limit : (byte : ℕ) (left : Option (List ℕ)) → count ≡ max_lines → Consumes now left (byte ∷ []) → StopsRun gives Lines before after input left old new
+  pub stops-limit : (byte : ℕ) (left : Option (List ℕ)) → count ≡ lines_limit → Consumes now left (byte ∷ []) → StopsForCause gives Lines before after input left old new
   stops-limit byte left full p =
       let acted = fed far.lines ++ [] in (
         fed far.lines ++ byte ∷ [],
@@ -309,7 +309,7 @@ module _ {gives : Gives} {input now old new : Option (List ℕ)} {before after :
   }
 
   -- the bytes of the lines that were acted on
-  heard : (line : List ℕ) (left : Option (List ℕ)) → GivesFed line now left ⊎ GivesLast line now left
+  heard : (line : List ℕ) (left : Option (List ℕ)) → TookFedLine line now left ⊎ TookLastLine line now left
       → (seen : List ℕ) × Consumes input left seen × WereHeard seen left (far.lines ++ line ∷ [])
   heard line left (inl g) =
       let all = far.lines ++ line ∷ [] in (
@@ -324,7 +324,7 @@ module _ {gives : Gives} {input now old new : Option (List ℕ)} {before after :
   )
 
   stops-unanswered : (cause : Cause) (line : List ℕ) (left written : Option (List ℕ)) (next : Machine)
-      → GivesFed line now left ⊎ GivesLast line now left → LacksAnswer gives line after next new written cause → StopsRun gives cause before next input left old written
+      → TookFedLine line now left ⊎ TookLastLine line now left → LacksAnswer gives line after next new written cause → StopsForCause gives cause before next input left old written
   stops-unanswered Read line left written next g a = absurd a
   stops-unanswered Write line left written next g a =
       let h = heard line left g in
@@ -337,35 +337,35 @@ module _ {gives : Gives} {input now old new : Option (List ℕ)} {before after :
 
   -- a turn stopped
   pub stops-turn : (cause : Cause) (left written : Option (List ℕ)) (next : Machine)
-      → StopsTurn gives cause after next now left new written → StopsRun gives cause before next input left old written
+      → StopsTurn gives cause after next now left new written → StopsForCause gives cause before next input left old written
   stops-turn Read left written next t =
-      subst (λ w. StopsRun gives Read before next input left old w) (sym t.4)
-      (subst (λ m. StopsRun gives Read before m input left old new) (sym t.3) (stops-read t.0 left t.1 t.2))
+      subst (λ w. StopsForCause gives Read before next input left old w) (sym t.4)
+      (subst (λ m. StopsForCause gives Read before m input left old new) (sym t.3) (stops-read t.0 left t.1 t.2))
   stops-turn Write left written next t = stops-unanswered Write t.0 left written next t.1 t.2
   stops-turn Reply left written next t = stops-unanswered Reply t.0 left written next t.1 t.2
   stops-turn Lines left written next t = absurd t.2
   stops-turn Room left written next t = absurd t.2
 
 -- a run that could not begin
-pub stops-at_once : (gives : Gives) (input old : Option (List ℕ)) (machine : Machine) → StopsRun gives Room machine machine input input old old
+pub stops-at_once : (gives : Gives) (input old : Option (List ℕ)) (machine : Machine) → StopsForCause gives Room machine machine input input old old
 stops-at_once gives input old machine = ([], [], Consumes-same input, Appends-same old, (refl, refl, refl))
 
 -- a run that stopped, for whatever cause
-pub StopsRun-stops : (gives : Gives) (cause : Cause) (input left old new : Option (List ℕ)) (before after : Machine)
-    → StopsRun gives cause before after input left old new → RunStops gives input left old new before after
-StopsRun-stops gives Read input left old new before after h = (h.0, h.1, h.2, h.3, inl (inl h.4))
-StopsRun-stops gives Write input left old new before after h = (h.0, h.1, h.2, h.3, inr (inr (h.4.0, h.4.1, inl h.4.2)))
-StopsRun-stops gives Reply input left old new before after h = (h.0, h.1, h.2, h.3, inr (inr (h.4.0, h.4.1, inr h.4.2)))
-StopsRun-stops gives Lines input left old new before after h = (h.0, h.1, h.2, h.3, inl (inr h.4))
-StopsRun-stops gives Room input left old new before after h = (h.0, h.1, h.2, h.3, inr (inl h.4))
+pub StopsForCause-stops : (gives : Gives) (cause : Cause) (input left old new : Option (List ℕ)) (before after : Machine)
+    → StopsForCause gives cause before after input left old new → RunStops gives input left old new before after
+StopsForCause-stops gives Read input left old new before after h = (h.0, h.1, h.2, h.3, inl (inl h.4))
+StopsForCause-stops gives Write input left old new before after h = (h.0, h.1, h.2, h.3, inr (inr (h.4.0, h.4.1, inl h.4.2)))
+StopsForCause-stops gives Reply input left old new before after h = (h.0, h.1, h.2, h.3, inr (inr (h.4.0, h.4.1, inr h.4.2)))
+StopsForCause-stops gives Lines input left old new before after h = (h.0, h.1, h.2, h.3, inl (inr h.4))
+StopsForCause-stops gives Room input left old new before after h = (h.0, h.1, h.2, h.3, inr (inl h.4))
 
 -- the run goes on, or ends, with the greater of two statuses
 pub so_far-next : {gives : Gives} {input now old new : Option (List ℕ)} {before after : Machine} {status count : ℕ} (far : SoFar gives input now old new before after status count)
     (line : List ℕ) (left written : Option (List ℕ)) (next : Machine) (more greatest : ℕ)
-    → GivesFed line now left → Answers gives line after next new written more → greatest ≡ max status more
+    → TookFedLine line now left → Answers gives line after next new written more → greatest ≡ max status more
     → SoFar gives input left old written before next greatest (count + 1)
 so_far-next {gives} {input} {old} {before} {count} far line left written next more greatest g a e =
     subst (λ n. SoFar gives input left old written before next n (count + 1)) (sym e) (so_far-line far line left written next more g a)
 
-pub short_line : (room : List ℕ) (len : ℕ) → len ≤ max_line → is_long (take len room) ≡ false
+pub short_line : (room : List ℕ) (len : ℕ) → len ≤ line_limit → is_long (take len room) ≡ false
 short_line room len h = grind (arith, nat_tests, length-take len room)

@@ -4,21 +4,21 @@ use Rattle.std.specs.List.{list_all, slice_split}
 use Rattle.std.specs.Io.KnownBytes.{Consumes, IsAtEnd}
 use Rattle.deb_control.specs.Lines.{is_blank, is_feed, IsOneLine}
 use Rattle.wb_daemon.specs.declared.line.LineRead.{LineRead}
-use Rattle.wb_daemon.specs.declared.line.LineRead.TheVariants.{Fed, Last, Long, Fault}
+use Rattle.wb_daemon.specs.declared.line.LineRead.TheVariants.{Fed, Last, TooLong, Failed}
 use Rattle.wb_daemon.specs.declared.line.ByteRead.{ByteRead}
 use Rattle.wb_daemon.specs.declared.line.ByteRead.TheVariants as byte
 
 -- the greatest length of a line, its line feed not counted
-abbrev pub max_line : ℕ
-max_line = 65536
+abbrev pub line_limit : ℕ
+line_limit = 65536
 
 -- the greatest number of lines that end with a line feed
-abbrev pub max_lines : ℕ
-max_lines = 1_000_000_000
+abbrev pub lines_limit : ℕ
+lines_limit = 1_000_000_000
 
 -- a line that is too long
 abbrev pub is_long : List ℕ → Bool
-is_long line = nat_lt max_line (length line)
+is_long line = nat_lt line_limit (length line)
 
 -- a line of spaces and tabs alone
 abbrev pub is_blank_line : List ℕ → Bool
@@ -40,18 +40,18 @@ ended_in text = take (length (slice_split is_feed text) - 1) (slice_split is_fee
 -- at most the greatest number of lines, or one more that is empty, behind the last line feed
 abbrev pub AreWithinLimit : List (List ℕ) → Type 0
 AreWithinLimit lines =
-    (length lines ≤ max_lines)
-    ⊎ ((before : List (List ℕ)) × (lines ≡ before ++ [] ∷ []) × (length before ≡ max_lines))
+    (length lines ≤ lines_limit)
+    ⊎ ((before : List (List ℕ)) × (lines ≡ before ++ [] ∷ []) × (length before ≡ lines_limit))
 
 -- the bytes that a read of one byte took
 abbrev pub bytes_of : ByteRead → List ℕ
 bytes_of (byte.Byte c) = c ∷ []
 bytes_of byte.End = []
-bytes_of byte.Fault = []
+bytes_of byte.Failed = []
 
 -- what a read took from the reader: a line and its line feed, the last line, more than a line may have, or what came before a fault
 abbrev pub TookLine : List ℕ → Option (List ℕ) → Option (List ℕ) → LineRead → Type 0
-TookLine room old new (Fed len) = (len ≤ max_line) × IsOneLine (take len room) × Consumes old new (take len room ++ 10 ∷ [])
-TookLine room old new (Last len) = (len ≤ max_line) × IsOneLine (take len room) × Consumes old new (take len room) × IsAtEnd new
-TookLine room old new Long = (line : List ℕ) × (is_long line ≡ true) × IsOneLine line × Consumes old new line
-TookLine room old new Fault = (line : List ℕ) × IsOneLine line × Consumes old new line
+TookLine room old new (Fed len) = (len ≤ line_limit) × IsOneLine (take len room) × Consumes old new (take len room ++ 10 ∷ [])
+TookLine room old new (Last len) = (len ≤ line_limit) × IsOneLine (take len room) × Consumes old new (take len room) × IsAtEnd new
+TookLine room old new TooLong = (line : List ℕ) × (is_long line ≡ true) × IsOneLine line × Consumes old new line
+TookLine room old new Failed = (line : List ℕ) × IsOneLine line × Consumes old new line

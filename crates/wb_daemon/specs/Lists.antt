@@ -12,8 +12,8 @@ abbrev pub Gives : Type 1
 Gives = List ℕ → List ℕ → Type 0
 
 -- the greatest length of a list
-abbrev pub max_list : ℕ
-max_list = 2147483648
+abbrev pub list_limit : ℕ
+list_limit = 2147483648
 
 -- these are all the bytes that a reader has left, where those are known
 abbrev pub IsAllOf : Option (List ℕ) → List ℕ → Type 0
@@ -21,8 +21,8 @@ IsAllOf known bytes = IfSome known (λ left. bytes ≡ left)
 
 -- what a read of a list gave: all its bytes, or there are more than a list may have; a read may always fail
 abbrev pub ReadsList : Option (List ℕ) → ListRead → Type 0
-ReadsList known (Whole bytes) = IsAllOf known bytes × (length bytes ≤ max_list)
-ReadsList known TooLong = IfSome known (λ left. max_list < length left)
+ReadsList known (Whole bytes) = IsAllOf known bytes × (length bytes ≤ list_limit)
+ReadsList known TooLong = IfSome known (λ left. list_limit < length left)
 ReadsList known Failed = ⊤
 
 -- a reader was opened over the list of this name: what it reads to its end is what the list may be read as
@@ -35,7 +35,7 @@ GivesNoMore old new = (name bytes : List ℕ) → new name bytes → old name by
 
 -- the list of this name may be read as these bytes, and is not too long
 abbrev pub GivesList : Gives → List ℕ → List ℕ → Type 0
-GivesList gives name bytes = gives name bytes × (length bytes ≤ max_list)
+GivesList gives name bytes = gives name bytes × (length bytes ≤ list_limit)
 
 -- the parts of a merge, each with the bytes that the list which the line names for it may be read as
 abbrev pub GivesParts : Gives → List PartNames → List Part → Type 0

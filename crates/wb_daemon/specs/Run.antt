@@ -15,7 +15,7 @@ use Rattle.wb_words.specs.declared.words.Asked.TheVariants.{Command as asked_Com
 use Rattle.wb_words.specs.declared.words.PartNames.{PartNames}
 use Rattle.wb_api.specs.Encoding.{reply_text, refusal_text, memory_text, line_fault_text, file_fault_text}
 use Rattle.deb_control.specs.Lines.{words_in}
-use Rattle.wb_daemon.specs.Line.{is_blank_line, is_long, input_lines, ended_in, max_lines, AreWithinLimit}
+use Rattle.wb_daemon.specs.Line.{is_blank_line, is_long, input_lines, ended_in, lines_limit, AreWithinLimit}
 use Rattle.wb_daemon.specs.Lists.{Gives, GivesMerge, IsAllOf}
 
 -- what is said to lines: the text, the office after it, and the status: 0 accepted, 1 refused, 2 no command, 3 a list that cannot be read
@@ -148,7 +148,7 @@ StopsBetween gives seen before text after =
 -- a run that stopped since more follows its last line: the greatest number of lines was answered, and a byte more was read
 abbrev pub StopsAtLimit : Gives → List ℕ → Machine → List ℕ → Machine → Type 0
 StopsAtLimit gives seen before text after =
-    (acted : List ℕ) × (byte : ℕ) × (seen ≡ acted ++ byte ∷ []) × (length (ended_in acted) ≡ max_lines)
+    (acted : List ℕ) × (byte : ℕ) × (seen ≡ acted ++ byte ∷ []) × (length (ended_in acted) ≡ lines_limit)
     × StopsBetween gives acted before text after
 
 -- a run that did not begin: nothing was read, written or done

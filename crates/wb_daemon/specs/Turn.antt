@@ -56,27 +56,27 @@ LacksAnswer gives line before after old new Reply = LacksReply gives line before
 LacksAnswer gives line before after old new cause = ⊥
 
 -- the reader gave a line and its line feed
-abbrev pub GivesFed : List ℕ → Option (List ℕ) → Option (List ℕ) → Type 0
-GivesFed line old new = (is_long line ≡ false) × IsOneLine line × Consumes old new (line ++ 10 ∷ [])
+abbrev pub TookFedLine : List ℕ → Option (List ℕ) → Option (List ℕ) → Type 0
+TookFedLine line old new = (is_long line ≡ false) × IsOneLine line × Consumes old new (line ++ 10 ∷ [])
 
 -- the reader gave the last line: nothing follows, or it is too long
-abbrev pub GivesLast : List ℕ → Option (List ℕ) → Option (List ℕ) → Type 0
-GivesLast line old new = IsOneLine line × Consumes old new line × (IsAtEnd new ⊎ (is_long line ≡ true))
+abbrev pub TookLastLine : List ℕ → Option (List ℕ) → Option (List ℕ) → Type 0
+TookLastLine line old new = IsOneLine line × Consumes old new line × (IsAtEnd new ⊎ (is_long line ≡ true))
 
 -- why a turn stopped: a read failed within the line, or the line was not answered
 abbrev pub StopsTurn : Gives → Cause → Machine → Machine → Option (List ℕ) → Option (List ℕ) → Option (List ℕ) → Option (List ℕ) → Type 0
 StopsTurn gives Read before after old_input new_input old new =
     (line : List ℕ) × IsOneLine line × Consumes old_input new_input line × (after ≡ before) × (new ≡ old)
 StopsTurn gives cause before after old_input new_input old new =
-    (line : List ℕ) × (GivesFed line old_input new_input ⊎ GivesLast line old_input new_input)
+    (line : List ℕ) × (TookFedLine line old_input new_input ⊎ TookLastLine line old_input new_input)
     × LacksAnswer gives line before after old new cause
 
 -- what a turn did: a line was answered and more may follow, or the last line was answered, or the run stops
 abbrev pub Turns : Gives → Turn → Machine → Machine → Option (List ℕ) → Option (List ℕ) → Option (List ℕ) → Option (List ℕ) → Type 0
 Turns gives (More status) before after old_input new_input old new =
-    (line : List ℕ) × GivesFed line old_input new_input × Answers gives line before after old new status
+    (line : List ℕ) × TookFedLine line old_input new_input × Answers gives line before after old new status
 Turns gives (End status) before after old_input new_input old new =
-    (line : List ℕ) × GivesLast line old_input new_input × Answers gives line before after old new status
+    (line : List ℕ) × TookLastLine line old_input new_input × Answers gives line before after old new status
 Turns gives (Stop cause) before after old_input new_input old new =
     StopsTurn gives cause before after old_input new_input old new
 
@@ -91,8 +91,8 @@ StopsBy gives Lines seen left before text after = StopsAtLimit gives seen before
 StopsBy gives Room seen left before text after = NeverBegins seen before text after
 
 -- a run that stopped for this cause: what it had read, and what it wrote
-abbrev pub StopsRun : Gives → Cause → Machine → Machine → Option (List ℕ) → Option (List ℕ) → Option (List ℕ) → Option (List ℕ) → Type 0
-StopsRun gives cause before after old_input new_input old new =
+abbrev pub StopsForCause : Gives → Cause → Machine → Machine → Option (List ℕ) → Option (List ℕ) → Option (List ℕ) → Option (List ℕ) → Type 0
+StopsForCause gives cause before after old_input new_input old new =
     (seen text : List ℕ) × Consumes old_input new_input seen × Appends old new text
     × StopsBy gives cause seen new_input before text after
 
@@ -101,4 +101,4 @@ abbrev pub Ran : Gives → RunEnd → Machine → Machine → Option (List ℕ) 
 Ran gives (Ended status) before after old_input new_input old new =
     (status ≤ 3) × EndsInput gives old_input old new before after status
 Ran gives (Stopped cause) before after old_input new_input old new =
-    StopsRun gives cause before after old_input new_input old new
+    StopsForCause gives cause before after old_input new_input old new

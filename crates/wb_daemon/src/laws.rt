@@ -8,7 +8,8 @@ ghost use Rattle.wb_daemon.specs.Run.{Runs, Said, StopsInLine};
 use crate::lists::Lists;
 
 /// What a run leaves is what the commands that its lines ask for leave, one after another, also where it
-/// was cut off within the answer to a line. So what holds of every list of commands holds of every run.
+/// was cut off within or before the answer to a line. So what holds of every list of commands holds of
+/// every run.
 pub fn runs_are_replays<L: Lists>(lists: &L)
     ensures state { (machine : Machine) (lines : List (List ℕ)) (whole : Said)
         → Runs (L.gives lists.now) machine lines whole

@@ -4,20 +4,20 @@ ghost use Rattle.std.specs.Str.{is_utf8};
 ghost use Rattle.std.specs.Io.KnownBytes.{Consumes, IsAtEnd};
 ghost use Rattle.wb_daemon.specs.declared.line.ByteRead.TheVariants.{End};
 ghost use Rattle.deb_control.specs.Lines.{words_in};
-ghost use Rattle.wb_daemon.specs.Line.{bytes_of, is_blank_line, max_line, TookLine};
+ghost use Rattle.wb_daemon.specs.Line.{bytes_of, is_blank_line, line_limit, TookLine};
 
 use std::alloc::{AllocError, Global};
 use std::io::Read;
 use std::str;
 
 /// The greatest length of a line, its line feed not counted.
-pub(crate) const MAX_LINE: usize = 65536;
+pub(crate) const LINE_LIMIT: usize = 65536;
 
 /// What a read of one byte gave.
 pub(crate) enum ByteRead {
     Byte(u8),
     End,
-    Fault,
+    Failed,
 }
 
 /// What a read of one line gave. The line stands at the front of the room.
@@ -28,9 +28,9 @@ pub(crate) enum LineRead {
     /// A line of this length at the end of the input.
     Last(usize),
     /// The line is longer than a line may be.
-    Long,
+    TooLong,
     /// The reader failed.
-    Fault,
+    Failed,
 }
 
 /// Reads one byte. An interrupted read is a failed one too.
@@ -42,13 +42,13 @@ pub(crate) fn read_byte<R: Read>(reader: &mut R) -> ByteRead
     match reader.read(&mut room) {
         Ok(0) => ByteRead::End,
         Ok(_) => ByteRead::Byte(room[0]),
-        Err(_) => ByteRead::Fault,
+        Err(_) => ByteRead::Failed,
     }
 }
 
 /// Reads one line into the room, byte by byte, and no byte after it.
 pub(crate) fn read_line<R: Read>(reader: &mut R, room: &mut [u8]) -> LineRead
-    requires { length room.old ≡ max_line }
+    requires { length room.old ≡ line_limit }
     ensures value { TookLine room.new (R.remaining reader.old) (R.remaining reader.new) result }
 {
     for len in 0..room.len() {
@@ -56,14 +56,14 @@ pub(crate) fn read_line<R: Read>(reader: &mut R, room: &mut [u8]) -> LineRead
             ByteRead::Byte(b'\n') => return LineRead::Fed(len),
             ByteRead::Byte(byte) => room[len] = byte,
             ByteRead::End => return LineRead::Last(len),
-            ByteRead::Fault => return LineRead::Fault,
+            ByteRead::Failed => return LineRead::Failed,
         }
     }
     match read_byte(reader) {
         ByteRead::Byte(b'\n') => LineRead::Fed(room.len()),
-        ByteRead::Byte(_) => LineRead::Long,
+        ByteRead::Byte(_) => LineRead::TooLong,
         ByteRead::End => LineRead::Last(room.len()),
-        ByteRead::Fault => LineRead::Fault,
+        ByteRead::Failed => LineRead::Failed,
     }
 }
 

@@ -9,7 +9,7 @@ use wb_states::{Command, Part};
 use wb_words::PartNames;
 
 /// The greatest length of a list.
-const MAX_LIST: usize = 2147483648;
+const LIST_LIMIT: usize = 2147483648;
 
 /// Where the lists are that a merge names (this project's own).
 pub trait Lists {
@@ -45,7 +45,7 @@ fn read_list<R: Read>(alloc: Global, reader: &mut R) -> Result<ListRead, AllocEr
 {
     let mut room = [0u8; 8192];
     let mut bytes: Vec<u8> = Vec::new(alloc);
-    while bytes.len() <= MAX_LIST {
+    while bytes.len() <= LIST_LIMIT {
         match reader.read(&mut room) {
             Ok(0) => return Ok(ListRead::Whole(Items::from(bytes))),
             Ok(count) => bytes.extend_from_slice(&room[..count])?,

@@ -1,14 +1,14 @@
 //! The run: each line of the input is answered with one line of JSON.
 ghost use Rattle.std.specs.Prelude.{◌≡◌, ◌⊎◌, ◌<◌, ◌≤◌, IfOk, IfErr, length, false};
 ghost use Rattle.wb_states.specs.Machine.{IsConsistent};
-ghost use Rattle.wb_daemon.specs.Line.{is_long, max_line};
+ghost use Rattle.wb_daemon.specs.Line.{is_long, line_limit};
 ghost use Rattle.wb_daemon.specs.Lists.{GivesNoMore};
 ghost use Rattle.wb_daemon.specs.Replays.{LeavesReplay};
 ghost use Rattle.wb_daemon.specs.Run.{EndsInput, RunStops};
 ghost use Rattle.wb_daemon.specs.Turn.{Answers, LacksAnswer, Ran, Turns};
 
 use crate::answer::{ACCEPTED, Answer, LINE_FAULT, answer_of};
-use crate::line::{ByteRead, LineRead, MAX_LINE, is_blank_line, read_byte, read_line};
+use crate::line::{ByteRead, LINE_LIMIT, LineRead, is_blank_line, read_byte, read_line};
 use crate::lists::Lists;
 use crate::write::write_line;
 use std::alloc::Global;
@@ -17,7 +17,7 @@ use wb_api::line_fault_json;
 use wb_office::Office;
 
 /// The greatest number of line feeds that a run reads.
-const MAX_LINES: u64 = 1_000_000_000;
+const LINES_LIMIT: u64 = 1_000_000_000;
 
 /// The status of a run that stopped before its input ended.
 const STOPPED: u8 = 3;
@@ -97,7 +97,7 @@ fn take_turn<R: Read, W: Write, L: Lists>(
     lists: &mut L,
     room: &mut [u8],
 ) -> Turn
-    requires { length room.old ≡ max_line }
+    requires { length room.old ≡ line_limit }
     ensures kept { GivesNoMore (L.gives lists.old) (L.gives lists.new) }
     ensures value { Turns (L.gives lists.old) result office.old office.new
         (R.remaining reader.old) (R.remaining reader.new)
@@ -119,14 +119,14 @@ fn take_turn<R: Read, W: Write, L: Lists>(
                 Err(cause) => Turn::Stop(cause),
             }
         }
-        LineRead::Long => {
+        LineRead::TooLong => {
             if write_line(writer, line_fault_json().as_bytes()) {
                 Turn::End(LINE_FAULT)
             } else {
                 Turn::Stop(Cause::Write)
             }
         }
-        LineRead::Fault => Turn::Stop(Cause::Read),
+        LineRead::Failed => Turn::Stop(Cause::Read),
     }
 }
 
@@ -139,14 +139,14 @@ fn run_within<R: Read, W: Write, L: Lists>(
     lists: &mut L,
     room: &mut [u8],
 ) -> RunEnd
-    requires { length room.old ≡ max_line }
+    requires { length room.old ≡ line_limit }
     ensures value { Ran (L.gives lists.old) result office.old office.new
         (R.remaining reader.old) (R.remaining reader.new)
         (W.contents writer.old) (W.contents writer.new) }
     ensures consistent { IsConsistent office.old → IsConsistent office.new }
 {
     let mut greatest = ACCEPTED;
-    'lines: for _count in 0..MAX_LINES {
+    'lines: for _count in 0..LINES_LIMIT {
         match take_turn(alloc, office, reader, writer, lists, room) {
             Turn::More(status) => greatest = greatest.max(status),
             Turn::End(status) => return RunEnd::Ended(greatest.max(status)),
@@ -156,7 +156,7 @@ fn run_within<R: Read, W: Write, L: Lists>(
     match read_byte(reader) {
         ByteRead::End => RunEnd::Ended(greatest),
         ByteRead::Byte(_) => RunEnd::Stopped(Cause::Lines),
-        ByteRead::Fault => RunEnd::Stopped(Cause::Read),
+        ByteRead::Failed => RunEnd::Stopped(Cause::Read),
     }
 }
 
@@ -173,7 +173,7 @@ fn run_in_room<R: Read, W: Write, L: Lists>(
         (W.contents writer.old) (W.contents writer.new) }
     ensures consistent { IsConsistent office.old → IsConsistent office.new }
 {
-    let Ok(mut room) = vec![in alloc; 0u8; MAX_LINE] else {
+    let Ok(mut room) = vec![in alloc; 0u8; LINE_LIMIT] else {
         return RunEnd::Stopped(Cause::Room);
     };
     run_within(alloc, office, reader, writer, lists, &mut room)

@@ -1,7 +1,7 @@
 -- The bytes so far are those that were read.
 use Rattle.std.proofs.Common.{◌+◌, ◌-◌, length}
 use Rattle.std.specs.Io.KnownBytes.{Consumes}
-use Rattle.wb_daemon.specs.Lists.{max_list}
+use Rattle.wb_daemon.specs.Lists.{list_limit}
 use Rattle.wb_daemon.proofs.lists.read_list.Given as goal
 
 abbrev pub invariant-loop-room : goal.invariant-loop-room
@@ -10,4 +10,4 @@ invariant-loop-room g l = record {
 }
 
 abbrev pub decreases-loop-room : goal.decreases-loop-room
-decreases-loop-room g l = max_list + 1 - length l.bytes.items
+decreases-loop-room g l = list_limit + 1 - length l.bytes.items

@@ -65,8 +65,8 @@ returns-in-Byte g c = record {
   value = stops-limit c.lines.invariant.far c.in-Byte.field-0 (g.R.Read.remaining c.read_byte.new.reader) (omega arith) c.in-Byte.ensures.value;
 }
 
-pub returns-in-Fault : goal.returns-in-Fault
-returns-in-Fault g c = record {
+pub returns-in-Failed : goal.returns-in-Failed
+returns-in-Failed g c = record {
   consistent = c.lines.invariant.consistent;
-  value = stops-read c.lines.invariant.far [] (g.R.Read.remaining c.read_byte.new.reader) refl c.in-Fault.ensures.value;
+  value = stops-read c.lines.invariant.far [] (g.R.Read.remaining c.read_byte.new.reader) refl c.in-Failed.ensures.value;
 }

@@ -31,7 +31,7 @@ returns-in-Err-answer_line-clause-value g c =
 
 pub returns-then-write_line-clause-value : goal.returns-then-write_line-clause-value
 returns-then-write_line-clause-value g c =
-    let took = c.in-Long.ensures.value in
+    let took = c.in-TooLong.ensures.value in
     let whole = subst (λ t. Appends (g.W.Write.contents c.args.writer.now) (g.W.Write.contents c.write_line.new.writer) (with_feed t))
     (c.as_bytes.ensures.value ∙ c.line_fault_json.ensures.value) (c.write_line.ensures.value c.if-write_line.true) in (
       took.0,
@@ -41,7 +41,7 @@ returns-then-write_line-clause-value g c =
 
 pub returns-else-write_line-clause-value : goal.returns-else-write_line-clause-value
 returns-else-write_line-clause-value g c =
-    let took = c.in-Long.ensures.value in
+    let took = c.in-TooLong.ensures.value in
     let front = subst (λ t. AppendsFront (g.W.Write.contents c.args.writer.now) (g.W.Write.contents c.write_line.new.writer) (with_feed t))
     (c.as_bytes.ensures.value ∙ c.line_fault_json.ensures.value) (c.write_line.ensures.err c.if-write_line.false) in (
       took.0,
