@@ -19,7 +19,7 @@ use Rattle.wb_states.specs.declared.reply.PartReply.{PartReply}
 use Rattle.wb_states.specs.declared.reply.Reply.{Reply}
 use Rattle.wb_states.specs.declared.reply.Reply.TheVariants.{Done, Job, Again, Merged}
 use Rattle.wb_states.specs.declared.reply.Assignment.{Assignment}
-use Rattle.wb_api.specs.Encoding.{name_of_relations, reply_text, assignment_text, refusal_members, refusal_text, end_text, part_text, parts_text}
+use Rattle.wb_api.specs.Encoding.{name_of_relations_fault, reply_text, assignment_text, refusal_members, refusal_text, end_text, part_text, parts_text}
 
 -- a text behind another
 pub IsOneLine-append : (xs ys : List ℕ) → IsOneLine xs → IsOneLine ys → IsOneLine (xs ++ ys)
@@ -78,7 +78,7 @@ members-one (OtherVersion have) = behind (quoted have) _ (quoted-one have)
 members-one (WrongState state) = behind (quoted (name_of state)) _ (quoted-one (name_of state))
 members-one (AfterAhead handed) = behind (decimal handed) _ (decimal-one handed)
 members-one (BadVersion fault) = behind (quoted (name_of_fault fault)) _ (quoted-one (name_of_fault fault))
-members-one (BadRelations fault) = behind (quoted (name_of_relations fault)) _ (quoted-one (name_of_relations fault))
+members-one (BadRelations fault) = behind (quoted (name_of_relations_fault fault)) _ (quoted-one (name_of_relations_fault fault))
 members-one (BadListing which paragraph (Control kind)) =
     behind (quoted (fault_name kind)) _ (quoted-one (fault_name kind)) ∙ behind (decimal paragraph) _ (decimal-one paragraph)
     ∙ behind (quoted (name_of_list which)) _ (quoted-one (name_of_list which))

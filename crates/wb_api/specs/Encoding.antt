@@ -37,9 +37,9 @@ assignment_text ok accepted assignment = concat
     codes ",\"version\":" ∷ quoted assignment.version ∷ codes "}" ∷ [])
 
 -- the name of what is wrong with relations, of which nothing may be left (this project's own)
-abbrev pub name_of_relations : Option RelationFault → List ℕ
-name_of_relations None = codes "Nothing"
-name_of_relations (Some fault) = name_of_relation_fault fault
+abbrev pub name_of_relations_fault : Option RelationFault → List ℕ
+name_of_relations_fault None = codes "Nothing"
+name_of_relations_fault (Some fault) = name_of_relation_fault fault
 
 -- the text of a refusal after its opening brace: its number and its name, and what some tell further (this project's own)
 unfoldable pub refusal_members : Refusal → List ℕ
@@ -52,7 +52,7 @@ refusal_members (AfterAhead handed) = concat
 refusal_members (BadVersion fault) = concat
     (codes "\"code\":12,\"fault\":" ∷ quoted (name_of_fault fault) ∷ codes ",\"refused\":\"BadVersion\"}" ∷ [])
 refusal_members (BadRelations fault) = concat
-    (codes "\"code\":13,\"fault\":" ∷ quoted (name_of_relations fault) ∷ codes ",\"refused\":\"BadRelations\"}" ∷ [])
+    (codes "\"code\":13,\"fault\":" ∷ quoted (name_of_relations_fault fault) ∷ codes ",\"refused\":\"BadRelations\"}" ∷ [])
 refusal_members (BadListing which paragraph (Control kind)) = concat
     (codes "\"code\":15,\"fault\":" ∷ quoted (fault_name kind) ∷
     codes ",\"paragraph\":" ∷ decimal paragraph ∷

@@ -17,7 +17,7 @@ use Rattle.wb_states.specs.declared.reply.PartEnd.TheVariants.{Merged as part_Me
 use Rattle.wb_states.specs.declared.reply.PartReply.{PartReply}
 use Rattle.wb_states.specs.declared.reply.Reply.{Reply}
 use Rattle.wb_states.specs.declared.reply.Reply.TheVariants.{Done, Job, Again, Merged}
-use Rattle.wb_api.specs.Encoding.{name_of_relations}
+use Rattle.wb_api.specs.Encoding.{name_of_relations_fault}
 
 -- the object of an assignment, with this value of `ok` (this project's own)
 abbrev pub value_of_assignment : List ℕ → ℕ → Assignment → Data
@@ -33,21 +33,21 @@ value_of_assignment ok accepted assignment = object
     (member (codes "version") (string assignment.version) no_members)))))))))
 
 -- the object of a fault in a paragraph of a list (this project's own)
-abbrev pub value_of_listing : ListKind → ℕ → ListingFault → Data
-value_of_listing which paragraph (Control kind) = object
+abbrev pub value_of_listing_fault : ListKind → ℕ → ListingFault → Data
+value_of_listing_fault which paragraph (Control kind) = object
     (member (codes "code") (number (unsigned 15))
     (member (codes "fault") (string (name_of_listing_fault (Control kind)))
     (member (codes "paragraph") (number (unsigned paragraph))
     (member (codes "refused") (string (codes "BadListing"))
     (member (codes "which") (string (name_of_list which)) no_members)))))
-value_of_listing which paragraph (Missing field) = object
+value_of_listing_fault which paragraph (Missing field) = object
     (member (codes "code") (number (unsigned 15))
     (member (codes "fault") (string (codes "Missing"))
     (member (codes "field") (string (name_of_field field))
     (member (codes "paragraph") (number (unsigned paragraph))
     (member (codes "refused") (string (codes "BadListing"))
     (member (codes "which") (string (name_of_list which)) no_members))))))
-value_of_listing which paragraph (BadValue field) = object
+value_of_listing_fault which paragraph (BadValue field) = object
     (member (codes "code") (number (unsigned 15))
     (member (codes "fault") (string (codes "BadValue"))
     (member (codes "field") (string (name_of_field field))
@@ -75,9 +75,9 @@ value_of_refusal (BadVersion fault) = object
     (member (codes "refused") (string (codes "BadVersion")) no_members)))
 value_of_refusal (BadRelations fault) = object
     (member (codes "code") (number (unsigned 13))
-    (member (codes "fault") (string (name_of_relations fault))
+    (member (codes "fault") (string (name_of_relations_fault fault))
     (member (codes "refused") (string (codes "BadRelations")) no_members)))
-value_of_refusal (BadListing which paragraph fault) = value_of_listing which paragraph fault
+value_of_refusal (BadListing which paragraph fault) = value_of_listing_fault which paragraph fault
 value_of_refusal refusal = object
     (member (codes "code") (number (unsigned (code_of_refusal refusal)))
     (member (codes "refused") (string (name_of_refusal refusal)) no_members))

@@ -53,7 +53,8 @@ fn value_of_assignment(
     accepted: u64,
     assignment: &Assignment,
 ) -> Result<Value, AllocError>
-    ensures { IfOk result (λ value. view value ≡ value_of_assignment ok.now accepted assignment.now) }
+    ensures { IfOk result (λ value.
+        view value ≡ value_of_assignment ok.now accepted assignment.now) }
 {
     json!(in alloc; {
         "accepted": accepted,

@@ -4,8 +4,9 @@ ghost use Rattle.std.specs.String.{string_bytes};
 ghost use Rattle.std.specs.Cow.{cow_str_bytes, IsBorrowedStr};
 ghost use Rattle.serde_json.specs.View.{view};
 ghost use Rattle.wb_states.specs.declared.refusal.Refusal.TheVariants.{Memory};
-ghost use Rattle.wb_api.specs.Encoding.{is_plain, name_of_relations, refusal_text, IsMemoryText};
-ghost use Rattle.wb_api.specs.Values.{value_of_listing, value_of_refusal};
+ghost use Rattle.wb_api.specs.Encoding.{is_plain, name_of_relations_fault, refusal_text};
+ghost use Rattle.wb_api.specs.Encoding.{IsMemoryText};
+ghost use Rattle.wb_api.specs.Values.{value_of_listing_fault, value_of_refusal};
 
 use deb_relations::RelationFault;
 use serde_json::{Value, json};
@@ -73,8 +74,8 @@ fn text_of_refusal(alloc: Global, refusal: &Refusal) -> Result<String, AllocErro
 }
 
 /// The name of what is wrong with relations: `Nothing` where there is no fault, but nothing of them is left.
-fn name_of_relations(fault: &Option<RelationFault>) -> &'static str
-    ensures { result.now ≡ name_of_relations fault.now }
+fn name_of_relations_fault(fault: &Option<RelationFault>) -> &'static str
+    ensures { result.now ≡ name_of_relations_fault fault.now }
 {
     match fault {
         Some(fault) => fault.name(),
@@ -101,25 +102,29 @@ pub(crate) fn value_of_refusal(alloc: Global, refusal: &Refusal) -> Result<Value
             json!(in alloc; {"code": code, "fault": fault.name(), "refused": name})
         }
         Refusal::BadRelations { fault } => {
-            json!(in alloc; {"code": code, "fault": name_of_relations(fault), "refused": name})
+            json!(in alloc; {
+                "code": code,
+                "fault": name_of_relations_fault(fault),
+                "refused": name
+            })
         }
         Refusal::BadListing {
             which,
             paragraph,
             fault,
-        } => value_of_listing(alloc, *which, *paragraph, *fault),
+        } => value_of_listing_fault(alloc, *which, *paragraph, *fault),
         _ => json!(in alloc; {"code": code, "refused": name}),
     }
 }
 
 /// The object of a fault in a paragraph of a list. It tells the field where one lacks or has not its form.
-fn value_of_listing(
+fn value_of_listing_fault(
     alloc: Global,
     which: ListKind,
     paragraph: u64,
     fault: ListingFault,
 ) -> Result<Value, AllocError>
-    ensures { IfOk result (λ value. view value ≡ value_of_listing which paragraph fault) }
+    ensures { IfOk result (λ value. view value ≡ value_of_listing_fault which paragraph fault) }
 {
     match fault {
         ListingFault::Control { .. } => json!(in alloc; {
