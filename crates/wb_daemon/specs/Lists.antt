@@ -1,5 +1,6 @@
 -- The lists that a merge names, and the bytes that they are read as (this project's own).
-use Rattle.std.specs.Prelude.{◌≡◌, ℕ, ◌<◌, ◌≤◌, ⊤, List, [], ◌∷◌, length, Option, IfSome}
+use Rattle.std.specs.Prelude.{◌≡◌, ℕ, ◌<◌, ◌≤◌, ⊤, List, length, Option, IfSome}
+use Rattle.std.specs.List.{AllZip}
 use Rattle.wb_states.specs.declared.command.Command.{Command}
 use Rattle.wb_states.specs.declared.command.Command.TheVariants.{Merge}
 use Rattle.wb_states.specs.declared.command.Part.{Part}
@@ -37,13 +38,13 @@ GivesNoMore old new = (name bytes : List ℕ) → new name bytes → old name by
 abbrev pub GivesList : Gives → List ℕ → List ℕ → Type 0
 GivesList gives name bytes = gives name bytes × (length bytes ≤ list_limit)
 
--- the parts of a merge, each with the bytes that the list which the line names for it may be read as
+-- a part of a merge, with the bytes that the list which the line names for it may be read as
+abbrev pub GivesPart : Gives → PartNames → Part → Type 0
+GivesPart gives names part = (part.arch ≡ names.arch) × GivesList gives names.packages part.packages
+
+-- the parts of a merge, in the order in which the line names them
 abbrev pub GivesParts : Gives → List PartNames → List Part → Type 0
-GivesParts gives [] [] = ⊤
-GivesParts gives [] (part ∷ parts) = ⊥
-GivesParts gives (name ∷ names) [] = ⊥
-GivesParts gives (name ∷ names) (part ∷ parts) =
-    (part.arch ≡ name.arch) × GivesList gives name.packages part.packages × GivesParts gives names parts
+GivesParts gives names parts = AllZip (GivesPart gives) names parts
 
 -- the merge of what the lists that a line names may be read as
 abbrev pub GivesMerge : Gives → List ℕ → List PartNames → Command → Type 0

@@ -1,6 +1,7 @@
 //! The lists that a merge names, each read whole.
 ghost use Rattle.std.specs.Prelude.{◌≡◌, ℕ, List, Option, IfOk, IfSome};
-ghost use Rattle.wb_daemon.specs.Lists.{GivesList, GivesMerge, GivesNoMore, GivesParts, OpensList, ReadsList};
+ghost use Rattle.wb_daemon.specs.Lists.{GivesList, GivesMerge, GivesNoMore, GivesPart, GivesParts};
+ghost use Rattle.wb_daemon.specs.Lists.{OpensList, ReadsList};
 
 use deb_relations::{Items, Text};
 use std::alloc::{AllocError, Global};
@@ -80,8 +81,8 @@ fn part_of<L: Lists>(
     lists: &mut L,
     names: &PartNames,
 ) -> Result<Option<Part>, AllocError>
-    ensures value { IfOk result (λ found. IfSome found (λ part. (part.arch ≡ names.now.arch)
-        × GivesList (L.gives lists.old) names.now.packages part.packages)) }
+    ensures value { IfOk result (λ found. IfSome found (λ part.
+        GivesPart (L.gives lists.old) names.now part)) }
     ensures kept { GivesNoMore (L.gives lists.old) (L.gives lists.new) }
 {
     let Some(packages) = list_of(alloc, lists, &names.packages)? else {

@@ -1,8 +1,9 @@
 -- One part more.
 use Rattle.std.proofs.Common.{◌≡◌, suc, ◌+◌, ◌++◌, ◌∷◌, [], take, rules, subst, sym, ap, ◌∙◌, arith, IfSome}
 use Rattle.std.proofs.Math.Seq.{take-suc}
-use Rattle.wb_daemon.specs.Lists.{GivesList, GivesParts}
-use Rattle.wb_daemon.proofs.ListLemmas.{GivesNoMore-then, GivesParts-snoc}
+use Rattle.std.proofs.lemmas.Slice.Zip.{all_zipped_more}
+use Rattle.wb_daemon.specs.Lists.{GivesPart, GivesParts}
+use Rattle.wb_daemon.proofs.ListLemmas.{GivesNoMore-then}
 use Rattle.wb_daemon.proofs.lists.parts_of.Goals as goal
 
 pub loop-part_names-preserved : goal.loop-part_names-preserved
@@ -10,7 +11,7 @@ loop-part_names-preserved g c =
     let before = g.L.Lists.gives c.args.lists.now in
     let now = g.L.Lists.gives c.loop-part_names.lists in
     let name = c.part_names-item.result in
-    let given = subst (λ found. IfSome found (λ part. (part.arch ≡ name.arch) × GivesList now name.packages part.packages))
+    let given = subst (λ found. IfSome found (λ part. GivesPart now name part))
     c.in-Some.is c.in_ok-part.ensures.value in
     let counted : c.loop-part_names.part_names-index + 1 ≡ suc c.loop-part_names.part_names-index = omega arith in
     let taken : take (c.loop-part_names.part_names-index + 1) c.args.names.now
@@ -23,6 +24,6 @@ loop-part_names-preserved g c =
       kept = GivesNoMore-then before now (g.L.Lists.gives c.part_of.new.lists) c.loop-part_names.invariant.kept c.part_of.ensures.kept;
       given = subst (λ names. GivesParts before names c.push.new.self) (sym taken)
           (subst (λ parts. GivesParts before (take c.loop-part_names.part_names-index c.args.names.now ++ name ∷ []) parts) (sym pushed)
-          (GivesParts-snoc before _ c.loop-part_names.parts name c.in-Some.part c.loop-part_names.invariant.given given.0
-          (c.loop-part_names.invariant.kept name.packages c.in-Some.part.packages given.1.0, given.1.1)));
+          (all_zipped_more (GivesPart before) _ c.loop-part_names.parts name c.in-Some.part c.loop-part_names.invariant.given
+          (given.0, (c.loop-part_names.invariant.kept name.packages c.in-Some.part.packages given.1.0, given.1.1))));
     }
