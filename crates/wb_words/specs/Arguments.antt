@@ -1,10 +1,11 @@
 -- What stands in the arguments of a subcommand, by the rows that `clap` found (this project's own).
-use Rattle.std.specs.Prelude.{ℕ, ◌==◌, Bool, List, [], ◌∷◌, Option, Some, None, codes}
+use Rattle.std.specs.Prelude.{ℕ, ◌==◌, Bool, List, [], Option, Some, None, codes}
 use Rattle.std.specs.Prelude.{if◌then◌else◌, length, nat_lt, option_and_then, option_map, unwrap_or}
 use Rattle.std.specs.List.{after_first, before_first, join_by, position_or_len}
 use Rattle.std.specs.Str.Parse.{digits_value, without_leading_plus}
 use Rattle.clap.specs.Words.{Row, Text, all_of, first_of}
 use Rattle.clap.specs.ValueTests.{is_unsigned_in}
+use Rattle.deb_relations.specs.Reader.{all_some}
 use Rattle.wb_words.specs.declared.argument.Subject.{Subject}
 use Rattle.wb_words.specs.declared.words.PartNames.{PartNames}
 
@@ -71,9 +72,7 @@ part_in word = if nat_lt (position_or_len is_equals_sign word) (length word)
 
 -- the parts that the words name, where each of them names one
 abbrev pub parts_in : List Text → Option (List PartNames)
-parts_in [] = Some []
-parts_in (word ∷ words) = option_and_then (λ part. option_map (λ parts. part ∷ parts)
-    (parts_in words)) (part_in word)
+parts_in words = all_some part_in words
 
 -- the parts that were given for an argument
 unfoldable pub parts_of : Text → List Row → Option (List PartNames)
