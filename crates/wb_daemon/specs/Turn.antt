@@ -55,11 +55,11 @@ LacksAnswer gives line before after old new Write = AnswersInPart gives line bef
 LacksAnswer gives line before after old new Reply = LacksReply gives line before after old new
 LacksAnswer gives line before after old new cause = ⊥
 
--- the reader gave a line and its line feed
+-- a line and its line feed were taken from the reader
 abbrev pub TookFedLine : List ℕ → Option (List ℕ) → Option (List ℕ) → Type 0
 TookFedLine line old new = (is_long line ≡ false) × IsOneLine line × Consumes old new (line ++ 10 ∷ [])
 
--- the reader gave the last line: nothing follows, or it is too long
+-- the last line was taken from the reader: nothing follows, or it is too long
 abbrev pub TookLastLine : List ℕ → Option (List ℕ) → Option (List ℕ) → Type 0
 TookLastLine line old new = IsOneLine line × Consumes old new line × (IsAtEnd new ⊎ (is_long line ≡ true))
 
