@@ -8,7 +8,7 @@ use Rattle.std.proofs.lemmas.List.{length-reverse}
 use Rattle.deb_control.specs.declared.fault.ControlFaultKind.{ControlFaultKind}
 use Rattle.deb_control.specs.Fields.{Entry}
 use Rattle.deb_version.specs.declared.fault.VersionFault.{VersionFault}
-use Rattle.deb_version.specs.Syntax.{fault_of, is_version_text, value_of, with_digit}
+use Rattle.deb_version.specs.Syntax.{fault_of, is_version_text, value_of, with_digit, ok_unless}
 use Rattle.wb_states.specs.declared.refusal.ListField.{ListField}
 use Rattle.wb_states.specs.declared.refusal.ListField.TheVariants.{Package, Version, Architecture, Priority, Section}
 use Rattle.wb_states.specs.declared.refusal.ListKind.{ListKind}
@@ -20,7 +20,7 @@ use Rattle.deb_relations.specs.Names.{is_package_name}
 use Rattle.wb_states.specs.Names.{is_label_text}
 use Rattle.wb_states.specs.Record.{is_empty_text}
 use Rattle.wb_states.specs.Refusals.{name_of_field}
-use Rattle.wb_merge.specs.Rows.{SourceRow, BinaryRow, value_named, text_named, is_label_or_empty, has_source_version, last_digits, rebuild_number, wanted_fault, spare_fault, form_fault, spare_form_fault, source_fault, source_row, with_source, binary_row, unless_faulty, source_row_of, binary_row_of, row_in, onto_rows, rows_behind, source_rows, binary_rows}
+use Rattle.wb_merge.specs.Rows.{SourceRow, BinaryRow, value_named, text_named, is_label_or_empty, has_source_version, last_digits, rebuild_number, wanted_fault, spare_fault, form_fault, spare_form_fault, source_fault, source_row, with_source, binary_row, source_row_of, binary_row_of, row_in, onto_rows, rows_behind, source_rows, binary_rows}
 use Rattle.wb_merge.proofs.CheckLemmas.{both-true, first_some-None}
 
 -- ---- rows that were read are those of paragraphs without a fault
@@ -100,7 +100,7 @@ pub record IsGoodSource (row : SourceRow) : Type 0 where
   pub priority : IsTrue (is_empty_text row.priority || is_label_text row.priority)
   pub section : IsTrue (is_empty_text row.section || is_label_text row.section)
 
-faultless-row : {X : Type 0} (fault : Option ListingFault) (made row : X) → unless_faulty fault made ≡ Ok row → (fault ≡ None) × (made ≡ row)
+faultless-row : {X : Type 0} (fault : Option ListingFault) (made row : X) → ok_unless fault made ≡ Ok row → (fault ≡ None) × (made ≡ row)
 faultless-row None made row is = (refl, only-ok made row is)
 faultless-row (Some fault) made row is = cc
 

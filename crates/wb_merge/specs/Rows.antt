@@ -3,7 +3,7 @@ use Rattle.std.specs.Prelude.{◌≡◌, IsOk, IsTrue, ℕ, ◌+◌, Bool, true,
 use Rattle.std.specs.Option.{option_map, option_or, unwrap_or}
 use Rattle.std.specs.List.{AllByRecursion, AllZip, list_any, before_first, after_first}
 use Rattle.std.specs.Char.{is_ascii_digit}
-use Rattle.deb_version.specs.Syntax.{is_version_text, value_of}
+use Rattle.deb_version.specs.Syntax.{is_version_text, value_of, ok_unless}
 use Rattle.deb_control.specs.declared.fault.ControlFaultKind.{ControlFaultKind}
 use Rattle.deb_control.specs.Lines.{lines_of, paragraphs_in, words_in}
 use Rattle.deb_control.specs.Fields.{Entry, field_named, folded_of, reading_of}
@@ -204,18 +204,13 @@ binary_row fields =
     with_source (text_named (codes "Package") fields) (text_named (codes "Version") fields)
     (text_named (codes "Architecture") fields) (value_named (codes "Source") fields)
 
--- a row, where its paragraph has no fault
-abbrev pub unless_faulty : {X : Type 0} → Option ListingFault → X → Result X ListingFault
-unless_faulty (Some fault) row = Err fault
-unless_faulty None row = Ok row
-
 -- the row of a paragraph of a Sources list, or its fault
 unfoldable pub source_row_of : List Entry → Result SourceRow ListingFault
-source_row_of fields = unless_faulty (source_fault fields) (source_row fields)
+source_row_of fields = ok_unless (source_fault fields) (source_row fields)
 
 -- the row of a paragraph of a Packages list, or its fault
 unfoldable pub binary_row_of : List Entry → Result BinaryRow ListingFault
-binary_row_of fields = unless_faulty (binary_fault fields) (binary_row fields)
+binary_row_of fields = ok_unless (binary_fault fields) (binary_row fields)
 
 -- ---- lists
 

@@ -2,6 +2,7 @@
 use Rattle.std.proofs.Common.{◌≡◌, ℕ, ◌+◌, true, false, List, Option, Some, None, Result, Ok, Err, refl, sym, ◌∙◌, nat_le}
 use Rattle.std.specs.FinMap as map
 use Rattle.std.specs.Option.{option_or}
+use Rattle.deb_version.specs.Syntax.{ok_unless}
 use Rattle.wb_states.specs.declared.moves.Move.{Move}
 use Rattle.wb_states.specs.declared.record.Record.{Record}
 use Rattle.wb_states.specs.declared.refusal.Refusal.{Refusal}
@@ -10,7 +11,7 @@ use Rattle.wb_states.specs.declared.reply.Reply.{Reply}
 use Rattle.wb_states.specs.declared.reply.Reply.TheVariants.{Done}
 use Rattle.wb_states.specs.Limits.{count_limit}
 use Rattle.wb_states.specs.Machine.{Machine}
-use Rattle.wb_states.specs.Moves.{move_refusal, move_of, moved, unless_refused}
+use Rattle.wb_states.specs.Moves.{move_refusal, move_of, moved}
 use Rattle.wb_states.specs.Queue.{Entry}
 use Rattle.wb_office.specs.declared.moved.Moved.{Moved}
 use Rattle.wb_office.specs.Checks.{when}
@@ -21,7 +22,7 @@ pub move_of-Ok : (move : Move) (current after : Record) → move_of move current
     → (move_refusal move current ≡ None) × (after ≡ moved move current)
 unfolding move_of
 move_of-Ok move current after = found (move_refusal move current) where
-  found : (first : Option Refusal) → unless_refused first (moved move current) ≡ Ok after → (first ≡ None) × (after ≡ moved move current)
+  found : (first : Option Refusal) → ok_unless first (moved move current) ≡ Ok after → (first ≡ None) × (after ≡ moved move current)
   found None is = (refl, only (moved move current) after is) where
     only : (x y : Record) → (let left : Result Record Refusal = Ok x in left) ≡ Ok y → y ≡ x
     only x y e = cc
@@ -31,7 +32,7 @@ pub move_of-Err : (move : Move) (current : Record) (refusal : Refusal) → move_
     → move_refusal move current ≡ Some refusal
 unfolding move_of
 move_of-Err move current refusal = found (move_refusal move current) where
-  found : (first : Option Refusal) → unless_refused first (moved move current) ≡ Err refusal → first ≡ Some refusal
+  found : (first : Option Refusal) → ok_unless first (moved move current) ≡ Err refusal → first ≡ Some refusal
   found None is = cc
   found (Some other) is = cc
 

@@ -1,6 +1,7 @@
 -- A record that is moved keeps its form, and has a holder, a take number and waits that it may have.
 use Rattle.std.proofs.Common.{◌≡◌, ℕ, ◌+◌, ◌≤◌, List, None, IsTrue, IfSome, inl, inr, refl, sym, ap, subst}
 use Rattle.std.specs.FinSet as set
+use Rattle.deb_version.specs.Syntax.{ok_unless}
 use Rattle.deb_relations.specs.Grammar.{Reads}
 use Rattle.deb_relations.specs.Printing.{printed}
 use Rattle.deb_relations.specs.Reduction.{reduced}
@@ -9,7 +10,7 @@ use Rattle.wb_states.specs.declared.moves.Move.TheVariants as to
 use Rattle.wb_states.specs.declared.record.Record.{Record}
 use Rattle.wb_states.specs.Limits.{rebuild_limit, note_limit}
 use Rattle.wb_states.specs.Machine.{Machine, arch_words, AreWaits}
-use Rattle.wb_states.specs.Moves.{moved, move_of, move_refusal, unless_refused}
+use Rattle.wb_states.specs.Moves.{moved, move_of, move_refusal}
 use Rattle.wb_states.specs.Names.{is_builder_name}
 use Rattle.wb_states.specs.Record.{IsWellFormed, IsTextWithin}
 use Rattle.wb_states.specs.Table.{HasForm}
@@ -45,7 +46,7 @@ pub moved-well : (machine : Machine) (handed : ℕ) (arch : List ℕ) (current :
     → move_refusal move current ≡ None → IsWellFormed (moved move current)
 unfolding move_of
 moved-well machine handed arch current old move good allowed =
-    move_of-well move current (moved move current) old (good-form machine handed arch move good) (ap (λ refusal. unless_refused refusal (moved move current)) allowed)
+    move_of-well move current (moved move current) old (good-form machine handed arch move good) (ap (λ refusal. ok_unless refusal (moved move current)) allowed)
 
 -- what the moved record has is what it had, or what the move brought
 module _ (machine : Machine) (handed : ℕ) (arch : List ℕ) (current : Record) where

@@ -4,7 +4,7 @@ use Rattle.std.specs.Result.{result_err}
 use Rattle.std.proofs.lemmas.Bool.{ltb-true}
 use Rattle.deb_version.specs.declared.fault.VersionFault.{VersionFault}
 use Rattle.deb_version.specs.declared.fault.VersionFault.TheVariants.{Empty, EpochEmpty, EpochNotNumber, EpochTooLarge, UpstreamEmpty, UpstreamBad, RevisionEmpty, RevisionBad, TooLong, Memory as NoMemory}
-use Rattle.deb_version.specs.Syntax.{fault_of, reading_of, parts_of, outcome}
+use Rattle.deb_version.specs.Syntax.{fault_of, reading_of, parts_of, ok_unless}
 use Rattle.deb_relations.specs.declared.fault.RelationFault.{RelationFault}
 use Rattle.deb_relations.specs.declared.fault.RelationFault.TheVariants.{Memory as NoRelationMemory, TooLong as RelationsTooLong}
 use Rattle.deb_relations.specs.Reading.{reading_of as relations_of}
@@ -17,14 +17,14 @@ use Rattle.wb_office.specs.Found.{relations_refusal}
 fault_of-refused : (text : List ℕ) (fault : VersionFault) → reading_of text ≡ Err fault → fault_of text ≡ Some fault
 unfolding reading_of
 fault_of-refused text fault = found (fault_of text) where
-  found : (first : Option VersionFault) → outcome first (parts_of text) ≡ Err fault → first ≡ Some fault
+  found : (first : Option VersionFault) → ok_unless first (parts_of text) ≡ Err fault → first ≡ Some fault
   found None is = cc
   found (Some other) is = cc
 
 pub fault_of-read : (text : List ℕ) → IsOk (reading_of text) → fault_of text ≡ None
 unfolding reading_of
 fault_of-read text = found (fault_of text) where
-  found : (first : Option VersionFault) → IsOk (outcome first (parts_of text)) → first ≡ None
+  found : (first : Option VersionFault) → IsOk (ok_unless first (parts_of text)) → first ≡ None
   found None is = refl
   found (Some other) is = cc
 
