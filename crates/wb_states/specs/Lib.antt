@@ -2,6 +2,7 @@ pub mod Commands
 pub mod Holds
 pub mod Limits
 pub mod Machine
+pub mod Messages
 pub mod Moves
 pub mod Names
 pub mod Queue

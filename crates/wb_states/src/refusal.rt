@@ -88,6 +88,16 @@ impl ListingFault {
     }
 }
 
+impl fmt::Display for ListingFault {
+    ghost use Rattle.std.specs.Prelude.{Some};
+
+    ghost output = { λ fault. Some (name_of_listing_fault fault) };
+
+    fn fmt<W: fmt::Write>(&self, f: &mut fmt::Formatter<W>) -> fmt::Result {
+        f.write_str(self.name())
+    }
+}
+
 /// Why a command was refused. After a refusal the office is as it was.
 ///
 /// Where several are true of a command, the first is answered, in this order. The forms of its texts:
@@ -210,6 +220,11 @@ impl Refusal {
 }
 
 impl fmt::Display for Refusal {
+    ghost use Rattle.std.specs.Prelude.{Some};
+    ghost use Rattle.wb_states.specs.Messages.{message_of_refusal};
+
+    ghost output = { λ refusal. Some (message_of_refusal refusal) };
+
     fn fmt<W: fmt::Write>(&self, f: &mut fmt::Formatter<W>) -> fmt::Result {
         match self {
             Refusal::UnknownArch => f.write_str("the architecture was never added"),
@@ -238,14 +253,15 @@ impl fmt::Display for Refusal {
             }
             Refusal::BadNumber => f.write_str("the number of the rebuild is not to be had"),
             Refusal::BadListing {
-                which,
+                which: ListKind::Sources,
                 paragraph,
                 fault,
-            } => {
-                let list = which.name();
-                let name = fault.name();
-                write!(f, "paragraph {paragraph} of {list} is refused: {name}")
-            }
+            } => write!(f, "{fault} in paragraph {paragraph} of Sources"),
+            Refusal::BadListing {
+                which: ListKind::Packages,
+                paragraph,
+                fault,
+            } => write!(f, "{fault} in paragraph {paragraph} of Packages"),
             Refusal::TextTooLong => f.write_str("a note or a message has more than 1000 bytes"),
             Refusal::Spent => f.write_str("a count of the office is at its limit"),
             Refusal::Memory => f.write_str("there is no memory for it now"),
