@@ -7,16 +7,16 @@ use Rattle.deb_relations.specs.declared.fault.RelationFault.{RelationFault}
 use Rattle.deb_relations.specs.declared.fault.RelationFault.TheVariants.{BadName, BadOperator, BadVersion, Mixed, Unclosed, EmptyAlternative, Stray, TooLong, Memory}
 
 -- the name of a fault, without what it carries (this project's own)
-abbrev pub name_of : RelationFault → List ℕ
-name_of BadName = codes "BadName"
-name_of BadOperator = codes "BadOperator"
-name_of (BadVersion fault) = codes "BadVersion"
-name_of Mixed = codes "Mixed"
-name_of Unclosed = codes "Unclosed"
-name_of EmptyAlternative = codes "EmptyAlternative"
-name_of (Stray place) = codes "Stray"
-name_of TooLong = codes "TooLong"
-name_of Memory = codes "Memory"
+abbrev pub fault_name : RelationFault → List ℕ
+fault_name BadName = codes "BadName"
+fault_name BadOperator = codes "BadOperator"
+fault_name (BadVersion fault) = codes "BadVersion"
+fault_name Mixed = codes "Mixed"
+fault_name Unclosed = codes "Unclosed"
+fault_name EmptyAlternative = codes "EmptyAlternative"
+fault_name (Stray place) = codes "Stray"
+fault_name TooLong = codes "TooLong"
+fault_name Memory = codes "Memory"
 
 -- the fault of a version as a fault of relations, where want of memory is want of memory (this project's own)
 abbrev pub fault_from_version : VersionFault → RelationFault

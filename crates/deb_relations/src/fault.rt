@@ -1,7 +1,7 @@
 //! Why a text is no relations.
 
 ghost use Rattle.std.specs.Prelude.{◌≡◌};
-ghost use Rattle.deb_relations.specs.Faults.{name_of};
+ghost use Rattle.deb_relations.specs.Faults.{fault_name};
 ghost use Rattle.deb_relations.specs.declared.fault.RelationFault.TheVariants.{Memory};
 
 use deb_version::VersionFault;
@@ -39,7 +39,7 @@ impl RelationFault {
     /// The name of the fault, as the enum writes it, without what it carries.
     /// Source: this project's own.
     pub fn name(&self) -> &'static str
-        ensures { result.now ≡ name_of self.now }
+        ensures { result.now ≡ fault_name self.now }
     {
         match self {
             RelationFault::BadName => "BadName",

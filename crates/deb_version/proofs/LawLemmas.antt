@@ -80,9 +80,9 @@ run-then (c ∷ cs) digits rest r d m =
     rw other (ap (λ k. weight_of c ∷ k) (run-then cs digits rest two.1 d m))
 
 pub key_of-runs : KeyIsByRuns
-key_of-runs [] [] rest r d m h = absurd (omega arith)
-key_of-runs [] (x ∷ xs) rest r d m h = run-then [] (x ∷ xs) rest r d m
-key_of-runs (c ∷ cs) digits rest r d m h = run-then (c ∷ cs) digits rest r d m
+key_of-runs [] [] rest pair h = absurd (omega arith)
+key_of-runs [] (x ∷ xs) rest pair h = run-then [] (x ∷ xs) rest pair.characters pair.number pair.follows
+key_of-runs (c ∷ cs) digits rest pair h = run-then (c ∷ cs) digits rest pair.characters pair.number pair.follows
 
 -- the text of an epoch with its colon, and then the rest
 epoch-by : (t : List ℕ) (b : Bool) → list_any is_colon t ≡ b → t ≡ cond (has_epoch t) (epoch_text t ++ 58 ∷ []) [] ++ rest_of t

@@ -3,6 +3,6 @@ pub mod CutLemmas
 pub mod LawLemmas
 pub mod NumberLemmas
 pub mod OrderLemmas
-pub mod PartOrder
+pub mod PartOrderLemmas
 pub mod ReadingLemmas
-pub mod VersionGrammar
+pub mod VersionGrammarLemmas

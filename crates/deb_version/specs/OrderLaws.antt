@@ -79,13 +79,16 @@ abbrev pub MayFollow : List ℕ → List ℕ → Type 0
 MayFollow digits [] = Unit {0}
 MayFollow digits (c ∷ rest) = (0 < length digits) × (is_ascii_digit c ≡ false)
 
+-- the first non-digit run of a part, the digit run behind it, and what follows these (Policy 5.6.12)
+pub record IsFirstPair (run digits rest : List ℕ) : Type 0 where
+  pub characters : list_all (λ c. not (is_ascii_digit c)) run ≡ true
+  pub number : list_all is_ascii_digit digits ≡ true
+  pub follows : MayFollow digits rest
+
 -- the key of a part is that of its first non-digit run and the digit run after it, and then the key of the rest (Policy 5.6.12)
 abbrev pub KeyIsByRuns : Type 0
 KeyIsByRuns = (run digits rest : List ℕ)
-    → list_all (λ c. not (is_ascii_digit c)) run ≡ true
-    → list_all is_ascii_digit digits ≡ true
-    → MayFollow digits rest
-    → 0 < length run + length digits
+    → IsFirstPair run digits rest → 0 < length run + length digits
     → key_of (run ++ (digits ++ rest)) ≡ map weight_of run ++ (pos 0 ∷ pos (value_of digits) ∷ key_of rest)
 
 -- zeros before the digits of a number say nothing (Policy 5.6.12)
@@ -99,12 +102,6 @@ TildeIsEarlier = (part more : List ℕ) → part_cmp (part ++ (126 ∷ more)) pa
 -- runs of non-digits compare by the weights of their characters, where the end of a run weighs 0 (Policy 5.6.12)
 abbrev pub run_cmp : List ℕ → List ℕ → Ordering
 run_cmp = on (map weight_of) key_cmp
-
--- the first non-digit run of a part, the digit run behind it, and what follows these (Policy 5.6.12)
-pub record IsFirstPair (run digits rest : List ℕ) : Type 0 where
-  pub characters : list_all (λ c. not (is_ascii_digit c)) run ≡ true
-  pub number : list_all is_ascii_digit digits ≡ true
-  pub follows : MayFollow digits rest
 
 -- parts compare by their first non-digit runs, then by the numbers behind these, then by what follows (Policy 5.6.12)
 abbrev pub PartsCompareByRuns : Type 0

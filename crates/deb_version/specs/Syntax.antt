@@ -1,12 +1,11 @@
 -- The text of a version: its cuts, its three parts and its faults (Debian Policy 5.6.12).
 use Rattle.std.specs.Prelude.{◌≡◌, ℕ, ◌+◌, ◌-◌, ◌*◌, Bool, not, ◌||◌, List, [], ◌∷◌, ◌++◌, length, if◌then◌else◌, nat_lt, ◌==◌}
 use Rattle.std.specs.Prelude.{Option, None, Some, is_none, Result, Ok, Err}
-use Rattle.std.specs.Prelude.{codes}
 use Rattle.std.specs.Char.{is_ascii_alphanumeric, is_ascii_digit}
 use Rattle.std.specs.List.{list_any, list_all, fold, before_first, after_first, before_last, after_last, position}
 use Rattle.std.specs.Option.{option_map, option_or}
 use Rattle.deb_version.specs.declared.fault.VersionFault.{VersionFault}
-use Rattle.deb_version.specs.declared.fault.VersionFault.TheVariants.{Empty, EpochEmpty, EpochNotNumber, EpochTooLarge, UpstreamEmpty, UpstreamBad, RevisionEmpty, RevisionBad, TooLong, Memory}
+use Rattle.deb_version.specs.declared.fault.VersionFault.TheVariants.{Empty, EpochEmpty, EpochNotNumber, EpochTooLarge, UpstreamEmpty, UpstreamBad, RevisionEmpty, RevisionBad, TooLong}
 
 -- an epoch, an upstream version, and a revision where one is written (Policy 5.6.12)
 pub record Parts : Type 0 where
@@ -167,16 +166,3 @@ pub record Remembers (text : List ℕ) (epoch start end : ℕ) : Type 0 where
   pub number : epoch ≡ epoch_of text
   pub from : start ≡ upstream_start text
   pub to : end ≡ upstream_end text
-
--- the name of a fault, without its place (this project's own)
-abbrev pub name_of : VersionFault → List ℕ
-name_of Empty = codes "Empty"
-name_of EpochEmpty = codes "EpochEmpty"
-name_of EpochNotNumber = codes "EpochNotNumber"
-name_of EpochTooLarge = codes "EpochTooLarge"
-name_of UpstreamEmpty = codes "UpstreamEmpty"
-name_of (UpstreamBad place) = codes "UpstreamBad"
-name_of RevisionEmpty = codes "RevisionEmpty"
-name_of (RevisionBad place) = codes "RevisionBad"
-name_of TooLong = codes "TooLong"
-name_of Memory = codes "Memory"

@@ -1,7 +1,7 @@
 //! Why a text is no version.
 
 ghost use Rattle.std.specs.Prelude.{◌≡◌};
-ghost use Rattle.deb_version.specs.Syntax.{name_of};
+ghost use Rattle.deb_version.specs.Faults.{fault_name};
 ghost use Rattle.deb_version.specs.declared.fault.VersionFault.TheVariants.{Memory};
 
 use std::alloc::{AllocError, AllocFailed};
@@ -40,7 +40,7 @@ impl VersionFault {
     /// The name of the fault, as the enum writes it, without the place.
     /// Source: this project's own.
     pub fn name(&self) -> &'static str
-        ensures { result.now ≡ name_of self.now }
+        ensures { result.now ≡ fault_name self.now }
     {
         match self {
             VersionFault::Empty => "Empty",

@@ -7,7 +7,7 @@ use Rattle.std.specs.Fmt.{digits, digits_onto, digit_glyph}
 use Rattle.json.specs.Print.{quoted, escape, escape_byte}
 use Rattle.deb_control.specs.Faults.{fault_name}
 use Rattle.deb_control.specs.Lines.{is_feed, IsOneLine}
-use Rattle.deb_version.specs.Syntax.{name_of as name_of_fault}
+use Rattle.deb_version.specs.Faults.{fault_name as name_of_fault}
 use Rattle.wb_states.specs.Refusals.{name_of_list, name_of_field}
 use Rattle.wb_states.specs.State.{name_of}
 use Rattle.wb_states.specs.declared.refusal.ListingFault.TheVariants.{Control, Missing, BadValue}

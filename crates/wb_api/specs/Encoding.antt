@@ -7,9 +7,9 @@ use Rattle.std.specs.Cow.{cow_str_bytes, IsBorrowedStr}
 use Rattle.std.specs.declared.alloc.Global.{Global}
 use Rattle.std.specs.declared.borrow.CowStr.{CowStr}
 use Rattle.json.specs.Print.{quoted}
-use Rattle.deb_version.specs.Syntax.{name_of as name_of_fault}
+use Rattle.deb_version.specs.Faults.{fault_name as name_of_fault}
 use Rattle.deb_control.specs.Faults.{fault_name}
-use Rattle.deb_relations.specs.Faults.{name_of as name_of_relation_fault}
+use Rattle.deb_relations.specs.Faults.{fault_name as name_of_relation_fault}
 use Rattle.deb_relations.specs.declared.fault.RelationFault.{RelationFault}
 use Rattle.wb_states.specs.State.{name_of}
 use Rattle.wb_states.specs.Refusals.{code_of_refusal, name_of_refusal, name_of_list, name_of_field}

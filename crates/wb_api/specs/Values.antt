@@ -2,7 +2,7 @@
 use Rattle.std.specs.Prelude.{ℕ, List, map, codes}
 use Rattle.serde_json.specs.Data.{Data, Items, null, boolean, number, unsigned, string, array, object, member, no_members, put}
 use Rattle.serde_json.specs.View.{items_of}
-use Rattle.deb_version.specs.Syntax.{name_of as name_of_fault}
+use Rattle.deb_version.specs.Faults.{fault_name as name_of_fault}
 use Rattle.wb_states.specs.State.{name_of}
 use Rattle.wb_states.specs.Refusals.{code_of_refusal, name_of_refusal, name_of_list, name_of_field, name_of_listing_fault}
 use Rattle.wb_states.specs.declared.refusal.ListKind.{ListKind}

@@ -1,4 +1,4 @@
-use Rattle.deb_version.proofs.PartOrder.{letters-earlier}
+use Rattle.deb_version.proofs.PartOrderLemmas.{letters-earlier}
 use Rattle.deb_version.proofs.laws.letters_are_earlier.Goals as goal
 
 pub returns : goal.returns

@@ -1,4 +1,4 @@
-use Rattle.deb_version.proofs.PartOrder.{parts-by_runs, zeros-keep}
+use Rattle.deb_version.proofs.PartOrderLemmas.{parts-by_runs, zeros-keep}
 use Rattle.deb_version.proofs.laws.parts_compare_by_runs.Goals as goal
 
 pub returns-clause-runs : goal.returns-clause-runs

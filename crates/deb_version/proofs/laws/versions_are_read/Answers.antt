@@ -1,4 +1,4 @@
-use Rattle.deb_version.proofs.VersionGrammar.{versions-is, versions-only}
+use Rattle.deb_version.proofs.VersionGrammarLemmas.{versions-is, versions-only}
 use Rattle.deb_version.proofs.laws.versions_are_read.Goals as goal
 
 pub returns-clause-is : goal.returns-clause-is
