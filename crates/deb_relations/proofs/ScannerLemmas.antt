@@ -4,10 +4,9 @@ use Rattle.std.specs.List.{list_all}
 use Rattle.std.specs.Option.{option_map, is_none}
 use Rattle.std.specs.Str.{IsUtf8, IsCharBoundary}
 use Rattle.std.proofs.lemmas.Str.{IsCharBoundary-start, IsCharBoundary-after_ascii}
-use Rattle.std.proofs.lemmas.Bool.{false≢true}
 use Rattle.std.proofs.lemmas.Bool.Decides.{nat_tests}
 use Rattle.deb_version.specs.declared.fault.VersionFault.{VersionFault}
-use Rattle.deb_version.specs.Syntax.{Parts, parts_of, fault_of, ok_unless, reading_of, is_version_text}
+use Rattle.deb_version.specs.Syntax.{fault_of, reading_of, is_version_text}
 use Rattle.deb_relations.specs.declared.scanner.Class.{Class}
 use Rattle.deb_relations.specs.declared.scanner.Class.TheVariants.{White, Solid, Package, Arch, Profile, Op}
 use Rattle.deb_relations.specs.declared.fault.RelationFault.{RelationFault}
@@ -22,6 +21,7 @@ use Rattle.deb_relations.specs.Scanner.{test_of, text_of, halves_of}
 use Rattle.deb_relations.proofs.LeadingLemmas.{leading-is}
 use Rattle.deb_relations.proofs.Cuts.{strip-here, strip-other, cut-here, cut-none}
 use Rattle.deb_relations.specs.Text.{leading}
+use Rattle.deb_version.proofs.ReadingLemmas.{fault_of-IsOk, fault_of-Err}
 
 after-ascii : (t : List ℕ) (n : ℕ) → IsUtf8 t → n ≤ length t → ((k : ℕ) → k < n → get_or t k 0 < 128) → IsCharBoundary t n
 after-ascii t zero u h p = IsCharBoundary-start t u
@@ -94,21 +94,9 @@ pub cut-parts : (c : ℕ) (t : List ℕ) (r : Option (Bor (List ℕ) × Bor (Lis
 cut-parts c t None h = sym (cut-none c t (all-not c t h))
 cut-parts c t (Some x) h = sym (ap (cut c) h.0 ∙ cut-here c x.0.now x.1.now (all-not c x.0.now h.1))
 
-version-by : (o : Option VersionFault) (parts : Parts) → IsOk (ok_unless o parts) → is_none o ≡ true
-version-by None parts h = refl
-version-by (Some fault) parts h = absurd (false≢true h)
-
 pub version-read : (t : List ℕ) → IsOk (reading_of t) → is_version_text t ≡ true
-unfolding is_version_text reading_of
-version-read t h = version-by (fault_of t) (parts_of t) h
-
-fault-by : (o : Option VersionFault) (parts : Parts) (fault : VersionFault) → ok_unless o parts ≡ Err fault → o ≡ Some fault
-fault-by None parts fault h = absurd (cc)
-fault-by (Some other) parts fault h = cc
-
-pub fault-read : (t : List ℕ) (fault : VersionFault) → reading_of t ≡ Err fault → fault_of t ≡ Some fault
-unfolding reading_of
-fault-read t fault h = fault-by (fault_of t) (parts_of t) fault h
+unfolding is_version_text
+version-read t h = ap is_none (fault_of-IsOk t h)
 
 pub not-version : (t : List ℕ) (fault : VersionFault) → fault_of t ≡ Some fault → is_version_text t ≡ false
 unfolding is_version_text
@@ -118,7 +106,7 @@ pub fault_from_version-memory : (fault : VersionFault) → fault_from_version fa
 fault_from_version-memory fault h e = h (ap fault_from_version e)
 
 pub version-refused : (t : List ℕ) (fault : VersionFault) (r : RelationFault) → r ≡ fault_from_version fault → (fault ≢ version.Memory → reading_of t ≡ Err fault) → r ≢ relation.Memory → is_version_text t ≡ false
-version-refused t fault r e h n = not-version t fault (fault-read t fault (h (fault_from_version-memory fault (λ k. n (e ∙ k)))))
+version-refused t fault r e h n = not-version t fault (fault_of-Err t fault (h (fault_from_version-memory fault (λ k. n (e ∙ k)))))
 
 fault_from_version-bad : (fault : VersionFault) → fault ≢ version.Memory → fault_from_version fault ≡ relation.BadVersion fault
 fault_from_version-bad version.Memory h = absurd (h refl)
@@ -127,4 +115,4 @@ fault_from_version-bad _ h = refl
 pub version-told : (t : List ℕ) (fault : VersionFault) (r : RelationFault) → r ≡ fault_from_version fault → (fault ≢ version.Memory → reading_of t ≡ Err fault) → r ≢ relation.Memory → (place : ℕ) → r ≡ version_fault (fault_of t) place
 version-told t fault r e h n place =
     let kept : fault ≢ version.Memory = fault_from_version-memory fault (λ k. n (e ∙ k)) in
-    e ∙ fault_from_version-bad fault kept ∙ sym (ap (λ o. version_fault o place) (fault-read t fault (h kept)))
+    e ∙ fault_from_version-bad fault kept ∙ sym (ap (λ o. version_fault o place) (fault_of-Err t fault (h kept)))

@@ -7,9 +7,9 @@ use Rattle.std.proofs.lemmas.List.Sums.{passes_at_first}
 use borrow.Author.Tests.{ltb-true}
 use Rattle.deb_version.specs.declared.fault.VersionFault.{VersionFault}
 use Rattle.deb_version.specs.declared.fault.VersionFault.TheVariants.{EpochEmpty, EpochNotNumber, EpochTooLarge, UpstreamBad, RevisionBad}
-use Rattle.deb_version.specs.Syntax.{reading_of, ok_unless, parts_of, fault_of, rest_fault, length_fault, epoch_fault, number_fault, upstream_fault, revision_fault, upstream_part_fault, revision_part_fault, has_revision, upstream_text, revision_text, upstream_start, upstream_end, has_epoch, epoch_text, all_digits, value_of, is_upstream_char, is_revision_char, version_limit, epoch_limit}
+use Rattle.deb_version.specs.Syntax.{reading_of, fault_of, rest_fault, length_fault, epoch_fault, number_fault, upstream_fault, revision_fault, upstream_part_fault, revision_part_fault, has_revision, upstream_text, revision_text, upstream_start, upstream_end, has_epoch, epoch_text, all_digits, value_of, is_upstream_char, is_revision_char, version_limit, epoch_limit}
 use Rattle.deb_version.proofs.CutLemmas.{some-from_cond}
-use Rattle.deb_version.proofs.ReadingLemmas.{upstream_place, revision_place}
+use Rattle.deb_version.proofs.ReadingLemmas.{upstream_place, revision_place, fault_of-Err}
 
 -- a fault that, where it names a bad character, has the place of one in the whole text
 abbrev pub StandsIn : List ℕ → Option VersionFault → Type 0
@@ -108,12 +108,6 @@ fault-stands t =
     either t (length_fault t) _ (length-stands t)
     (either t (epoch_fault t) _ (epoch-stands t) (either t (upstream_fault t) _ (upstream-stands t) (revision-stands t)))
 
-refused-by : (t : List ℕ) (o : Option VersionFault) (fault : VersionFault) → StandsIn t o → ok_unless o (parts_of t) ≡ Err fault → StandsIn t (Some fault)
-refused-by t None fault s e = cc
-refused-by t (Some f) fault s e =
-    let same : f ≡ fault = cc in subst (λ x. StandsIn t (Some x)) same s
-
 -- the fault of a text without a reading
 pub refused-stands : (t : List ℕ) (fault : VersionFault) → reading_of t ≡ Err fault → StandsIn t (Some fault)
-unfolding reading_of
-refused-stands t fault e = refused-by t (fault_of t) fault (fault-stands t) e
+refused-stands t fault e = subst (StandsIn t) (fault_of-Err t fault e) (fault-stands t)

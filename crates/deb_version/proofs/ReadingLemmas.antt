@@ -1,5 +1,5 @@
 -- Lemmas on the reading of a version's text.
-use Rattle.std.proofs.Common.{◌≡◌, subst, ℕ, ◌+◌, ◌-◌, ◌<◌, ◌≤◌, Bool, true, false, cond, List, length, get_or, take, drop, refl, sym, ap, ◌∙◌, rules, arith, length-take-le, Option, None, Some, Err, IsOk}
+use Rattle.std.proofs.Common.{◌≡◌, subst, ℕ, ◌+◌, ◌-◌, ◌<◌, ◌≤◌, Bool, true, false, cond, List, length, get_or, take, drop, refl, sym, ap, ◌∙◌, rules, arith, length-take-le, Option, None, Some, Err, IsOk, Ok}
 use Rattle.std.specs.List.{list_any, slice_range, position_or_len}
 use Rattle.std.specs.Option.{option_or, option_map}
 use Rattle.std.specs.Str.{IsCharBoundary, IsUtf8}
@@ -9,8 +9,21 @@ use borrow.Author.Tests.{ltb-true, eqb-true}
 use Rattle.std.proofs.lemmas.Str.{IsCharBoundary-before_ascii, IsCharBoundary-after_ascii, IsCharBoundary-end}
 use Rattle.deb_version.specs.declared.fault.VersionFault.{VersionFault}
 use Rattle.deb_version.specs.declared.fault.VersionFault.TheVariants.{Memory}
-use Rattle.deb_version.specs.Syntax.{rest_fault, reading_of, fault_of, length_fault, epoch_fault, number_fault, upstream_fault, revision_fault, upstream_part_fault, revision_part_fault, has_epoch, has_revision, epoch_text, rest_of, upstream_text, revision_text, upstream_start, upstream_end, is_colon, is_hyphen}
+use Rattle.deb_version.specs.Syntax.{rest_fault, reading_of, fault_of, length_fault, epoch_fault, number_fault, upstream_fault, revision_fault, upstream_part_fault, revision_part_fault, has_epoch, has_revision, epoch_text, rest_of, upstream_text, revision_text, upstream_start, upstream_end, is_colon, is_hyphen, ok_unless, parts_of}
 use Rattle.deb_version.proofs.CutLemmas.{rest_of-drop, length-rest_of, no_revision, revision_at, hyphens, last-passes, list_any-last, list_any-first, has_revision-is}
+
+-- a value is given where there is no fault, and a fault is told where there is one
+pub ok_unless-Ok : {X E : Type 0} (fault : Option E) (value found : X) → ok_unless fault value ≡ Ok found → (fault ≡ None) × (value ≡ found)
+ok_unless-Ok None value found e = (refl, cc)
+ok_unless-Ok (Some told) value found e = cc
+
+pub ok_unless-IsOk : {X E : Type 0} (fault : Option E) (value : X) → IsOk (ok_unless fault value) → fault ≡ None
+ok_unless-IsOk None value h = refl
+ok_unless-IsOk (Some told) value h = cc
+
+pub ok_unless-Err : {X E : Type 0} (fault : Option E) (value : X) (told : E) → ok_unless fault value ≡ Err told → fault ≡ Some told
+ok_unless-Err None value told e = cc
+ok_unless-Err (Some other) value told e = cc
 
 pub reading_of-ok : (t : List ℕ) → fault_of t ≡ None → IsOk (reading_of t)
 unfolding reading_of
@@ -19,6 +32,14 @@ reading_of-ok t e = rw e refl
 pub reading_of-err : (t : List ℕ) (fault : VersionFault) → fault_of t ≡ Some fault → reading_of t ≡ Err fault
 unfolding reading_of
 reading_of-err t fault e = rw e refl
+
+pub fault_of-IsOk : (t : List ℕ) → IsOk (reading_of t) → fault_of t ≡ None
+unfolding reading_of
+fault_of-IsOk t h = ok_unless-IsOk (fault_of t) (parts_of t) h
+
+pub fault_of-Err : (t : List ℕ) (fault : VersionFault) → reading_of t ≡ Err fault → fault_of t ≡ Some fault
+unfolding reading_of
+fault_of-Err t fault e = ok_unless-Err (fault_of t) (parts_of t) fault e
 
 -- no text has want of memory as its fault
 abbrev is_memory : Option VersionFault → Bool

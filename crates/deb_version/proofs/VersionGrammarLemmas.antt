@@ -16,6 +16,7 @@ use Rattle.deb_version.specs.Syntax.{Parts, is_colon, is_hyphen, is_upstream_cha
 use Rattle.deb_version.specs.Grammar.{epoch_part, revision_part, IsEpoch, IsUpstream, IsRevision, IsVersion}
 use Rattle.deb_version.proofs.CutLemmas.{list_any-first}
 use Rattle.deb_version.proofs.LawLemmas.{text_parts}
+use Rattle.deb_version.proofs.ReadingLemmas.{ok_unless-Ok}
 
 both : (b c : Bool) → (b && c) ≡ true → (b ≡ true) × (c ≡ true)
 both true c e = (refl, e)
@@ -288,10 +289,6 @@ parts-are text e =
       no_hyphen = λ none. upstream-no_hyphen text (none-cond (has_revision text) (revision_text text) none);
       revision = revision-cond (has_revision text) (upstream_end text + 1) (revision_text text) third.1;
     }
-
-ok_unless-Ok : (f : Option VersionFault) (found parts : Parts) → ok_unless f found ≡ Ok parts → (f ≡ None) × (found ≡ parts)
-ok_unless-Ok None found parts e = (refl, cc)
-ok_unless-Ok (Some fault) found parts e = cc
 
 pub versions-is : (text : List ℕ) (parts : Parts) → reading_of text ≡ Ok parts → IsVersion text parts
 unfolding reading_of

@@ -1,6 +1,6 @@
 -- A move makes of a record what its row of the table says.
 use Rattle.std.proofs.Common.{◌≡◌, ℕ, Bool, true, false, cond, not, List, [], ◌∷◌, Option, Some, None, Ok, is_some, refl, sym, ap, ◌∙◌, nat_eq}
-use Rattle.deb_version.specs.Syntax.{ok_unless}
+use Rattle.deb_version.proofs.ReadingLemmas.{ok_unless-Ok}
 use Rattle.deb_relations.specs.declared.arch.ArchWords.{ArchWords}
 use Rattle.deb_relations.specs.declared.relations.Alternative.{Alternative}
 use Rattle.wb_states.specs.declared.moves.Move.{Move}
@@ -17,10 +17,6 @@ use Rattle.wb_states.specs.Table.{row_of}
 
 -- ---- a move that is not refused
 
-done-is : (refusal : Option Refusal) (after new : Record) → ok_unless refusal after ≡ Ok new → (refusal ≡ None) × (new ≡ after)
-done-is None after new is = (refl, cc)
-done-is (Some refusal) after new is = absurd cc
-
 from-is : (may : Bool) (value : Option Refusal) (state : State) → cond may value (Some (WrongState state)) ≡ None → may ≡ true
 from-is true value state is = refl
 from-is false value state is = absurd cc
@@ -28,8 +24,8 @@ from-is false value state is = absurd cc
 pub move_of-done : (move : Move) (old new : Record) → move_of move old ≡ Ok new → (may_go move old.state ≡ true) × (new ≡ moved move old)
 unfolding move_of move_refusal
 move_of-done move old new is =
-    let parts = done-is (move_refusal move old) (moved move old) new is in
-    (from-is (may_go move old.state) (value_refusal move old) old.state parts.0, parts.1)
+    let parts = ok_unless-Ok (move_refusal move old) (moved move old) new is in
+    (from-is (may_go move old.state) (value_refusal move old) old.state parts.0, sym parts.1)
 
 value-none : (may : Bool) (value : Option Refusal) (state : State) → cond may value (Some (WrongState state)) ≡ None → value ≡ None
 value-none true value state is = is
@@ -38,7 +34,7 @@ value-none false value state is = absurd cc
 pub move_of-value : (move : Move) (old new : Record) → move_of move old ≡ Ok new → value_refusal move old ≡ None
 unfolding move_of move_refusal
 move_of-value move old new is =
-    value-none (may_go move old.state) (value_refusal move old) old.state (done-is (move_refusal move old) (moved move old) new is).0
+    value-none (may_go move old.state) (value_refusal move old) old.state (ok_unless-Ok (move_refusal move old) (moved move old) new is).0
 
 -- ---- what a record lacks in a state
 
