@@ -11,7 +11,8 @@ use Rattle.std.specs.Option.{option_or}
 use Rattle.deb_control.specs.declared.fault.ControlFaultKind.{ControlFaultKind}
 use Rattle.deb_control.specs.declared.fault.ControlFaultKind.TheVariants.{TooLarge, NotUtf8, Orphan, NoColon, BadName, Duplicate, Memory, Ended}
 use Rattle.deb_control.specs.Lines.{is_continuation, body_of}
-use Rattle.deb_control.specs.Fields.{Entry, Reads, HaveDistinctNames, IsLineFault, HasBadLine, IsFault, has_colon, is_name, name_of, field_of, fields_of, lower, is_among, names_in, form_fault, line_fault, names_after, first_fault, largest_paragraph, fault_of, outcome, reading_of}
+use Rattle.std.specs.Str.{str_to_ascii_lowercase}
+use Rattle.deb_control.specs.Fields.{Entry, Reads, HaveDistinctNames, IsLineFault, HasBadLine, IsFault, has_colon, is_name, name_of, field_of, fields_of, is_among, names_in, form_fault, line_fault, names_after, first_fault, largest_paragraph, fault_of, outcome, reading_of}
 use Rattle.deb_control.proofs.NameLemmas.{is_among-names_in}
 use Rattle.deb_control.proofs.FormLemmas.{option_or-none}
 use Rattle.deb_control.proofs.GrammarLemmas.{Reads-first_fault, first_fault-Reads}
@@ -61,10 +62,10 @@ no_names fields none = rw none refl
 line_fault-is : (kind : ControlFaultKind) (fields : List Entry) (line : List ℕ) → line_fault (names_in fields) line ≡ Some kind → IsLineFault kind fields line
 unfolding line_fault form_fault
 line_fault-is kind fields line is =
-    by_tests kind fields line (line_cases (is_continuation line) (length (names_in fields) == 0) (has_colon line) (is_name (name_of line)) (is_among (lower (name_of line)) (names_in fields)) kind is)
+    by_tests kind fields line (line_cases (is_continuation line) (length (names_in fields) == 0) (has_colon line) (is_name (name_of line)) (is_among (str_to_ascii_lowercase (name_of line)) (names_in fields)) kind is)
   where
     by_tests : (kind : ControlFaultKind) (fields : List Entry) (line : List ℕ)
-        → FaultByTests kind (is_continuation line) (length (names_in fields) == 0) (has_colon line) (is_name (name_of line)) (is_among (lower (name_of line)) (names_in fields))
+        → FaultByTests kind (is_continuation line) (length (names_in fields) == 0) (has_colon line) (is_name (name_of line)) (is_among (str_to_ascii_lowercase (name_of line)) (names_in fields))
         → IsLineFault kind fields line
     by_tests Orphan fields line f = (f.0, no_fields fields f.1)
     by_tests NoColon fields line f = f
@@ -78,10 +79,10 @@ line_fault-is kind fields line is =
 line_fault-from : (kind : ControlFaultKind) (fields : List Entry) (line : List ℕ) → IsLineFault kind fields line → line_fault (names_in fields) line ≡ Some kind
 unfolding line_fault form_fault
 line_fault-from kind fields line f =
-    tests_fault kind (is_continuation line) (length (names_in fields) == 0) (has_colon line) (is_name (name_of line)) (is_among (lower (name_of line)) (names_in fields)) (to_tests kind fields line f)
+    tests_fault kind (is_continuation line) (length (names_in fields) == 0) (has_colon line) (is_name (name_of line)) (is_among (str_to_ascii_lowercase (name_of line)) (names_in fields)) (to_tests kind fields line f)
   where
     to_tests : (kind : ControlFaultKind) (fields : List Entry) (line : List ℕ) → IsLineFault kind fields line
-        → FaultByTests kind (is_continuation line) (length (names_in fields) == 0) (has_colon line) (is_name (name_of line)) (is_among (lower (name_of line)) (names_in fields))
+        → FaultByTests kind (is_continuation line) (length (names_in fields) == 0) (has_colon line) (is_name (name_of line)) (is_among (str_to_ascii_lowercase (name_of line)) (names_in fields))
     to_tests Orphan fields line f = (f.0, no_names fields f.1)
     to_tests NoColon fields line f = f
     to_tests BadName fields line f = f
@@ -96,7 +97,7 @@ names_behind : (names : List (List ℕ)) (line : List ℕ) (lines : List (List �
 unfolding names_after field_of
 names_behind names line lines = elim (cases_Bool (is_continuation line)) [
   | inl is ↦ rw is refl
-  | inr other ↦ rw other (sym (append_assoc names (lower (name_of line) ∷ []) (names_in (fields_of lines))))
+  | inr other ↦ rw other (sym (append_assoc names (str_to_ascii_lowercase (name_of line) ∷ []) (names_in (fields_of lines))))
 ]
 
 -- behind good lines the fault is that of the others

@@ -10,7 +10,8 @@ use Rattle.std.specs.Option.{option_or}
 use Rattle.deb_control.specs.declared.fault.ControlFaultKind.{ControlFaultKind}
 use Rattle.deb_control.specs.declared.fault.ControlFaultKind.TheVariants.{NoColon, BadName, Duplicate}
 use Rattle.deb_control.specs.Lines.{is_blank, is_continuation, trim}
-use Rattle.deb_control.specs.Fields.{is_colon, is_name_char, begins_name, is_name, has_colon, name_of, first_of, lower, is_among, form_fault, line_fault, names_after}
+use Rattle.std.specs.Str.{str_to_ascii_lowercase}
+use Rattle.deb_control.specs.Fields.{is_colon, is_name_char, begins_name, is_name, has_colon, name_of, first_of, is_among, form_fault, line_fault, names_after}
 
 one_more : (n : ℕ) → 1 + n ≡ suc n
 one_more n = omega arith
@@ -95,13 +96,13 @@ line_cases false name among none = cc
 
 -- what a line that is no continuation has where nothing is wrong with it
 pub good_line : (names : List (List ℕ)) (line : List ℕ) → is_continuation line ≡ false → line_fault names line ≡ None
-    → (has_colon line ≡ true) × (is_name (name_of line) ≡ true) × (is_among (lower (name_of line)) names ≡ false)
+    → (has_colon line ≡ true) × (is_name (name_of line) ≡ true) × (is_among (str_to_ascii_lowercase (name_of line)) names ≡ false)
 unfolding line_fault form_fault
 good_line names line plain good =
-    line_cases (has_colon line) (is_name (name_of line)) (is_among (lower (name_of line)) names) (rw plain at good)
+    line_cases (has_colon line) (is_name (name_of line)) (is_among (str_to_ascii_lowercase (name_of line)) names) (rw plain at good)
 
 pub line_good : (names : List (List ℕ)) (line : List ℕ) → is_continuation line ≡ false → has_colon line ≡ true → is_name (name_of line) ≡ true
-    → is_among (lower (name_of line)) names ≡ false → line_fault names line ≡ None
+    → is_among (str_to_ascii_lowercase (name_of line)) names ≡ false → line_fault names line ≡ None
 unfolding line_fault form_fault
 line_good names line plain colon name among = rw plain (rw colon (rw name (rw among refl)))
 
@@ -117,6 +118,6 @@ pub names_after-continuation : (names : List (List ℕ)) (line : List ℕ) → i
 unfolding names_after
 names_after-continuation names line is = rw is refl
 
-pub names_after-other : (names : List (List ℕ)) (line : List ℕ) → is_continuation line ≡ false → names_after names line ≡ names ++ lower (name_of line) ∷ []
+pub names_after-other : (names : List (List ℕ)) (line : List ℕ) → is_continuation line ≡ false → names_after names line ≡ names ++ str_to_ascii_lowercase (name_of line) ∷ []
 unfolding names_after
 names_after-other names line other = rw other refl

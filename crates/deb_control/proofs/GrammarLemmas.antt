@@ -10,7 +10,8 @@ use Rattle.std.specs.Option.{option_or}
 use Rattle.deb_control.specs.declared.fault.ControlFaultKind.{ControlFaultKind}
 use Rattle.deb_control.specs.declared.fault.ControlFaultKind.TheVariants.{TooLarge, NotUtf8}
 use Rattle.deb_control.specs.Lines.{body_of, is_continuation}
-use Rattle.deb_control.specs.Fields.{Entry, IsField, Reads, HaveDistinctNames, is_colon, is_name, has_colon, name_of, first_of, lower, is_among, more_of, continued, field_of, fields_of, line_fault, names_after, first_fault, largest_paragraph, fault_of, outcome, reading_of, IsReading}
+use Rattle.std.specs.Str.{str_to_ascii_lowercase}
+use Rattle.deb_control.specs.Fields.{Entry, IsField, Reads, HaveDistinctNames, is_colon, is_name, has_colon, name_of, first_of, is_among, more_of, continued, field_of, fields_of, line_fault, names_after, first_fault, largest_paragraph, fault_of, outcome, reading_of, IsReading}
 use Rattle.std.proofs.lemmas.Str.{IsUtf8-from_is_utf8, is_utf8-from_IsUtf8}
 use Rattle.deb_control.proofs.FormLemmas.{Named, named, line-name, option_or-none, good_line, line_good, continuation_good, names_after-continuation, names_after-other}
 use Rattle.deb_control.proofs.ApartLemmas.{Apart, none_among_nil, apart_from, apart_to}
@@ -36,11 +37,11 @@ list_all-more_of (line ∷ lines) = elim (cases_Bool (is_continuation line)) [
 
 -- the field of a good line, in front of the fields of the lines behind it
 field_first : (names : List (List ℕ)) (line : List ℕ) (lines : List (List ℕ)) → is_continuation line ≡ false → line_fault names line ≡ None
-    → Reads (less_of lines) (fields_of lines) × Apart (names ++ lower (name_of line) ∷ []) (fields_of lines)
+    → Reads (less_of lines) (fields_of lines) × Apart (names ++ str_to_ascii_lowercase (name_of line) ∷ []) (fields_of lines)
     → Reads (line ∷ lines) (field_of line lines ∷ fields_of lines) × Apart names (field_of line lines ∷ fields_of lines)
 unfolding field_of first_of
 field_first names line lines plain good behind =
-    let has : (has_colon line ≡ true) × (is_name (name_of line) ≡ true) × (is_among (lower (name_of line)) names ≡ false) = good_line names line plain good in (
+    let has : (has_colon line ≡ true) × (is_name (name_of line) ≡ true) × (is_among (str_to_ascii_lowercase (name_of line)) names ≡ false) = good_line names line plain good in (
       (
         line,
         more_of lines,
@@ -77,10 +78,10 @@ read_behind names (line ∷ lines) some good =
           rw (same.0, same.1) (read_behind names lines some behind)
       | inr other ↦
           let same : (less_of (line ∷ lines) ≡ line ∷ lines) × (fields_of (line ∷ lines) ≡ field_of line lines ∷ fields_of lines) = fields_of-other line lines other in
-          let behind : first_fault (names ++ lower (name_of line) ∷ []) lines ≡ None =
+          let behind : first_fault (names ++ str_to_ascii_lowercase (name_of line) ∷ []) lines ≡ None =
           ap (λ (v : List (List ℕ)). first_fault v lines) (sym (names_after-other names line other)) ∙ parts.1 in
-          let longer : 0 < length (names ++ lower (name_of line) ∷ []) = omega (arith, length_push names (lower (name_of line))) in
-          rw (same.0, same.1) (field_first names line lines other parts.0 (read_behind (names ++ lower (name_of line) ∷ []) lines longer behind))
+          let longer : 0 < length (names ++ str_to_ascii_lowercase (name_of line) ∷ []) = omega (arith, length_push names (str_to_ascii_lowercase (name_of line))) in
+          rw (same.0, same.1) (field_first names line lines other parts.0 (read_behind (names ++ str_to_ascii_lowercase (name_of line) ∷ []) lines longer behind))
     ]
 
 -- lines without a fault are their fields
@@ -93,9 +94,9 @@ read_first (line ∷ lines) good =
       | inl is ↦ absurd (cc (rw is at parts.0))
       | inr other ↦
           let same : (less_of (line ∷ lines) ≡ line ∷ lines) × (fields_of (line ∷ lines) ≡ field_of line lines ∷ fields_of lines) = fields_of-other line lines other in
-          let behind : first_fault (lower (name_of line) ∷ []) lines ≡ None =
+          let behind : first_fault (str_to_ascii_lowercase (name_of line) ∷ []) lines ≡ None =
           ap (λ (v : List (List ℕ)). first_fault v lines) (sym (names_after-other [] line other)) ∙ parts.1 in
-          rw same.1 (field_first [] line lines other parts.0 (read_behind (lower (name_of line) ∷ []) lines (omega arith) behind))
+          rw same.1 (field_first [] line lines other parts.0 (read_behind (str_to_ascii_lowercase (name_of line) ∷ []) lines (omega arith) behind))
     ]
 
 -- continuation lines in front change neither the fault nor the fields of what follows
@@ -145,15 +146,15 @@ read_only names lines [] reads apart = rw reads (refl, refl)
 read_only names lines (field ∷ fields) (line, more, rest, is, f, behind) apart =
     let n : Named field.name field.first line = named_field field line more f in
     let good : line_fault names line ≡ None =
-    line_good names line n.plain n.colon (ap is_name n.name_is ∙ f.form) (ap (λ (v : List ℕ). is_among (lower v) names) n.name_is ∙ apart.0) in
-    let after : names_after names line ≡ names ++ lower field.name ∷ [] =
-    names_after-other names line n.plain ∙ ap (λ (v : List ℕ). names ++ lower v ∷ []) n.name_is in
-    let longer : 0 < length (names ++ lower field.name ∷ []) = omega (arith, length_push names (lower field.name)) in
-    let later : (first_fault (names ++ lower field.name ∷ []) rest ≡ None) × (fields_of rest ≡ fields) = read_only (names ++ lower field.name ∷ []) rest fields behind apart.1 in (
+    line_good names line n.plain n.colon (ap is_name n.name_is ∙ f.form) (ap (λ (v : List ℕ). is_among (str_to_ascii_lowercase v) names) n.name_is ∙ apart.0) in
+    let after : names_after names line ≡ names ++ str_to_ascii_lowercase field.name ∷ [] =
+    names_after-other names line n.plain ∙ ap (λ (v : List ℕ). names ++ str_to_ascii_lowercase v ∷ []) n.name_is in
+    let longer : 0 < length (names ++ str_to_ascii_lowercase field.name ∷ []) = omega (arith, length_push names (str_to_ascii_lowercase field.name)) in
+    let later : (first_fault (names ++ str_to_ascii_lowercase field.name ∷ []) rest ≡ None) × (fields_of rest ≡ fields) = read_only (names ++ str_to_ascii_lowercase field.name ∷ []) rest fields behind apart.1 in (
       ap (first_fault names) is
           ∙ ap (λ (v : Option ControlFaultKind). option_or v (first_fault (names_after names line) (more ++ rest))) good
           ∙ ap (λ (v : List (List ℕ)). first_fault v (more ++ rest)) after
-          ∙ skip_fault (names ++ lower field.name ∷ []) more rest longer f.continues
+          ∙ skip_fault (names ++ str_to_ascii_lowercase field.name ∷ []) more rest longer f.continues
           ∙ later.0,
       ap fields_of is
           ∙ (fields_of-other line (more ++ rest) n.plain).1

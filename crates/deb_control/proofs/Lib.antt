@@ -11,6 +11,6 @@ pub mod ParagraphLemmas
 pub mod CallLemmas
 pub mod BadLineLemmas
 pub mod RoomLemmas
-pub mod TextLines
+pub mod TextLineLemmas
 pub mod FoundLemmas
 pub mod WordLemmas

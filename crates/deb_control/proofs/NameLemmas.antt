@@ -6,30 +6,31 @@ use Rattle.std.specs.Str.{bytes_eq}
 use Rattle.std.proofs.lemmas.Bool.{or_left}
 use Rattle.std.proofs.lemmas.List.{take-append-drop, take-map, drop_all, drop-append-le, length_push}
 use Rattle.std.proofs.lemmas.List.Folds.{list_any-append}
-use Rattle.deb_control.specs.Fields.{Entry, has_name, lower, is_among, names_in, Knows}
+use Rattle.std.specs.Str.{str_to_ascii_lowercase}
+use Rattle.deb_control.specs.Fields.{Entry, has_name, is_among, names_in, Knows}
 
 -- a name is among the names of fields where one of the fields has it
-pub is_among-names_in : (name : List ℕ) (fields : List Entry) → is_among (lower name) (names_in fields) ≡ list_any (has_name name) fields
+pub is_among-names_in : (name : List ℕ) (fields : List Entry) → is_among (str_to_ascii_lowercase name) (names_in fields) ≡ list_any (has_name name) fields
 is_among-names_in name [] = refl
 is_among-names_in name (field ∷ fields) = ap (λ (b : Bool). has_name name field || b) (is_among-names_in name fields)
 
 -- among the first few, or among the later ones
 is_among-split : (few : ℕ) (name : List ℕ) (fields : List Entry)
-    → is_among (lower name) (names_in fields) ≡ (list_any (has_name name) (take few fields) || is_among (lower name) (drop few (names_in fields)))
+    → is_among (str_to_ascii_lowercase name) (names_in fields) ≡ (list_any (has_name name) (take few fields) || is_among (str_to_ascii_lowercase name) (drop few (names_in fields)))
 is_among-split few name fields =
-    ap (is_among (lower name)) (sym (take-append-drop few (names_in fields)))
-    ∙ list_any-append (λ (other : List ℕ). bytes_eq other (lower name)) (take few (names_in fields)) (drop few (names_in fields))
-    ∙ ap (λ (v : List (List ℕ)). is_among (lower name) v || is_among (lower name) (drop few (names_in fields))) (take-map (λ (field : Entry). lower field.name) few fields)
-    ∙ ap (λ (b : Bool). b || is_among (lower name) (drop few (names_in fields))) (is_among-names_in name (take few fields))
+    ap (is_among (str_to_ascii_lowercase name)) (sym (take-append-drop few (names_in fields)))
+    ∙ list_any-append (λ (other : List ℕ). bytes_eq other (str_to_ascii_lowercase name)) (take few (names_in fields)) (drop few (names_in fields))
+    ∙ ap (λ (v : List (List ℕ)). is_among (str_to_ascii_lowercase name) v || is_among (str_to_ascii_lowercase name) (drop few (names_in fields))) (take-map (λ (field : Entry). str_to_ascii_lowercase field.name) few fields)
+    ∙ ap (λ (b : Bool). b || is_among (str_to_ascii_lowercase name) (drop few (names_in fields))) (is_among-names_in name (take few fields))
 
-pub is_among-first : (few : ℕ) (name : List ℕ) (fields : List Entry) → list_any (has_name name) (take few fields) ≡ true → is_among (lower name) (names_in fields) ≡ true
+pub is_among-first : (few : ℕ) (name : List ℕ) (fields : List Entry) → list_any (has_name name) (take few fields) ≡ true → is_among (str_to_ascii_lowercase name) (names_in fields) ≡ true
 is_among-first few name fields first = is_among-split few name fields ∙ or_left _ _ first
 
 pub is_among-later : (few : ℕ) (name : List ℕ) (fields : List Entry) (test : List ℕ → Bool) → list_any (has_name name) (take few fields) ≡ false
-    → Knows test (drop few (names_in fields)) → test (lower name) ≡ is_among (lower name) (names_in fields)
+    → Knows test (drop few (names_in fields)) → test (str_to_ascii_lowercase name) ≡ is_among (str_to_ascii_lowercase name) (names_in fields)
 is_among-later few name fields test first knows =
-    knows (lower name)
-    ∙ sym (is_among-split few name fields ∙ ap (λ (b : Bool). b || is_among (lower name) (drop few (names_in fields))) first)
+    knows (str_to_ascii_lowercase name)
+    ∙ sym (is_among-split few name fields ∙ ap (λ (b : Bool). b || is_among (str_to_ascii_lowercase name) (drop few (names_in fields))) first)
 
 -- while there are few names, the test knows of none
 pub Knows-few : (few : ℕ) (test : List ℕ → Bool) (names : List (List ℕ)) (name : List ℕ) → length names < few

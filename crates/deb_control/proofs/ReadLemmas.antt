@@ -11,7 +11,8 @@ use Rattle.std.proofs.lemmas.Bool.{cases_Bool, cond-true, cond-false, false_from
 use Rattle.std.proofs.lemmas.List.{append-nil, map-append}
 use Rattle.deb_control.specs.declared.fault.ControlFaultKind.{ControlFaultKind}
 use Rattle.deb_control.specs.Lines.{is_feed, is_continuation, lines_of, body_of, lines_in}
-use Rattle.deb_control.specs.Fields.{Entry, lower, field_of, fields_of, fields_at, names_in, names_after, line_fault, first_fault, largest_paragraph, fault_of, outcome, reading_of}
+use Rattle.std.specs.Str.{str_to_ascii_lowercase}
+use Rattle.deb_control.specs.Fields.{Entry, field_of, fields_of, fields_at, names_in, names_after, line_fault, first_fault, largest_paragraph, fault_of, outcome, reading_of}
 use Rattle.deb_control.proofs.LineLemmas.{lines_in-front, concat-lines_of}
 
 -- the lines of a text that is not empty
@@ -25,7 +26,7 @@ names_in-fields_at : (fields : List Entry) (line rest : List ℕ) → names_in (
 unfolding fields_at names_after field_of
 names_in-fields_at fields line rest = elim (cases_Bool (is_continuation line)) [
   | inl is ↦ rw is (ap names_in (append-nil fields))
-  | inr other ↦ rw other (map-append (λ (field : Entry). lower field.name) fields (field_of line (lines_in rest) ∷ []))
+  | inr other ↦ rw other (map-append (λ (field : Entry). str_to_ascii_lowercase field.name) fields (field_of line (lines_in rest) ∷ []))
 ]
 
 -- the fields of lines, by the first line

@@ -1,8 +1,8 @@
 -- The fields that the lines of a paragraph are, and the first fault of lines that are none, after Debian Policy 5.1.
 use Rattle.std.specs.Prelude.{◌≡◌, ℕ, Bool, true, false, not, ◌&&◌, ◌||◌, ◌==◌, ◌<◌, ◌≤◌, nat_lt, ⊤, IsUtf8, if◌then◌else◌, List, [], ◌∷◌, ◌++◌, map, length, drop, Option, None, Some, Result, Ok, Err, filter, find, is_none}
 use Rattle.std.specs.List.{before_first, after_first, position_or_len, list_all, list_any, concat, join_with_byte}
-use Rattle.std.specs.Char.{to_ascii_lowercase, is_ascii_graphic}
-use Rattle.std.specs.Str.{is_utf8, bytes_eq}
+use Rattle.std.specs.Char.{is_ascii_graphic}
+use Rattle.std.specs.Str.{is_utf8, bytes_eq, str_to_ascii_lowercase, str_eq_ignore_ascii_case}
 use Rattle.std.specs.Option.{option_or}
 use Rattle.deb_control.specs.declared.fault.ControlFaultKind.{ControlFaultKind}
 use Rattle.deb_control.specs.declared.fault.ControlFaultKind.TheVariants.{TooLarge, NotUtf8, Orphan, NoColon, BadName, Duplicate}
@@ -52,10 +52,6 @@ begins_name (c ∷ _) = not (c == 35 || c == 45)
 unfoldable pub is_name : List ℕ → Bool
 is_name name = begins_name name && list_all is_name_char name
 
--- a name in lower case, since names compare without case (Policy 5.1)
-unfoldable pub lower : List ℕ → List ℕ
-lower name = map to_ascii_lowercase name
-
 -- the field of a line that is no continuation and of the lines behind it (Policy 5.1)
 unfoldable pub field_of : List ℕ → List (List ℕ) → Entry
 field_of line lines = record { name = name_of line; first = first_of line; lines = map continued (more_of lines) }
@@ -75,17 +71,17 @@ is_among name names = list_any (λ other. bytes_eq other name) names
 
 -- the names of fields, in lower case (Policy 5.1)
 abbrev pub names_in : List Entry → List (List ℕ)
-names_in fields = map (λ field. lower field.name) fields
+names_in fields = map (λ field. str_to_ascii_lowercase field.name) fields
 
 -- what is wrong with a line behind lines that gave these names (Policy 5.1)
 unfoldable pub line_fault : List (List ℕ) → List ℕ → Option ControlFaultKind
 line_fault names line =
     if is_continuation line then (if length names == 0 then Some Orphan else None)
-    else option_or (form_fault line) (if is_among (lower (name_of line)) names then Some Duplicate else None)
+    else option_or (form_fault line) (if is_among (str_to_ascii_lowercase (name_of line)) names then Some Duplicate else None)
 
 -- the names in lower case once a line was read (Policy 5.1)
 unfoldable pub names_after : List (List ℕ) → List ℕ → List (List ℕ)
-names_after names line = if is_continuation line then names else names ++ lower (name_of line) ∷ []
+names_after names line = if is_continuation line then names else names ++ str_to_ascii_lowercase (name_of line) ∷ []
 
 -- whether a test tells which names in lower case are among these (this project's own)
 abbrev pub Knows : (List ℕ → Bool) → List (List ℕ) → Type 0
@@ -131,7 +127,7 @@ takes_memory lines =
 
 -- whether two names are the same but for case (Policy 5.1)
 abbrev pub has_name : List ℕ → Entry → Bool
-has_name name field = bytes_eq (lower field.name) (lower name)
+has_name name field = str_eq_ignore_ascii_case field.name name
 
 -- the field of a name, without regard to case (Policy 5.1)
 unfoldable pub field_named : List ℕ → List Entry → Option Entry

@@ -4,7 +4,8 @@ ghost use Rattle.std.specs.List.{list_all};
 ghost use Rattle.deb_control.specs.declared.fault.ControlFaultKind.{ControlFaultKind};
 ghost use Rattle.deb_control.specs.declared.fault.ControlFaultKind.TheVariants.{Memory, Ended};
 ghost use Rattle.deb_control.specs.Lines.{lines_of, HaveLines, paragraphs_in, HaveParagraphs};
-ghost use Rattle.deb_control.specs.Fields.{Entry, lower, field_named, reading_of, IsReading, IsFault};
+ghost use Rattle.std.specs.Str.{str_to_ascii_lowercase};
+ghost use Rattle.deb_control.specs.Fields.{Entry, field_named, reading_of, IsReading, IsFault};
 ghost use Rattle.deb_control.specs.Paragraphs.{begun, has_reading, answer_after, answer_for};
 
 /// The lines of a text are its pieces, each with the line feed that ends it,
@@ -46,7 +47,7 @@ pub fn paragraph_has_fault()
 pub fn fields_are_found()
     ensures { (lines : List (List ℕ)) (before after : List Entry) (field : Entry)
         (name : List ℕ) → reading_of lines ≡ Ok (before ++ field ∷ after) →
-        lower name ≡ lower field.name →
+        str_to_ascii_lowercase name ≡ str_to_ascii_lowercase field.name →
         field_named name (before ++ field ∷ after) ≡ Some field }
 {}
 

@@ -2,11 +2,11 @@
 ghost use Rattle.std.specs.Prelude.{◌≡◌, ◌≢◌, ◌++◌, ◌∷◌, [], Some, None, Ok, Err, true, not, drop, IfOk, IfErr, OnOk, option_copied, string_bytes};
 ghost use Rattle.std.specs.Bool.{OnTrue};
 ghost use Rattle.std.specs.List.{list_any};
-ghost use Rattle.std.specs.Str.{bytes_eq};
 ghost use Rattle.std.specs.BTreeSet.{contains_text};
 ghost use Rattle.deb_control.specs.declared.fault.ControlFaultKind.TheVariants.{Memory};
 ghost use Rattle.deb_control.specs.Lines.{is_continuation, lines_of, lines_in};
-ghost use Rattle.deb_control.specs.Fields.{has_name, lower, is_among, names_in, Knows, fields_at, line_fault, first_fault, fields_of, field_named, reading_of, begin_with_field, takes_memory};
+ghost use Rattle.std.specs.Str.{str_eq_ignore_ascii_case, str_to_ascii_lowercase};
+ghost use Rattle.deb_control.specs.Fields.{has_name, is_among, names_in, Knows, fields_at, line_fault, first_fault, fields_of, field_named, reading_of, begin_with_field, takes_memory};
 
 use crate::ControlFaultKind;
 use crate::field::{Field, colon_parts, is_name};
@@ -22,9 +22,8 @@ const LARGEST: usize = 4194304;
 const FEW: usize = 32;
 
 /// Whether two names are the same but for case.
-#[tactic(auto, unfolding(crate::specs::Fields::lower))]
 fn is_same_name(left: &str, right: &str) -> bool
-    ensures { result ≡ bytes_eq (lower left.now) (lower right.now) }
+    ensures { result ≡ str_eq_ignore_ascii_case left.now right.now }
 {
     left.eq_ignore_ascii_case(right)
 }
@@ -37,9 +36,8 @@ fn is_name_of_any(fields: &[Field<'_>], name: &str) -> bool
 }
 
 /// A name in lower case.
-#[tactic(auto, unfolding(crate::specs::Fields::lower))]
 fn lower_name(alloc: Global, name: &str) -> Result<String, AllocError>
-    ensures { IfOk result (λ text. string_bytes text ≡ lower name.now) }
+    ensures { IfOk result (λ text. string_bytes text ≡ str_to_ascii_lowercase name.now) }
 {
     let mut text = String::from_str(alloc, name)?;
     text.make_ascii_lowercase();
@@ -55,9 +53,9 @@ fn add_name(
 ) -> Result<bool, AllocError>
     requires { Knows (contains_text later.old) (drop FEW (names_in fields.now)) }
     ensures value { IfOk result (λ new.
-        new ≡ not (is_among (lower name.now) (names_in fields.now))) }
+        new ≡ not (is_among (str_to_ascii_lowercase name.now) (names_in fields.now))) }
     ensures known { IfOk result (λ new. OnTrue new (Knows (contains_text later.new)
-        (drop FEW (names_in fields.now ++ lower name.now ∷ [])))) }
+        (drop FEW (names_in fields.now ++ str_to_ascii_lowercase name.now ∷ [])))) }
 {
     if fields.len() < FEW {
         return Ok(!is_name_of_any(fields, name));
@@ -79,10 +77,12 @@ fn read_line<'a>(
     rest: &'a str,
 ) -> Result<(), ControlFaultKind>
     requires { Knows (contains_text later.old) (drop FEW (names_in fields.old.items)) }
-    ensures err { IfErr result (λ kind. kind ≢ Memory →
-        line_fault (names_in fields.old.items) line.now ≡ Some kind) }
+    // of the line
     ensures ok { OnOk result (line_fault (names_in fields.old.items) line.now ≡ None) }
+    ensures refused { IfErr result (λ kind. kind ≢ Memory →
+        line_fault (names_in fields.old.items) line.now ≡ Some kind) }
     ensures memory { IfErr result (λ kind. kind ≡ Memory → line_fault [] line.now ≡ None) }
+    // of the fields and their names
     ensures fields { OnOk result (
         fields.new.items ≡ fields.old.items ++ fields_at line.now rest.now) }
     ensures known { OnOk result (
@@ -109,7 +109,7 @@ fn read_line<'a>(
 
 /// Reads the fields of a text that has no separator.
 fn read_fields<'a>(alloc: Global, text: &'a str) -> Result<Vec<Field<'a>>, ControlFaultKind>
-    ensures err { IfErr result (λ kind. kind ≢ Memory →
+    ensures refused { IfErr result (λ kind. kind ≢ Memory →
         first_fault [] (lines_in text.now) ≡ Some kind) }
     ensures ok { OnOk result (first_fault [] (lines_in text.now) ≡ None) }
     ensures memory { IfErr result (λ kind. kind ≡ Memory →
@@ -147,7 +147,7 @@ impl<'a> Paragraph<'a> {
     /// Reads the lines of a paragraph.
     pub(crate) fn read(alloc: Global, bytes: &'a [u8]) -> Result<Self, ControlFaultKind>
         ensures ok { IfOk result (λ paragraph. reading_of (lines_of bytes.now) ≡ Ok paragraph) }
-        ensures err { IfErr result (λ kind. kind ≢ Memory →
+        ensures refused { IfErr result (λ kind. kind ≢ Memory →
             reading_of (lines_of bytes.now) ≡ Err kind) }
         ensures memory { IfErr result (λ kind. kind ≡ Memory →
             takes_memory (lines_of bytes.now) ≡ true) }

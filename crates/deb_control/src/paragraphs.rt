@@ -50,7 +50,7 @@ impl<'a> Paragraphs<'a> {
     /// a good first line at the earliest; from then on each call answers `Ended`.
     pub fn next(&mut self, alloc: Global) -> Result<Option<Paragraph<'a>>, ControlFault>
         ensures ok { IfOk result (λ found. step self.old ≡ (Ok found, self.new)) }
-        ensures err { IfErr result (λ fault. fault.kind ≢ Memory →
+        ensures refused { IfErr result (λ fault. fault.kind ≢ Memory →
             step self.old ≡ (Err fault, self.new)) }
         ensures memory { IfErr result (λ fault. fault.kind ≡ Memory →
             MemoryEnds self.old fault self.new) }

@@ -1,4 +1,4 @@
-use Rattle.deb_control.proofs.TextLines.{lines-are, lines-only}
+use Rattle.deb_control.proofs.TextLineLemmas.{lines-are, lines-only}
 use Rattle.deb_control.proofs.laws.texts_are_lines.Goals as goal
 
 pub returns-clause-are : goal.returns-clause-are

@@ -5,14 +5,14 @@ use Rattle.deb_control.proofs.RoomLemmas.{begins-at, begins-behind}
 use Rattle.deb_control.specs.Fields.{names_in}
 use Rattle.deb_control.proofs.paragraph.read_fields.Goals as goal
 
-pub returns-in_err-read_line-clause-err : goal.returns-in_err-read_line-clause-err
-returns-in_err-read_line-clause-err c =
+pub returns-in_err-read_line-clause-refused : goal.returns-in_err-read_line-clause-refused
+returns-in_err-read_line-clause-refused c =
     let some : 0 < length c.loop-left.left.now = grind (arith, c.is_empty.ensures, c.loop-left-test.true) in
     let p = err_from_is_err_and c.from_residual.result c.from_residual.ensures.1 in
     rw (p.1, p.2) (λ other.
     sym c.loop-left.invariant.fault
     ∙ first_fault-line (names_in c.loop-left.fields.items) c.loop-left.left.now c.split_text.result.0.now c.split_text.result.1.now c.in_err-read_line.field-0.0
-    some c.split_text.ensures.line c.split_text.ensures.rest (c.in_err-read_line.ensures.err other))
+    some c.split_text.ensures.line c.split_text.ensures.rest (c.in_err-read_line.ensures.refused other))
 
 pub returns-in_err-read_line-clause-memory : goal.returns-in_err-read_line-clause-memory
 returns-in_err-read_line-clause-memory c =

@@ -3,17 +3,17 @@ use Rattle.deb_control.proofs.ReadLemmas.{reading_of-large, reading_of-not_utf8,
 use Rattle.deb_control.proofs.RoomLemmas.{takes_memory-of}
 use Rattle.deb_control.proofs.paragraph.Paragraph.read.Goals as goal
 
-pub returns-then-bytes-gt-LARGEST-clause-err : goal.returns-then-bytes-gt-LARGEST-clause-err
-returns-then-bytes-gt-LARGEST-clause-err c = λ _. reading_of-large c.args.bytes.now c.if-bytes-gt-LARGEST.true
+pub returns-then-bytes-gt-LARGEST-clause-refused : goal.returns-then-bytes-gt-LARGEST-clause-refused
+returns-then-bytes-gt-LARGEST-clause-refused c = λ _. reading_of-large c.args.bytes.now c.if-bytes-gt-LARGEST.true
 
-pub returns-in_default-clause-err : goal.returns-in_default-clause-err
-returns-in_default-clause-err c = λ _. reading_of-not_utf8 c.args.bytes.now c.if-bytes-gt-LARGEST.false c.in_default.ensures.cases.0
+pub returns-in_default-clause-refused : goal.returns-in_default-clause-refused
+returns-in_default-clause-refused c = λ _. reading_of-not_utf8 c.args.bytes.now c.if-bytes-gt-LARGEST.false c.in_default.ensures.cases.0
 
-pub returns-in_err-fields-clause-err : goal.returns-in_err-fields-clause-err
-returns-in_err-fields-clause-err c =
+pub returns-in_err-fields-clause-refused : goal.returns-in_err-fields-clause-refused
+returns-in_err-fields-clause-refused c =
     let p = err_from_is_err_and c.from_residual.result c.from_residual.ensures.1 in
     rw (p.1, p.2) (λ other.
-    reading_of-fault c.args.bytes.now c.in-Ok.text.now c.in_err-fields.field-0.0 c.if-bytes-gt-LARGEST.false c.in-Ok.ensures.cases (c.in_err-fields.ensures.err other))
+    reading_of-fault c.args.bytes.now c.in-Ok.text.now c.in_err-fields.field-0.0 c.if-bytes-gt-LARGEST.false c.in-Ok.ensures.cases (c.in_err-fields.ensures.refused other))
 
 pub returns-in_err-fields-clause-memory : goal.returns-in_err-fields-clause-memory
 returns-in_err-fields-clause-memory c =
