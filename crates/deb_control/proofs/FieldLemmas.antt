@@ -1,16 +1,21 @@
 -- Fields from the front of a text on: continuation lines, and the folded value.
-use Rattle.std.proofs.Common.{◌≡◌, ◌∙◌, ap, refl, ℕ, true, false, map, List, [], ◌∷◌, ◌++◌, append_assoc}
+use Rattle.std.proofs.Common.{◌≡◌, ◌∙◌, ap, refl, ℕ, Bool, cond, true, false, map, List, [], ◌∷◌, ◌++◌, append_assoc}
 use Rattle.std.specs.Prelude.{filter, fold}
-use Rattle.std.specs.List.{before_first, after_first, join_with_byte}
+use Rattle.std.specs.List.{before_first, after_first, join_with_byte, take_while}
+use Rattle.std.proofs.lemmas.List.Sums.{take_while-cons}
 use Rattle.deb_control.specs.Lines.{is_feed, is_continuation, lines_in, trim, is_filled}
-use Rattle.deb_control.specs.Fields.{Entry, more_of, continued, continuations, folded_onto, folded_of}
+use Rattle.deb_control.specs.Fields.{Entry, continued, continuations, folded_onto, folded_of}
 use Rattle.deb_control.proofs.LineLemmas.{lines_in-front}
 
-more_of-continuation : (line : List ℕ) (lines : List (List ℕ)) → is_continuation line ≡ true → more_of (line ∷ lines) ≡ line ∷ more_of lines
-more_of-continuation line lines is = rw is refl
+-- the continuation lines that come first, line by line
+pub take_while-continuation : (line : List ℕ) (lines : List (List ℕ)) → is_continuation line ≡ true
+    → take_while is_continuation (line ∷ lines) ≡ line ∷ take_while is_continuation lines
+take_while-continuation line lines is =
+    take_while-cons is_continuation line lines ∙ ap (λ (b : Bool). cond b (line ∷ take_while is_continuation lines) []) is
 
-more_of-other : (line : List ℕ) (lines : List (List ℕ)) → is_continuation line ≡ false → more_of (line ∷ lines) ≡ []
-more_of-other line lines other = rw other refl
+pub take_while-other : (line : List ℕ) (lines : List (List ℕ)) → is_continuation line ≡ false → take_while is_continuation (line ∷ lines) ≡ []
+take_while-other line lines other =
+    take_while-cons is_continuation line lines ∙ ap (λ (b : Bool). cond b (line ∷ take_while is_continuation lines) []) other
 
 -- the continuation lines where a text begins with one
 pub continuations-more : (text : List ℕ) → is_continuation (before_first is_feed text) ≡ true
@@ -18,16 +23,16 @@ pub continuations-more : (text : List ℕ) → is_continuation (before_first is_
 unfolding continuations
 continuations-more [] is = cc
 continuations-more (c ∷ cs) is =
-    ap (λ (v : List (List ℕ)). map continued (more_of v)) (lines_in-front c cs)
-    ∙ ap (map continued) (more_of-continuation (before_first is_feed (c ∷ cs)) (lines_in (after_first is_feed (c ∷ cs))) is)
+    ap (λ (v : List (List ℕ)). map continued (take_while is_continuation v)) (lines_in-front c cs)
+    ∙ ap (map continued) (take_while-continuation (before_first is_feed (c ∷ cs)) (lines_in (after_first is_feed (c ∷ cs))) is)
 
 -- and where it does not
 pub continuations-none : (text : List ℕ) → is_continuation (before_first is_feed text) ≡ false → continuations text ≡ []
 unfolding continuations lines_in
 continuations-none [] other = refl
 continuations-none (c ∷ cs) other =
-    ap (λ (v : List (List ℕ)). map continued (more_of v)) (lines_in-front c cs)
-    ∙ ap (map continued) (more_of-other (before_first is_feed (c ∷ cs)) (lines_in (after_first is_feed (c ∷ cs))) other)
+    ap (λ (v : List (List ℕ)). map continued (take_while is_continuation v)) (lines_in-front c cs)
+    ∙ ap (map continued) (take_while-other (before_first is_feed (c ∷ cs)) (lines_in (after_first is_feed (c ∷ cs))) other)
 
 -- two pieces joined first and then with the rest
 join-onto : (text piece : List ℕ) (rest : List (List ℕ)) → join_with_byte 32 ((text ++ (32 ∷ piece)) ∷ rest) ≡ join_with_byte 32 (text ∷ piece ∷ rest)

@@ -1,7 +1,7 @@
 -- The fields of lines and the relation between lines and fields: each follows from the other.
 use Rattle.std.proofs.Common.{◌≡◌, ◌∙◌, sym, ap, subst, refl, ℕ, ◌<◌, ◌≤◌, Bool, true, false, length, map, List, [], ◌∷◌, ◌++◌, inl, inr, arith, Option, None, Some, Ok}
 use Rattle.std.specs.Prelude.{if◌then◌else◌, nat_lt}
-use Rattle.std.specs.List.{after_first, list_all, concat}
+use Rattle.std.specs.List.{after_first, take_while, list_all, concat}
 use Rattle.std.specs.Str.{is_utf8}
 use Rattle.std.proofs.lemmas.Bool.{cases_Bool, and_parts, cond-true, cond-false}
 use Rattle.std.proofs.lemmas.Bool.Decides.{nat_tests}
@@ -11,8 +11,9 @@ use Rattle.deb_control.specs.declared.fault.ControlFaultKind.{ControlFaultKind}
 use Rattle.deb_control.specs.declared.fault.ControlFaultKind.TheVariants.{TooLarge, NotUtf8}
 use Rattle.deb_control.specs.Lines.{body_of, is_continuation}
 use Rattle.std.specs.Str.{str_to_ascii_lowercase}
-use Rattle.deb_control.specs.Fields.{Entry, IsField, Reads, HaveDistinctNames, is_colon, is_name, has_colon, name_of, first_of, is_among, more_of, continued, field_of, fields_of, line_fault, names_after, first_fault, largest_paragraph, fault_of, outcome, reading_of, IsReading}
+use Rattle.deb_control.specs.Fields.{Entry, IsField, Reads, HaveDistinctNames, is_colon, is_name, has_colon, name_of, first_of, is_among, continued, field_of, fields_of, line_fault, names_after, first_fault, largest_paragraph, fault_of, outcome, reading_of, IsReading}
 use Rattle.std.proofs.lemmas.Str.{IsUtf8-from_is_utf8, is_utf8-from_IsUtf8}
+use Rattle.deb_control.proofs.FieldLemmas.{take_while-continuation, take_while-other}
 use Rattle.deb_control.proofs.FormLemmas.{Named, named, line-name, option_or-none, good_line, line_good, continuation_good, names_after-continuation, names_after-other}
 use Rattle.deb_control.proofs.ApartLemmas.{Apart, none_among_nil, apart_from, apart_to}
 
@@ -21,18 +22,18 @@ abbrev less_of : List (List ℕ) → List (List ℕ)
 less_of [] = []
 less_of (line ∷ lines) = if is_continuation line then less_of lines else line ∷ lines
 
-more_of-less_of : (lines : List (List ℕ)) → lines ≡ more_of lines ++ less_of lines
-more_of-less_of [] = refl
-more_of-less_of (line ∷ lines) = elim (cases_Bool (is_continuation line)) [
-  | inl is ↦ rw is (ap (λ (v : List (List ℕ)). line ∷ v) (more_of-less_of lines))
-  | inr other ↦ rw other refl
+take_while-less_of : (lines : List (List ℕ)) → lines ≡ take_while is_continuation lines ++ less_of lines
+take_while-less_of [] = refl
+take_while-less_of (line ∷ lines) = elim (cases_Bool (is_continuation line)) [
+  | inl is ↦ rw (take_while-continuation line lines is) (rw is (ap (λ (v : List (List ℕ)). line ∷ v) (take_while-less_of lines)))
+  | inr other ↦ rw (take_while-other line lines other) (rw other refl)
 ]
 
-list_all-more_of : (lines : List (List ℕ)) → list_all is_continuation (more_of lines) ≡ true
-list_all-more_of [] = refl
-list_all-more_of (line ∷ lines) = elim (cases_Bool (is_continuation line)) [
-  | inl is ↦ rw is (rw is (list_all-more_of lines))
-  | inr other ↦ rw other refl
+list_all-take_while : (lines : List (List ℕ)) → list_all is_continuation (take_while is_continuation lines) ≡ true
+list_all-take_while [] = refl
+list_all-take_while (line ∷ lines) = elim (cases_Bool (is_continuation line)) [
+  | inl is ↦ rw (take_while-continuation line lines is) (rw is (list_all-take_while lines))
+  | inr other ↦ rw (take_while-other line lines other) refl
 ]
 
 -- the field of a good line, in front of the fields of the lines behind it
@@ -44,15 +45,15 @@ field_first names line lines plain good behind =
     let has : (has_colon line ≡ true) × (is_name (name_of line) ≡ true) × (is_among (str_to_ascii_lowercase (name_of line)) names ≡ false) = good_line names line plain good in (
       (
         line,
-        more_of lines,
+        take_while is_continuation lines,
         less_of lines,
-        ap (λ (v : List (List ℕ)). line ∷ v) (more_of-less_of lines),
+        ap (λ (v : List (List ℕ)). line ∷ v) (take_while-less_of lines),
         record {
           value = after_first is_colon line;
           begins = line-name line has.0;
           form = has.1;
           trimmed = refl;
-          continues = list_all-more_of lines;
+          continues = list_all-take_while lines;
           added = refl;
         },
         behind.0,
@@ -114,30 +115,28 @@ skip_fields (line ∷ more) rest all =
     let parts : (is_continuation line ≡ true) × (list_all is_continuation more ≡ true) = and_parts _ _ all in
     (fields_of-continuation line (more ++ rest) parts.0).1 ∙ skip_fields more rest parts.1
 
-more_of-skip : (more rest : List (List ℕ)) → list_all is_continuation more ≡ true → more_of rest ≡ [] → more_of (more ++ rest) ≡ more
-more_of-skip [] rest all none = none
-more_of-skip (line ∷ more) rest all none =
+take_while-skip : (more rest : List (List ℕ)) → list_all is_continuation more ≡ true → take_while is_continuation rest ≡ []
+    → take_while is_continuation (more ++ rest) ≡ more
+take_while-skip [] rest all none = none
+take_while-skip (line ∷ more) rest all none =
     let parts : (is_continuation line ≡ true) × (list_all is_continuation more ≡ true) = and_parts _ _ all in
-    rw parts.0 (ap (λ (v : List (List ℕ)). line ∷ v) (more_of-skip more rest parts.1 none))
-
-more_of-plain : (lines : List (List ℕ)) (line : List ℕ) (rest : List (List ℕ)) → lines ≡ line ∷ rest → is_continuation line ≡ false → more_of lines ≡ []
-more_of-plain lines line rest is plain = rw is (rw plain refl)
+    take_while-continuation line (more ++ rest) parts.0 ∙ ap (λ (v : List (List ℕ)). line ∷ v) (take_while-skip more rest parts.1 none)
 
 named_field : (field : Entry) (line : List ℕ) (more : List (List ℕ)) → IsField field line more → Named field.name field.first line
 named_field field line more f = named field.name f.value field.first line f.form f.begins f.trimmed
 
 -- what is read begins with no continuation line
-more_of-reads : (fields : List Entry) (lines : List (List ℕ)) → Reads lines fields → more_of lines ≡ []
-more_of-reads [] lines reads = rw reads refl
-more_of-reads (field ∷ fields) lines (line, more, rest, is, f, behind) =
-    more_of-plain lines line (more ++ rest) is (named_field field line more f).plain
+take_while-reads : (fields : List Entry) (lines : List (List ℕ)) → Reads lines fields → take_while is_continuation lines ≡ []
+take_while-reads [] lines reads = ap (take_while is_continuation) reads
+take_while-reads (field ∷ fields) lines (line, more, rest, is, f, behind) =
+    ap (take_while is_continuation) is ∙ take_while-other line (more ++ rest) (named_field field line more f).plain
 
-field_of-is : (field : Entry) (line : List ℕ) (lines : List (List ℕ)) → name_of line ≡ field.name → first_of line ≡ field.first → map continued (more_of lines) ≡ field.lines
+field_of-is : (field : Entry) (line : List ℕ) (lines : List (List ℕ)) → name_of line ≡ field.name → first_of line ≡ field.first → map continued (take_while is_continuation lines) ≡ field.lines
     → field_of line lines ≡ field
 unfolding field_of
 field_of-is field line lines name first added =
-    ap (λ (v : List ℕ). record { name = v; first = first_of line; lines = map continued (more_of lines) }) name
-    ∙ ap (λ (v : List ℕ). record { name = field.name; first = v; lines = map continued (more_of lines) }) first
+    ap (λ (v : List ℕ). record { name = v; first = first_of line; lines = map continued (take_while is_continuation lines) }) name
+    ∙ ap (λ (v : List ℕ). record { name = field.name; first = v; lines = map continued (take_while is_continuation lines) }) first
     ∙ ap (λ (v : List (List ℕ)). record { name = field.name; first = field.first; lines = v }) added
 
 -- lines that are fields have no fault, and those fields
@@ -160,7 +159,7 @@ read_only names lines (field ∷ fields) (line, more, rest, is, f, behind) apart
           ∙ (fields_of-other line (more ++ rest) n.plain).1
           ∙ ap (λ (v : Entry). v ∷ fields_of (more ++ rest))
           (field_of-is field line (more ++ rest) n.name_is n.first_is
-          (ap (map continued) (more_of-skip more rest f.continues (more_of-reads fields rest behind)) ∙ sym f.added))
+          (ap (map continued) (take_while-skip more rest f.continues (take_while-reads fields rest behind)) ∙ sym f.added))
           ∙ ap (λ (v : List Entry). field ∷ v) (skip_fields more rest f.continues ∙ later.1),
     )
 

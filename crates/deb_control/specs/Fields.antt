@@ -1,6 +1,6 @@
 -- The fields that the lines of a paragraph are, and the first fault of lines that are none, after Debian Policy 5.1.
 use Rattle.std.specs.Prelude.{◌≡◌, ℕ, Bool, true, false, not, ◌&&◌, ◌||◌, ◌==◌, ◌<◌, ◌≤◌, nat_lt, ⊤, IsUtf8, if◌then◌else◌, List, [], ◌∷◌, ◌++◌, map, length, drop, Option, None, Some, Result, Ok, Err, filter, find, is_none}
-use Rattle.std.specs.List.{before_first, after_first, position_or_len, list_all, list_any, concat, join_with_byte}
+use Rattle.std.specs.List.{before_first, after_first, take_while, position_or_len, list_all, list_any, concat, join_with_byte}
 use Rattle.std.specs.Char.{is_ascii_graphic}
 use Rattle.std.specs.Str.{is_utf8, bytes_eq, str_to_ascii_lowercase, str_eq_ignore_ascii_case}
 use Rattle.std.specs.Option.{option_or}
@@ -21,11 +21,6 @@ is_colon c = c == 58
 -- what a continuation line adds: all but its first character and the spaces and tabs at its end (this project's own)
 unfoldable pub continued : List ℕ → List ℕ
 continued line = trim_end (drop 1 line)
-
--- the continuation lines that come first (Policy 5.1)
-abbrev pub more_of : List (List ℕ) → List (List ℕ)
-more_of [] = []
-more_of (line ∷ lines) = if is_continuation line then line ∷ more_of lines else []
 
 -- whether a line has a colon (Policy 5.1)
 unfoldable pub has_colon : List ℕ → Bool
@@ -54,7 +49,7 @@ is_name name = begins_name name && list_all is_name_char name
 
 -- the field of a line that is no continuation and of the lines behind it (Policy 5.1)
 unfoldable pub field_of : List ℕ → List (List ℕ) → Entry
-field_of line lines = record { name = name_of line; first = first_of line; lines = map continued (more_of lines) }
+field_of line lines = record { name = name_of line; first = first_of line; lines = map continued (take_while is_continuation lines) }
 
 -- the fields of lines: one for each line that is no continuation (Policy 5.1)
 abbrev pub fields_of : List (List ℕ) → List Entry
@@ -135,7 +130,7 @@ field_named name fields = find (has_name name) fields
 
 -- the continuation lines that a text begins with, as a field has them (Policy 5.1)
 unfoldable pub continuations : List ℕ → List (List ℕ)
-continuations text = map continued (more_of (lines_in text))
+continuations text = map continued (take_while is_continuation (lines_in text))
 
 -- the field of a name and a first value, behind whose line this text stands (Policy 5.1)
 abbrev pub entry : List ℕ → List ℕ → List ℕ → Entry
