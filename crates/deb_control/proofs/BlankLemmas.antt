@@ -1,6 +1,7 @@
 -- Trimming: what is left when one space or tab goes, and when none is there.
-use Rattle.std.proofs.Common.{◌≡◌, ◌≢◌, ◌∙◌, sym, ap, refl, ℕ, ◌<◌, true, false, length, drop, reverse, List, [], ◌∷◌, ◌++◌, Bor, MatchOption, Option, None, Some, arith}
+use Rattle.std.proofs.Common.{◌≡◌, ◌≢◌, ◌∙◌, sym, ap, refl, ℕ, suc, ◌+◌, ◌<◌, true, false, length, drop, reverse, List, [], ◌∷◌, ◌++◌, Bor, MatchOption, Option, None, Some, arith}
 use Rattle.std.specs.Prelude.{IfNone, IfSome, OnSome}
+use Rattle.std.specs.List.{prefix_len}
 use Rattle.std.proofs.lemmas.Bool.Decides.{nat_tests}
 use Rattle.std.proofs.lemmas.List.{reverse-append, reverse-reverse, length-append}
 use Rattle.deb_control.specs.Lines.{is_blank, is_continuation, trim_start, trim_end}
@@ -37,7 +38,9 @@ trim_start-kept (c ∷ cs) other = rw other refl
 -- a space or tab at the start goes
 pub trim_start-blank : (text : List ℕ) → is_continuation text ≡ true → trim_start (drop 1 text) ≡ trim_start text
 trim_start-blank [] blank = refl
-trim_start-blank (c ∷ cs) blank = rw blank refl
+trim_start-blank (c ∷ cs) blank =
+    let one : 1 + prefix_len is_blank cs ≡ suc (prefix_len is_blank cs) = omega arith in
+    rw blank (sym (ap (λ (k : ℕ). drop k (c ∷ cs)) one))
 
 pub length-after_blank : (text : List ℕ) → is_continuation text ≡ true → length (drop 1 text) < length text
 length-after_blank [] blank = cc

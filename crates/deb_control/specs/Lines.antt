@@ -1,6 +1,6 @@
 -- The lines of control data and the runs of lines that are its paragraphs, after Debian Policy 5.1.
-use Rattle.std.specs.Prelude.{◌≡◌, ℕ, ◌+◌, Bool, true, false, not, ◌||◌, ◌==◌, if◌then◌else◌, List, [], ◌∷◌, ◌++◌, map, filter, reverse, take, length, ◌<◌, ◌⊎◌}
-use Rattle.std.specs.List.{before_first, position_or_len, slice_split, onto_first, list_all, list_any}
+use Rattle.std.specs.Prelude.{◌≡◌, ℕ, ◌+◌, Bool, true, false, not, ◌||◌, ◌==◌, if◌then◌else◌, List, [], ◌∷◌, ◌++◌, map, filter, reverse, take, drop, length, ◌<◌, ◌⊎◌}
+use Rattle.std.specs.List.{before_first, position_or_len, prefix_len, slice_split, onto_first, list_all, list_any}
 
 -- a line feed (Policy 5.1)
 abbrev pub is_feed : ℕ → Bool
@@ -92,8 +92,7 @@ HaveParagraphs lines (paragraph ∷ paragraphs) =
 
 -- a text without the spaces and tabs at its start (Policy 5.1)
 abbrev pub trim_start : List ℕ → List ℕ
-trim_start [] = []
-trim_start (c ∷ cs) = if is_blank c then trim_start cs else c ∷ cs
+trim_start text = drop (prefix_len is_blank text) text
 
 -- a text without the spaces and tabs at its end (Policy 5.1)
 unfoldable pub trim_end : List ℕ → List ℕ
