@@ -1,9 +1,9 @@
 -- The fields that the lines of a paragraph are, and the first fault of lines that are none, after Debian Policy 5.1.
 use Rattle.std.specs.Prelude.{◌≡◌, ℕ, Bool, true, false, not, ◌&&◌, ◌||◌, ◌==◌, ◌<◌, ◌≤◌, nat_lt, ⊤, IsUtf8, if◌then◌else◌, List, [], ◌∷◌, ◌++◌, map, length, drop, Option, None, Some, Result, Ok, Err, filter, find, is_none}
-use Rattle.std.specs.List.{before_first, after_first, take_while, position_or_len, list_all, list_any, concat, join_with_byte}
+use Rattle.std.specs.List.{before_first, after_first, take_while, position_or_len, list_all, list_any, concat, join_with_byte, slice_get}
 use Rattle.std.specs.Char.{is_ascii_graphic}
 use Rattle.std.specs.Str.{is_utf8, bytes_eq, str_to_ascii_lowercase, str_eq_ignore_ascii_case}
-use Rattle.std.specs.Option.{option_or}
+use Rattle.std.specs.Option.{option_or, option_map_or}
 use Rattle.deb_control.specs.declared.fault.ControlFaultKind.{ControlFaultKind}
 use Rattle.deb_control.specs.declared.fault.ControlFaultKind.TheVariants.{TooLarge, NotUtf8, Orphan, NoColon, BadName, Duplicate}
 use Rattle.deb_control.specs.Lines.{is_continuation, body_of, lines_in, trim_end, trim, is_filled}
@@ -40,8 +40,7 @@ is_name_char c = is_ascii_graphic c && not (is_colon c)
 
 -- whether a text begins with a character that may begin a name, so neither `#` nor `-` (Policy 5.1)
 unfoldable pub begins_name : List ℕ → Bool
-begins_name [] = false
-begins_name (c ∷ _) = not (c == 35 || c == 45)
+begins_name text = option_map_or (λ c. not (c == 35 || c == 45)) (slice_get text 0) false
 
 -- whether a text is the name of a field (Policy 5.1)
 unfoldable pub is_name : List ℕ → Bool
@@ -112,8 +111,7 @@ reading_of lines = outcome (fault_of lines) (fields_of (map body_of lines))
 
 -- whether lines begin with the first line of a field (Policy 5.1)
 unfoldable pub begin_with_field : List (List ℕ) → Bool
-begin_with_field [] = false
-begin_with_field (line ∷ _) = is_none (line_fault [] line)
+begin_with_field lines = option_map_or (λ line. is_none (line_fault [] line)) (slice_get lines 0) false
 
 -- whether memory is taken for a paragraph: it is small enough, is UTF-8, and begins with a field (this project's own)
 unfoldable pub takes_memory : List (List ℕ) → Bool

@@ -1,6 +1,7 @@
 -- The lines of control data and the runs of lines that are its paragraphs, after Debian Policy 5.1.
 use Rattle.std.specs.Prelude.{◌≡◌, ℕ, ◌+◌, Bool, true, false, not, ◌||◌, ◌==◌, if◌then◌else◌, List, [], ◌∷◌, ◌++◌, map, filter, reverse, take, drop, length, ◌<◌, ◌⊎◌}
-use Rattle.std.specs.List.{before_first, position_or_len, prefix_len, slice_split, onto_first, list_all, list_any}
+use Rattle.std.specs.List.{before_first, position_or_len, prefix_len, slice_split, onto_first, list_all, list_any, slice_get}
+use Rattle.std.specs.Option.{option_map_or}
 
 -- a line feed (Policy 5.1)
 abbrev pub is_feed : ℕ → Bool
@@ -12,8 +13,7 @@ is_blank c = c == 32 || c == 9
 
 -- whether a line begins with a space or a tab, and so continues the field before it (Policy 5.1)
 abbrev pub is_continuation : List ℕ → Bool
-is_continuation [] = false
-is_continuation (c ∷ _) = is_blank c
+is_continuation line = option_map_or is_blank (slice_get line 0) false
 
 -- the lines of a text, each with its line feed, which the last may lack (Policy 5.1)
 abbrev pub lines_of : List ℕ → List (List ℕ)
