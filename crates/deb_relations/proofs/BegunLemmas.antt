@@ -10,8 +10,8 @@ use Rattle.deb_relations.specs.Reduction.{is_filled}
 use Rattle.deb_relations.specs.Reader.{cut, both, all_some, push_group, with_group, read_name, read_alternative, with_name, read_group}
 use Rattle.deb_relations.specs.Reading.{begins_with_name, is_group_begun, takes_memory}
 use Rattle.deb_relations.specs.Text.{begins}
-use Rattle.deb_relations.proofs.Cuts.{Halves, cut-is, split-last}
-use Rattle.deb_relations.proofs.Turns.{split-has}
+use Rattle.deb_relations.proofs.CutLemmas.{Halves, cut-is, split-last}
+use Rattle.deb_relations.proofs.TurnLemmas.{split-has}
 
 name-by : (o : Option (List ℕ × List ℕ)) (a : Alternative) → with_name o ≡ Some a → is_some o ≡ true
 name-by None a e = cc

@@ -1,18 +1,18 @@
-pub mod Answered
+pub mod ReadingLemmas
 mod ArchLemmas
-mod Complete
-mod Cuts
-mod FaultTells
-mod FaultTurns
+mod CompleteLemmas
+mod CutLemmas
+mod FaultLemmas
+mod FaultTurnLemmas
 mod LeadingLemmas
-pub mod ReadsBack
+pub mod ReadBackLemmas
 mod ScannerLemmas
-mod Sound
-mod Turns
-mod VersionForm
+mod SoundLemmas
+mod TurnLemmas
+mod VersionFormLemmas
 pub mod PrintedLemmas
 pub mod BegunLemmas
 pub mod MapLemmas
 pub mod PairLemmas
 pub mod ReducedLemmas
-pub mod StrayTells
+pub mod StrayLemmas

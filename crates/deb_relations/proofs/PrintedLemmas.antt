@@ -21,10 +21,10 @@ use Rattle.deb_relations.specs.Grammar.{is_profile_char, is_qualifier, is_word, 
 use Rattle.deb_relations.specs.Names.{is_lower_or_digit, is_package_char, is_arch_char, is_package_name, begins_with_lower_or_digit}
 use Rattle.deb_relations.specs.Reading.{reading_of}
 use Rattle.deb_relations.proofs.LeadingLemmas.{both-true, all-weaker, all-both}
-use Rattle.deb_relations.proofs.Complete.{word-chars}
-use Rattle.deb_relations.proofs.Answered.{reading-reads}
-use Rattle.deb_relations.proofs.ReadsBack.{Good, AllGood, AllGroups, reads-good, reduced-good}
-use Rattle.deb_relations.proofs.VersionForm.{version-form}
+use Rattle.deb_relations.proofs.CompleteLemmas.{word-chars}
+use Rattle.deb_relations.proofs.ReadingLemmas.{reading-reads}
+use Rattle.deb_relations.proofs.ReadBackLemmas.{Good, AllGood, AllGroups, reads-good, reduced-good}
+use Rattle.deb_relations.proofs.VersionFormLemmas.{version-form}
 
 -- an ASCII byte
 abbrev is_low : ℕ → Bool

@@ -19,7 +19,7 @@ use Rattle.deb_relations.specs.Reader.{skip, strip, cut, is_solid}
 use Rattle.deb_relations.specs.Reading.{version_fault}
 use Rattle.deb_relations.specs.Scanner.{test_of, text_of, halves_of}
 use Rattle.deb_relations.proofs.LeadingLemmas.{leading-is}
-use Rattle.deb_relations.proofs.Cuts.{strip-here, strip-other, cut-here, cut-none}
+use Rattle.deb_relations.proofs.CutLemmas.{strip-here, strip-other, cut-here, cut-none}
 use Rattle.deb_relations.specs.Text.{leading}
 use Rattle.deb_version.proofs.ReadingLemmas.{fault_of-IsOk, fault_of-Err}
 

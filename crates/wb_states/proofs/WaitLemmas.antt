@@ -7,8 +7,8 @@ use Rattle.deb_relations.specs.Grammar.{Reads, is_said}
 use Rattle.deb_relations.specs.Printing.{printed}
 use Rattle.deb_relations.specs.Reading.{reading_of}
 use Rattle.deb_relations.specs.Reduction.{reduced}
-use Rattle.deb_relations.proofs.Answered.{reads-reading}
-use Rattle.deb_relations.proofs.ReadsBack.{reads-good, reduced-good, printed-reads}
+use Rattle.deb_relations.proofs.ReadingLemmas.{reads-reading}
+use Rattle.deb_relations.proofs.ReadBackLemmas.{reads-good, reduced-good, printed-reads}
 use Rattle.deb_relations.proofs.ReducedLemmas.{reduced-again}
 use Rattle.wb_states.specs.declared.record.Record.{Record}
 use Rattle.wb_states.specs.Limits.{relations_limit}

@@ -1,6 +1,6 @@
 use Rattle.deb_relations.specs.Reduction.{reduced}
-use Rattle.deb_relations.proofs.Answered.{one-reading}
-use Rattle.deb_relations.proofs.ReadsBack.{reads-good, reduced-good, printed-reads}
+use Rattle.deb_relations.proofs.ReadingLemmas.{one-reading}
+use Rattle.deb_relations.proofs.ReadBackLemmas.{reads-good, reduced-good, printed-reads}
 use Rattle.deb_relations.proofs.laws.printed_reads.Goals as goal
 
 pub returns-clause-same : goal.returns-clause-same

@@ -1,5 +1,5 @@
 use Rattle.deb_relations.specs.declared.fault.RelationFault.TheVariants.{BadVersion, Memory}
-use Rattle.deb_relations.proofs.Answered.{reading-reads, reads-reading, reading-long, reading-is_long, reading-tells}
+use Rattle.deb_relations.proofs.ReadingLemmas.{reading-reads, reads-reading, reading-long, reading-is_long, reading-tells}
 use Rattle.deb_relations.proofs.laws.readings_are_of_grammar.Goals as goal
 
 pub returns-clause-reads : goal.returns-clause-reads

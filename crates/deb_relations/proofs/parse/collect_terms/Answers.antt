@@ -3,7 +3,7 @@ use Rattle.deb_relations.specs.Reduction.{is_filled}
 use Rattle.deb_relations.specs.Grammar.{is_white, words}
 use Rattle.deb_relations.specs.Reader.{skip, all_some, term_of}
 use Rattle.deb_relations.proofs.LeadingLemmas.{stops, skip-stops}
-use Rattle.deb_relations.proofs.Turns.{onto, onto-start, words-skip, filled-from, not-filled, term-turn, term-refused, terms-end, turn-shorter}
+use Rattle.deb_relations.proofs.TurnLemmas.{onto, onto-start, words-skip, filled-from, not-filled, term-turn, term-refused, terms-end, turn-shorter}
 use Rattle.deb_relations.proofs.parse.collect_terms.Goals as goal
 
 pub loop-rest-init : goal.loop-rest-init

@@ -2,12 +2,12 @@ use Rattle.std.proofs.lemmas.Result.{err_from_is_err_and}
 use Rattle.std.proofs.Common.{◌≡◌, ◌∙◌, ap, sym, rules, eqb, None, Some}
 use Rattle.std.specs.List.{slice_split}
 use Rattle.deb_relations.specs.Reader.{cut, all_some, read_alternative, read_group}
-use Rattle.deb_relations.proofs.Cuts.{cut-shorter}
-use Rattle.deb_relations.proofs.Turns.{onto, onto-start, some_pair, no_pair, piece-turn, piece-refused, piece-end, last-refused}
+use Rattle.deb_relations.proofs.CutLemmas.{cut-shorter}
+use Rattle.deb_relations.proofs.TurnLemmas.{onto, onto-start, some_pair, no_pair, piece-turn, piece-refused, piece-end, last-refused}
 use Rattle.std.proofs.Common.{refl}
 use Rattle.deb_relations.specs.declared.fault.RelationFault.{RelationFault}
 use Rattle.deb_relations.specs.Reading.{is_alternative, alternative_fault, group_fault}
-use Rattle.deb_relations.proofs.FaultTurns.{first-passed, first-told, last-told, is-read, not-read}
+use Rattle.deb_relations.proofs.FaultTurnLemmas.{first-passed, first-told, last-told, is-read, not-read}
 use Rattle.std.proofs.Common.{inl, inr}
 use Rattle.deb_relations.proofs.BegunLemmas.{read-name, begun-piece, begun-last, where-wanted}
 use Rattle.deb_relations.proofs.parse.read_group.Goals as goal

@@ -2,16 +2,16 @@ use Rattle.std.proofs.lemmas.Result.{err_from_is_err_and}
 use Rattle.std.proofs.Common.{◌≡◌, ◌∙◌, ap, sym, rules, eqb, None}
 use Rattle.std.specs.List.{slice_split}
 use Rattle.deb_relations.specs.Reader.{cut, read_groups, with_group}
-use Rattle.deb_relations.proofs.Cuts.{cut-shorter}
-use Rattle.deb_relations.proofs.Turns.{some_pair, no_pair, group-turn, group-refused, group-end, last-group-refused}
+use Rattle.deb_relations.proofs.CutLemmas.{cut-shorter}
+use Rattle.deb_relations.proofs.TurnLemmas.{some_pair, no_pair, group-turn, group-refused, group-end, last-group-refused}
 use Rattle.std.proofs.Common.{filter}
 use Rattle.deb_relations.specs.Grammar.{is_said}
 use Rattle.deb_relations.specs.Reader.{all_some, read_group}
-use Rattle.deb_relations.proofs.Turns.{onto, onto-start}
+use Rattle.deb_relations.proofs.TurnLemmas.{onto, onto-start}
 use Rattle.std.proofs.Common.{refl, length}
 use Rattle.deb_relations.specs.declared.fault.RelationFault.{RelationFault}
 use Rattle.deb_relations.specs.Reading.{end_before, is_group_or_blank, group_fault, groups_fault}
-use Rattle.deb_relations.proofs.FaultTurns.{first-passed, first-told, last-told, is-group, no-group}
+use Rattle.deb_relations.proofs.FaultTurnLemmas.{first-passed, first-told, last-told, is-group, no-group}
 use Rattle.std.proofs.Common.{inl}
 use Rattle.deb_relations.proofs.BegunLemmas.{groups-begun, last-begun, groups-behind}
 use Rattle.deb_relations.proofs.parse.read_groups.Goals as goal

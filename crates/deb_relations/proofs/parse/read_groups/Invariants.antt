@@ -5,7 +5,7 @@ use Rattle.std.proofs.Common.{eqb, filter}
 use Rattle.std.specs.List.{slice_split}
 use Rattle.deb_relations.specs.Grammar.{is_said}
 use Rattle.deb_relations.specs.Reader.{all_some, read_group}
-use Rattle.deb_relations.proofs.Turns.{groups_behind}
+use Rattle.deb_relations.proofs.TurnLemmas.{groups_behind}
 use Rattle.deb_relations.specs.Reading.{first_fault, is_group_or_blank, group_fault}
 use Rattle.deb_relations.proofs.BegunLemmas.{HasBegun}
 use Rattle.deb_relations.proofs.parse.read_groups.Given as goal

@@ -3,12 +3,12 @@ use Rattle.std.proofs.Common.{◌≡◌, ◌∙◌, ap, sym, rules, eqb, false, 
 use Rattle.std.specs.List.{slice_split}
 use Rattle.deb_relations.specs.Grammar.{is_blank_text}
 use Rattle.deb_relations.specs.Reader.{cut, lists_of, profile_of, read_profiles}
-use Rattle.deb_relations.proofs.Cuts.{cut-shorter}
-use Rattle.deb_relations.proofs.Turns.{onto, some_pair, no_pair, list-turn, list-refused, lists-end, lists-stray}
+use Rattle.deb_relations.proofs.CutLemmas.{cut-shorter}
+use Rattle.deb_relations.proofs.TurnLemmas.{onto, some_pair, no_pair, list-turn, list-refused, lists-end, lists-stray}
 use Rattle.deb_relations.specs.declared.fault.RelationFault.{RelationFault}
 use Rattle.deb_relations.specs.declared.fault.RelationFault.TheVariants.{BadName}
 use Rattle.deb_relations.specs.Reading.{list_fault, profiles_fault}
-use Rattle.deb_relations.proofs.FaultTurns.{lists-passed, list-told, lists-end-told}
+use Rattle.deb_relations.proofs.FaultTurnLemmas.{lists-passed, list-told, lists-end-told}
 use Rattle.deb_relations.proofs.parse.read_profiles.Goals as goal
 
 pub returns-in_err-profile_of-clause-refused : goal.returns-in_err-profile_of-clause-refused

@@ -4,7 +4,7 @@ use denote.Shadow.{shadow}
 use Rattle.std.proofs.Common.{eqb}
 use Rattle.std.specs.List.{slice_split}
 use Rattle.deb_relations.specs.Reader.{lists_of}
-use Rattle.deb_relations.proofs.Turns.{onto}
+use Rattle.deb_relations.proofs.TurnLemmas.{onto}
 use Rattle.deb_relations.specs.Reading.{lists_fault}
 use Rattle.deb_relations.proofs.parse.read_profiles.Given as goal
 

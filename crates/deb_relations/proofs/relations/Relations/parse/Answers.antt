@@ -3,8 +3,8 @@ use Rattle.std.proofs.Common.{◌≡◌, ◌≤◌, length, None, Err, arith}
 use Rattle.deb_relations.specs.declared.fault.RelationFault.{RelationFault}
 use Rattle.deb_relations.specs.Reader.{read_groups}
 use Rattle.deb_relations.specs.Reading.{groups_fault, reading_of}
-use Rattle.deb_relations.proofs.Answered.{reading-long, reading-groups, reading-fault}
-use Rattle.deb_relations.proofs.Sound.{reads-sound}
+use Rattle.deb_relations.proofs.ReadingLemmas.{reading-long, reading-groups, reading-fault}
+use Rattle.deb_relations.proofs.SoundLemmas.{reads-sound}
 use Rattle.deb_relations.proofs.relations.Relations.parse.Goals as goal
 use Rattle.deb_relations.specs.Grammar.{relations_limit}
 

@@ -9,8 +9,8 @@ use Rattle.deb_relations.specs.Reduction.{is_filled}
 use Rattle.deb_relations.specs.Grammar.{is_blank_text, is_said}
 use Rattle.deb_relations.specs.Reader.{cut, profile_of, read_alternative, read_group, push_group, with_group}
 use Rattle.deb_relations.specs.Reading.{end_before, span, list_fault, lists_fault, first_fault, is_alternative, is_group_or_blank}
-use Rattle.deb_relations.proofs.Cuts.{Halves, cut-is, split-last}
-use Rattle.deb_relations.proofs.Turns.{Groups, split-has}
+use Rattle.deb_relations.proofs.CutLemmas.{Halves, cut-is, split-last}
+use Rattle.deb_relations.proofs.TurnLemmas.{Groups, split-has}
 
 span-onto : (x : ℕ) (ps : List (List ℕ)) → is_filled ps ≡ true → span (onto_first x ps) ≡ suc (span ps)
 span-onto x [] h = absurd (cc)

@@ -16,8 +16,8 @@ use Rattle.deb_relations.specs.Grammar.{is_white, is_op_char, op_of, TakesName, 
 use Rattle.deb_relations.specs.Reader.{skip, strip, cut, is_solid, some_of, between_opened, between, read_name, read_qualifier, read_restriction, terms_of, read_archs, profile_of}
 use Rattle.deb_relations.specs.Reading.{place_of, end_before, span, name_fault, version_fault, fault_behind_operator, operator_fault, asked_fault, bracket_fault, restriction_fault, words_fault, archs_fault, list_fault, lists_fault, profiles_fault, or_behind, fault_behind_restriction, fault_behind_qualifier, fault_behind_name, alternative_fault, first_fault, is_alternative, group_fault, is_group_or_blank, groups_fault, is_asked_char, ends_asked, HasBadVersion}
 use Rattle.deb_relations.proofs.LeadingLemmas.{stops, both-true, and-true, leading-skip, leading-passes, skip-stops}
-use Rattle.deb_relations.proofs.Cuts.{cut-clear}
-use Rattle.deb_relations.proofs.Sound.{between-sound, name-sound, qualifier-sound}
+use Rattle.deb_relations.proofs.CutLemmas.{cut-clear}
+use Rattle.deb_relations.proofs.SoundLemmas.{between-sound, name-sound, qualifier-sound}
 use Rattle.deb_relations.specs.Text.{leading}
 
 -- a text that stands in another

@@ -8,9 +8,9 @@ use Rattle.deb_relations.specs.declared.relations.Alternative.{Alternative}
 use Rattle.deb_relations.specs.Grammar.{Reads, relations_limit}
 use Rattle.deb_relations.specs.Reader.{read_groups}
 use Rattle.deb_relations.specs.Reading.{groups_fault, reading_of}
-use Rattle.deb_relations.proofs.Complete.{reads-complete}
-use Rattle.deb_relations.proofs.FaultTells.{Tells, groups-tell}
-use Rattle.deb_relations.proofs.Sound.{reads-sound}
+use Rattle.deb_relations.proofs.CompleteLemmas.{reads-complete}
+use Rattle.deb_relations.proofs.FaultLemmas.{Tells, groups-tell}
+use Rattle.deb_relations.proofs.SoundLemmas.{reads-sound}
 
 abbrev Groups : Type 0
 Groups = List (List Alternative)

@@ -18,10 +18,10 @@ use Rattle.deb_relations.specs.Grammar.{is_white, is_blank_text, is_profile_char
 use Rattle.deb_relations.specs.Names.{is_lower_or_digit, is_package_char, is_arch_char, begins_with_lower_or_digit, is_package_name}
 use Rattle.deb_relations.specs.Reader.{skip, is_solid}
 use Rattle.deb_relations.proofs.LeadingLemmas.{both-true, stops, leading-all, skip-all, all-weaker, all-both}
-use Rattle.deb_relations.proofs.Cuts.{split-here, split-none}
-use Rattle.deb_relations.proofs.Turns.{words-first, words-skip, words-white, split-has}
-use Rattle.deb_relations.proofs.Complete.{lower-not-white, other, word-chars}
-use Rattle.deb_relations.proofs.VersionForm.{version-form}
+use Rattle.deb_relations.proofs.CutLemmas.{split-here, split-none}
+use Rattle.deb_relations.proofs.TurnLemmas.{words-first, words-skip, words-white, split-has}
+use Rattle.deb_relations.proofs.CompleteLemmas.{lower-not-white, other, word-chars}
+use Rattle.deb_relations.proofs.VersionFormLemmas.{version-form}
 use Rattle.deb_relations.specs.Text.{leading}
 
 -- the forms of the parts of an alternative

@@ -17,7 +17,7 @@ use Rattle.deb_relations.specs.Grammar.{is_white, is_blank_text, is_op_char, is_
 use Rattle.deb_relations.specs.Names.{is_package_char, is_arch_char, is_package_name}
 use Rattle.deb_relations.specs.Reader.{skip, strip, cut, is_solid, between, between_opened, some_of, read_between, with_rest, read_name, read_behind_colon, read_qualifier, asked_of, restriction_of, asked_inside, read_restriction, term_behind, term_of, both, all_some, filled_only, terms_of, alike_only, archs_of, read_archs, profile_behind, profile_of, lists_of, read_profiles, with_profiles, with_archs, with_asked, with_qualifier, with_name, read_alternative, read_group, read_groups}
 use Rattle.deb_relations.proofs.LeadingLemmas.{both-true, and-true, leading-skip, leading-passes}
-use Rattle.deb_relations.proofs.Cuts.{strip-join, cut-is}
+use Rattle.deb_relations.proofs.CutLemmas.{strip-join, cut-is}
 use Rattle.deb_relations.specs.Text.{leading}
 
 name-at : (t : List ℕ) (b : Bool) → is_package_name (leading is_package_char (skip is_white t)) ≡ b → (p : List ℕ × List ℕ)

@@ -18,9 +18,9 @@ use Rattle.deb_relations.specs.Grammar.{is_white, is_blank_text, is_profile_char
 use Rattle.deb_relations.specs.Names.{is_lower_or_digit, is_package_char, is_arch_char, begins_with_lower_or_digit, is_package_name}
 use Rattle.deb_relations.specs.Reader.{skip, strip, is_solid, between, between_opened, some_of, read_between, with_rest, read_name, read_behind_colon, read_qualifier, asked_of, asked_behind, asked_from, restriction_of, asked_inside, read_restriction, term_behind, term_of, both, all_some, filled_only, terms_of, alike_only, archs_of, read_archs, profile_behind, profile_of, lists_of, read_profiles, with_profiles, with_archs, with_asked, with_qualifier, with_name, read_alternative, read_group, read_groups}
 use Rattle.deb_relations.proofs.LeadingLemmas.{both-true, and-true, stops, opens, leading-all, skip-all, opens-stops, opens-weaker, all-weaker, all-both}
-use Rattle.deb_relations.proofs.Cuts.{strip-here, cut-here, split-here, split-none}
-use Rattle.deb_relations.proofs.Turns.{lists-cons, split-has}
-use Rattle.deb_relations.proofs.VersionForm.{version-form, version-filled}
+use Rattle.deb_relations.proofs.CutLemmas.{strip-here, cut-here, split-here, split-none}
+use Rattle.deb_relations.proofs.TurnLemmas.{lists-cons, split-has}
+use Rattle.deb_relations.proofs.VersionFormLemmas.{version-form, version-filled}
 use Rattle.deb_relations.specs.Text.{leading}
 
 -- a character that is not c

@@ -9,7 +9,7 @@ use Rattle.deb_relations.specs.Reduction.{is_filled}
 use Rattle.deb_relations.specs.Grammar.{is_white, is_blank_text, is_said, words}
 use Rattle.deb_relations.specs.Reader.{skip, cut, is_solid, both, all_some, term_of, profile_of, lists_of, read_group, push_group, with_group}
 use Rattle.deb_relations.proofs.LeadingLemmas.{stops, skip-stops}
-use Rattle.deb_relations.proofs.Cuts.{cut-is, split-last}
+use Rattle.deb_relations.proofs.CutLemmas.{cut-is, split-last}
 use Rattle.deb_relations.specs.Text.{leading}
 
 -- two halves, and none
