@@ -1,7 +1,7 @@
 -- What is printed reads back as the same.
 use Rattle.std.proofs.Common.{◌≡◌, ℕ, ◌≤◌, Bool, true, false, cond, not, ◌&&◌, eqb, List, [], ◌∷◌, ◌++◌, map, filter, length, refl, sym, ap, subst, ◌∙◌, arith, append_assoc, append-nil, Option, Some, None}
 use Rattle.std.specs.Prelude.{codes}
-use Rattle.std.specs.List.{list_all, slice_split, flat_map}
+use Rattle.std.specs.List.{list_all, slice_split, flat_map, AllZip}
 use Rattle.std.proofs.lemmas.Bool.Decides.{nat_tests}
 use Rattle.deb_version.specs.declared.operator.Op.{Op}
 use Rattle.deb_version.specs.declared.operator.Op.TheVariants.{Earlier, EarlierOrEqual, Equal, LaterOrEqual, Later}
@@ -14,7 +14,7 @@ use Rattle.deb_relations.specs.declared.relations.Restriction.{Restriction}
 use Rattle.deb_relations.specs.declared.relations.Alternative.{Alternative}
 use Rattle.deb_relations.specs.Printing.{term_text, op_text, qualifier_text, restriction_text, terms_text, archs_text, profile_text, profiles_text, alternative_text, group_text, printed}
 use Rattle.deb_relations.specs.Reduction.{is_filled, is_kept, without_lists, reduced_group, reduced}
-use Rattle.deb_relations.specs.Grammar.{is_white, is_blank_text, is_profile_char, is_qualifier, is_word, is_said, op_of, words, are_alike, TakesQualifier, TakesRestriction, ReadsTerms, TakesArchs, ReadsProfiles, ReadsAlternative, Each, ReadsGroup, Reads, relations_limit}
+use Rattle.deb_relations.specs.Grammar.{is_white, is_blank_text, is_profile_char, is_qualifier, is_word, is_said, op_of, words, are_alike, TakesQualifier, TakesRestriction, ReadsTerms, TakesArchs, ReadsProfiles, ReadsAlternative, ReadsGroup, Reads, relations_limit}
 use Rattle.deb_relations.specs.Names.{is_lower_or_digit, is_package_char, is_arch_char, begins_with_lower_or_digit, is_package_name}
 use Rattle.deb_relations.specs.Reader.{skip, is_solid}
 use Rattle.deb_relations.proofs.LeadingLemmas.{both-true, stops, leading-all, skip-all, all-weaker, all-both}
@@ -84,18 +84,18 @@ good-alternative t a h =
       profiles = good-profiles h.after_archs a.profiles h.profiles;
     }
 
-good-each : (pieces : List (List ℕ)) (group : List Alternative) → Each ReadsAlternative pieces group → AllGood group
+good-each : (pieces : List (List ℕ)) (group : List Alternative) → AllZip ReadsAlternative pieces group → AllGood group
 good-each [] [] h = tt
 good-each [] (a ∷ more) h = absurd h
 good-each (p ∷ ps) [] h = absurd h
 good-each (p ∷ ps) (a ∷ more) h = (good-alternative p a h.0, good-each ps more h.1)
 
-each-filled : (pieces : List (List ℕ)) (group : List Alternative) → is_filled pieces ≡ true → Each ReadsAlternative pieces group → is_filled group ≡ true
+each-filled : (pieces : List (List ℕ)) (group : List Alternative) → is_filled pieces ≡ true → AllZip ReadsAlternative pieces group → is_filled group ≡ true
 each-filled [] group f h = absurd (cc)
 each-filled (p ∷ ps) [] f h = absurd h
 each-filled (p ∷ ps) (a ∷ more) f h = refl
 
-good-groups : (pieces : List (List ℕ)) (groups : List (List Alternative)) → Each ReadsGroup pieces groups → AllGroups groups
+good-groups : (pieces : List (List ℕ)) (groups : List (List Alternative)) → AllZip ReadsGroup pieces groups → AllGroups groups
 good-groups [] [] h = tt
 good-groups [] (g ∷ gs) h = absurd h
 good-groups (p ∷ ps) [] h = absurd h
@@ -386,13 +386,13 @@ behind_alternatives more = flat_map (λ y. codes " | " ++ alternative_text y) mo
 
 -- the alternatives of a printed group
 alternatives-printed : (gap : List ℕ) (a : Alternative) (more : List Alternative) → is_blank_text gap ≡ true → Good a → AllGood more
-    → Each ReadsAlternative (slice_split (λ c. eqb c 124) (gap ++ (alternative_text a ++ behind_alternatives more))) (a ∷ more)
+    → AllZip ReadsAlternative (slice_split (λ c. eqb c 124) (gap ++ (alternative_text a ++ behind_alternatives more))) (a ∷ more)
 unfolding is_white
 alternatives-printed gap a [] g h k =
     let bars : list_all (other 124) (gap ++ (alternative_text a ++ [])) ≡ true =
     all-both (other 124) gap (alternative_text a ++ []) (all-weaker is_white (other 124) (λ c w. inner-bar c (inner-white c w)) gap g)
     (all-both (other 124) (alternative_text a) [] (all-weaker is_inner (other 124) inner-bar (alternative_text a) (inner-alternative a h)) refl) in
-    subst (λ (ps : List (List ℕ)). Each ReadsAlternative ps (a ∷ [])) (sym (split-none 124 (gap ++ (alternative_text a ++ [])) bars))
+    subst (λ (ps : List (List ℕ)). AllZip ReadsAlternative ps (a ∷ [])) (sym (split-none 124 (gap ++ (alternative_text a ++ [])) bars))
     (alternative-printed gap [] a g refl h, tt)
 alternatives-printed gap a (y ∷ ys) g h k =
     let piece : List ℕ = gap ++ (alternative_text a ++ (32 ∷ [])) in
@@ -401,7 +401,7 @@ alternatives-printed gap a (y ∷ ys) g h k =
     all-both (other 124) gap (alternative_text a ++ (32 ∷ [])) (all-weaker is_white (other 124) (λ c w. inner-bar c (inner-white c w)) gap g)
     (all-both (other 124) (alternative_text a) (32 ∷ []) (all-weaker is_inner (other 124) inner-bar (alternative_text a) (inner-alternative a h)) refl) in
     let text : gap ++ (alternative_text a ++ behind_alternatives (y ∷ ys)) ≡ piece ++ (124 ∷ rest) = simp append_assoc in
-    subst (λ (ps : List (List ℕ)). Each ReadsAlternative ps (a ∷ (y ∷ ys))) (sym (ap (slice_split (λ c. eqb c 124)) text ∙ split-here 124 piece rest bars))
+    subst (λ (ps : List (List ℕ)). AllZip ReadsAlternative ps (a ∷ (y ∷ ys))) (sym (ap (slice_split (λ c. eqb c 124)) text ∙ split-here 124 piece rest bars))
     (alternative-printed gap (32 ∷ []) a g refl h, alternatives-printed (32 ∷ []) y ys refl k.0 k.1)
 
 group-printed : (gap : List ℕ) (group : List Alternative) → is_blank_text gap ≡ true → is_filled group ≡ true → AllGood group → ReadsGroup (gap ++ group_text group) group
@@ -450,14 +450,14 @@ white-comma : (c : ℕ) → is_white c ≡ true → other 44 c ≡ true
 white-comma c h = inner-comma c (inner-white c h)
 
 groups-printed : (gap : List ℕ) (g : List Alternative) (gs : List (List Alternative)) → is_blank_text gap ≡ true → AllGroups (g ∷ gs)
-    → Each ReadsGroup (filter is_said (slice_split (λ c. eqb c 44) (gap ++ (group_text g ++ behind_groups gs)))) (g ∷ gs)
+    → AllZip ReadsGroup (filter is_said (slice_split (λ c. eqb c 44) (gap ++ (group_text g ++ behind_groups gs)))) (g ∷ gs)
 unfolding is_white
 groups-printed gap g [] b h =
     let whole : gap ++ (group_text g ++ []) ≡ gap ++ group_text g = ap (λ x. gap ++ x) (append-nil (group_text g)) in
     let commas : list_all (other 44) (gap ++ group_text g) ≡ true = all-both (other 44) gap (group_text g) (all-weaker is_white (other 44) white-comma gap b) (comma-group g h.1.0) in
     let pieces : filter is_said (slice_split (λ c. eqb c 44) (gap ++ (group_text g ++ []))) ≡ (gap ++ group_text g) ∷ [] =
     ap (λ x. filter is_said (slice_split (λ c. eqb c 44) x)) whole ∙ ap (filter is_said) (split-none 44 (gap ++ group_text g) commas) ∙ keep-said (gap ++ group_text g) [] (said-group gap g h.0 h.1.0) in
-    subst (λ (ps : List (List ℕ)). Each ReadsGroup ps (g ∷ [])) (sym pieces) (group-printed gap g b h.0 h.1.0, tt)
+    subst (λ (ps : List (List ℕ)). AllZip ReadsGroup ps (g ∷ [])) (sym pieces) (group-printed gap g b h.0 h.1.0, tt)
 groups-printed gap g (y ∷ ys) b h =
     let piece : List ℕ = gap ++ group_text g in
     let rest : List ℕ = (32 ∷ []) ++ (group_text y ++ behind_groups ys) in
@@ -465,7 +465,7 @@ groups-printed gap g (y ∷ ys) b h =
     let commas : list_all (other 44) piece ≡ true = all-both (other 44) gap (group_text g) (all-weaker is_white (other 44) white-comma gap b) (comma-group g h.1.0) in
     let pieces : filter is_said (slice_split (λ c. eqb c 44) (gap ++ (group_text g ++ behind_groups (y ∷ ys)))) ≡ piece ∷ filter is_said (slice_split (λ c. eqb c 44) rest) =
     ap (λ x. filter is_said (slice_split (λ c. eqb c 44) x)) text ∙ ap (filter is_said) (split-here 44 piece rest commas) ∙ keep-said piece (slice_split (λ c. eqb c 44) rest) (said-group gap g h.0 h.1.0) in
-    subst (λ (ps : List (List ℕ)). Each ReadsGroup ps (g ∷ (y ∷ ys))) (sym pieces) (group-printed gap g b h.0 h.1.0, groups-printed (32 ∷ []) y ys refl h.1.1)
+    subst (λ (ps : List (List ℕ)). AllZip ReadsGroup ps (g ∷ (y ∷ ys))) (sym pieces) (group-printed gap g b h.0 h.1.0, groups-printed (32 ∷ []) y ys refl h.1.1)
 
 pub printed-reads : (groups : List (List Alternative)) → AllGroups groups → length (printed groups) ≤ relations_limit → Reads (printed groups) groups
 unfolding Reads printed is_said

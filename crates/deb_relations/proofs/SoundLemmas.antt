@@ -1,6 +1,6 @@
 -- What the reader gives is a reading in the grammar.
 use Rattle.std.proofs.Common.{◌≡◌, ◌⊎◌, inl, inr, ℕ, ◌≤◌, Bool, true, false, cond, ◌&&◌, eqb, List, [], ◌∷◌, ◌++◌, map, filter, length, refl, sym, ap, subst, ◌∙◌, append_assoc, Option, Some, None}
-use Rattle.std.specs.List.{list_all, slice_split, join_with_byte}
+use Rattle.std.specs.List.{list_all, slice_split, join_with_byte, AllZip}
 use Rattle.std.proofs.lemmas.List.Splits.{join_with_byte-slice_split}
 use Rattle.std.specs.Option.{is_none}
 use Rattle.deb_version.specs.declared.fault.VersionFault.{VersionFault}
@@ -13,7 +13,7 @@ use Rattle.deb_relations.specs.declared.relations.Restriction.{Restriction}
 use Rattle.deb_relations.specs.declared.relations.Alternative.{Alternative}
 use Rattle.deb_relations.specs.Printing.{term_text}
 use Rattle.deb_relations.specs.Reduction.{is_filled}
-use Rattle.deb_relations.specs.Grammar.{is_white, is_blank_text, is_op_char, is_qualifier, is_word, is_said, op_of, words, are_alike, TakesName, TakesQualifier, InBrackets, IsRestriction, TakesRestriction, ReadsTerms, TakesArchs, ReadsProfiles, ReadsAlternative, Each, ReadsGroup, Reads, relations_limit}
+use Rattle.deb_relations.specs.Grammar.{is_white, is_blank_text, is_op_char, is_qualifier, is_word, is_said, op_of, words, are_alike, TakesName, TakesQualifier, InBrackets, IsRestriction, TakesRestriction, ReadsTerms, TakesArchs, ReadsProfiles, ReadsAlternative, ReadsGroup, Reads, relations_limit}
 use Rattle.deb_relations.specs.Names.{is_package_char, is_arch_char, is_package_name}
 use Rattle.deb_relations.specs.Reader.{skip, strip, cut, is_solid, between, between_opened, some_of, read_between, with_rest, read_name, read_behind_colon, read_qualifier, asked_of, restriction_of, asked_inside, read_restriction, term_behind, term_of, both, all_some, filled_only, terms_of, alike_only, archs_of, read_archs, profile_behind, profile_of, lists_of, read_profiles, with_profiles, with_archs, with_asked, with_qualifier, with_name, read_alternative, read_group, read_groups}
 use Rattle.deb_relations.proofs.LeadingLemmas.{both-true, and-true, leading-skip, leading-passes}
@@ -187,19 +187,19 @@ unfolding term_of
 term-sound kind word term h = term-by kind word (strip 33 word) refl term h
 
 module _ {X Y : Type 0} (f : X → Option Y) (R : X → Y → Type 0) (sound : (x : X) (y : Y) → f x ≡ Some y → R x y) where
-  each-both : (x : X) (xs : List X) (o : Option Y) (more : Option (List Y)) → ((y : Y) → o ≡ Some y → R x y) → ((zs : List Y) → more ≡ Some zs → Each R xs zs) → (ys : List Y) → both o more ≡ Some ys → Each R (x ∷ xs) ys
+  each-both : (x : X) (xs : List X) (o : Option Y) (more : Option (List Y)) → ((y : Y) → o ≡ Some y → R x y) → ((zs : List Y) → more ≡ Some zs → AllZip R xs zs) → (ys : List Y) → both o more ≡ Some ys → AllZip R (x ∷ xs) ys
   each-both x xs None more p q ys h = absurd (cc)
   each-both x xs (Some y) None p q ys h = absurd (cc)
   each-both x xs (Some y) (Some zs) p q ys h =
       let made : ◌≡◌ {A = List Y} (y ∷ zs) ys = cc in
-      subst (λ (ws : List Y). Each R (x ∷ xs) ws) made (p y refl, q zs refl)
+      subst (λ (ws : List Y). AllZip R (x ∷ xs) ws) made (p y refl, q zs refl)
 
-  pub each-sound : (xs : List X) (ys : List Y) → all_some f xs ≡ Some ys → Each R xs ys
+  pub each-sound : (xs : List X) (ys : List Y) → all_some f xs ≡ Some ys → AllZip R xs ys
   each-sound [] ys h =
-      let made : ◌≡◌ {A = List Y} [] ys = cc in subst (λ (ws : List Y). Each R [] ws) made tt
+      let made : ◌≡◌ {A = List Y} [] ys = cc in subst (λ (ws : List Y). AllZip R [] ws) made tt
   each-sound (x ∷ xs) ys h = each-both x xs (f x) (all_some f xs) (sound x) (each-sound xs) ys h
 
-terms-said : (kind : Kind) (ws : List (List ℕ)) (terms : List Term) → Each (IsTermOf kind) ws terms → (ws ≡ map term_text terms) × (list_all (λ term. is_word kind term.word) terms ≡ true)
+terms-said : (kind : Kind) (ws : List (List ℕ)) (terms : List Term) → AllZip (IsTermOf kind) ws terms → (ws ≡ map term_text terms) × (list_all (λ term. is_word kind term.word) terms ≡ true)
 unfolding IsTermOf
 terms-said kind [] [] e = (refl, refl)
 terms-said kind [] (term ∷ terms) e = absurd e

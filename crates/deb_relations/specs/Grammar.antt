@@ -2,7 +2,7 @@
 use Rattle.std.specs.Prelude.{◌≡◌, ℕ, ◌≤◌, ◌==◌, Bool, true, not, ◌&&◌, ◌||◌, List, [], ◌∷◌, ◌++◌, map, filter, length, if◌then◌else◌, bytes_eq, codes}
 use Rattle.std.specs.Prelude.{Option, None, Some}
 use Rattle.std.specs.Char.{is_ascii_alphanumeric}
-use Rattle.std.specs.List.{list_all, slice_split}
+use Rattle.std.specs.List.{AllZip, list_all, slice_split}
 use Rattle.deb_version.specs.declared.operator.Op.{Op}
 use Rattle.deb_version.specs.declared.operator.Op.TheVariants.{Earlier, EarlierOrEqual, Equal, LaterOrEqual, Later}
 use Rattle.deb_version.specs.Syntax.{fault_of}
@@ -138,16 +138,9 @@ pub record ReadsAlternative (text : List ℕ) (a : Alternative) : Type 0 where
   pub archs : TakesArchs after_restriction a.archs after_archs
   pub profiles : ReadsProfiles after_archs a.profiles
 
--- the items of two lists of one length are related in pairs (this project's own)
-abbrev pub Each : {X Y : Type 0} → (X → Y → Type 0) → List X → List Y → Type 0
-Each R [] [] = Unit {0}
-Each R [] (y ∷ ys) = ⊥
-Each R (x ∷ xs) [] = ⊥
-Each R (x ∷ xs) (y ∷ ys) = R x y × Each R xs ys
-
 -- alternatives between bars (Policy 7.1)
 abbrev pub ReadsGroup : List ℕ → List Alternative → Type 0
-ReadsGroup text group = Each ReadsAlternative (slice_split is_bar text) group
+ReadsGroup text group = AllZip ReadsAlternative (slice_split is_bar text) group
 
 -- whether a text has more than white space (this project's own)
 unfoldable pub is_said : List ℕ → Bool
@@ -159,4 +152,4 @@ relations_limit = 65536
 
 -- a text within the limit with its groups between commas, where blank groups are skipped (Policy 7.1, the limit and the skipping this project's own)
 unfoldable pub Reads : List ℕ → List (List Alternative) → Type 0
-Reads text groups = (length text ≤ relations_limit) × Each ReadsGroup (filter is_said (slice_split is_comma text)) groups
+Reads text groups = (length text ≤ relations_limit) × AllZip ReadsGroup (filter is_said (slice_split is_comma text)) groups

@@ -48,8 +48,8 @@ fn end_before(behind: &str, end: usize) -> usize
 #[tactic(auto, unfolding(crate::specs::Reader::read_name, crate::specs::Reading::name_fault, crate::specs::Reading::begins_with_name))]
 fn read_name(alloc: Global, text: &str) -> Result<(Text, &str), RelationFault>
     ensures ok { IfOk result (λ found. read_name text.now ≡ Some (found.0, found.1.now)) }
-    ensures refused { IfErr result (λ fault. fault ≢ Memory → read_name text.now ≡ None) }
-    ensures err { IfErr result (λ fault. fault ≢ Memory → fault ≡ name_fault text.now) }
+    ensures none { IfErr result (λ fault. fault ≢ Memory → read_name text.now ≡ None) }
+    ensures refused { IfErr result (λ fault. fault ≢ Memory → fault ≡ name_fault text.now) }
     ensures memory { IfErr result (λ fault. fault ≡ Memory → begins_with_name text.now ≡ true) }
 {
     let front = skip_white(text);
@@ -67,8 +67,8 @@ fn read_name(alloc: Global, text: &str) -> Result<(Text, &str), RelationFault>
 #[tactic(auto, unfolding(crate::specs::Reader::read_qualifier))]
 fn read_qualifier(alloc: Global, text: &str) -> Result<(Option<Text>, &str), RelationFault>
     ensures ok { IfOk result (λ found. read_qualifier text.now ≡ Some (found.0, found.1.now)) }
-    ensures refused { IfErr result (λ fault. fault ≢ Memory → read_qualifier text.now ≡ None) }
-    ensures err { IfErr result (λ fault. fault ≢ Memory → fault ≡ BadName) }
+    ensures none { IfErr result (λ fault. fault ≢ Memory → read_qualifier text.now ≡ None) }
+    ensures refused { IfErr result (λ fault. fault ≢ Memory → fault ≡ BadName) }
 {
     let Some(behind) = strip(':', text) else {
         return Ok((None, text));
@@ -87,8 +87,8 @@ fn between(left: char, right: char, text: &str) -> Result<Option<(&str, &str)>, 
     requires right { right < 128 }
     ensures ok { IfOk result (λ found.
         between left right text.now ≡ Some (option_map halves_of found)) }
-    ensures refused { IfErr result (λ fault. between left right text.now ≡ None) }
-    ensures err { IfErr result (λ fault. fault ≡ Unclosed) }
+    ensures none { IfErr result (λ fault. between left right text.now ≡ None) }
+    ensures refused { IfErr result (λ fault. fault ≡ Unclosed) }
 {
     let Some(behind) = strip(left, skip_white(text)) else {
         return Ok(None);
@@ -125,8 +125,8 @@ fn fault_from_version(fault: VersionFault) -> RelationFault
 fn read_version(alloc: Global, text: &str) -> Result<Version, RelationFault>
     ensures value { IfOk result (λ version. version ≡ text.now) }
     ensures ok { IfOk result (λ _. is_version_text text.now ≡ true) }
-    ensures refused { IfErr result (λ fault. fault ≢ Memory → is_version_text text.now ≡ false) }
-    ensures err { IfErr result (λ fault. fault ≢ Memory
+    ensures none { IfErr result (λ fault. fault ≢ Memory → is_version_text text.now ≡ false) }
+    ensures refused { IfErr result (λ fault. fault ≢ Memory
         → (place : ℕ) → fault ≡ version_fault (fault_of text.now) place) }
 {
     match Version::parse(alloc, text) {
@@ -138,8 +138,8 @@ fn read_version(alloc: Global, text: &str) -> Result<Version, RelationFault>
 #[tactic(auto, unfolding(crate::specs::Reader::restriction_of, crate::specs::Reading::asked_fault, crate::specs::Reading::fault_behind_operator))]
 fn restriction_of(alloc: Global, inside: &str, end: usize) -> Result<Restriction, RelationFault>
     ensures ok { IfOk result (λ asked. restriction_of inside.now ≡ Some asked) }
-    ensures refused { IfErr result (λ fault. fault ≢ Memory → restriction_of inside.now ≡ None) }
-    ensures err { IfErr result (λ fault. fault ≢ Memory → fault ≡ asked_fault end inside.now) }
+    ensures none { IfErr result (λ fault. fault ≢ Memory → restriction_of inside.now ≡ None) }
+    ensures refused { IfErr result (λ fault. fault ≢ Memory → fault ≡ asked_fault end inside.now) }
 {
     let (word, behind) = split_leading(Class::Op, skip_white(inside));
     let Some(op) = op_of(word) else {
@@ -160,8 +160,8 @@ fn read_restriction(
     end: usize,
 ) -> Result<(Option<Restriction>, &str), RelationFault>
     ensures ok { IfOk result (λ found. read_restriction text.now ≡ Some (found.0, found.1.now)) }
-    ensures refused { IfErr result (λ fault. fault ≢ Memory → read_restriction text.now ≡ None) }
-    ensures err { IfErr result (λ fault. fault ≢ Memory → fault ≡ restriction_fault end text.now) }
+    ensures none { IfErr result (λ fault. fault ≢ Memory → read_restriction text.now ≡ None) }
+    ensures refused { IfErr result (λ fault. fault ≢ Memory → fault ≡ restriction_fault end text.now) }
 {
     let Some((inside, rest)) = between('(', ')', text)? else {
         return Ok((None, text));
@@ -172,8 +172,8 @@ fn read_restriction(
 
 fn signed(alloc: Global, kind: Kind, negated: bool, word: &str) -> Result<Term, RelationFault>
     ensures ok { IfOk result (λ term. signed kind negated word.now ≡ Some term) }
-    ensures refused { IfErr result (λ fault. fault ≢ Memory → signed kind negated word.now ≡ None) }
-    ensures err { IfErr result (λ fault. fault ≢ Memory → fault ≡ BadName) }
+    ensures none { IfErr result (λ fault. fault ≢ Memory → signed kind negated word.now ≡ None) }
+    ensures refused { IfErr result (λ fault. fault ≢ Memory → fault ≡ BadName) }
 {
     if !is_word(kind, word) {
         return Err(RelationFault::BadName);
@@ -187,8 +187,8 @@ fn signed(alloc: Global, kind: Kind, negated: bool, word: &str) -> Result<Term, 
 #[tactic(auto, unfolding(crate::specs::Reader::term_of))]
 fn term_of(alloc: Global, kind: Kind, word: &str) -> Result<Term, RelationFault>
     ensures ok { IfOk result (λ term. term_of kind word.now ≡ Some term) }
-    ensures refused { IfErr result (λ fault. fault ≢ Memory → term_of kind word.now ≡ None) }
-    ensures err { IfErr result (λ fault. fault ≢ Memory → fault ≡ BadName) }
+    ensures none { IfErr result (λ fault. fault ≢ Memory → term_of kind word.now ≡ None) }
+    ensures refused { IfErr result (λ fault. fault ≢ Memory → fault ≡ BadName) }
 {
     match strip('!', word) {
         None => signed(alloc, kind, false, word),
@@ -199,9 +199,9 @@ fn term_of(alloc: Global, kind: Kind, word: &str) -> Result<Term, RelationFault>
 // The words of a list, of which there may be none.
 fn collect_terms(alloc: Global, kind: Kind, inside: &str) -> Result<Items<Term>, RelationFault>
     ensures ok { IfOk result (λ terms. all_some (term_of kind) (words inside.now) ≡ Some terms) }
-    ensures refused { IfErr result (λ fault. fault ≢ Memory
+    ensures none { IfErr result (λ fault. fault ≢ Memory
         → all_some (term_of kind) (words inside.now) ≡ None) }
-    ensures err { IfErr result (λ fault. fault ≢ Memory → fault ≡ BadName) }
+    ensures refused { IfErr result (λ fault. fault ≢ Memory → fault ≡ BadName) }
 {
     let mut made = Items::new(alloc);
     let mut rest = skip_white(inside);
@@ -216,8 +216,8 @@ fn collect_terms(alloc: Global, kind: Kind, inside: &str) -> Result<Items<Term>,
 #[tactic(auto, unfolding(crate::specs::Reader::terms_of))]
 fn terms_of(alloc: Global, kind: Kind, inside: &str) -> Result<Items<Term>, RelationFault>
     ensures ok { IfOk result (λ terms. terms_of kind inside.now ≡ Some terms) }
-    ensures refused { IfErr result (λ fault. fault ≢ Memory → terms_of kind inside.now ≡ None) }
-    ensures err { IfErr result (λ fault. fault ≢ Memory → fault ≡ BadName) }
+    ensures none { IfErr result (λ fault. fault ≢ Memory → terms_of kind inside.now ≡ None) }
+    ensures refused { IfErr result (λ fault. fault ≢ Memory → fault ≡ BadName) }
 {
     let terms = collect_terms(alloc, kind, inside)?;
     if terms.as_slice().is_empty() {
@@ -251,8 +251,8 @@ fn are_alike(terms: &[Term]) -> bool
 #[tactic(auto, unfolding(crate::specs::Reader::archs_of, crate::specs::Reading::words_fault))]
 fn archs_of(alloc: Global, inside: &str) -> Result<Items<Term>, RelationFault>
     ensures ok { IfOk result (λ terms. archs_of inside.now ≡ Some terms) }
-    ensures refused { IfErr result (λ fault. fault ≢ Memory → archs_of inside.now ≡ None) }
-    ensures err { IfErr result (λ fault. fault ≢ Memory → fault ≡ words_fault inside.now) }
+    ensures none { IfErr result (λ fault. fault ≢ Memory → archs_of inside.now ≡ None) }
+    ensures refused { IfErr result (λ fault. fault ≢ Memory → fault ≡ words_fault inside.now) }
 {
     let terms = terms_of(alloc, Kind::Arch, inside)?;
     if !are_alike(terms.as_slice()) {
@@ -264,8 +264,8 @@ fn archs_of(alloc: Global, inside: &str) -> Result<Items<Term>, RelationFault>
 #[tactic(auto, unfolding(crate::specs::Reader::read_archs, crate::specs::Reading::archs_fault))]
 fn read_archs(alloc: Global, text: &str) -> Result<(Items<Term>, &str), RelationFault>
     ensures ok { IfOk result (λ found. read_archs text.now ≡ Some (found.0, found.1.now)) }
-    ensures refused { IfErr result (λ fault. fault ≢ Memory → read_archs text.now ≡ None) }
-    ensures err { IfErr result (λ fault. fault ≢ Memory → fault ≡ archs_fault text.now) }
+    ensures none { IfErr result (λ fault. fault ≢ Memory → read_archs text.now ≡ None) }
+    ensures refused { IfErr result (λ fault. fault ≢ Memory → fault ≡ archs_fault text.now) }
 {
     let Some((inside, rest)) = between('[', ']', text)? else {
         return Ok((Items::new(alloc), text));
@@ -277,8 +277,8 @@ fn read_archs(alloc: Global, text: &str) -> Result<(Items<Term>, &str), Relation
 #[tactic(auto, unfolding(crate::specs::Reader::profile_of, crate::specs::Reading::list_fault))]
 fn profile_of(alloc: Global, piece: &str, end: usize) -> Result<Items<Term>, RelationFault>
     ensures ok { IfOk result (λ terms. profile_of piece.now ≡ Some terms) }
-    ensures refused { IfErr result (λ fault. fault ≢ Memory → profile_of piece.now ≡ None) }
-    ensures err { IfErr result (λ fault. fault ≢ Memory
+    ensures none { IfErr result (λ fault. fault ≢ Memory → profile_of piece.now ≡ None) }
+    ensures refused { IfErr result (λ fault. fault ≢ Memory
         → fault ≡ list_fault BadName end piece.now) }
 {
     let front = skip_white(piece);
@@ -303,8 +303,8 @@ fn end_fault(rest: &str, end: usize) -> RelationFault
 #[tactic(auto, unfolding(crate::specs::Reader::read_profiles, crate::specs::Reading::profiles_fault))]
 fn read_profiles(alloc: Global, text: &str, end: usize) -> Result<Items<Items<Term>>, RelationFault>
     ensures ok { IfOk result (λ lists. read_profiles text.now ≡ Some lists) }
-    ensures refused { IfErr result (λ fault. fault ≢ Memory → read_profiles text.now ≡ None) }
-    ensures err { IfErr result (λ fault. fault ≢ Memory → fault ≡ profiles_fault end text.now) }
+    ensures none { IfErr result (λ fault. fault ≢ Memory → read_profiles text.now ≡ None) }
+    ensures refused { IfErr result (λ fault. fault ≢ Memory → fault ≡ profiles_fault end text.now) }
 {
     let mut made = Items::new(alloc);
     let mut rest = text;
@@ -321,8 +321,8 @@ fn read_profiles(alloc: Global, text: &str, end: usize) -> Result<Items<Items<Te
 #[tactic(auto, unfolding(crate::specs::Reader::read_alternative, crate::specs::Reading::alternative_fault, crate::specs::Reading::begins_with_name))]
 fn read_alternative(alloc: Global, text: &str, end: usize) -> Result<Alternative, RelationFault>
     ensures ok { IfOk result (λ a. read_alternative text.now ≡ Some a) }
-    ensures refused { IfErr result (λ fault. fault ≢ Memory → read_alternative text.now ≡ None) }
-    ensures err { IfErr result (λ fault. fault ≢ Memory → fault ≡ alternative_fault end text.now) }
+    ensures none { IfErr result (λ fault. fault ≢ Memory → read_alternative text.now ≡ None) }
+    ensures refused { IfErr result (λ fault. fault ≢ Memory → fault ≡ alternative_fault end text.now) }
     ensures memory { IfErr result (λ fault. fault ≡ Memory → begins_with_name text.now ≡ true) }
 {
     let (name, after_name) = read_name(alloc, text)?;
@@ -341,8 +341,8 @@ fn read_alternative(alloc: Global, text: &str, end: usize) -> Result<Alternative
 
 fn read_group(alloc: Global, text: &str, end: usize) -> Result<Items<Alternative>, RelationFault>
     ensures ok { IfOk result (λ group. read_group text.now ≡ Some group) }
-    ensures refused { IfErr result (λ fault. fault ≢ Memory → read_group text.now ≡ None) }
-    ensures err { IfErr result (λ fault. fault ≢ Memory → fault ≡ group_fault end text.now) }
+    ensures none { IfErr result (λ fault. fault ≢ Memory → read_group text.now ≡ None) }
+    ensures refused { IfErr result (λ fault. fault ≢ Memory → fault ≡ group_fault end text.now) }
     ensures memory { IfErr result (λ fault. fault ≡ Memory → is_group_begun text.now ≡ true) }
 {
     let mut made = Items::new(alloc);
@@ -364,9 +364,9 @@ fn add_group(
     end: usize,
 ) -> Result<(), RelationFault>
     ensures ok { IfOk result (λ _. with_group made.old piece.now ≡ Some made.new) }
-    ensures refused { IfErr result (λ fault. fault ≢ Memory
+    ensures none { IfErr result (λ fault. fault ≢ Memory
         → with_group made.old piece.now ≡ None) }
-    ensures err { IfErr result (λ fault. fault ≢ Memory → fault ≡ group_fault end piece.now) }
+    ensures refused { IfErr result (λ fault. fault ≢ Memory → fault ≡ group_fault end piece.now) }
     ensures memory { IfErr result (λ fault. fault ≡ Memory →
         (is_said piece.now ≡ true) × (is_group_begun piece.now ≡ true)) }
 {
@@ -378,8 +378,8 @@ fn add_group(
 
 fn read_groups(alloc: Global, text: &str) -> Result<Items<Items<Alternative>>, RelationFault>
     ensures ok { IfOk result (λ groups. read_groups text.now ≡ Some groups) }
-    ensures refused { IfErr result (λ fault. fault ≢ Memory → read_groups text.now ≡ None) }
-    ensures err { IfErr result (λ fault. fault ≢ Memory → fault ≡ groups_fault text.now) }
+    ensures none { IfErr result (λ fault. fault ≢ Memory → read_groups text.now ≡ None) }
+    ensures refused { IfErr result (λ fault. fault ≢ Memory → fault ≡ groups_fault text.now) }
     ensures memory { IfErr result (λ fault. fault ≡ Memory → takes_memory text.now ≡ true) }
 {
     let mut made = Items::new(alloc);

@@ -16,8 +16,8 @@ loop-rest-init c = (
       ∙ ap (all_some (term_of c.args.kind)) (words-skip c.args.inside.now),
 )
 
-pub returns-in_err-term_of-clause-refused : goal.returns-in_err-term_of-clause-refused
-returns-in_err-term_of-clause-refused c =
+pub returns-in_err-term_of-clause-none : goal.returns-in_err-term_of-clause-none
+returns-in_err-term_of-clause-none c =
     let t : List ℕ = c.loop-rest.rest.now in
     let empty : c.is_empty.result ≡ false = search rules in
     let filled : is_filled t ≡ true = filled-from t c.is_empty.result c.is_empty.ensures empty in

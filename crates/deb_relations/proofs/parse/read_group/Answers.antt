@@ -12,9 +12,9 @@ use Rattle.std.proofs.Common.{inl, inr}
 use Rattle.deb_relations.proofs.BegunLemmas.{read-name, begun-piece, begun-last, where-wanted}
 use Rattle.deb_relations.proofs.parse.read_group.Goals as goal
 
-pub returns-in_err-read_alternative-clause-refused : goal.returns-in_err-read_alternative-clause-refused
+pub returns-in_err-read_alternative-clause-none : goal.returns-in_err-read_alternative-clause-none
 unfolding read_group
-returns-in_err-read_alternative-clause-refused c =
+returns-in_err-read_alternative-clause-none c =
     let h : cut 124 c.loop-piece.rest.now ≡ some_pair c.in-Some.piece.now c.in-Some.after.now = search rules in
     let stop : read_alternative c.in-Some.piece.now ≡ None → read_group c.args.text.now ≡ None =
     λ e. sym c.loop-piece.invariant.1 ∙ piece-refused read_alternative 124 c.loop-piece.made c.loop-piece.rest.now (c.in-Some.piece.now, c.in-Some.after.now) h e in
@@ -38,9 +38,9 @@ loop-piece-preserved c =
           (read-name c.in-Some.piece.now c.in_ok-read_alternative.field-0 c.in_ok-read_alternative.ensures.ok)),
     )
 
-pub returns-in_err-read_alternative-2-clause-refused : goal.returns-in_err-read_alternative-2-clause-refused
+pub returns-in_err-read_alternative-2-clause-none : goal.returns-in_err-read_alternative-2-clause-none
 unfolding read_group
-returns-in_err-read_alternative-2-clause-refused c =
+returns-in_err-read_alternative-2-clause-none c =
     let h : cut 124 c.loop-piece.rest.now ≡ no_pair = search rules in
     let stop : read_alternative c.loop-piece.rest.now ≡ None → read_group c.args.text.now ≡ None =
     λ e. sym c.loop-piece.invariant.1 ∙ last-refused read_alternative 124 c.loop-piece.made c.loop-piece.rest.now h e in
@@ -63,25 +63,25 @@ loop-piece-init c = (
   inl refl,
 )
 
-pub returns-in_err-read_alternative-clause-err : goal.returns-in_err-read_alternative-clause-err
+pub returns-in_err-read_alternative-clause-refused : goal.returns-in_err-read_alternative-clause-refused
 unfolding group_fault
-returns-in_err-read_alternative-clause-err c =
+returns-in_err-read_alternative-clause-refused c =
     let h : cut 124 c.loop-piece.rest.now ≡ some_pair c.in-Some.piece.now c.in-Some.after.now = search rules in
     let stop : (f : RelationFault) → read_alternative c.in-Some.piece.now ≡ None → f ≡ alternative_fault c.end_before.result c.in-Some.piece.now → f ≡ group_fault c.args.end c.args.text.now =
     λ f r e. e ∙ ap (λ n. alternative_fault n c.in-Some.piece.now) c.end_before.ensures
     ∙ sym (first-told is_alternative alternative_fault 124 c.args.end c.loop-piece.rest.now (c.in-Some.piece.now, c.in-Some.after.now) h (not-read c.in-Some.piece.now r))
     ∙ c.loop-piece.invariant.2 in
     let p = err_from_is_err_and c.from_residual.result c.from_residual.ensures.1 in
-    rw (p.1, p.2) (λ n. stop _ (c.in_err-read_alternative.ensures.refused n) (c.in_err-read_alternative.ensures.err n))
+    rw (p.1, p.2) (λ n. stop _ (c.in_err-read_alternative.ensures.none n) (c.in_err-read_alternative.ensures.refused n))
 
-pub returns-in_err-read_alternative-2-clause-err : goal.returns-in_err-read_alternative-2-clause-err
+pub returns-in_err-read_alternative-2-clause-refused : goal.returns-in_err-read_alternative-2-clause-refused
 unfolding group_fault
-returns-in_err-read_alternative-2-clause-err c =
+returns-in_err-read_alternative-2-clause-refused c =
     let h : cut 124 c.loop-piece.rest.now ≡ no_pair = search rules in
     let stop : (f : RelationFault) → read_alternative c.loop-piece.rest.now ≡ None → f ≡ alternative_fault c.args.end c.loop-piece.rest.now → f ≡ group_fault c.args.end c.args.text.now =
     λ f r e. e ∙ sym (last-told is_alternative alternative_fault 124 c.args.end c.loop-piece.rest.now h (not-read c.loop-piece.rest.now r)) ∙ c.loop-piece.invariant.2 in
     let p = err_from_is_err_and c.from_residual-in_err-read_alternative-2.result c.from_residual-in_err-read_alternative-2.ensures.1 in
-    rw (p.1, p.2) (λ n. stop _ (c.in_err-read_alternative-2.ensures.refused n) (c.in_err-read_alternative-2.ensures.err n))
+    rw (p.1, p.2) (λ n. stop _ (c.in_err-read_alternative-2.ensures.none n) (c.in_err-read_alternative-2.ensures.refused n))
 
 pub returns-in_err-read_alternative-clause-memory : goal.returns-in_err-read_alternative-clause-memory
 returns-in_err-read_alternative-clause-memory c =

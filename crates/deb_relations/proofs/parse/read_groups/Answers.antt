@@ -16,9 +16,9 @@ use Rattle.std.proofs.Common.{inl}
 use Rattle.deb_relations.proofs.BegunLemmas.{groups-begun, last-begun, groups-behind}
 use Rattle.deb_relations.proofs.parse.read_groups.Goals as goal
 
-pub returns-in_err-add_group-clause-refused : goal.returns-in_err-add_group-clause-refused
+pub returns-in_err-add_group-clause-none : goal.returns-in_err-add_group-clause-none
 unfolding read_groups
-returns-in_err-add_group-clause-refused c =
+returns-in_err-add_group-clause-none c =
     let h : cut 44 c.loop-piece.rest.now ≡ some_pair c.in-Some.piece.now c.in-Some.after.now = search rules in
     let stop : with_group c.loop-piece.made c.in-Some.piece.now ≡ None → read_groups c.args.text.now ≡ None =
     λ e. sym c.loop-piece.invariant.1 ∙ group-refused c.loop-piece.made c.loop-piece.rest.now (c.in-Some.piece.now, c.in-Some.after.now) h e in
@@ -41,9 +41,9 @@ loop-piece-preserved c =
           c.loop-piece.invariant.3 h c.in_ok-add_group.ensures.ok,
     )
 
-pub returns-in_err-add_group-2-clause-refused : goal.returns-in_err-add_group-2-clause-refused
+pub returns-in_err-add_group-2-clause-none : goal.returns-in_err-add_group-2-clause-none
 unfolding read_groups
-returns-in_err-add_group-2-clause-refused c =
+returns-in_err-add_group-2-clause-none c =
     let h : cut 44 c.loop-piece.rest.now ≡ no_pair = search rules in
     let stop : with_group c.loop-piece.made c.loop-piece.rest.now ≡ None → read_groups c.args.text.now ≡ None =
     λ e. sym c.loop-piece.invariant.1 ∙ last-group-refused c.loop-piece.made c.loop-piece.rest.now h e in
@@ -64,9 +64,9 @@ loop-piece-init c = (
   inl refl,
 )
 
-pub returns-in_err-add_group-clause-err : goal.returns-in_err-add_group-clause-err
+pub returns-in_err-add_group-clause-refused : goal.returns-in_err-add_group-clause-refused
 unfolding groups_fault
-returns-in_err-add_group-clause-err c =
+returns-in_err-add_group-clause-refused c =
     let h : cut 44 c.loop-piece.rest.now ≡ some_pair c.in-Some.piece.now c.in-Some.after.now = search rules in
     let place : c.end_before.result ≡ end_before (length c.args.text.now) c.in-Some.after.now = search rules in
     let stop : (f : RelationFault) → with_group c.loop-piece.made c.in-Some.piece.now ≡ None → f ≡ group_fault c.end_before.result c.in-Some.piece.now → f ≡ groups_fault c.args.text.now =
@@ -74,17 +74,17 @@ returns-in_err-add_group-clause-err c =
     ∙ sym (first-told is_group_or_blank group_fault 44 (length c.args.text.now) c.loop-piece.rest.now (c.in-Some.piece.now, c.in-Some.after.now) h (no-group c.loop-piece.made c.in-Some.piece.now r))
     ∙ c.loop-piece.invariant.2 in
     let p = err_from_is_err_and c.from_residual.result c.from_residual.ensures.1 in
-    rw (p.1, p.2) (λ n. stop _ (c.in_err-add_group.ensures.refused n) (c.in_err-add_group.ensures.err n))
+    rw (p.1, p.2) (λ n. stop _ (c.in_err-add_group.ensures.none n) (c.in_err-add_group.ensures.refused n))
 
-pub returns-in_err-add_group-2-clause-err : goal.returns-in_err-add_group-2-clause-err
+pub returns-in_err-add_group-2-clause-refused : goal.returns-in_err-add_group-2-clause-refused
 unfolding groups_fault
-returns-in_err-add_group-2-clause-err c =
+returns-in_err-add_group-2-clause-refused c =
     let h : cut 44 c.loop-piece.rest.now ≡ no_pair = search rules in
     let stop : (f : RelationFault) → with_group c.loop-piece.made c.loop-piece.rest.now ≡ None → f ≡ group_fault (length c.args.text.now) c.loop-piece.rest.now → f ≡ groups_fault c.args.text.now =
     λ f r e. e
     ∙ sym (last-told is_group_or_blank group_fault 44 (length c.args.text.now) c.loop-piece.rest.now h (no-group c.loop-piece.made c.loop-piece.rest.now r)) ∙ c.loop-piece.invariant.2 in
     let p = err_from_is_err_and c.from_residual-in_err-add_group-2.result c.from_residual-in_err-add_group-2.ensures.1 in
-    rw (p.1, p.2) (λ n. stop _ (c.in_err-add_group-2.ensures.refused n) (c.in_err-add_group-2.ensures.err n))
+    rw (p.1, p.2) (λ n. stop _ (c.in_err-add_group-2.ensures.none n) (c.in_err-add_group-2.ensures.refused n))
 
 pub returns-in_err-add_group-clause-memory : goal.returns-in_err-add_group-clause-memory
 returns-in_err-add_group-clause-memory c =

@@ -11,9 +11,9 @@ use Rattle.deb_relations.specs.Reading.{list_fault, profiles_fault}
 use Rattle.deb_relations.proofs.FaultTurnLemmas.{lists-passed, list-told, lists-end-told}
 use Rattle.deb_relations.proofs.parse.read_profiles.Goals as goal
 
-pub returns-in_err-profile_of-clause-refused : goal.returns-in_err-profile_of-clause-refused
+pub returns-in_err-profile_of-clause-none : goal.returns-in_err-profile_of-clause-none
 unfolding read_profiles
-returns-in_err-profile_of-clause-refused c =
+returns-in_err-profile_of-clause-none c =
     let h : cut 62 c.loop-piece.rest.now ≡ some_pair c.in-Some.piece.now c.in-Some.after.now = search rules in
     let stop : profile_of c.in-Some.piece.now ≡ None → read_profiles c.args.text.now ≡ None =
     λ e. sym c.loop-piece.invariant.1 ∙ list-refused c.loop-piece.made c.loop-piece.rest.now (c.in-Some.piece.now, c.in-Some.after.now) h e in
@@ -35,9 +35,9 @@ loop-piece-preserved c =
           ∙ c.loop-piece.invariant.2,
     )
 
-pub returns-then-not-is_all-clause-refused : goal.returns-then-not-is_all-clause-refused
+pub returns-then-not-is_all-clause-none : goal.returns-then-not-is_all-clause-none
 unfolding read_profiles
-returns-then-not-is_all-clause-refused c =
+returns-then-not-is_all-clause-none c =
     let h : cut 62 c.loop-piece.rest.now ≡ no_pair = search rules in
     let b : is_blank_text c.loop-piece.rest.now ≡ false = search rules in
     λ _. sym c.loop-piece.invariant.1 ∙ lists-stray c.loop-piece.made c.loop-piece.rest.now h b
@@ -49,19 +49,19 @@ returns-clause-ok c =
     let b : is_blank_text c.loop-piece.rest.now ≡ true = search rules in
     sym c.loop-piece.invariant.1 ∙ lists-end c.loop-piece.made c.loop-piece.rest.now h b
 
-pub returns-in_err-profile_of-clause-err : goal.returns-in_err-profile_of-clause-err
+pub returns-in_err-profile_of-clause-refused : goal.returns-in_err-profile_of-clause-refused
 unfolding profiles_fault
-returns-in_err-profile_of-clause-err c =
+returns-in_err-profile_of-clause-refused c =
     let h : cut 62 c.loop-piece.rest.now ≡ some_pair c.in-Some.piece.now c.in-Some.after.now = search rules in
     let stop : (f : RelationFault) → profile_of c.in-Some.piece.now ≡ None → f ≡ list_fault BadName c.end_before.result c.in-Some.piece.now → f ≡ profiles_fault c.args.end c.args.text.now =
     λ f r e. e ∙ ap (λ n. list_fault BadName n c.in-Some.piece.now) c.end_before.ensures
     ∙ sym (list-told c.args.end c.loop-piece.rest.now (c.in-Some.piece.now, c.in-Some.after.now) h r)
     ∙ c.loop-piece.invariant.2 in
     let p = err_from_is_err_and c.from_residual.result c.from_residual.ensures.1 in
-    rw (p.1, p.2) (λ n. stop _ (c.in_err-profile_of.ensures.refused n) (c.in_err-profile_of.ensures.err n))
+    rw (p.1, p.2) (λ n. stop _ (c.in_err-profile_of.ensures.none n) (c.in_err-profile_of.ensures.refused n))
 
-pub returns-then-not-is_all-clause-err : goal.returns-then-not-is_all-clause-err
+pub returns-then-not-is_all-clause-refused : goal.returns-then-not-is_all-clause-refused
 unfolding profiles_fault
-returns-then-not-is_all-clause-err c =
+returns-then-not-is_all-clause-refused c =
     let h : cut 62 c.loop-piece.rest.now ≡ no_pair = search rules in
     λ _. c.end_fault.ensures ∙ sym (lists-end-told c.args.end c.loop-piece.rest.now h) ∙ c.loop-piece.invariant.2

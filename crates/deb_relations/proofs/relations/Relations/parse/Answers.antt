@@ -17,7 +17,7 @@ returns-in_err-read_groups-clause-refused c =
     let stop : (fault : RelationFault) → read_groups c.args.text.now ≡ None → fault ≡ groups_fault c.args.text.now → reading_of c.args.text.now ≡ Err fault =
     λ fault h e. reading-fault c.args.text.now fault short h e in
     let p = err_from_is_err_and c.from_residual.result c.from_residual.ensures.1 in
-    rw (p.1, p.2) (λ n. stop _ (c.in_err-read_groups.ensures.refused n) (c.in_err-read_groups.ensures.err n))
+    rw (p.1, p.2) (λ n. stop _ (c.in_err-read_groups.ensures.none n) (c.in_err-read_groups.ensures.refused n))
 
 pub returns-clause-value : goal.returns-clause-value
 returns-clause-value c = reads-sound c.args.text.now c.in_ok-read_groups.field-0 (omega arith) c.in_ok-read_groups.ensures.ok
