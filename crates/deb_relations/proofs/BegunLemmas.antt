@@ -1,11 +1,11 @@
--- Where memory is wanted: the first group that is said begins with a package name.
+-- Where memory is wanted: the first group that is not blank begins with a package name.
 use Rattle.std.proofs.Common.{◌≡◌, ℕ, Bool, true, false, cond, eqb, List, [], ◌∷◌, filter, refl, sym, ap, ◌∙◌, ◌⊎◌, inl, inr, Option, None, Some, Result, Ok, Err}
 use Rattle.std.specs.Prelude.{is_some, IfErr}
 use Rattle.std.specs.List.{slice_split}
 use Rattle.deb_relations.specs.declared.fault.RelationFault.{RelationFault}
 use Rattle.deb_relations.specs.declared.fault.RelationFault.TheVariants.{Memory}
 use Rattle.deb_relations.specs.declared.relations.Alternative.{Alternative}
-use Rattle.deb_relations.specs.Grammar.{is_said}
+use Rattle.deb_relations.specs.Grammar.{is_not_blank}
 use Rattle.deb_relations.specs.Reduction.{is_filled}
 use Rattle.deb_relations.specs.Reader.{cut, both, all_some, push_group, with_group, read_name, read_alternative, with_name, read_group}
 use Rattle.deb_relations.specs.Reading.{begins_with_name, is_group_begun, takes_memory}
@@ -55,46 +55,46 @@ pub group-begun : (text : List ℕ) (group : List Alternative) → read_group te
 unfolding read_group is_group_begun
 group-begun text group e = pieces-begun (slice_split (λ c. eqb c 124) text) group (split-has (λ c. eqb c 124) text) e
 
--- only blank groups were passed yet, or the first that is said begins with a name
+-- only blank groups were passed yet, or the first that is not blank begins with a name
 abbrev pub HasBegun : List ℕ → List ℕ → Type 0
 HasBegun rest text =
-    (filter is_said (slice_split (λ c. eqb c 44) rest) ≡ filter is_said (slice_split (λ c. eqb c 44) text)) ⊎ (takes_memory text ≡ true)
+    (filter is_not_blank (slice_split (λ c. eqb c 44) rest) ≡ filter is_not_blank (slice_split (λ c. eqb c 44) text)) ⊎ (takes_memory text ≡ true)
 
-pub groups-begun : (rest text : List ℕ) (p : Halves) → HasBegun rest text → cut 44 rest ≡ Some p → is_said p.0 ≡ true → is_group_begun p.0 ≡ true → takes_memory text ≡ true
+pub groups-begun : (rest text : List ℕ) (p : Halves) → HasBegun rest text → cut 44 rest ≡ Some p → is_not_blank p.0 ≡ true → is_group_begun p.0 ≡ true → takes_memory text ≡ true
 unfolding takes_memory
-groups-begun rest text p (inl same) e said named =
+groups-begun rest text p (inl same) e not_blank named =
     ap (begins is_group_begun) (sym same)
-    ∙ ap (λ xs. begins is_group_begun (filter is_said xs)) (cut-is 44 rest p e).step
-    ∙ ap (λ b. begins is_group_begun (cond b (p.0 ∷ filter is_said (slice_split (λ c. eqb c 44) p.1)) (filter is_said (slice_split (λ c. eqb c 44) p.1)))) said
+    ∙ ap (λ xs. begins is_group_begun (filter is_not_blank xs)) (cut-is 44 rest p e).step
+    ∙ ap (λ b. begins is_group_begun (cond b (p.0 ∷ filter is_not_blank (slice_split (λ c. eqb c 44) p.1)) (filter is_not_blank (slice_split (λ c. eqb c 44) p.1)))) not_blank
     ∙ named
-groups-begun rest text p (inr begun) e said named = begun
+groups-begun rest text p (inr begun) e not_blank named = begun
 
-pub last-begun : (rest text : List ℕ) → HasBegun rest text → cut 44 rest ≡ None → is_said rest ≡ true → is_group_begun rest ≡ true → takes_memory text ≡ true
+pub last-begun : (rest text : List ℕ) → HasBegun rest text → cut 44 rest ≡ None → is_not_blank rest ≡ true → is_group_begun rest ≡ true → takes_memory text ≡ true
 unfolding takes_memory
-last-begun rest text (inl same) e said named =
+last-begun rest text (inl same) e not_blank named =
     ap (begins is_group_begun) (sym same)
-    ∙ ap (λ xs. begins is_group_begun (filter is_said xs)) (split-last 44 rest e)
-    ∙ ap (λ b. begins is_group_begun (cond b (rest ∷ []) [])) said
+    ∙ ap (λ xs. begins is_group_begun (filter is_not_blank xs)) (split-last 44 rest e)
+    ∙ ap (λ b. begins is_group_begun (cond b (rest ∷ []) [])) not_blank
     ∙ named
-last-begun rest text (inr begun) e said named = begun
+last-begun rest text (inr begun) e not_blank named = begun
 
-said-by : (made next : List (List Alternative)) (piece : List ℕ) (o : Option (List Alternative)) → o ≡ read_group piece → push_group made o ≡ Some next → is_group_begun piece ≡ true
-said-by made next piece None e h = cc
-said-by made next piece (Some group) e h = group-begun piece group (sym e)
+pushed-begun : (made next : List (List Alternative)) (piece : List ℕ) (o : Option (List Alternative)) → o ≡ read_group piece → push_group made o ≡ Some next → is_group_begun piece ≡ true
+pushed-begun made next piece None e h = cc
+pushed-begun made next piece (Some group) e h = group-begun piece group (sym e)
 
 behind-by : (b : Bool) (made next : List (List Alternative)) (rest text : List ℕ) (p : Halves) → HasBegun rest text → cut 44 rest ≡ Some p
-    → is_said p.0 ≡ b → cond b (push_group made (read_group p.0)) (Some made) ≡ Some next → HasBegun p.1 text
-behind-by true made next rest text p begun e said h = inr (groups-begun rest text p begun e said (said-by made next p.0 (read_group p.0) refl h))
-behind-by false made next rest text p (inl same) e said h =
-    inl (sym (ap (λ b. cond b (p.0 ∷ filter is_said (slice_split (λ c. eqb c 44) p.1)) (filter is_said (slice_split (λ c. eqb c 44) p.1))) said)
-    ∙ sym (ap (filter is_said) (cut-is 44 rest p e).step) ∙ same)
-behind-by false made next rest text p (inr begun) e said h = inr begun
+    → is_not_blank p.0 ≡ b → cond b (push_group made (read_group p.0)) (Some made) ≡ Some next → HasBegun p.1 text
+behind-by true made next rest text p begun e not_blank h = inr (groups-begun rest text p begun e not_blank (pushed-begun made next p.0 (read_group p.0) refl h))
+behind-by false made next rest text p (inl same) e not_blank h =
+    inl (sym (ap (λ b. cond b (p.0 ∷ filter is_not_blank (slice_split (λ c. eqb c 44) p.1)) (filter is_not_blank (slice_split (λ c. eqb c 44) p.1))) not_blank)
+    ∙ sym (ap (filter is_not_blank) (cut-is 44 rest p e).step) ∙ same)
+behind-by false made next rest text p (inr begun) e not_blank h = inr begun
 
 -- behind a group that was read, or was blank
 pub groups-behind : (made next : List (List Alternative)) (rest text : List ℕ) (p : Halves) → HasBegun rest text → cut 44 rest ≡ Some p
     → with_group made p.0 ≡ Some next → HasBegun p.1 text
 unfolding with_group
-groups-behind made next rest text p begun e h = behind-by (is_said p.0) made next rest text p begun e refl h
+groups-behind made next rest text p begun e h = behind-by (is_not_blank p.0) made next rest text p begun e refl h
 
 -- what holds holds where memory was wanted
 pub where-wanted : {T : Type 0} {Q : Type 0} (r : Result T RelationFault) → Q → IfErr r (λ fault. fault ≡ Memory → Q)

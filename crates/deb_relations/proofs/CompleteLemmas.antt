@@ -14,7 +14,7 @@ use Rattle.deb_relations.specs.declared.relations.Restriction.{Restriction}
 use Rattle.deb_relations.specs.declared.relations.Alternative.{Alternative}
 use Rattle.deb_relations.specs.Printing.{term_text}
 use Rattle.deb_relations.specs.Reduction.{is_filled}
-use Rattle.deb_relations.specs.Grammar.{is_white, is_blank_text, is_profile_char, is_op_char, is_qualifier, is_word, is_said, op_of, words, TakesName, TakesQualifier, InBrackets, IsRestriction, TakesRestriction, ReadsTerms, TakesArchs, ReadsProfiles, ReadsAlternative, ReadsGroup, Reads}
+use Rattle.deb_relations.specs.Grammar.{is_white, is_blank_text, is_profile_char, is_op_char, is_qualifier, is_word, is_not_blank, op_of, words, TakesName, TakesQualifier, InBrackets, IsRestriction, TakesRestriction, ReadsTerms, TakesArchs, ReadsProfiles, ReadsAlternative, ReadsGroup, Reads}
 use Rattle.deb_relations.specs.Names.{is_lower_or_digit, is_package_char, is_arch_char, begins_with_lower_or_digit, is_package_name}
 use Rattle.deb_relations.specs.Reader.{skip, strip, is_solid, between, between_opened, some_of, read_between, with_rest, read_name, read_behind_colon, read_qualifier, asked_of, asked_behind, asked_from, restriction_of, asked_inside, read_restriction, term_behind, term_of, both, all_some, filled_only, terms_of, alike_only, archs_of, read_archs, profile_behind, profile_of, lists_of, read_profiles, with_profiles, with_archs, with_asked, with_qualifier, with_name, read_alternative, read_group, read_groups}
 use Rattle.deb_relations.proofs.LeadingLemmas.{both-true, and-true, stops, opens, leading-all, skip-all, opens-stops, opens-weaker, all-weaker, all-both}
@@ -318,7 +318,7 @@ terms-texts kind r e m (term ∷ terms) h =
 
 terms-inside : (kind : Kind) (r : ℕ) → is_profile_char r ≡ false → other r 33 ≡ true → ((c : ℕ) → is_white c ≡ true → other r c ≡ true) → (inside : List ℕ) (terms : List Term) → ReadsTerms kind inside terms → list_all (other r) inside ≡ true
 terms-inside kind r e m w inside terms h =
-    words-all (other r) w inside (ap (list_all (list_all (other r))) h.said ∙ terms-texts kind r e m terms h.forms)
+    words-all (other r) w inside (ap (list_all (list_all (other r))) h.written ∙ terms-texts kind r e m terms h.forms)
 
 profile-not-mark : (c : ℕ) → is_profile_char c ≡ true → eqb c 33 ≡ false
 unfolding is_profile_char
@@ -346,7 +346,7 @@ filled-kept (x ∷ xs) h = refl
 
 pub terms-complete : (kind : Kind) (inside : List ℕ) (terms : List Term) → ReadsTerms kind inside terms → terms_of kind inside ≡ Some terms
 unfolding terms_of
-terms-complete kind inside terms h = ap (λ ws. filled_only (all_some (term_of kind) ws)) h.said ∙ ap filled_only (terms-at kind terms h.forms) ∙ filled-kept terms h.filled
+terms-complete kind inside terms h = ap (λ ws. filled_only (all_some (term_of kind) ws)) h.written ∙ ap filled_only (terms-at kind terms h.forms) ∙ filled-kept terms h.filled
 
 white-square : (c : ℕ) → is_white c ≡ true → other 93 c ≡ true
 unfolding is_white
@@ -424,4 +424,4 @@ group-complete t group h = each-complete read_alternative ReadsAlternative alter
 
 pub reads-complete : (t : List ℕ) (groups : List (List Alternative)) → Reads t groups → read_groups t ≡ Some groups
 unfolding read_groups Reads
-reads-complete t groups h = each-complete read_group ReadsGroup group-complete (filter is_said (slice_split (λ c. eqb c 44) t)) groups h.1
+reads-complete t groups h = each-complete read_group ReadsGroup group-complete (filter is_not_blank (slice_split (λ c. eqb c 44) t)) groups h.1

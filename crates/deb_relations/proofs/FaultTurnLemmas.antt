@@ -6,7 +6,7 @@ use Rattle.deb_relations.specs.declared.fault.RelationFault.TheVariants.{BadName
 use Rattle.deb_relations.specs.declared.relations.Term.{Term}
 use Rattle.deb_relations.specs.declared.relations.Alternative.{Alternative}
 use Rattle.deb_relations.specs.Reduction.{is_filled}
-use Rattle.deb_relations.specs.Grammar.{is_blank_text, is_said}
+use Rattle.deb_relations.specs.Grammar.{is_blank_text, is_not_blank}
 use Rattle.deb_relations.specs.Reader.{cut, profile_of, read_alternative, read_group, push_group, with_group}
 use Rattle.deb_relations.specs.Reading.{end_before, span, list_fault, lists_fault, first_fault, is_alternative, is_group_or_blank}
 use Rattle.deb_relations.proofs.CutLemmas.{Halves, cut-is, split-last}
@@ -70,7 +70,7 @@ pushed-none made None h = refl
 pushed-none made (Some g) h = absurd (cc)
 
 pub is-group : (made next : Groups) (piece : List ℕ) → with_group made piece ≡ Some next → is_group_or_blank piece ≡ true
-unfolding is_group_or_blank with_group is_said
+unfolding is_group_or_blank with_group is_not_blank
 is-group made next piece h =
     elim (is_blank_text piece) as (λ v. cond (not v) (push_group made (read_group piece)) (Some made) ≡ Some next → (v || is_some (read_group piece)) ≡ true) [
       | true ↦ λ k. refl
@@ -78,7 +78,7 @@ is-group made next piece h =
     ] h
 
 pub no-group : (made : Groups) (piece : List ℕ) → with_group made piece ≡ None → is_group_or_blank piece ≡ false
-unfolding is_group_or_blank with_group is_said
+unfolding is_group_or_blank with_group is_not_blank
 no-group made piece h =
     elim (is_blank_text piece) as (λ v. cond (not v) (push_group made (read_group piece)) (Some made) ≡ None → (v || is_some (read_group piece)) ≡ false) [
       | true ↦ λ k. absurd (cc)

@@ -14,7 +14,7 @@ use Rattle.deb_relations.specs.declared.relations.Restriction.{Restriction}
 use Rattle.deb_relations.specs.declared.relations.Alternative.{Alternative}
 use Rattle.deb_relations.specs.Printing.{term_text, op_text, qualifier_text, restriction_text, terms_text, archs_text, profile_text, profiles_text, alternative_text, group_text, printed}
 use Rattle.deb_relations.specs.Reduction.{is_filled, is_kept, without_lists, reduced_group, reduced}
-use Rattle.deb_relations.specs.Grammar.{is_white, is_blank_text, is_profile_char, is_qualifier, is_word, is_said, op_of, words, are_alike, TakesQualifier, TakesRestriction, ReadsTerms, TakesArchs, ReadsProfiles, ReadsAlternative, ReadsGroup, Reads, relations_limit}
+use Rattle.deb_relations.specs.Grammar.{is_white, is_blank_text, is_profile_char, is_qualifier, is_word, is_not_blank, op_of, words, are_alike, TakesQualifier, TakesRestriction, ReadsTerms, TakesArchs, ReadsProfiles, ReadsAlternative, ReadsGroup, Reads, relations_limit}
 use Rattle.deb_relations.specs.Names.{is_lower_or_digit, is_package_char, is_arch_char, begins_with_lower_or_digit, is_package_name}
 use Rattle.deb_relations.specs.Reader.{skip, is_solid}
 use Rattle.deb_relations.proofs.LeadingLemmas.{both-true, stops, leading-all, skip-all, all-weaker, all-both}
@@ -105,7 +105,7 @@ good-groups (p ∷ ps) (g ∷ gs) h =
 -- what was read has the forms, and so has its reduction
 pub reads-good : (t : List ℕ) (groups : List (List Alternative)) → Reads t groups → AllGroups groups
 unfolding Reads
-reads-good t groups h = good-groups (filter is_said (slice_split (λ c. eqb c 44) t)) groups h.1
+reads-good t groups h = good-groups (filter is_not_blank (slice_split (λ c. eqb c 44) t)) groups h.1
 
 without-good : (a : Alternative) → Good a → Good (without_lists a)
 without-good a h = record { name = h.name; qualifier = h.qualifier; restriction = h.restriction; archs = refl; alike = refl; profiles = tt }
@@ -191,7 +191,7 @@ unfolding terms_text
 terms-read kind [] f h = absurd (cc)
 terms-read kind (term ∷ terms) f h =
     let two = both-true (is_word kind term.word) (list_all (λ term. is_word kind term.word) terms) h in
-    record { said = words-terms kind term terms two.0 two.1; filled = refl; forms = h }
+    record { written = words-terms kind term terms two.0 two.1; filled = refl; forms = h }
 
 -- the parts of a printed alternative
 qualifier-printed : (q : Option (List ℕ)) (rest : List ℕ) → GoodQualifier q → TakesQualifier (qualifier_text q ++ rest) q rest
@@ -429,45 +429,45 @@ not-blank [] [] zs h = absurd (cc)
 not-blank [] (c ∷ cs) zs h = ap (λ v. v && is_blank_text (cs ++ zs)) (lower-not-white c h)
 not-blank (x ∷ xs) ys zs h = ap (λ v. is_white x && v) (not-blank xs ys zs h) ∙ and-false (is_white x)
 
-said-alternative : (gap rest : List ℕ) (a : Alternative) → Good a → is_blank_text (gap ++ (alternative_text a ++ rest)) ≡ false
+not_blank-alternative : (gap rest : List ℕ) (a : Alternative) → Good a → is_blank_text (gap ++ (alternative_text a ++ rest)) ≡ false
 unfolding alternative_text is_package_name
-said-alternative gap rest a h =
+not_blank-alternative gap rest a h =
     let tail : List ℕ = qualifier_text a.qualifier ++ (restriction_text a.restriction ++ (archs_text a.archs ++ profiles_text a.profiles)) in
     ap (λ x. is_blank_text (gap ++ x)) (append_assoc a.name tail rest) ∙ not-blank gap a.name (tail ++ rest) (both-true (begins_with_lower_or_digit a.name) _ h.name).0
 
-said-group : (gap : List ℕ) (group : List Alternative) → is_filled group ≡ true → AllGood group → is_said (gap ++ group_text group) ≡ true
-unfolding is_said group_text
-said-group gap [] f h = absurd (cc)
-said-group gap (a ∷ more) f h = ap not (said-alternative gap (behind_alternatives more) a h.0)
+not_blank-group : (gap : List ℕ) (group : List Alternative) → is_filled group ≡ true → AllGood group → is_not_blank (gap ++ group_text group) ≡ true
+unfolding is_not_blank group_text
+not_blank-group gap [] f h = absurd (cc)
+not_blank-group gap (a ∷ more) f h = ap not (not_blank-alternative gap (behind_alternatives more) a h.0)
 
 abbrev behind_groups : List (List Alternative) → List ℕ
 behind_groups gs = flat_map (λ y. codes ", " ++ group_text y) gs
 
-keep-said : (piece : List ℕ) (ps : List (List ℕ)) → is_said piece ≡ true → filter is_said (piece ∷ ps) ≡ piece ∷ filter is_said ps
-keep-said piece ps h = ap (λ v. cond v (piece ∷ filter is_said ps) (filter is_said ps)) h
+keep-not_blank : (piece : List ℕ) (ps : List (List ℕ)) → is_not_blank piece ≡ true → filter is_not_blank (piece ∷ ps) ≡ piece ∷ filter is_not_blank ps
+keep-not_blank piece ps h = ap (λ v. cond v (piece ∷ filter is_not_blank ps) (filter is_not_blank ps)) h
 
 white-comma : (c : ℕ) → is_white c ≡ true → other 44 c ≡ true
 white-comma c h = inner-comma c (inner-white c h)
 
 groups-printed : (gap : List ℕ) (g : List Alternative) (gs : List (List Alternative)) → is_blank_text gap ≡ true → AllGroups (g ∷ gs)
-    → AllZip ReadsGroup (filter is_said (slice_split (λ c. eqb c 44) (gap ++ (group_text g ++ behind_groups gs)))) (g ∷ gs)
+    → AllZip ReadsGroup (filter is_not_blank (slice_split (λ c. eqb c 44) (gap ++ (group_text g ++ behind_groups gs)))) (g ∷ gs)
 unfolding is_white
 groups-printed gap g [] b h =
     let whole : gap ++ (group_text g ++ []) ≡ gap ++ group_text g = ap (λ x. gap ++ x) (append-nil (group_text g)) in
     let commas : list_all (other 44) (gap ++ group_text g) ≡ true = all-both (other 44) gap (group_text g) (all-weaker is_white (other 44) white-comma gap b) (comma-group g h.1.0) in
-    let pieces : filter is_said (slice_split (λ c. eqb c 44) (gap ++ (group_text g ++ []))) ≡ (gap ++ group_text g) ∷ [] =
-    ap (λ x. filter is_said (slice_split (λ c. eqb c 44) x)) whole ∙ ap (filter is_said) (split-none 44 (gap ++ group_text g) commas) ∙ keep-said (gap ++ group_text g) [] (said-group gap g h.0 h.1.0) in
+    let pieces : filter is_not_blank (slice_split (λ c. eqb c 44) (gap ++ (group_text g ++ []))) ≡ (gap ++ group_text g) ∷ [] =
+    ap (λ x. filter is_not_blank (slice_split (λ c. eqb c 44) x)) whole ∙ ap (filter is_not_blank) (split-none 44 (gap ++ group_text g) commas) ∙ keep-not_blank (gap ++ group_text g) [] (not_blank-group gap g h.0 h.1.0) in
     subst (λ (ps : List (List ℕ)). AllZip ReadsGroup ps (g ∷ [])) (sym pieces) (group-printed gap g b h.0 h.1.0, tt)
 groups-printed gap g (y ∷ ys) b h =
     let piece : List ℕ = gap ++ group_text g in
     let rest : List ℕ = (32 ∷ []) ++ (group_text y ++ behind_groups ys) in
     let text : gap ++ (group_text g ++ behind_groups (y ∷ ys)) ≡ piece ++ (44 ∷ rest) = simp append_assoc in
     let commas : list_all (other 44) piece ≡ true = all-both (other 44) gap (group_text g) (all-weaker is_white (other 44) white-comma gap b) (comma-group g h.1.0) in
-    let pieces : filter is_said (slice_split (λ c. eqb c 44) (gap ++ (group_text g ++ behind_groups (y ∷ ys)))) ≡ piece ∷ filter is_said (slice_split (λ c. eqb c 44) rest) =
-    ap (λ x. filter is_said (slice_split (λ c. eqb c 44) x)) text ∙ ap (filter is_said) (split-here 44 piece rest commas) ∙ keep-said piece (slice_split (λ c. eqb c 44) rest) (said-group gap g h.0 h.1.0) in
+    let pieces : filter is_not_blank (slice_split (λ c. eqb c 44) (gap ++ (group_text g ++ behind_groups (y ∷ ys)))) ≡ piece ∷ filter is_not_blank (slice_split (λ c. eqb c 44) rest) =
+    ap (λ x. filter is_not_blank (slice_split (λ c. eqb c 44) x)) text ∙ ap (filter is_not_blank) (split-here 44 piece rest commas) ∙ keep-not_blank piece (slice_split (λ c. eqb c 44) rest) (not_blank-group gap g h.0 h.1.0) in
     subst (λ (ps : List (List ℕ)). AllZip ReadsGroup ps (g ∷ (y ∷ ys))) (sym pieces) (group-printed gap g b h.0 h.1.0, groups-printed (32 ∷ []) y ys refl h.1.1)
 
 pub printed-reads : (groups : List (List Alternative)) → AllGroups groups → length (printed groups) ≤ relations_limit → Reads (printed groups) groups
-unfolding Reads printed is_said
+unfolding Reads printed is_not_blank
 printed-reads [] h l = (l, tt)
 printed-reads (g ∷ gs) h l = (l, groups-printed [] g gs refl h)

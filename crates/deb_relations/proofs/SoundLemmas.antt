@@ -13,7 +13,7 @@ use Rattle.deb_relations.specs.declared.relations.Restriction.{Restriction}
 use Rattle.deb_relations.specs.declared.relations.Alternative.{Alternative}
 use Rattle.deb_relations.specs.Printing.{term_text}
 use Rattle.deb_relations.specs.Reduction.{is_filled}
-use Rattle.deb_relations.specs.Grammar.{is_white, is_blank_text, is_op_char, is_qualifier, is_word, is_said, op_of, words, are_alike, TakesName, TakesQualifier, InBrackets, IsRestriction, TakesRestriction, ReadsTerms, TakesArchs, ReadsProfiles, ReadsAlternative, ReadsGroup, Reads, relations_limit}
+use Rattle.deb_relations.specs.Grammar.{is_white, is_blank_text, is_op_char, is_qualifier, is_word, is_not_blank, op_of, words, are_alike, TakesName, TakesQualifier, InBrackets, IsRestriction, TakesRestriction, ReadsTerms, TakesArchs, ReadsProfiles, ReadsAlternative, ReadsGroup, Reads, relations_limit}
 use Rattle.deb_relations.specs.Names.{is_package_char, is_arch_char, is_package_name}
 use Rattle.deb_relations.specs.Reader.{skip, strip, cut, is_solid, between, between_opened, some_of, read_between, with_rest, read_name, read_behind_colon, read_qualifier, asked_of, restriction_of, asked_inside, read_restriction, term_behind, term_of, both, all_some, filled_only, terms_of, alike_only, archs_of, read_archs, profile_behind, profile_of, lists_of, read_profiles, with_profiles, with_archs, with_asked, with_qualifier, with_name, read_alternative, read_group, read_groups}
 use Rattle.deb_relations.proofs.LeadingLemmas.{both-true, and-true, leading-skip, leading-passes}
@@ -199,13 +199,13 @@ module _ {X Y : Type 0} (f : X → Option Y) (R : X → Y → Type 0) (sound : (
       let made : ◌≡◌ {A = List Y} [] ys = cc in subst (λ (ws : List Y). AllZip R [] ws) made tt
   each-sound (x ∷ xs) ys h = each-both x xs (f x) (all_some f xs) (sound x) (each-sound xs) ys h
 
-terms-said : (kind : Kind) (ws : List (List ℕ)) (terms : List Term) → AllZip (IsTermOf kind) ws terms → (ws ≡ map term_text terms) × (list_all (λ term. is_word kind term.word) terms ≡ true)
+terms-written : (kind : Kind) (ws : List (List ℕ)) (terms : List Term) → AllZip (IsTermOf kind) ws terms → (ws ≡ map term_text terms) × (list_all (λ term. is_word kind term.word) terms ≡ true)
 unfolding IsTermOf
-terms-said kind [] [] e = (refl, refl)
-terms-said kind [] (term ∷ terms) e = absurd e
-terms-said kind (w ∷ ws) [] e = absurd e
-terms-said kind (w ∷ ws) (term ∷ terms) e =
-    let more = terms-said kind ws terms e.1 in
+terms-written kind [] [] e = (refl, refl)
+terms-written kind [] (term ∷ terms) e = absurd e
+terms-written kind (w ∷ ws) [] e = absurd e
+terms-written kind (w ∷ ws) (term ∷ terms) e =
+    let more = terms-written kind ws terms e.1 in
     (ap (λ x. x ∷ ws) e.0.0 ∙ ap (λ xs. term_text term ∷ xs) more.0, and-true _ _ e.0.1 more.1)
 
 terms-by : (kind : Kind) (inside : List ℕ) (o : Option (List Term)) → all_some (term_of kind) (words inside) ≡ o → (terms : List Term) → filled_only o ≡ Some terms → ReadsTerms kind inside terms
@@ -213,8 +213,8 @@ terms-by kind inside None e terms h = absurd (cc)
 terms-by kind inside (Some []) e terms h = absurd (cc)
 terms-by kind inside (Some (x ∷ xs)) e terms h =
     let made : ◌≡◌ {A = List Term} (x ∷ xs) terms = cc in
-    let two = terms-said kind (words inside) (x ∷ xs) (each-sound (term_of kind) (IsTermOf kind) (term-sound kind) (words inside) (x ∷ xs) e) in
-    subst (ReadsTerms kind inside) made (record { said = two.0; filled = refl; forms = two.1 })
+    let two = terms-written kind (words inside) (x ∷ xs) (each-sound (term_of kind) (IsTermOf kind) (term-sound kind) (words inside) (x ∷ xs) e) in
+    subst (ReadsTerms kind inside) made (record { written = two.0; filled = refl; forms = two.1 })
 
 pub terms-sound : (kind : Kind) (inside : List ℕ) (terms : List Term) → terms_of kind inside ≡ Some terms → ReadsTerms kind inside terms
 unfolding terms_of
@@ -347,4 +347,4 @@ group-sound t group h = each-sound read_alternative ReadsAlternative alternative
 
 pub reads-sound : (t : List ℕ) (groups : List (List Alternative)) → length t ≤ relations_limit → read_groups t ≡ Some groups → Reads t groups
 unfolding read_groups Reads
-reads-sound t groups l h = (l, each-sound read_group ReadsGroup group-sound (filter is_said (slice_split (λ c. eqb c 44) t)) groups h)
+reads-sound t groups l h = (l, each-sound read_group ReadsGroup group-sound (filter is_not_blank (slice_split (λ c. eqb c 44) t)) groups h)

@@ -6,7 +6,7 @@ use Rattle.deb_relations.specs.declared.relations.Kind.{Kind}
 use Rattle.deb_relations.specs.declared.relations.Term.{Term}
 use Rattle.deb_relations.specs.declared.relations.Alternative.{Alternative}
 use Rattle.deb_relations.specs.Reduction.{is_filled}
-use Rattle.deb_relations.specs.Grammar.{is_white, is_blank_text, is_said, words}
+use Rattle.deb_relations.specs.Grammar.{is_white, is_blank_text, is_not_blank, words}
 use Rattle.deb_relations.specs.Reader.{skip, cut, is_solid, both, all_some, term_of, profile_of, lists_of, read_group, push_group, with_group}
 use Rattle.deb_relations.proofs.LeadingLemmas.{stops, skip-stops}
 use Rattle.deb_relations.proofs.CutLemmas.{cut-is, split-last}
@@ -180,7 +180,7 @@ Groups = List (List Alternative)
 
 -- the groups of some pieces, behind those that were made
 abbrev pub groups_behind : Groups → List (List ℕ) → Option Groups
-groups_behind made pieces = onto made (all_some read_group (filter is_said pieces))
+groups_behind made pieces = onto made (all_some read_group (filter is_not_blank pieces))
 
 pushed : (made next : Groups) (o : Option (List Alternative)) (more : Option Groups) → push_group made o ≡ Some next → onto next more ≡ onto made (both o more)
 pushed made next None more h = absurd (cc)
@@ -191,29 +191,29 @@ not-pushed made None more h = refl
 not-pushed made (Some g) more h = absurd (cc)
 
 group-by : (made next : Groups) (piece : List ℕ) (pieces : List (List ℕ)) (b : Bool) → cond b (push_group made (read_group piece)) (Some made) ≡ Some next
-    → groups_behind next pieces ≡ onto made (all_some read_group (cond b (piece ∷ filter is_said pieces) (filter is_said pieces)))
-group-by made next piece pieces true h = pushed made next (read_group piece) (all_some read_group (filter is_said pieces)) h
+    → groups_behind next pieces ≡ onto made (all_some read_group (cond b (piece ∷ filter is_not_blank pieces) (filter is_not_blank pieces)))
+group-by made next piece pieces true h = pushed made next (read_group piece) (all_some read_group (filter is_not_blank pieces)) h
 group-by made next piece pieces false h = let here : ◌≡◌ {A = Groups} made next = cc in ap (λ x. groups_behind x pieces) (sym here)
 
 group-by-none : (made : Groups) (piece : List ℕ) (pieces : List (List ℕ)) (b : Bool) → cond b (push_group made (read_group piece)) (Some made) ≡ None
-    → onto made (all_some read_group (cond b (piece ∷ filter is_said pieces) (filter is_said pieces))) ≡ None
-group-by-none made piece pieces true h = not-pushed made (read_group piece) (all_some read_group (filter is_said pieces)) h
+    → onto made (all_some read_group (cond b (piece ∷ filter is_not_blank pieces) (filter is_not_blank pieces))) ≡ None
+group-by-none made piece pieces true h = not-pushed made (read_group piece) (all_some read_group (filter is_not_blank pieces)) h
 group-by-none made piece pieces false h = absurd (cc)
 
 pub group-turn : (made next : Groups) (t : List ℕ) (p : List ℕ × List ℕ) → cut 44 t ≡ Some p → with_group made p.0 ≡ Some next
     → groups_behind next (slice_split (λ b. eqb b 44) p.1) ≡ groups_behind made (slice_split (λ b. eqb b 44) t)
 unfolding with_group
 group-turn made next t p h e =
-    group-by made next p.0 (slice_split (λ b. eqb b 44) p.1) (is_said p.0) e ∙ ap (groups_behind made) (sym (cut-is 44 t p h).step)
+    group-by made next p.0 (slice_split (λ b. eqb b 44) p.1) (is_not_blank p.0) e ∙ ap (groups_behind made) (sym (cut-is 44 t p h).step)
 
 pub group-refused : (made : Groups) (t : List ℕ) (p : List ℕ × List ℕ) → cut 44 t ≡ Some p → with_group made p.0 ≡ None → groups_behind made (slice_split (λ b. eqb b 44) t) ≡ None
 unfolding with_group
-group-refused made t p h e = ap (groups_behind made) (cut-is 44 t p h).step ∙ group-by-none made p.0 (slice_split (λ b. eqb b 44) p.1) (is_said p.0) e
+group-refused made t p h e = ap (groups_behind made) (cut-is 44 t p h).step ∙ group-by-none made p.0 (slice_split (λ b. eqb b 44) p.1) (is_not_blank p.0) e
 
 pub group-end : (made next : Groups) (t : List ℕ) → cut 44 t ≡ None → with_group made t ≡ Some next → groups_behind made (slice_split (λ b. eqb b 44) t) ≡ Some next
 unfolding with_group
-group-end made next t h e = ap (groups_behind made) (split-last 44 t h) ∙ sym (group-by made next t [] (is_said t) e) ∙ onto-end next
+group-end made next t h e = ap (groups_behind made) (split-last 44 t h) ∙ sym (group-by made next t [] (is_not_blank t) e) ∙ onto-end next
 
 pub last-group-refused : (made : Groups) (t : List ℕ) → cut 44 t ≡ None → with_group made t ≡ None → groups_behind made (slice_split (λ b. eqb b 44) t) ≡ None
 unfolding with_group
-last-group-refused made t h e = ap (groups_behind made) (split-last 44 t h) ∙ group-by-none made t [] (is_said t) e
+last-group-refused made t h e = ap (groups_behind made) (split-last 44 t h) ∙ group-by-none made t [] (is_not_blank t) e

@@ -105,7 +105,7 @@ words text = filter is_filled (slice_split is_white text)
 
 -- words of one kind, each perhaps after `!`, and at least one of them (Policy 7.1)
 pub record ReadsTerms (kind : Kind) (inside : List ℕ) (terms : List Term) : Type 0 where
-  pub said : words inside ≡ map term_text terms
+  pub written : words inside ≡ map term_text terms
   pub filled : is_filled terms ≡ true
   pub forms : list_all (λ term. is_word kind term.word) terms ≡ true
 
@@ -143,8 +143,8 @@ abbrev pub ReadsGroup : List ℕ → List Alternative → Type 0
 ReadsGroup text group = AllZip ReadsAlternative (slice_split is_bar text) group
 
 -- whether a text has more than white space (this project's own)
-unfoldable pub is_said : List ℕ → Bool
-is_said text = not (is_blank_text text)
+unfoldable pub is_not_blank : List ℕ → Bool
+is_not_blank text = not (is_blank_text text)
 
 -- the most bytes of relations (this project's own)
 abbrev pub relations_limit : ℕ
@@ -152,4 +152,4 @@ relations_limit = 65536
 
 -- a text within the limit with its groups between commas, where blank groups are skipped (Policy 7.1, the limit and the skipping this project's own)
 unfoldable pub Reads : List ℕ → List (List Alternative) → Type 0
-Reads text groups = (length text ≤ relations_limit) × AllZip ReadsGroup (filter is_said (slice_split is_comma text)) groups
+Reads text groups = (length text ≤ relations_limit) × AllZip ReadsGroup (filter is_not_blank (slice_split is_comma text)) groups

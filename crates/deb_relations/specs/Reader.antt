@@ -10,7 +10,7 @@ use Rattle.deb_relations.specs.declared.relations.Term.{Term}
 use Rattle.deb_relations.specs.declared.relations.Restriction.{Restriction}
 use Rattle.deb_relations.specs.declared.relations.Alternative.{Alternative}
 use Rattle.deb_relations.specs.Reduction.{is_filled}
-use Rattle.deb_relations.specs.Grammar.{is_white, is_blank_text, is_comma, is_bar, is_right_angle, is_op_char, is_word, is_said, op_of, words, are_alike}
+use Rattle.deb_relations.specs.Grammar.{is_white, is_blank_text, is_comma, is_bar, is_right_angle, is_op_char, is_word, is_not_blank, op_of, words, are_alike}
 use Rattle.deb_relations.specs.Names.{is_package_char, is_arch_char, is_package_name}
 use Rattle.deb_relations.specs.Text.{leading}
 
@@ -205,15 +205,15 @@ read_alternative text = with_name (read_name text)
 unfoldable pub read_group : List ℕ → Option (List Alternative)
 read_group text = all_some read_alternative (slice_split is_bar text)
 
--- the groups that are said (Policy 7.1)
+-- the groups, blank ones left out (Policy 7.1)
 unfoldable pub read_groups : List ℕ → Option (List (List Alternative))
-read_groups text = all_some read_group (filter is_said (slice_split is_comma text))
+read_groups text = all_some read_group (filter is_not_blank (slice_split is_comma text))
 
 -- groups, and one more behind them, where it was read (Policy 7.1)
 abbrev pub push_group : List (List Alternative) → Option (List Alternative) → Option (List (List Alternative))
 push_group made None = None
 push_group made (Some group) = Some (made ++ group ∷ [])
 
--- groups, and behind them that of a piece, where the piece is said (Policy 7.1)
+-- groups, and behind them that of a piece, where the piece is not blank (Policy 7.1)
 unfoldable pub with_group : List (List Alternative) → List ℕ → Option (List (List Alternative))
-with_group made piece = if is_said piece then push_group made (read_group piece) else Some made
+with_group made piece = if is_not_blank piece then push_group made (read_group piece) else Some made

@@ -11,7 +11,7 @@ use Rattle.deb_relations.specs.declared.fault.RelationFault.TheVariants.{BadName
 use Rattle.deb_relations.specs.declared.relations.Kind.TheVariants.{Arch}
 use Rattle.deb_relations.specs.declared.relations.Alternative.{Alternative}
 use Rattle.deb_relations.specs.Reduction.{is_filled}
-use Rattle.deb_relations.specs.Grammar.{is_white, is_blank_text, is_comma, is_bar, is_right_angle, is_said, is_op_char, op_of, relations_limit}
+use Rattle.deb_relations.specs.Grammar.{is_white, is_blank_text, is_comma, is_bar, is_right_angle, is_not_blank, is_op_char, op_of, relations_limit}
 use Rattle.deb_relations.specs.Reader.{skip, strip, is_solid, between, read_name, read_qualifier, read_restriction, terms_of, read_archs, profile_of, read_alternative, read_group, read_groups}
 use Rattle.deb_relations.specs.Text.{begins, leading}
 
@@ -142,9 +142,9 @@ begins_with_name text = is_some (read_name text)
 unfoldable pub is_group_begun : List ℕ → Bool
 is_group_begun text = begins begins_with_name (slice_split is_bar text)
 
--- whether the first group that is said begins with a package name, the first thing for which memory is taken (this project's own)
+-- whether the first group that is not blank begins with a package name, the first thing for which memory is taken (this project's own)
 unfoldable pub takes_memory : List ℕ → Bool
-takes_memory text = begins is_group_begun (filter is_said (slice_split is_comma text))
+takes_memory text = begins is_group_begun (filter is_not_blank (slice_split is_comma text))
 
 -- of which the text of a version is made: neither white space nor a closing parenthesis (Policy 7.1)
 unfoldable pub is_asked_char : ℕ → Bool

@@ -4,7 +4,7 @@ ghost use Rattle.std.specs.Prelude.{◌≡◌, ◌≢◌, ◌<◌, ◌==◌, tru
 ghost use Rattle.std.specs.Option.{option_map};
 ghost use Rattle.std.specs.List.{list_all};
 ghost use Rattle.deb_version.specs.Syntax.{fault_of, is_version_text};
-ghost use Rattle.deb_relations.specs.Grammar.{is_blank_text, is_word, op_of, words, are_alike, is_said, Reads, relations_limit};
+ghost use Rattle.deb_relations.specs.Grammar.{is_blank_text, is_word, op_of, words, are_alike, is_not_blank, Reads, relations_limit};
 ghost use Rattle.deb_relations.specs.Reader.{between, read_name, read_qualifier, restriction_of, read_restriction, signed, term_of, all_some, terms_of, with_group, archs_of, read_archs, profile_of, read_profiles, read_alternative, read_group, read_groups};
 ghost use Rattle.deb_relations.specs.Scanner.{halves_of};
 ghost use Rattle.deb_relations.specs.Faults.{fault_from_version};
@@ -356,7 +356,7 @@ fn read_group(alloc: Global, text: &str, end: usize) -> Result<Items<Alternative
 }
 
 // A group more, where the piece has more than white space.
-#[tactic(auto, unfolding(crate::specs::Reader::with_group, crate::specs::Grammar::is_said))]
+#[tactic(auto, unfolding(crate::specs::Reader::with_group, crate::specs::Grammar::is_not_blank))]
 fn add_group(
     alloc: Global,
     made: &mut Items<Items<Alternative>>,
@@ -368,7 +368,7 @@ fn add_group(
         → with_group made.old piece.now ≡ None) }
     ensures refused { IfErr result (λ fault. fault ≢ Memory → fault ≡ group_fault end piece.now) }
     ensures memory { IfErr result (λ fault. fault ≡ Memory →
-        (is_said piece.now ≡ true) × (is_group_begun piece.now ≡ true)) }
+        (is_not_blank piece.now ≡ true) × (is_group_begun piece.now ≡ true)) }
 {
     if !is_all(Class::White, piece) {
         made.push(read_group(alloc, piece, end)?)?;

@@ -3,7 +3,7 @@ use Rattle.std.proofs.Common.{◌≡◌, ℕ, ◌≤◌, List, [], length, Optio
 use Rattle.std.specs.FinMap as finite
 use Rattle.deb_relations.specs.declared.arch.ArchWords.{ArchWords}
 use Rattle.deb_relations.specs.declared.relations.Alternative.{Alternative}
-use Rattle.deb_relations.specs.Grammar.{Reads, is_said}
+use Rattle.deb_relations.specs.Grammar.{Reads, is_not_blank}
 use Rattle.deb_relations.specs.Printing.{printed}
 use Rattle.deb_relations.specs.Reading.{reading_of}
 use Rattle.deb_relations.specs.Reduction.{reduced}
@@ -15,7 +15,7 @@ use Rattle.wb_states.specs.Limits.{relations_limit}
 use Rattle.wb_states.specs.Machine.{Machine, AreRelations, AreWaits, IsConsistent, IsRecord, arch_words}
 
 nothing-read : Reads [] []
-unfolding Reads is_said
+unfolding Reads is_not_blank
 nothing-read = (omega arith, tt)
 
 no-waits : (arch : ArchWords) (waits : List ℕ) → waits ≡ [] → AreRelations arch waits

@@ -5,7 +5,7 @@ use Rattle.deb_relations.specs.Reader.{cut, read_groups, with_group}
 use Rattle.deb_relations.proofs.CutLemmas.{cut-shorter}
 use Rattle.deb_relations.proofs.TurnLemmas.{some_pair, no_pair, group-turn, group-refused, group-end, last-group-refused}
 use Rattle.std.proofs.Common.{filter}
-use Rattle.deb_relations.specs.Grammar.{is_said}
+use Rattle.deb_relations.specs.Grammar.{is_not_blank}
 use Rattle.deb_relations.specs.Reader.{all_some, read_group}
 use Rattle.deb_relations.proofs.TurnLemmas.{onto, onto-start}
 use Rattle.std.proofs.Common.{refl, length}
@@ -58,8 +58,8 @@ returns-clause-ok c =
 pub loop-piece-init : goal.loop-piece-init
 loop-piece-init c = (
   search rules,
-  ap (λ m. onto m (all_some read_group (filter is_said (slice_split (λ b. eqb b 44) c.args.text.now)))) c.new-made.ensures
-      ∙ onto-start (all_some read_group (filter is_said (slice_split (λ b. eqb b 44) c.args.text.now))),
+  ap (λ m. onto m (all_some read_group (filter is_not_blank (slice_split (λ b. eqb b 44) c.args.text.now)))) c.new-made.ensures
+      ∙ onto-start (all_some read_group (filter is_not_blank (slice_split (λ b. eqb b 44) c.args.text.now))),
   refl,
   inl refl,
 )
