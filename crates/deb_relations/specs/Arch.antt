@@ -3,8 +3,8 @@ use Rattle.std.specs.Prelude.{ℕ, Bool, ◌||◌, List, ◌++◌, bytes_eq, cod
 use Rattle.deb_relations.specs.declared.arch.ArchWords.{ArchWords}
 
 -- the name, `any`, `any-any`, the operating system and `-any`, `any-` and the processor (Policy 11.1.1, `any-any` this project's own)
-unfoldable pub matches_arch : List ℕ → ArchWords → Bool
-matches_arch word arch =
+unfoldable pub arch_matches : List ℕ → ArchWords → Bool
+arch_matches word arch =
     bytes_eq word arch.name
     || (bytes_eq word (codes "any")
     || (bytes_eq word (codes "any-any")

@@ -4,7 +4,7 @@ use Rattle.std.specs.List.{list_any, list_all}
 use Rattle.deb_relations.specs.declared.arch.ArchWords.{ArchWords}
 use Rattle.deb_relations.specs.declared.relations.Term.{Term}
 use Rattle.deb_relations.specs.declared.relations.Alternative.{Alternative}
-use Rattle.deb_relations.specs.Arch.{matches_arch}
+use Rattle.deb_relations.specs.Arch.{arch_matches}
 
 -- whether a list has an item (this project's own)
 abbrev pub is_filled : {X : Type 0} → List X → Bool
@@ -13,7 +13,7 @@ is_filled (x ∷ xs) = true
 
 -- whether a word of the list matches the architecture (Policy 7.1)
 unfoldable pub has_match : ArchWords → List Term → Bool
-has_match arch terms = list_any (λ term. matches_arch term.word arch) terms
+has_match arch terms = list_any (λ term. arch_matches term.word arch) terms
 
 -- whether a list is for an architecture: it has no words, plain ones of which one matches, or negated ones of which none does (Policy 7.1)
 abbrev pub is_for_arch : ArchWords → List Term → Bool

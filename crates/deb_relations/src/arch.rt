@@ -1,7 +1,7 @@
 //! The words of an architecture, and which architecture words match it.
 
 ghost use Rattle.std.specs.Prelude.{◌≡◌, ◌++◌, bytes_eq, IfOk};
-ghost use Rattle.deb_relations.specs.Arch.{matches_arch};
+ghost use Rattle.deb_relations.specs.Arch.{arch_matches};
 
 use crate::text::Text;
 use std::alloc::{AllocError, Global};
@@ -47,9 +47,9 @@ fn is_joined(word: &str, front: &str, back: &str) -> bool
 /// Whether an architecture word matches the architecture: its name, `any`, `any-any`, its operating
 /// system before `-any`, or its processor after `any-`. Nothing else matches. It takes no memory.
 /// Source: Debian Policy 11.1.1; that `any-any` matches is this project's own.
-#[tactic(auto, unfolding(crate::specs::Arch::matches_arch))]
+#[tactic(auto, unfolding(crate::specs::Arch::arch_matches))]
 pub fn arch_matches(word: &str, arch: &ArchWords) -> bool
-    ensures { result ≡ matches_arch word.now arch.now }
+    ensures { result ≡ arch_matches word.now arch.now }
 {
     word == arch.name.as_str()
         || word == "any"

@@ -10,7 +10,7 @@ use Rattle.deb_relations.specs.declared.arch.ArchWords.{ArchWords}
 use Rattle.deb_relations.specs.declared.fault.RelationFault.{RelationFault}
 use Rattle.deb_relations.specs.declared.relations.Alternative.{Alternative}
 use Rattle.deb_relations.specs.Text.{text_cmp}
-use Rattle.deb_relations.specs.Arch.{matches_arch}
+use Rattle.deb_relations.specs.Arch.{arch_matches}
 use Rattle.deb_relations.specs.Reading.{reading_of}
 use Rattle.deb_relations.specs.Satisfaction.{Pairs, no_pairs, with_pair}
 use Rattle.wb_states.specs.declared.refusal.Refusal.{Refusal}
@@ -91,7 +91,7 @@ listed_as arch row = record {
 
 -- whether a row lists its source package for the architecture (Debian Policy 5.6.8)
 unfoldable pub is_listed : ArchWords → SourceRow → Bool
-is_listed arch row = list_any (λ word. matches_arch word arch) row.archs && not row.is_extra
+is_listed arch row = list_any (λ word. arch_matches word arch) row.archs && not row.is_extra
 
 -- whether a row lists the source package of this name for the architecture (Debian Policy 5.6.8)
 unfoldable pub is_candidate : ArchWords → List ℕ → SourceRow → Bool

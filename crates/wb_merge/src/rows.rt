@@ -3,7 +3,7 @@ ghost use Rattle.std.specs.Prelude.{◌≡◌, ◌≢◌, Ok, Err, Some, None, n
 ghost use Rattle.std.specs.List.{list_any};
 ghost use Rattle.deb_control.specs.declared.fault.ControlFaultKind.TheVariants.{Memory};
 ghost use Rattle.deb_control.specs.Lines.{words_in};
-ghost use Rattle.deb_relations.specs.Arch.{matches_arch};
+ghost use Rattle.deb_relations.specs.Arch.{arch_matches};
 ghost use Rattle.wb_states.specs.declared.refusal.ListingFault.TheVariants.{Control, BadValue};
 ghost use Rattle.wb_states.specs.declared.refusal.ListField.TheVariants.{Source};
 ghost use Rattle.wb_states.specs.Record.{is_empty_text};
@@ -21,14 +21,14 @@ use wb_states::{ListField, ListingFault};
 
 /// Whether a part of a text is a word that matches the architecture.
 fn is_match(part: &str, arch: &ArchWords) -> bool
-    ensures { result ≡ (not (is_empty_text part.now) && matches_arch part.now arch.now) }
+    ensures { result ≡ (not (is_empty_text part.now) && arch_matches part.now arch.now) }
 {
     !part.is_empty() && arch_matches(part, arch)
 }
 
 /// Whether one of the words matches the architecture.
 fn has_match(words: &str, arch: &ArchWords) -> bool
-    ensures { result ≡ list_any (λ word. matches_arch word arch.now) (words_in words.now) }
+    ensures { result ≡ list_any (λ word. arch_matches word arch.now) (words_in words.now) }
 {
     words
         .split(' ')
