@@ -4,7 +4,7 @@ use Rattle.std.specs.List.{list_all, slice_split, onto_first, AllZip}
 use Rattle.std.proofs.lemmas.Bool.Decides.{nat_tests}
 use Rattle.std.proofs.lemmas.Slice.Eq.{bytes_eq-Decides}
 use Rattle.std.specs.Prelude.{bytes_eq, codes}
-use Rattle.std.specs.Option.{is_none}
+use Rattle.std.specs.Option.{is_none, option_map}
 use Rattle.deb_version.specs.declared.operator.Op.{Op}
 use Rattle.deb_version.specs.Syntax.{fault_of, is_upstream_char, is_revision_char, is_version_text}
 use Rattle.deb_relations.specs.declared.relations.Kind.{Kind}
@@ -16,7 +16,7 @@ use Rattle.deb_relations.specs.Printing.{term_text}
 use Rattle.deb_relations.specs.Reduction.{is_filled}
 use Rattle.deb_relations.specs.Grammar.{is_white, is_blank_text, is_profile_char, is_op_char, is_qualifier, is_word, is_not_blank, op_of, words, TakesName, TakesQualifier, InBrackets, IsRestriction, TakesRestriction, ReadsTerms, TakesArchs, ReadsProfiles, ReadsAlternative, ReadsGroup, Reads}
 use Rattle.deb_relations.specs.Names.{is_lower_or_digit, is_package_char, is_arch_char, begins_with_lower_or_digit, is_package_name}
-use Rattle.deb_relations.specs.Reader.{skip, strip, is_solid, between, between_opened, some_of, read_between, with_rest, read_name, read_behind_colon, read_qualifier, asked_of, asked_behind, asked_from, restriction_of, asked_inside, read_restriction, term_behind, term_of, both, all_some, filled_only, terms_of, alike_only, archs_of, read_archs, profile_behind, profile_of, lists_of, read_profiles, with_profiles, with_archs, with_asked, with_qualifier, with_name, read_alternative, read_group, read_groups}
+use Rattle.deb_relations.specs.Reader.{skip, strip, is_solid, between, between_opened, read_between, with_rest, read_name, read_behind_colon, read_qualifier, asked_of, asked_behind, asked_from, restriction_of, asked_inside, read_restriction, term_behind, term_of, both, all_some, filled_only, terms_of, alike_only, archs_of, read_archs, profile_behind, profile_of, lists_of, read_profiles, with_profiles, with_archs, with_asked, with_qualifier, with_name, read_alternative, read_group, read_groups}
 use Rattle.deb_relations.proofs.LeadingLemmas.{both-true, and-true, stops, opens, leading-all, skip-all, opens-stops, opens-weaker, all-weaker, all-both}
 use Rattle.deb_relations.proofs.CutLemmas.{strip-here, cut-here, split-here, split-none}
 use Rattle.deb_relations.proofs.TurnLemmas.{lists-cons, split-has}
@@ -140,7 +140,7 @@ between-complete : (l r : ℕ) (t inside rest : List ℕ) → InBrackets l r t i
 unfolding between
 between-complete l r t inside rest b w h =
     let front : skip is_white t ≡ l ∷ (inside ++ (r ∷ rest)) = ap (skip is_white) b.split ∙ skip-all is_white b.gap (l ∷ (inside ++ (r ∷ rest))) b.blank w in
-    ap (λ x. between_opened r (strip l x)) front ∙ ap (between_opened r) (strip-here l (inside ++ (r ∷ rest))) ∙ ap some_of (cut-here r inside rest h)
+    ap (λ x. between_opened r (strip l x)) front ∙ ap (between_opened r) (strip-here l (inside ++ (r ∷ rest))) ∙ ap (option_map Some) (cut-here r inside rest h)
 
 between-none : (p : ℕ → Bool) (l r : ℕ) (t : List ℕ) → opens p (skip is_white t) → p l ≡ false → between l r t ≡ Some None
 unfolding between
@@ -262,7 +262,7 @@ restriction-complete t None rest h o =
     ap (read_between asked_inside None t) none ∙ ap (λ x. Some (None, x)) h
 restriction-complete t (Some asked) rest h o =
     let found : between 40 41 t ≡ Some (Some (h.0, rest)) = between-complete 40 41 t h.0 rest h.1.0 refl (restriction-inside h.0 asked h.1.1) in
-    ap (read_between asked_inside None t) found ∙ ap (λ x. with_rest rest (some_of x)) (asked-complete h.0 asked h.1.1)
+    ap (read_between asked_inside None t) found ∙ ap (λ x. with_rest rest (option_map Some x)) (asked-complete h.0 asked h.1.1)
 
 module _ (p : ℕ → Bool) (white : (c : ℕ) → is_white c ≡ true → p c ≡ true) where
   onto-all : (c : ℕ) (ps : List (List ℕ)) → list_all (list_all p) (onto_first c ps) ≡ true → (list_all (list_all p) ps ≡ true) × ((is_filled ps ≡ true) → p c ≡ true)

@@ -13,12 +13,13 @@ use Rattle.deb_relations.specs.declared.relations.Kind.TheVariants.{Arch}
 use Rattle.deb_relations.specs.declared.relations.Term.{Term}
 use Rattle.deb_relations.specs.Reduction.{is_filled}
 use Rattle.deb_relations.specs.Grammar.{is_white, is_op_char, op_of, TakesName, TakesQualifier, InBrackets}
-use Rattle.deb_relations.specs.Reader.{skip, strip, cut, is_solid, some_of, between_opened, between, read_name, read_qualifier, read_restriction, terms_of, read_archs, profile_of}
+use Rattle.deb_relations.specs.Reader.{skip, strip, cut, is_solid, between_opened, between, read_name, read_qualifier, read_restriction, terms_of, read_archs, profile_of}
 use Rattle.deb_relations.specs.Reading.{place_of, end_before, span, name_fault, version_fault, fault_behind_operator, operator_fault, asked_fault, bracket_fault, restriction_fault, words_fault, archs_fault, list_fault, lists_fault, profiles_fault, or_behind, fault_behind_restriction, fault_behind_qualifier, fault_behind_name, alternative_fault, first_fault, is_alternative, group_fault, is_group_or_blank, groups_fault, is_asked_char, ends_asked, HasBadVersion}
 use Rattle.deb_relations.proofs.LeadingLemmas.{stops, both-true, and-true, leading-skip, leading-passes, skip-stops}
 use Rattle.deb_relations.proofs.CutLemmas.{cut-clear}
 use Rattle.deb_relations.proofs.SoundLemmas.{between-sound, name-sound, qualifier-sound}
 use Rattle.deb_relations.specs.Text.{leading}
+use Rattle.std.specs.Option.{option_map}
 
 -- a text that stands in another
 pub record StandsIn (part text : List ℕ) : Type 0 where
@@ -154,7 +155,7 @@ module _ (text inside rest : List ℕ) (b : InBrackets 40 41 text inside rest) (
   unfolding asked_fault
   asked-tells end = operator-tells end (op_of (leading is_op_char front)) refl
 
-clear-cut : (r : ℕ) (behind : List ℕ) (o : Option (List ℕ × List ℕ)) → cut r behind ≡ o → (p : List ℕ × List ℕ) → some_of o ≡ Some (Some p) → list_all (λ c. not (eqb c r)) p.0 ≡ true
+clear-cut : (r : ℕ) (behind : List ℕ) (o : Option (List ℕ × List ℕ)) → cut r behind ≡ o → (p : List ℕ × List ℕ) → option_map Some o ≡ Some (Some p) → list_all (λ c. not (eqb c r)) p.0 ≡ true
 clear-cut r behind None e p h = absurd (cc)
 clear-cut r behind (Some q) e p h =
     let made : ◌≡◌ {A = List ℕ × List ℕ} q p = cc in

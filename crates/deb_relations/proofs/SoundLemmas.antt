@@ -2,7 +2,7 @@
 use Rattle.std.proofs.Common.{◌≡◌, ◌⊎◌, inl, inr, ℕ, ◌≤◌, Bool, true, false, cond, ◌&&◌, eqb, List, [], ◌∷◌, ◌++◌, map, filter, length, refl, sym, ap, subst, ◌∙◌, append_assoc, Option, Some, None}
 use Rattle.std.specs.List.{list_all, slice_split, join_with_byte, AllZip}
 use Rattle.std.proofs.lemmas.List.Splits.{join_with_byte-slice_split}
-use Rattle.std.specs.Option.{is_none}
+use Rattle.std.specs.Option.{is_none, option_map}
 use Rattle.deb_version.specs.declared.fault.VersionFault.{VersionFault}
 use Rattle.deb_version.specs.declared.operator.Op.{Op}
 use Rattle.deb_version.specs.Syntax.{fault_of, is_version_text}
@@ -15,7 +15,7 @@ use Rattle.deb_relations.specs.Printing.{term_text}
 use Rattle.deb_relations.specs.Reduction.{is_filled}
 use Rattle.deb_relations.specs.Grammar.{is_white, is_blank_text, is_op_char, is_qualifier, is_word, is_not_blank, op_of, words, are_alike, TakesName, TakesQualifier, InBrackets, IsRestriction, TakesRestriction, ReadsTerms, TakesArchs, ReadsProfiles, ReadsAlternative, ReadsGroup, Reads, relations_limit}
 use Rattle.deb_relations.specs.Names.{is_package_char, is_arch_char, is_package_name}
-use Rattle.deb_relations.specs.Reader.{skip, strip, cut, is_solid, between, between_opened, some_of, read_between, with_rest, read_name, read_behind_colon, read_qualifier, asked_of, restriction_of, asked_inside, read_restriction, term_behind, term_of, both, all_some, filled_only, terms_of, alike_only, archs_of, read_archs, profile_behind, profile_of, lists_of, read_profiles, with_profiles, with_archs, with_asked, with_qualifier, with_name, read_alternative, read_group, read_groups}
+use Rattle.deb_relations.specs.Reader.{skip, strip, cut, is_solid, between, between_opened, read_between, with_rest, read_name, read_behind_colon, read_qualifier, asked_of, restriction_of, asked_inside, read_restriction, term_behind, term_of, both, all_some, filled_only, terms_of, alike_only, archs_of, read_archs, profile_behind, profile_of, lists_of, read_profiles, with_profiles, with_archs, with_asked, with_qualifier, with_name, read_alternative, read_group, read_groups}
 use Rattle.deb_relations.proofs.LeadingLemmas.{both-true, and-true, leading-skip, leading-passes}
 use Rattle.deb_relations.proofs.CutLemmas.{strip-join, cut-is}
 use Rattle.deb_relations.specs.Text.{leading}
@@ -63,7 +63,7 @@ qualifier-sound t p h = qualifier-by t (strip 58 t) refl p h
 abbrev pub Halves : Type 0
 Halves = List ℕ × List ℕ
 
-between-cut : (l r : ℕ) (t behind : List ℕ) → strip l (skip is_white t) ≡ Some behind → (o : Option Halves) → cut r behind ≡ o → (p : Halves) → some_of o ≡ Some (Some p) → InBrackets l r t p.0 p.1
+between-cut : (l r : ℕ) (t behind : List ℕ) → strip l (skip is_white t) ≡ Some behind → (o : Option Halves) → cut r behind ≡ o → (p : Halves) → option_map Some o ≡ Some (Some p) → InBrackets l r t p.0 p.1
 between-cut l r t behind s None e p h = absurd (cc)
 between-cut l r t behind s (Some q) e p h =
     let made : ◌≡◌ {A = Halves} q p = cc in
@@ -150,7 +150,7 @@ asked-sound inside asked h = asked-by inside (op_of (leading is_op_char (skip is
 abbrev pub Asked : Type 0
 Asked = Option Restriction × List ℕ
 
-asked-inside-by : (t inside rest : List ℕ) → InBrackets 40 41 t inside rest → (o : Option Restriction) → restriction_of inside ≡ o → (x : Option Restriction) → some_of o ≡ Some x → TakesRestriction t x rest
+asked-inside-by : (t inside rest : List ℕ) → InBrackets 40 41 t inside rest → (o : Option Restriction) → restriction_of inside ≡ o → (x : Option Restriction) → option_map Some o ≡ Some x → TakesRestriction t x rest
 asked-inside-by t inside rest b None e x h = absurd (cc)
 asked-inside-by t inside rest b (Some asked) e x h =
     let made : ◌≡◌ {A = Option Restriction} (Some asked) x = cc in

@@ -2,7 +2,7 @@
 use Rattle.std.proofs.Common.{◌≡◌, ℕ, suc, ◌+◌, ◌-◌, ◌<◌, Bool, true, false, ◌&&◌, cond, eqb, List, [], ◌∷◌, ◌++◌, length, get_or, refl, sym, ap, subst, ◌∙◌, arith, append_assoc, append-nil, length-append, Option, Some, None, is_some, Err}
 use Rattle.std.specs.Prelude.{nat_lt}
 use Rattle.std.specs.List.{list_all, slice_split, join_with_byte}
-use Rattle.std.specs.Option.{ok_or}
+use Rattle.std.specs.Option.{ok_or, option_map}
 use Rattle.std.proofs.Math.Seq.{get_or-append_seam}
 use Rattle.std.proofs.lemmas.List.Splits.{join_with_byte-slice_split}
 use Rattle.deb_version.specs.declared.fault.VersionFault.{VersionFault}
@@ -16,7 +16,7 @@ use Rattle.deb_relations.specs.declared.relations.Term.{Term}
 use Rattle.deb_relations.specs.declared.relations.Alternative.{Alternative}
 use Rattle.deb_relations.specs.Reduction.{is_filled}
 use Rattle.deb_relations.specs.Grammar.{is_white, is_blank_text, is_op_char, op_of, TakesQualifier, TakesRestriction, TakesArchs, InBrackets, relations_limit}
-use Rattle.deb_relations.specs.Reader.{skip, strip, is_solid, asked_inside, with_rest, some_of, read_between, read_groups, restriction_of, asked_of, both, between, lists_of, with_qualifier, with_name, with_asked, with_archs, with_profiles, read_name, read_qualifier, read_restriction, terms_of, read_archs, read_profiles, profile_of, read_alternative}
+use Rattle.deb_relations.specs.Reader.{skip, strip, is_solid, asked_inside, with_rest, read_between, read_groups, restriction_of, asked_of, both, between, lists_of, with_qualifier, with_name, with_asked, with_archs, with_profiles, read_name, read_qualifier, read_restriction, terms_of, read_archs, read_profiles, profile_of, read_alternative}
 use Rattle.deb_relations.specs.Reading.{place_of, end_before, span, name_fault, version_fault, fault_behind_operator, operator_fault, asked_fault, bracket_fault, restriction_fault, words_fault, archs_fault, list_fault, lists_fault, profiles_fault, or_behind, fault_behind_restriction, fault_behind_qualifier, fault_behind_name, alternative_fault, first_fault, is_alternative, group_fault, is_group_or_blank, groups_fault, reading_of}
 use Rattle.deb_relations.proofs.LeadingLemmas.{stops, leading-skip, skip-stops}
 use Rattle.deb_relations.proofs.SoundLemmas.{between-sound, name-sound, qualifier-sound, restriction-sound, archs-sound}
@@ -210,7 +210,7 @@ asked-stray whole end inside at e =
     operator-stray whole end (skip is_white (skip is_op_char front)) (op_of (leading is_op_char front))
     (ends-skipped is_white whole (skip is_op_char front) end (ends-skipped is_op_char whole front end (ends-skipped is_white whole inside end at))) e
 
-inside-none : (o : Option Restriction) (rest : List ℕ) → with_rest rest (some_of o) ≡ None → o ≡ None
+inside-none : (o : Option Restriction) (rest : List ℕ) → with_rest rest (option_map Some o) ≡ None → o ≡ None
 inside-none None rest e = refl
 inside-none (Some asked) rest e = cc
 

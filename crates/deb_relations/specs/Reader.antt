@@ -2,6 +2,7 @@
 use Rattle.std.specs.Prelude.{ℕ, ◌==◌, Bool, true, false, not, ◌&&◌, List, [], ◌∷◌, ◌++◌, filter, if◌then◌else◌}
 use Rattle.std.specs.Prelude.{Option, None, Some}
 use Rattle.std.specs.List.{slice_split}
+use Rattle.std.specs.Option.{option_map}
 use Rattle.deb_version.specs.declared.operator.Op.{Op}
 use Rattle.deb_version.specs.Syntax.{is_version_text}
 use Rattle.deb_relations.specs.declared.relations.Kind.{Kind}
@@ -54,15 +55,10 @@ abbrev pub with_rest : {X : Type 0} → List ℕ → Option X → Option (X × L
 with_rest rest None = None
 with_rest rest (Some x) = Some (x, rest)
 
--- what was read, as a part that is written, where anything was read (this project's own)
-abbrev pub some_of : {X : Type 0} → Option X → Option (Option X)
-some_of None = None
-some_of (Some x) = Some (Some x)
-
 -- what stands between two brackets and behind them, of the text behind the first of them, where that stands (this project's own)
 abbrev pub between_opened : ℕ → Option (List ℕ) → Option (Option (List ℕ × List ℕ))
 between_opened right None = Some None
-between_opened right (Some behind) = some_of (cut right behind)
+between_opened right (Some behind) = option_map Some (cut right behind)
 
 -- what stands between two brackets and behind them, where the first of them stands; none at all where it is not closed (this project's own)
 unfoldable pub between : ℕ → ℕ → List ℕ → Option (Option (List ℕ × List ℕ))
@@ -110,7 +106,7 @@ restriction_of inside = asked_from (skip is_white inside)
 
 -- the restriction inside parentheses, as a part that is written (Policy 7.1)
 abbrev pub asked_inside : List ℕ → Option (Option Restriction)
-asked_inside inside = some_of (restriction_of inside)
+asked_inside inside = option_map Some (restriction_of inside)
 
 -- an operator and a version in parentheses, where these stand first, and what is left (Policy 7.1)
 unfoldable pub read_restriction : List ℕ → Option (Option Restriction × List ℕ)
