@@ -222,10 +222,10 @@ op-chars t op h =
 
 restriction-inside : (inside : List ℕ) (asked : Restriction) → IsRestriction inside asked → list_all (other 41) inside ≡ true
 restriction-inside inside asked h =
-    subst (λ (x : List ℕ). list_all (other 41) x ≡ true) (sym h.split)
-    (all-both (other 41) h.front _ (all-weaker is_white (other 41) white-other h.front h.front_blank)
-    (all-both (other 41) h.operator _ (all-weaker is_op_char (other 41) op-other h.operator (op-chars h.operator asked.op h.means))
-    (all-both (other 41) h.middle _ (all-weaker is_white (other 41) white-other h.middle h.middle_blank)
+    subst (λ (x : List ℕ). list_all (other 41) x ≡ true) (sym h.operator.split)
+    (all-both (other 41) h.operator.front _ (all-weaker is_white (other 41) white-other h.operator.front h.operator.front_blank)
+    (all-both (other 41) h.operator.operator _ (all-weaker is_op_char (other 41) op-other h.operator.operator (op-chars h.operator.operator asked.op h.operator.means))
+    (all-both (other 41) h.operator.middle _ (all-weaker is_white (other 41) white-other h.operator.middle h.operator.middle_blank)
     (all-both (other 41) asked.version h.back (all-weaker is_upstream_char (other 41) version-other asked.version (version-form asked.version h.version))
     (all-weaker is_white (other 41) white-other h.back h.back_blank)))))
 
@@ -236,20 +236,20 @@ asked-complete inside asked h =
     let last : List ℕ = v ++ h.back in
     let chars : list_all is_upstream_char v ≡ true = version-form v h.version in
     let filled : is_filled v ≡ true = version-filled v h.version in
-    let ops : list_all is_op_char h.operator ≡ true = op-chars h.operator asked.op h.means in
-    let s1 : stops is_white (h.operator ++ (h.middle ++ last)) = filled-stops is_op_char is_white h.operator (h.middle ++ last) op-not-white ops (op-filled h.operator asked.op h.means) in
+    let ops : list_all is_op_char h.operator.operator ≡ true = op-chars h.operator.operator asked.op h.operator.means in
+    let s1 : stops is_white (h.operator.operator ++ (h.operator.middle ++ last)) = filled-stops is_op_char is_white h.operator.operator (h.operator.middle ++ last) op-not-white ops (op-filled h.operator.operator asked.op h.operator.means) in
     let s2 : stops is_white last = filled-stops is_upstream_char is_white v h.back version-not-white chars filled in
     let s3 : stops is_op_char last = filled-stops is_upstream_char is_op_char v h.back version-not-op chars filled in
-    let s4 : stops is_op_char (h.middle ++ last) = front-stops is_white is_op_char h.middle last white-not-op h.middle_blank s3 in
+    let s4 : stops is_op_char (h.operator.middle ++ last) = front-stops is_white is_op_char h.operator.middle last white-not-op h.operator.middle_blank s3 in
     let s5 : stops is_solid h.back = opens-stops is_white is_solid h.back white-not-solid (all-opens is_white h.back h.back_blank) in
     let solid : list_all is_solid v ≡ true = all-weaker is_upstream_char is_solid version-solid v chars in
-    let e1 : skip is_white inside ≡ h.operator ++ (h.middle ++ last) = ap (skip is_white) h.split ∙ skip-all is_white h.front _ h.front_blank s1 in
-    let e2 : leading is_op_char (h.operator ++ (h.middle ++ last)) ≡ h.operator = leading-all is_op_char h.operator _ ops s4 in
-    let e3 : skip is_white (skip is_op_char (h.operator ++ (h.middle ++ last))) ≡ last = ap (skip is_white) (skip-all is_op_char h.operator _ ops s4) ∙ skip-all is_white h.middle last h.middle_blank s2 in
+    let e1 : skip is_white inside ≡ h.operator.operator ++ (h.operator.middle ++ last) = ap (skip is_white) h.operator.split ∙ skip-all is_white h.operator.front _ h.operator.front_blank s1 in
+    let e2 : leading is_op_char (h.operator.operator ++ (h.operator.middle ++ last)) ≡ h.operator.operator = leading-all is_op_char h.operator.operator _ ops s4 in
+    let e3 : skip is_white (skip is_op_char (h.operator.operator ++ (h.operator.middle ++ last))) ≡ last = ap (skip is_white) (skip-all is_op_char h.operator.operator _ ops s4) ∙ skip-all is_white h.operator.middle last h.operator.middle_blank s2 in
     let e4 : leading is_solid last ≡ v = leading-all is_solid v h.back solid s5 in
     let e5 : skip is_solid last ≡ h.back = skip-all is_solid v h.back solid s5 in
     ap asked_from e1
-    ∙ ap (λ o. asked_behind o (skip is_white (skip is_op_char (h.operator ++ (h.middle ++ last))))) (ap op_of e2 ∙ h.means)
+    ∙ ap (λ o. asked_behind o (skip is_white (skip is_op_char (h.operator.operator ++ (h.operator.middle ++ last))))) (ap op_of e2 ∙ h.operator.means)
     ∙ ap (asked_behind (Some asked.op)) e3
     ∙ ap (λ x. asked_of (Some asked.op) x (skip is_solid last)) e4
     ∙ ap (asked_of (Some asked.op) v) e5

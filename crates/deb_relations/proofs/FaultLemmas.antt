@@ -78,18 +78,22 @@ all-asked (c ∷ cs) s h =
 has-in : (part text : List ℕ) (fault : VersionFault) → StandsIn part text → HasBadVersion part fault → HasBadVersion text fault
 has-in part text fault s h = record {
   front = s.front ++ h.front;
-  gap = h.gap;
-  operator = h.operator;
-  middle = h.middle;
+  inside = h.inside ++ s.back;
+  op = h.op;
   word = h.word;
   back = h.back ++ s.back;
-  op = h.op;
   split = s.split ∙ ap (λ x. s.front ++ (x ++ s.back)) h.split ∙ simp append_assoc;
-  gap_blank = h.gap_blank;
-  middle_blank = h.middle_blank;
+  operator = record {
+    front = h.operator.front;
+    operator = h.operator.operator;
+    middle = h.operator.middle;
+    split = ap (λ x. x ++ s.back) h.operator.split ∙ simp append_assoc;
+    front_blank = h.operator.front_blank;
+    middle_blank = h.operator.middle_blank;
+    means = h.operator.means;
+  };
   whole = h.whole;
   ended = ended-more h.back s.back h.ended;
-  means = h.means;
   version = h.version;
 }
 
@@ -124,25 +128,29 @@ module _ (text inside rest : List ℕ) (b : InBrackets 40 41 text inside rest) (
       all-asked (leading is_solid asked) (leading-passes is_solid asked)
       (all-front _ (leading is_solid asked) (skip is_solid asked) (all-back _ (leading is_white behind) _ (all-back _ (leading is_op_char front) _ (all-back _ (leading is_white inside) _ all))))
 
-  brackets-are : text ≡ b.gap ++ (40 ∷ (leading is_white inside ++ (leading is_op_char front ++ (leading is_white behind ++ (leading is_solid asked ++ (skip is_solid asked ++ (41 ∷ rest)))))))
-  brackets-are = b.split ∙ ap (λ x. b.gap ++ (40 ∷ (x ++ (41 ∷ rest)))) inside-is ∙ simp append_assoc
+  brackets-are : inside ++ (41 ∷ rest) ≡ leading is_white inside ++ (leading is_op_char front ++ (leading is_white behind ++ (leading is_solid asked ++ (skip is_solid asked ++ (41 ∷ rest)))))
+  brackets-are = ap (λ x. x ++ (41 ∷ rest)) inside-is ∙ simp append_assoc
 
   version-tells : (op : Op) → op_of (leading is_op_char front) ≡ Some op → (o : Option VersionFault) → fault_of (leading is_solid asked) ≡ o → (place : ℕ) → Tells text (version_fault o place)
   version-tells op e None h place = tt
   version-tells op e (Some fault) h place = record {
     front = b.gap;
-    gap = leading is_white inside;
-    operator = leading is_op_char front;
-    middle = leading is_white behind;
+    inside = inside ++ (41 ∷ rest);
+    op = op;
     word = leading is_solid asked;
     back = skip is_solid asked ++ (41 ∷ rest);
-    op = op;
-    split = brackets-are;
-    gap_blank = leading-passes is_white inside;
-    middle_blank = leading-passes is_white behind;
+    split = b.split;
+    operator = record {
+      front = leading is_white inside;
+      operator = leading is_op_char front;
+      middle = leading is_white behind;
+      split = brackets-are;
+      front_blank = leading-passes is_white inside;
+      middle_blank = leading-passes is_white behind;
+      means = e;
+    };
     whole = version-whole;
     ended = ended-here (skip is_solid asked) rest (skip-stops is_solid asked);
-    means = e;
     version = h;
   }
 

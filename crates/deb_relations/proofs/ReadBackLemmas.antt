@@ -220,15 +220,17 @@ restriction-printed (Some asked) rest h =
           blank = refl;
         },
         record {
-          front = [];
-          operator = op;
-          middle = 32 ∷ [];
           back = [];
-          split = ap (λ x. op ++ (32 ∷ x)) (sym (append-nil v));
-          front_blank = refl;
-          middle_blank = refl;
+          operator = record {
+            front = [];
+            operator = op;
+            middle = 32 ∷ [];
+            split = ap (λ x. op ++ (32 ∷ x)) (sym (append-nil v));
+            front_blank = refl;
+            middle_blank = refl;
+            means = op-printed asked.op;
+          };
           back_blank = refl;
-          means = op-printed asked.op;
           version = h;
         },
       ),

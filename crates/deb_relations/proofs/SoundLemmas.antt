@@ -125,16 +125,18 @@ module _ (inside : List ℕ) where
       let made : ◌≡◌ {A = Restriction} (record { op = op; version = version }) asked = cc in
       let two : (is_version_text version ≡ true) × (is_blank_text after ≡ true) = both-true _ _ e in
       subst (IsRestriction inside) made (record {
-        front = leading is_white inside;
-        operator = leading is_op_char front;
-        middle = leading is_white behind;
         back = after;
-        split = leading-skip is_white inside ∙ ap (λ xs. leading is_white inside ++ xs) (leading-skip is_op_char front
-            ∙ ap (λ xs. leading is_op_char front ++ xs) (leading-skip is_white behind ∙ ap (λ xs. leading is_white behind ++ xs) (leading-skip is_solid (skip is_white behind))));
-        front_blank = leading-passes is_white inside;
-        middle_blank = leading-passes is_white behind;
+        operator = record {
+          front = leading is_white inside;
+          operator = leading is_op_char front;
+          middle = leading is_white behind;
+          split = leading-skip is_white inside ∙ ap (λ xs. leading is_white inside ++ xs) (leading-skip is_op_char front
+              ∙ ap (λ xs. leading is_op_char front ++ xs) (leading-skip is_white behind ∙ ap (λ xs. leading is_white behind ++ xs) (leading-skip is_solid (skip is_white behind))));
+          front_blank = leading-passes is_white inside;
+          middle_blank = leading-passes is_white behind;
+          means = o;
+        };
         back_blank = two.1;
-        means = o;
         version = version-sound version two.0;
       })
   asked-at op o false e asked h = absurd (cc)

@@ -81,17 +81,21 @@ pub record InBrackets (left right : ℕ) (text inside rest : List ℕ) : Type 0 
   pub split : text ≡ gap ++ (left ∷ (inside ++ (right ∷ rest)))
   pub blank : is_blank_text gap ≡ true
 
--- an operator and a version, with white space round them (Policy 7.1)
-pub record IsRestriction (inside : List ℕ) (asked : Restriction) : Type 0 where
+-- an operator, with white space round it, and what is left (Policy 7.1)
+pub record TakesOperator (text : List ℕ) (op : Op) (rest : List ℕ) : Type 0 where
   pub front : List ℕ
   pub operator : List ℕ
   pub middle : List ℕ
-  pub back : List ℕ
-  pub split : inside ≡ front ++ (operator ++ (middle ++ (asked.version ++ back)))
+  pub split : text ≡ front ++ (operator ++ (middle ++ rest))
   pub front_blank : is_blank_text front ≡ true
   pub middle_blank : is_blank_text middle ≡ true
+  pub means : op_of operator ≡ Some op
+
+-- an operator and a version, with white space round them (Policy 7.1)
+pub record IsRestriction (inside : List ℕ) (asked : Restriction) : Type 0 where
+  pub back : List ℕ
+  pub operator : TakesOperator inside asked.op (asked.version ++ back)
   pub back_blank : is_blank_text back ≡ true
-  pub means : op_of operator ≡ Some asked.op
   pub version : fault_of asked.version ≡ None
 
 -- nothing, or an operator and a version in parentheses, and what is left (Policy 7.1)

@@ -11,7 +11,7 @@ use Rattle.deb_relations.specs.declared.fault.RelationFault.TheVariants.{BadName
 use Rattle.deb_relations.specs.declared.relations.Kind.TheVariants.{Arch}
 use Rattle.deb_relations.specs.declared.relations.Alternative.{Alternative}
 use Rattle.deb_relations.specs.Reduction.{is_filled}
-use Rattle.deb_relations.specs.Grammar.{is_white, is_blank_text, is_comma, is_bar, is_right_angle, is_not_blank, is_op_char, op_of, relations_limit}
+use Rattle.deb_relations.specs.Grammar.{is_white, is_blank_text, is_comma, is_bar, is_right_angle, is_not_blank, is_op_char, op_of, relations_limit, TakesOperator}
 use Rattle.deb_relations.specs.Reader.{skip, strip, is_solid, between, read_name, read_qualifier, read_restriction, terms_of, read_archs, profile_of, read_alternative, read_group, read_groups}
 use Rattle.deb_relations.specs.Text.{begins, leading}
 
@@ -158,16 +158,12 @@ ends_asked (c ∷ cs) = is_white c || c == 41
 -- behind a parenthesis and an operator a text that is no version, for this fault, up to white space or the closing parenthesis (Policy 7.1)
 pub record HasBadVersion (text : List ℕ) (fault : VersionFault) : Type 0 where
   pub front : List ℕ
-  pub gap : List ℕ
-  pub operator : List ℕ
-  pub middle : List ℕ
+  pub inside : List ℕ
+  pub op : Op
   pub word : List ℕ
   pub back : List ℕ
-  pub op : Op
-  pub split : text ≡ front ++ (40 ∷ (gap ++ (operator ++ (middle ++ (word ++ back)))))
-  pub gap_blank : is_blank_text gap ≡ true
-  pub middle_blank : is_blank_text middle ≡ true
+  pub split : text ≡ front ++ (40 ∷ inside)
+  pub operator : TakesOperator inside op (word ++ back)
   pub whole : list_all is_asked_char word ≡ true
   pub ended : ends_asked back ≡ true
-  pub means : op_of operator ≡ Some op
   pub version : fault_of word ≡ Some fault
