@@ -2,16 +2,13 @@
 use Rattle.std.specs.Prelude.{◌≡◌, ℕ, ◌+◌, ◌≤◌, List, Option, if◌then◌else◌}
 use Rattle.std.specs.Ordering.{eq_by_cmp}
 use Rattle.std.specs.FinMap as finite
+pub use Rattle.wb_states.specs.Machine.{Key}
 use Rattle.wb_states.specs.Machine.{pair_cmp}
 use Rattle.wb_states.specs.declared.record.Record.{Record}
 use Rattle.wb_states.specs.declared.reply.MergeCounts.{MergeCounts}
 use Rattle.wb_merge.specs.declared.merge.Change.{Change}
 use Rattle.wb_merge.specs.declared.merge.Change.TheVariants.{Absent, Added, Changed, Kept, Removed}
 use Rattle.wb_merge.specs.Merged.{Records}
-
--- an architecture and a source package
-abbrev pub Key : Type 0
-Key = List ℕ × List ℕ
 
 -- the record at a key
 abbrev pub record_at : Records → Key → Option Record

@@ -1,7 +1,8 @@
 -- Which records builders hold, and under which take numbers (this project's own).
-use Rattle.std.specs.Prelude.{◌≡◌, ◌<◌, ℕ, Bool, false, ◌&&◌, List, filter, nat_eq, nat_lt, bytes_eq, Option, Some, None, find, unwrap_or}
+use Rattle.std.specs.Prelude.{◌≡◌, ◌<◌, ℕ, Bool, false, ◌&&◌, List, filter, nat_eq, nat_lt, bytes_eq, Option, Some, find, unwrap_or}
 use Rattle.std.specs.declared.cmp.Ordering.{Ordering}
 use Rattle.std.specs.Ordering.{nat_cmp, on}
+use Rattle.std.specs.Option.{option_map_or}
 use Rattle.std.specs.FinMap as finite
 use Rattle.wb_states.specs.declared.state.State.TheVariants.{Building}
 use Rattle.wb_states.specs.State.{code_of}
@@ -10,8 +11,7 @@ use Rattle.wb_states.specs.Queue.{Entry, first_of, sorted_by}
 
 -- whether a value is there and passes the test
 abbrev pub has_value : {X : Type 0} → (X → Bool) → Option X → Bool
-has_value test None = false
-has_value test (Some x) = test x
+has_value test value = option_map_or test value false
 
 -- a record that is held under the take number
 abbrev pub is_taken_as : ℕ → Entry → Bool

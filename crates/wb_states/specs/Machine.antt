@@ -18,6 +18,10 @@ use Rattle.wb_states.specs.Names.{is_arch_name, is_os_cpu_word, is_builder_name}
 use Rattle.wb_states.specs.Limits.{count_limit}
 use Rattle.wb_states.specs.Record.{IsWellFormed}
 
+-- the key of a record: its architecture and its source package
+abbrev pub Key : Type 0
+Key = List ℕ × List ℕ
+
 -- the order of two pairs of texts: by the first, then by the second
 abbrev pub pair_cmp : List ℕ × List ℕ → List ℕ × List ℕ → Ordering
 pair_cmp = then_cmp (on (λ p. p.0) text_cmp) (on (λ p. p.1) text_cmp)
@@ -92,7 +96,7 @@ pub record IsRecord (machine : Machine) (arch source : List ℕ) (current : Reco
 -- two records with one take number are one record
 abbrev pub HasDistinctTakes : Machine → Type 0
 HasDistinctTakes machine =
-    (one other : List ℕ × List ℕ) (first second : Record) (take_number : ℕ)
+    (one other : Key) (first second : Record) (take_number : ℕ)
     → map.get machine.records one ≡ Some first → map.get machine.records other ≡ Some second
     → first.take ≡ Some take_number → second.take ≡ Some take_number → one ≡ other
 

@@ -1,6 +1,6 @@
 -- The order in which the waiting source packages of an architecture are built (wanna-build's states page; the order of sections is this project's own).
-use Rattle.std.specs.Prelude.{◌≡◌, ℕ, ◌+◌, Bool, not, nat_lt, nat_eq, List, [], ◌∷◌, length, codes, bytes_eq, if◌then◌else◌, ◌&&◌, filter, Option, Some, None, ◌⊎◌}
-use Rattle.std.specs.List.{position_or_len, after_first}
+use Rattle.std.specs.Prelude.{◌≡◌, ℕ, Bool, not, nat_lt, nat_eq, List, [], ◌∷◌, length, codes, bytes_eq, if◌then◌else◌, ◌&&◌, filter, Option, Some, ◌⊎◌}
+use Rattle.std.specs.List.{position_or_len, after_first, slice_get}
 use Rattle.std.specs.declared.cmp.Ordering.{Ordering}
 use Rattle.std.specs.Ordering.{nat_cmp, bool_cmp, on, then_cmp, is_lt}
 use Rattle.std.specs.Cmp.{IsTotalOrder, on_total, then_total, nat_cmp_total, bool_cmp_total}
@@ -10,12 +10,7 @@ use Rattle.std.specs.FinMap as map
 use Rattle.wb_states.specs.declared.state.State.TheVariants.{NeedsBuild}
 use Rattle.wb_states.specs.State.{is_needs_build}
 use Rattle.deb_relations.specs.Text.{text_cmp}
-use Rattle.wb_states.specs.Machine.{Machine}
-
--- the place of a text in a list, from 0, or the list's length where it does not stand there
-abbrev pub place_among : List (List ℕ) → List ℕ → ℕ
-place_among [] text = 0
-place_among (name ∷ names) text = if bytes_eq text name then 0 else place_among names text + 1
+use Rattle.wb_states.specs.Machine.{Key, Machine}
 
 -- the priorities, the most urgent first (Debian Policy 2.5, and `extra` of its older versions)
 abbrev pub priorities : List (List ℕ)
@@ -49,8 +44,8 @@ pub record Place : Type 0 where
 abbrev pub place_of : Record → List ℕ → Place
 place_of current source = record {
   is_new = not current.earlier;
-  priority = place_among priorities current.priority;
-  section = place_among sections (without_area current.section);
+  priority = position_or_len (bytes_eq current.priority) priorities;
+  section = position_or_len (bytes_eq (without_area current.section)) sections;
   name = source;
 }
 
@@ -68,7 +63,7 @@ place_cmp_total =
 
 -- a key of the records, and the record at it
 abbrev pub Entry : Type 0
-Entry = (List ℕ × List ℕ) × Record
+Entry = Key × Record
 
 -- the order of two records in the queue
 abbrev pub entry_cmp : Entry → Entry → Ordering
@@ -94,8 +89,7 @@ queue_of machine arch = sorted_by entry_cmp (filter (is_waiting arch) (map.entri
 
 -- the first of a list, or none
 abbrev pub first_of : {X : Type 0} → List X → Option X
-first_of [] = None
-first_of (x ∷ _) = Some x
+first_of xs = slice_get xs 0
 
 -- the head of the queue of an architecture
 unfoldable pub head_of : Machine → List ℕ → Option Entry

@@ -1,10 +1,11 @@
 //! The order in which waiting source packages are built.
-ghost use Rattle.std.specs.Prelude.{◌≡◌, ℕ};
+ghost use Rattle.std.specs.Prelude.{◌≡◌, ℕ, bytes_eq};
+ghost use Rattle.std.specs.List.{position_or_len};
 ghost use Rattle.std.specs.Ordering.{as_partial_cmp, eq_by_cmp};
 ghost use Rattle.std.specs.Cmp.{eq_by_cmp_equiv, partial_equiv_from_equiv, po};
 ghost use Rattle.std.specs.Cmp.Rules.{comparing};
 ghost use Rattle.std.proofs.Common.{rules, refl};
-ghost use Rattle.wb_states.specs.Queue.{place_of, place_cmp, place_cmp_total, place_among, priorities, sections, without_area};
+ghost use Rattle.wb_states.specs.Queue.{place_of, place_cmp, place_cmp_total, priorities, sections, without_area};
 
 use crate::Record;
 use std::cmp::Ordering;
@@ -91,7 +92,7 @@ impl<'a> PartialOrd for QueueKey<'a> {
 }
 
 fn priority_place(priority: &str) -> u8
-    ensures { result ≡ place_among priorities priority.now }
+    ensures { result ≡ position_or_len (bytes_eq priority.now) priorities }
 {
     match priority {
         "required" => 0,
@@ -113,7 +114,7 @@ fn area_free(section: &str) -> &str
 }
 
 fn section_place(section: &str) -> u8
-    ensures { result ≡ place_among sections section.now }
+    ensures { result ≡ position_or_len (bytes_eq section.now) sections }
 {
     match section {
         "libs" => 0,
