@@ -77,10 +77,8 @@ relisted-well source state number listed built current good small fields note st
       priority = well.priority;
       section = well.section;
       number = well.number;
-      held = well.held;
-      taken = well.taken;
+      state = record { held = well.state.held; taken = well.state.taken; waiting = well.state.waiting };
       builder = well.builder;
-      waiting = well.waiting;
       waits = well.waits;
       depends = well.depends;
       note = well.note;

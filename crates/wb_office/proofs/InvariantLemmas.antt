@@ -44,10 +44,8 @@ entered-well version priority section reads first second = record {
   priority = labelled priority first;
   section = labelled section second;
   number = omega arith;
-  held = refl;
-  taken = refl;
+  state = record { held = refl; taken = refl; waiting = refl };
   builder = tt;
-  waiting = refl;
   waits = empty_within relations_limit;
   depends = empty_within relations_limit;
   note = empty_within note_limit;

@@ -153,7 +153,7 @@ pub consistent-takes : (machine : Machine) → IsConsistent machine → HasTakes
 consistent-takes machine is key = at (map.get machine.records key) (is.records key.0 key.1) where
   at : (found : Option Record) → IfSome found (IsRecord machine key.0 key.1) → IfSome found HasTakeByState
   at None is = tt
-  at (Some current) is = is.fields.taken
+  at (Some current) is = is.fields.state.taken
 
 pub step-takes : (machine : Machine) (command : Command) → HasTakesByState machine → HasTakesByState (step machine command).1
 step-takes machine command old = step-either HasTakesByState machine command old (λ pass _. state_after-takes machine command old pass.move)

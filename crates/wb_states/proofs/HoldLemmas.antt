@@ -102,7 +102,7 @@ held-taken : (machine : Machine) → IsConsistent machine → (entry : Entry) (b
     → entry.1.holder ≡ Some builder → (take_number : ℕ) × (entry.1.take ≡ Some take_number)
 held-taken machine sound entry builder kept holder =
     let well : IsRecord machine entry.0.0 entry.0.1 entry.1 = subst (λ o. IfSome o (IsRecord machine entry.0.0 entry.0.1)) kept (sound.records entry.0.0 entry.0.1) in
-    some-of entry.1.take (well.fields.taken ∙ sym well.fields.held ∙ ap is_some holder)
+    some-of entry.1.take (well.fields.state.taken ∙ sym well.fields.state.held ∙ ap is_some holder)
 
 tied-takes : (m n : ℕ) (one other : Option ℕ) → one ≡ Some m → other ≡ Some n → unwrap_or one 0 ≡ unwrap_or other 0 → m ≡ n
 tied-takes m n one other p q e = ap (λ (o : Option ℕ). unwrap_or o 0) (sym p) ∙ e ∙ ap (λ (o : Option ℕ). unwrap_or o 0) q

@@ -58,10 +58,8 @@ well-with old well state holder take waits note fits = record {
   priority = well.priority;
   section = well.section;
   number = well.number;
-  held = fits.held;
-  taken = fits.taken;
+  state = record { held = fits.held; taken = fits.taken; waiting = fits.waiting };
   builder = fits.builder;
-  waiting = fits.waiting;
   waits = fits.short_waits;
   depends = well.depends;
   note = fits.short_note;
@@ -112,25 +110,25 @@ row-well (to.Take holder take_number) old well form may allowed =
       held = refl;
       taken = refl;
       builder = form;
-      waiting = well.waiting ∙ (take-from holder take_number old.state may).waits;
+      waiting = well.state.waiting ∙ (take-from holder take_number old.state may).waits;
       short_waits = well.waits;
       short_note = empty_within note_limit;
     })
 row-well to.Built old well form may allowed =
     well-with old well Built old.holder old.take old.waits [] (record {
-      held = well.held ∙ held-before-built old.state may;
-      taken = well.taken ∙ held-before-built old.state may;
+      held = well.state.held ∙ held-before-built old.state may;
+      taken = well.state.taken ∙ held-before-built old.state may;
       builder = well.builder;
-      waiting = well.waiting ∙ (built-from old.state may).waits;
+      waiting = well.state.waiting ∙ (built-from old.state may).waits;
       short_waits = well.waits;
       short_note = empty_within note_limit;
     })
 row-well to.Uploaded old well form may allowed =
     well-with old well Uploaded old.holder old.take old.waits [] (record {
-      held = well.held ∙ held-before-uploaded old.state may;
-      taken = well.taken ∙ held-before-uploaded old.state may;
+      held = well.state.held ∙ held-before-uploaded old.state may;
+      taken = well.state.taken ∙ held-before-uploaded old.state may;
       builder = well.builder;
-      waiting = well.waiting ∙ (uploaded-from old.state may).waits;
+      waiting = well.state.waiting ∙ (uploaded-from old.state may).waits;
       short_waits = well.waits;
       short_note = empty_within note_limit;
     })
@@ -141,7 +139,7 @@ row-well to.PutBack old well form may allowed =
       held = refl;
       taken = refl;
       builder = tt;
-      waiting = well.waiting ∙ (put_back-from old.state may).waits;
+      waiting = well.state.waiting ∙ (put_back-from old.state may).waits;
       short_waits = well.waits;
       short_note = empty_within note_limit;
     })
@@ -158,10 +156,12 @@ row-well (to.Rebuild number message) old well form may allowed = record {
   priority = well.priority;
   section = well.section;
   number = form.0;
-  held = well.held ∙ rebuild-free number message old.state may;
-  taken = well.taken ∙ rebuild-free number message old.state may;
+  state = record {
+    held = well.state.held ∙ rebuild-free number message old.state may;
+    taken = well.state.taken ∙ rebuild-free number message old.state may;
+    waiting = well.state.waiting ∙ (rebuild-from number message old.state may).waits;
+  };
   builder = well.builder;
-  waiting = well.waiting ∙ (rebuild-from number message old.state may).waits;
   waits = well.waits;
   depends = well.depends;
   note = empty_within note_limit;

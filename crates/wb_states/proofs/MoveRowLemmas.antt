@@ -48,13 +48,13 @@ empty-is (c ∷ cs) is = absurd cc
 
 module _ (old : Record) (well : IsWellFormed old) where
   no_holder : is_held old.state ≡ false → old.holder ≡ None
-  no_holder is = none-is old.holder (well.held ∙ is)
+  no_holder is = none-is old.holder (well.state.held ∙ is)
 
   no_take : is_held old.state ≡ false → old.take ≡ None
-  no_take is = none-is old.take (well.taken ∙ is)
+  no_take is = none-is old.take (well.state.taken ∙ is)
 
   no_waits : is_dep_wait old.state ≡ false → old.waits ≡ []
-  no_waits is = empty-is old.waits (well.waiting ∙ is)
+  no_waits is = empty-is old.waits (well.state.waiting ∙ is)
 
 -- ---- the states from which a move goes
 

@@ -58,9 +58,9 @@ stands-free current state not_held not_waiting = record {
 -- the state that it is in
 pub stands-well : (current : Record) → IsWellFormed current → MayStand current current.state
 stands-well current is = record {
-  held = λ h. is.held ∙ h;
-  taken = λ h. is.taken ∙ h;
-  waiting = λ h. not-true (is_empty_text current.waits) (is.waiting ∙ h);
+  held = λ h. is.state.held ∙ h;
+  taken = λ h. is.state.taken ∙ h;
+  waiting = λ h. not-true (is_empty_text current.waits) (is.state.waiting ∙ h);
 }
   where
     not-true : (b : Bool) → not b ≡ true → b ≡ false
@@ -91,10 +91,12 @@ settled-well state current note fields short stands = record {
   priority = fields.priority;
   section = fields.section;
   number = fields.number;
-  held = there (is_held state) current.holder stands.held;
-  taken = there (is_held state) current.take stands.taken;
+  state = record {
+    held = there (is_held state) current.holder stands.held;
+    taken = there (is_held state) current.take stands.taken;
+    waiting = filled (is_dep_wait state) current.waits stands.waiting;
+  };
   builder = if-kept (λ builder. IsTrue (is_builder_name builder)) (is_held state) current.holder fields.builder;
-  waiting = filled (is_dep_wait state) current.waits stands.waiting;
   waits = text-kept relations_limit (is_dep_wait state) current.waits fields.waits;
   depends = fields.depends;
   note = short;

@@ -17,16 +17,20 @@ pub record IsTextWithin (limit : ℕ) (text : List ℕ) : Type 0 where
   pub utf8 : IsUtf8 text
   pub within : length text ≤ limit
 
--- a record whose fields have their forms and limits: exactly a held one has a holder and a take number, and exactly Dep-Wait has waits
+-- a record fits its state: exactly a held one has a holder and a take number, and exactly Dep-Wait has waits
+pub record FitsState (current : Record) : Type 0 where
+  pub held : is_some current.holder ≡ is_held current.state
+  pub taken : is_some current.take ≡ is_held current.state
+  pub waiting : not (is_empty_text current.waits) ≡ is_dep_wait current.state
+
+-- a record whose fields have their forms and limits, and which fits its state
 pub record IsWellFormed (current : Record) : Type 0 where
   pub version : IsOk (reading_of current.version)
   pub priority : IsTrue (is_empty_text current.priority || is_label_text current.priority)
   pub section : IsTrue (is_empty_text current.section || is_label_text current.section)
   pub number : current.number ≤ rebuild_limit
-  pub held : is_some current.holder ≡ is_held current.state
-  pub taken : is_some current.take ≡ is_held current.state
+  pub state : FitsState current
   pub builder : IfSome current.holder (λ builder. IsTrue (is_builder_name builder))
-  pub waiting : not (is_empty_text current.waits) ≡ is_dep_wait current.state
   pub waits : IsTextWithin relations_limit current.waits
   pub depends : IfSome current.depends (IsTextWithin relations_limit)
   pub note : IsTextWithin note_limit current.note
