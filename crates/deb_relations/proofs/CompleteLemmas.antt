@@ -1,6 +1,6 @@
 -- What has a reading in the grammar is read, and as that.
 use Rattle.std.proofs.Common.{◌≡◌, ℕ, Bool, true, false, cond, not, ◌&&◌, ◌||◌, eqb, List, [], ◌∷◌, ◌++◌, map, filter, refl, sym, ap, subst, ◌∙◌, arith, append_assoc, Option, Some, None}
-use Rattle.std.specs.List.{list_all, slice_split, onto_first, AllZip}
+use Rattle.std.specs.List.{list_all, slice_split, onto_first, AllZip, take_while}
 use Rattle.std.proofs.lemmas.Bool.Decides.{nat_tests}
 use Rattle.std.proofs.lemmas.Slice.Eq.{bytes_eq-Decides}
 use Rattle.std.specs.Prelude.{bytes_eq, codes}
@@ -17,11 +17,10 @@ use Rattle.deb_relations.specs.Reduction.{is_filled}
 use Rattle.deb_relations.specs.Grammar.{is_white, is_blank_text, is_profile_char, is_op_char, is_qualifier, is_word, is_not_blank, op_of, words, TakesName, TakesQualifier, InBrackets, IsRestriction, TakesRestriction, ReadsTerms, TakesArchs, ReadsProfiles, ReadsAlternative, ReadsGroup, Reads}
 use Rattle.deb_relations.specs.Names.{is_lower_or_digit, is_package_char, is_arch_char, begins_with_lower_or_digit, is_package_name}
 use Rattle.deb_relations.specs.Reader.{skip, strip, is_solid, between, between_opened, read_between, with_rest, read_name, read_behind_colon, read_qualifier, asked_of, asked_behind, asked_from, restriction_of, asked_inside, read_restriction, term_behind, term_of, both, all_some, filled_only, terms_of, alike_only, archs_of, read_archs, profile_behind, profile_of, lists_of, read_profiles, with_profiles, with_archs, with_asked, with_qualifier, with_name, read_alternative, read_group, read_groups}
-use Rattle.deb_relations.proofs.LeadingLemmas.{both-true, and-true, stops, opens, leading-all, skip-all, opens-stops, opens-weaker, all-weaker, all-both}
+use Rattle.deb_relations.proofs.FrontLemmas.{both-true, and-true, stops, opens, take_while-all, skip-all, opens-stops, opens-weaker, all-weaker, all-both, skip-cons}
 use Rattle.deb_relations.proofs.CutLemmas.{strip-here, cut-here, split-here, split-none}
 use Rattle.deb_relations.proofs.TurnLemmas.{lists-cons, split-has}
 use Rattle.deb_relations.proofs.VersionFormLemmas.{version-form, version-filled}
-use Rattle.deb_relations.specs.Text.{leading}
 
 -- a character that is not c
 abbrev pub other : ℕ → ℕ → Bool
@@ -59,7 +58,7 @@ opens-next (c ∷ cs) h =
     elim (is_white c) as (λ v. is_white c ≡ v → opens is_round (cond v (skip is_white cs) (c ∷ cs)) → (v || is_round c) ≡ true) [
       | true ↦ λ e k. refl
       | false ↦ λ e k. k
-    ] refl h
+    ] refl (subst (opens is_round) (skip-cons is_white c cs) h)
 
 bracket-opens : (p : ℕ → Bool) (l r : ℕ) (t inside rest : List ℕ) → InBrackets l r t inside rest → is_white l ≡ false → p l ≡ true → opens p (skip is_white t)
 bracket-opens p l r t inside rest b w h =
@@ -69,7 +68,7 @@ blank-skip : (t : List ℕ) → is_blank_text t ≡ true → skip is_white t ≡
 blank-skip [] h = refl
 blank-skip (c ∷ cs) h =
     let two : (is_white c ≡ true) × (is_blank_text cs ≡ true) = both-true _ _ h in
-    ap (λ v. cond v (skip is_white cs) (c ∷ cs)) two.0 ∙ blank-skip cs two.1
+    skip-cons is_white c cs ∙ ap (λ v. cond v (skip is_white cs) (c ∷ cs)) two.0 ∙ blank-skip cs two.1
 
 pub profiles-open : (t : List ℕ) (lists : List (List Term)) → ReadsProfiles t lists → opens is_angle (skip is_white t)
 unfolding is_white
@@ -115,7 +114,7 @@ name-complete t name rest h o =
     let chars : (list_all is_package_char name ≡ true) × (_ ≡ true) = both-true _ _ form.1 in
     let front : skip is_white t ≡ name ++ rest = ap (skip is_white) h.split ∙ skip-all is_white h.gap (name ++ rest) h.blank (begins-stops name rest form.0) in
     let end : stops is_package_char rest = opens-stops is_behind_name is_package_char rest behind-no-package o in
-    let one : leading is_package_char (skip is_white t) ≡ name = ap (leading is_package_char) front ∙ leading-all is_package_char name rest chars.0 end in
+    let one : take_while is_package_char (skip is_white t) ≡ name = ap (take_while is_package_char) front ∙ take_while-all is_package_char name rest chars.0 end in
     let two : skip is_package_char (skip is_white t) ≡ rest = ap (skip is_package_char) front ∙ skip-all is_package_char name rest chars.0 end in
     rw (one, two, h.form) refl
 
@@ -132,7 +131,7 @@ qualifier-complete t (Some word) rest h o =
     let two : (is_filled word ≡ true) × (list_all is_arch_char word ≡ true) = both-true _ _ h.1 in
     let end : stops is_arch_char rest = opens-stops is_next is_arch_char rest next-no-arch o in
     let some : strip 58 t ≡ Some (word ++ rest) = ap (strip 58) h.0 ∙ strip-here 58 (word ++ rest) in
-    let one : leading is_arch_char (word ++ rest) ≡ word = leading-all is_arch_char word rest two.1 end in
+    let one : take_while is_arch_char (word ++ rest) ≡ word = take_while-all is_arch_char word rest two.1 end in
     let more : skip is_arch_char (word ++ rest) ≡ rest = skip-all is_arch_char word rest two.1 end in
     ap (read_behind_colon t) some ∙ rw (one, more, two.0) refl
 
@@ -244,9 +243,9 @@ asked-complete inside asked h =
     let s5 : stops is_solid h.back = opens-stops is_white is_solid h.back white-not-solid (all-opens is_white h.back h.back_blank) in
     let solid : list_all is_solid v ≡ true = all-weaker is_upstream_char is_solid version-solid v chars in
     let e1 : skip is_white inside ≡ h.operator.operator ++ (h.operator.middle ++ last) = ap (skip is_white) h.operator.split ∙ skip-all is_white h.operator.front _ h.operator.front_blank s1 in
-    let e2 : leading is_op_char (h.operator.operator ++ (h.operator.middle ++ last)) ≡ h.operator.operator = leading-all is_op_char h.operator.operator _ ops s4 in
+    let e2 : take_while is_op_char (h.operator.operator ++ (h.operator.middle ++ last)) ≡ h.operator.operator = take_while-all is_op_char h.operator.operator _ ops s4 in
     let e3 : skip is_white (skip is_op_char (h.operator.operator ++ (h.operator.middle ++ last))) ≡ last = ap (skip is_white) (skip-all is_op_char h.operator.operator _ ops s4) ∙ skip-all is_white h.operator.middle last h.operator.middle_blank s2 in
-    let e4 : leading is_solid last ≡ v = leading-all is_solid v h.back solid s5 in
+    let e4 : take_while is_solid last ≡ v = take_while-all is_solid v h.back solid s5 in
     let e5 : skip is_solid last ≡ h.back = skip-all is_solid v h.back solid s5 in
     ap asked_from e1
     ∙ ap (λ o. asked_behind o (skip is_white (skip is_op_char (h.operator.operator ++ (h.operator.middle ++ last))))) (ap op_of e2 ∙ h.operator.means)

@@ -1,6 +1,6 @@
 -- What the first fault of a text tells of it: none is want of memory or length, and the fault of a version is that of a text inside.
 use Rattle.std.proofs.Common.{◌≡◌, ℕ, ◌-◌, Bool, true, false, not, ◌&&◌, ◌||◌, cond, eqb, List, [], ◌∷◌, ◌++◌, length, refl, sym, ap, subst, ◌∙◌, append_assoc, append-nil, Option, Some, None, is_some}
-use Rattle.std.specs.List.{list_all, slice_split, join_with_byte}
+use Rattle.std.specs.List.{list_all, slice_split, join_with_byte, take_while}
 use Rattle.std.proofs.lemmas.List.Folds.{list_all-append}
 use Rattle.std.proofs.lemmas.List.Splits.{join_with_byte-slice_split}
 use Rattle.deb_version.specs.declared.fault.VersionFault.{VersionFault}
@@ -15,10 +15,9 @@ use Rattle.deb_relations.specs.Reduction.{is_filled}
 use Rattle.deb_relations.specs.Grammar.{is_white, is_op_char, op_of, TakesName, TakesQualifier, InBrackets}
 use Rattle.deb_relations.specs.Reader.{skip, strip, cut, is_solid, between_opened, between, read_name, read_qualifier, read_restriction, terms_of, read_archs, profile_of}
 use Rattle.deb_relations.specs.Reading.{place_of, end_before, span, name_fault, version_fault, fault_behind_operator, operator_fault, asked_fault, bracket_fault, restriction_fault, words_fault, archs_fault, list_fault, lists_fault, profiles_fault, or_behind, fault_behind_restriction, fault_behind_qualifier, fault_behind_name, alternative_fault, first_fault, is_alternative, group_fault, is_group_or_blank, groups_fault, is_asked_char, ends_asked, HasBadVersion}
-use Rattle.deb_relations.proofs.LeadingLemmas.{stops, both-true, and-true, leading-skip, leading-passes, skip-stops}
+use Rattle.deb_relations.proofs.FrontLemmas.{stops, both-true, and-true, take_while-skip, take_while-passes, skip-stops}
 use Rattle.deb_relations.proofs.CutLemmas.{cut-clear}
 use Rattle.deb_relations.proofs.SoundLemmas.{between-sound, name-sound, qualifier-sound}
-use Rattle.deb_relations.specs.Text.{leading}
 use Rattle.std.specs.Option.{option_map}
 
 -- a text that stands in another
@@ -117,36 +116,36 @@ module _ (text inside rest : List ℕ) (b : InBrackets 40 41 text inside rest) (
   abbrev asked : List ℕ
   asked = skip is_white behind
 
-  inside-is : inside ≡ leading is_white inside ++ (leading is_op_char front ++ (leading is_white behind ++ (leading is_solid asked ++ skip is_solid asked)))
+  inside-is : inside ≡ take_while is_white inside ++ (take_while is_op_char front ++ (take_while is_white behind ++ (take_while is_solid asked ++ skip is_solid asked)))
   inside-is =
-      leading-skip is_white inside
-      ∙ ap (λ x. leading is_white inside ++ x) (leading-skip is_op_char front ∙ ap (λ x. leading is_op_char front ++ x) (leading-skip is_white behind ∙ ap (λ x. leading is_white behind ++ x) (leading-skip is_solid asked)))
+      take_while-skip is_white inside
+      ∙ ap (λ x. take_while is_white inside ++ x) (take_while-skip is_op_char front ∙ ap (λ x. take_while is_op_char front ++ x) (take_while-skip is_white behind ∙ ap (λ x. take_while is_white behind ++ x) (take_while-skip is_solid asked)))
 
-  version-whole : list_all is_asked_char (leading is_solid asked) ≡ true
+  version-whole : list_all is_asked_char (take_while is_solid asked) ≡ true
   version-whole =
       let all = subst (λ x. list_all (λ c. not (eqb c 41)) x ≡ true) inside-is clear in
-      all-asked (leading is_solid asked) (leading-passes is_solid asked)
-      (all-front _ (leading is_solid asked) (skip is_solid asked) (all-back _ (leading is_white behind) _ (all-back _ (leading is_op_char front) _ (all-back _ (leading is_white inside) _ all))))
+      all-asked (take_while is_solid asked) (take_while-passes is_solid asked)
+      (all-front _ (take_while is_solid asked) (skip is_solid asked) (all-back _ (take_while is_white behind) _ (all-back _ (take_while is_op_char front) _ (all-back _ (take_while is_white inside) _ all))))
 
-  brackets-are : inside ++ (41 ∷ rest) ≡ leading is_white inside ++ (leading is_op_char front ++ (leading is_white behind ++ (leading is_solid asked ++ (skip is_solid asked ++ (41 ∷ rest)))))
+  brackets-are : inside ++ (41 ∷ rest) ≡ take_while is_white inside ++ (take_while is_op_char front ++ (take_while is_white behind ++ (take_while is_solid asked ++ (skip is_solid asked ++ (41 ∷ rest)))))
   brackets-are = ap (λ x. x ++ (41 ∷ rest)) inside-is ∙ simp append_assoc
 
-  version-tells : (op : Op) → op_of (leading is_op_char front) ≡ Some op → (o : Option VersionFault) → fault_of (leading is_solid asked) ≡ o → (place : ℕ) → Tells text (version_fault o place)
+  version-tells : (op : Op) → op_of (take_while is_op_char front) ≡ Some op → (o : Option VersionFault) → fault_of (take_while is_solid asked) ≡ o → (place : ℕ) → Tells text (version_fault o place)
   version-tells op e None h place = tt
   version-tells op e (Some fault) h place = record {
     front = b.gap;
     inside = inside ++ (41 ∷ rest);
     op = op;
-    word = leading is_solid asked;
+    word = take_while is_solid asked;
     back = skip is_solid asked ++ (41 ∷ rest);
     split = b.split;
     operator = record {
-      front = leading is_white inside;
-      operator = leading is_op_char front;
-      middle = leading is_white behind;
+      front = take_while is_white inside;
+      operator = take_while is_op_char front;
+      middle = take_while is_white behind;
       split = brackets-are;
-      front_blank = leading-passes is_white inside;
-      middle_blank = leading-passes is_white behind;
+      front_blank = take_while-passes is_white inside;
+      middle_blank = take_while-passes is_white behind;
       means = e;
     };
     whole = version-whole;
@@ -154,14 +153,14 @@ module _ (text inside rest : List ℕ) (b : InBrackets 40 41 text inside rest) (
     version = h;
   }
 
-  operator-tells : (end : ℕ) (o : Option Op) → op_of (leading is_op_char front) ≡ o → Tells text (operator_fault o (fault_behind_operator end asked))
+  operator-tells : (end : ℕ) (o : Option Op) → op_of (take_while is_op_char front) ≡ o → Tells text (operator_fault o (fault_behind_operator end asked))
   unfolding fault_behind_operator
   operator-tells end None e = tt
-  operator-tells end (Some op) e = version-tells op e (fault_of (leading is_solid asked)) refl (place_of end (skip is_white (skip is_solid asked)))
+  operator-tells end (Some op) e = version-tells op e (fault_of (take_while is_solid asked)) refl (place_of end (skip is_white (skip is_solid asked)))
 
   asked-tells : (end : ℕ) → Tells text (asked_fault end inside)
   unfolding asked_fault
-  asked-tells end = operator-tells end (op_of (leading is_op_char front)) refl
+  asked-tells end = operator-tells end (op_of (take_while is_op_char front)) refl
 
 clear-cut : (r : ℕ) (behind : List ℕ) (o : Option (List ℕ × List ℕ)) → cut r behind ≡ o → (p : List ℕ × List ℕ) → option_map Some o ≡ Some (Some p) → list_all (λ c. not (eqb c r)) p.0 ≡ true
 clear-cut r behind None e p h = absurd (cc)

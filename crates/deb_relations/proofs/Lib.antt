@@ -4,7 +4,7 @@ mod CompleteLemmas
 mod CutLemmas
 mod FaultLemmas
 mod FaultTurnLemmas
-mod LeadingLemmas
+pub mod FrontLemmas
 pub mod ReadBackLemmas
 mod ScannerLemmas
 mod SoundLemmas

@@ -20,7 +20,7 @@ use Rattle.deb_relations.specs.Reduction.{is_filled, reduced}
 use Rattle.deb_relations.specs.Grammar.{is_profile_char, is_qualifier, is_word, Reads}
 use Rattle.deb_relations.specs.Names.{is_lower_or_digit, is_package_char, is_arch_char, is_package_name, begins_with_lower_or_digit}
 use Rattle.deb_relations.specs.Reading.{reading_of}
-use Rattle.deb_relations.proofs.LeadingLemmas.{both-true, all-weaker, all-both}
+use Rattle.deb_relations.proofs.FrontLemmas.{both-true, all-weaker, all-both}
 use Rattle.deb_relations.proofs.CompleteLemmas.{word-chars}
 use Rattle.deb_relations.proofs.ReadingLemmas.{reading-reads}
 use Rattle.deb_relations.proofs.ReadBackLemmas.{Good, AllGood, AllGroups, reads-good, reduced-good}

@@ -1,7 +1,7 @@
 -- What is printed reads back as the same.
 use Rattle.std.proofs.Common.{◌≡◌, ℕ, ◌≤◌, Bool, true, false, cond, not, ◌&&◌, eqb, List, [], ◌∷◌, ◌++◌, map, filter, length, refl, sym, ap, subst, ◌∙◌, arith, append_assoc, append-nil, Option, Some, None}
 use Rattle.std.specs.Prelude.{codes}
-use Rattle.std.specs.List.{list_all, slice_split, flat_map, AllZip}
+use Rattle.std.specs.List.{list_all, slice_split, flat_map, AllZip, take_while}
 use Rattle.std.proofs.lemmas.Bool.Decides.{nat_tests}
 use Rattle.deb_version.specs.declared.operator.Op.{Op}
 use Rattle.deb_version.specs.declared.operator.Op.TheVariants.{Earlier, EarlierOrEqual, Equal, LaterOrEqual, Later}
@@ -17,12 +17,11 @@ use Rattle.deb_relations.specs.Reduction.{is_filled, is_kept, without_lists, red
 use Rattle.deb_relations.specs.Grammar.{is_white, is_blank_text, is_profile_char, is_qualifier, is_word, is_not_blank, op_of, words, are_alike, TakesQualifier, TakesRestriction, ReadsTerms, TakesArchs, ReadsProfiles, ReadsAlternative, ReadsGroup, Reads, relations_limit}
 use Rattle.deb_relations.specs.Names.{is_lower_or_digit, is_package_char, is_arch_char, begins_with_lower_or_digit, is_package_name}
 use Rattle.deb_relations.specs.Reader.{skip, is_solid}
-use Rattle.deb_relations.proofs.LeadingLemmas.{both-true, stops, leading-all, skip-all, all-weaker, all-both}
+use Rattle.deb_relations.proofs.FrontLemmas.{both-true, stops, take_while-all, skip-all, all-weaker, all-both}
 use Rattle.deb_relations.proofs.CutLemmas.{split-here, split-none}
 use Rattle.deb_relations.proofs.TurnLemmas.{words-first, words-skip, words-white, split-has}
 use Rattle.deb_relations.proofs.CompleteLemmas.{lower-not-white, other, word-chars}
 use Rattle.deb_relations.proofs.VersionFormLemmas.{version-form}
-use Rattle.deb_relations.specs.Text.{leading}
 
 -- the forms of the parts of an alternative
 abbrev GoodQualifier : Option (List ℕ) → Type 0
@@ -159,7 +158,7 @@ behind-stops (y ∷ ys) = refl
 words-one : (kind : Kind) (term : Term) (rest : List ℕ) → is_word kind term.word ≡ true → stops is_solid rest → words (term_text term ++ rest) ≡ term_text term ∷ words rest
 words-one kind term rest h s =
     let solid : list_all is_solid (term_text term) ≡ true = term-solid kind term h in
-    let one : leading is_solid (term_text term ++ rest) ≡ term_text term = leading-all is_solid (term_text term) rest solid s in
+    let one : take_while is_solid (term_text term ++ rest) ≡ term_text term = take_while-all is_solid (term_text term) rest solid s in
     let two : skip is_solid (term_text term ++ rest) ≡ rest = skip-all is_solid (term_text term) rest solid s in
     words-first (term_text term ++ rest) (ap is_filled one ∙ term-filled kind term h)
     ∙ ap (λ x. x ∷ words (skip is_white (skip is_solid (term_text term ++ rest)))) one

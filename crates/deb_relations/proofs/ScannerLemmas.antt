@@ -1,6 +1,6 @@
 -- The pieces that the scanner gives, as the reader's words have them.
 use Rattle.std.proofs.Common.{◌≡◌, ◌≢◌, ℕ, zero, suc, ◌<◌, ◌≤◌, ◌+◌, true, false, not, ◌&&◌, eqb, List, [], ◌∷◌, ◌++◌, length, take, drop, get_or, refl, sym, ap, subst, ◌∙◌, arith, Option, Some, None, MatchOption, Bor, IsOk, Err}
-use Rattle.std.specs.List.{list_all}
+use Rattle.std.specs.List.{list_all, take_while}
 use Rattle.std.specs.Option.{option_map, is_none}
 use Rattle.std.specs.Str.{IsUtf8, IsCharBoundary}
 use Rattle.std.proofs.lemmas.Str.{IsCharBoundary-start, IsCharBoundary-after_ascii}
@@ -18,9 +18,8 @@ use Rattle.deb_relations.specs.Names.{is_lower_or_digit, is_package_char, is_arc
 use Rattle.deb_relations.specs.Reader.{skip, strip, cut, is_solid}
 use Rattle.deb_relations.specs.Reading.{version_fault}
 use Rattle.deb_relations.specs.Scanner.{test_of, text_of, halves_of}
-use Rattle.deb_relations.proofs.LeadingLemmas.{leading-is}
+use Rattle.deb_relations.proofs.FrontLemmas.{front-is}
 use Rattle.deb_relations.proofs.CutLemmas.{strip-here, strip-other, cut-here, cut-none}
-use Rattle.deb_relations.specs.Text.{leading}
 use Rattle.deb_version.proofs.ReadingLemmas.{fault_of-IsOk, fault_of-Err}
 
 after-ascii : (t : List ℕ) (n : ℕ) → IsUtf8 t → n ≤ length t → ((k : ℕ) → k < n → get_or t k 0 < 128) → IsCharBoundary t n
@@ -64,16 +63,16 @@ boundary Arch t n u h p s = after-ascii t n u h (λ k l. arch-ascii _ (p k l))
 boundary Profile t n u h p s = after-ascii t n u h (λ k l. profile-ascii _ (p k l))
 boundary Op t n u h p s = after-ascii t n u h (λ k l. op-ascii _ (p k l))
 
--- where the leading of a class ends in a text
+-- where the longest front of a class ends in a text
 pub record EndsAt (class : Class) (t : List ℕ) (n : ℕ) : Type 0 where
   pub place : IsCharBoundary t n
-  pub front : take n t ≡ leading (test_of class) t
+  pub front : take n t ≡ take_while (test_of class) t
   pub back : drop n t ≡ skip (test_of class) t
 
 pub ends-at : (class : Class) (bytes t : List ℕ) (n : ℕ) → bytes ≡ t → IsUtf8 t → n ≤ length bytes → ((k : ℕ) → k < n → test_of class (get_or bytes k 0) ≡ true) → (n < length bytes → test_of class (get_or bytes n 0) ≡ false) → EndsAt class t n
 ends-at class bytes t n e u h p s =
     let u' : IsUtf8 bytes = subst IsUtf8 (sym e) u in
-    let two = leading-is (test_of class) bytes n h p s in
+    let two = front-is (test_of class) bytes n h p s in
     subst (λ (x : List ℕ). EndsAt class x n) e (record { place = boundary class bytes n u' h p s; front = two.0; back = two.1 })
 
 pub strip-is : (c : ℕ) (t : List ℕ) (r : Option (Bor (List ℕ))) → MatchOption r ((rest : List ℕ) → t ≢ c ∷ rest) (λ x. t ≡ c ∷ x.now) → option_map text_of r ≡ strip c t

@@ -1,6 +1,6 @@
 -- What the reader gives is a reading in the grammar.
 use Rattle.std.proofs.Common.{◌≡◌, ◌⊎◌, inl, inr, ℕ, ◌≤◌, Bool, true, false, cond, ◌&&◌, eqb, List, [], ◌∷◌, ◌++◌, map, filter, length, refl, sym, ap, subst, ◌∙◌, append_assoc, Option, Some, None}
-use Rattle.std.specs.List.{list_all, slice_split, join_with_byte, AllZip}
+use Rattle.std.specs.List.{list_all, slice_split, join_with_byte, AllZip, take_while}
 use Rattle.std.proofs.lemmas.List.Splits.{join_with_byte-slice_split}
 use Rattle.std.specs.Option.{is_none, option_map}
 use Rattle.deb_version.specs.declared.fault.VersionFault.{VersionFault}
@@ -16,45 +16,44 @@ use Rattle.deb_relations.specs.Reduction.{is_filled}
 use Rattle.deb_relations.specs.Grammar.{is_white, is_blank_text, is_op_char, is_qualifier, is_word, is_not_blank, op_of, words, are_alike, TakesName, TakesQualifier, InBrackets, IsRestriction, TakesRestriction, ReadsTerms, TakesArchs, ReadsProfiles, ReadsAlternative, ReadsGroup, Reads, relations_limit}
 use Rattle.deb_relations.specs.Names.{is_package_char, is_arch_char, is_package_name}
 use Rattle.deb_relations.specs.Reader.{skip, strip, cut, is_solid, between, between_opened, read_between, with_rest, read_name, read_behind_colon, read_qualifier, asked_of, restriction_of, asked_inside, read_restriction, term_behind, term_of, both, all_some, filled_only, terms_of, alike_only, archs_of, read_archs, profile_behind, profile_of, lists_of, read_profiles, with_profiles, with_archs, with_asked, with_qualifier, with_name, read_alternative, read_group, read_groups}
-use Rattle.deb_relations.proofs.LeadingLemmas.{both-true, and-true, leading-skip, leading-passes}
+use Rattle.deb_relations.proofs.FrontLemmas.{both-true, and-true, take_while-skip, take_while-passes}
 use Rattle.deb_relations.proofs.CutLemmas.{strip-join, cut-is}
-use Rattle.deb_relations.specs.Text.{leading}
 
-name-at : (t : List ℕ) (b : Bool) → is_package_name (leading is_package_char (skip is_white t)) ≡ b → (p : List ℕ × List ℕ)
-    → cond b (Some (leading is_package_char (skip is_white t), skip is_package_char (skip is_white t))) None ≡ Some p
+name-at : (t : List ℕ) (b : Bool) → is_package_name (take_while is_package_char (skip is_white t)) ≡ b → (p : List ℕ × List ℕ)
+    → cond b (Some (take_while is_package_char (skip is_white t), skip is_package_char (skip is_white t))) None ≡ Some p
     → TakesName t p.0 p.1
 name-at t true e p h =
-    let made : ◌≡◌ {A = List ℕ × List ℕ} (leading is_package_char (skip is_white t), skip is_package_char (skip is_white t)) p = cc in
+    let made : ◌≡◌ {A = List ℕ × List ℕ} (take_while is_package_char (skip is_white t), skip is_package_char (skip is_white t)) p = cc in
     subst (λ (q : List ℕ × List ℕ). TakesName t q.0 q.1) made (record {
-      gap = leading is_white t;
-      split = leading-skip is_white t ∙ ap (λ xs. leading is_white t ++ xs) (leading-skip is_package_char (skip is_white t));
-      blank = leading-passes is_white t;
+      gap = take_while is_white t;
+      split = take_while-skip is_white t ∙ ap (λ xs. take_while is_white t ++ xs) (take_while-skip is_package_char (skip is_white t));
+      blank = take_while-passes is_white t;
       form = e;
     })
 name-at t false e p h = absurd (cc)
 
 pub name-sound : (t : List ℕ) (p : List ℕ × List ℕ) → read_name t ≡ Some p → TakesName t p.0 p.1
 unfolding read_name
-name-sound t p h = name-at t (is_package_name (leading is_package_char (skip is_white t))) refl p h
+name-sound t p h = name-at t (is_package_name (take_while is_package_char (skip is_white t))) refl p h
 
 abbrev pub Qualified : Type 0
 Qualified = Option (List ℕ) × List ℕ
 
-qualifier-at : (t behind : List ℕ) → t ≡ 58 ∷ behind → (b : Bool) → is_filled (leading is_arch_char behind) ≡ b → (p : Qualified)
-    → cond b (Some (Some (leading is_arch_char behind), skip is_arch_char behind)) None ≡ Some p
+qualifier-at : (t behind : List ℕ) → t ≡ 58 ∷ behind → (b : Bool) → is_filled (take_while is_arch_char behind) ≡ b → (p : Qualified)
+    → cond b (Some (Some (take_while is_arch_char behind), skip is_arch_char behind)) None ≡ Some p
     → TakesQualifier t p.0 p.1
 unfolding is_qualifier
 qualifier-at t behind j true e p h =
-    let made : ◌≡◌ {A = Qualified} (Some (leading is_arch_char behind), skip is_arch_char behind) p = cc in
+    let made : ◌≡◌ {A = Qualified} (Some (take_while is_arch_char behind), skip is_arch_char behind) p = cc in
     subst (λ (q : Qualified). TakesQualifier t q.0 q.1) made
-    (j ∙ ap (λ xs. 58 ∷ xs) (leading-skip is_arch_char behind), and-true _ _ e (leading-passes is_arch_char behind))
+    (j ∙ ap (λ xs. 58 ∷ xs) (take_while-skip is_arch_char behind), and-true _ _ e (take_while-passes is_arch_char behind))
 qualifier-at t behind j false e p h = absurd (cc)
 
 qualifier-by : (t : List ℕ) (o : Option (List ℕ)) → strip 58 t ≡ o → (p : Qualified) → read_behind_colon t o ≡ Some p → TakesQualifier t p.0 p.1
 qualifier-by t None e p h =
     let made : ◌≡◌ {A = Qualified} (None, t) p = cc in
     subst (λ (q : Qualified). TakesQualifier t q.0 q.1) made refl
-qualifier-by t (Some behind) e p h = qualifier-at t behind (strip-join 58 t behind e) (is_filled (leading is_arch_char behind)) refl p h
+qualifier-by t (Some behind) e p h = qualifier-at t behind (strip-join 58 t behind e) (is_filled (take_while is_arch_char behind)) refl p h
 
 pub qualifier-sound : (t : List ℕ) (p : Qualified) → read_qualifier t ≡ Some p → TakesQualifier t p.0 p.1
 unfolding read_qualifier
@@ -68,9 +67,9 @@ between-cut l r t behind s None e p h = absurd (cc)
 between-cut l r t behind s (Some q) e p h =
     let made : ◌≡◌ {A = Halves} q p = cc in
     subst (λ (x : Halves). InBrackets l r t x.0 x.1) made (record {
-      gap = leading is_white t;
-      split = leading-skip is_white t ∙ ap (λ xs. leading is_white t ++ xs) (strip-join l (skip is_white t) behind s ∙ ap (λ xs. l ∷ xs) (cut-is r behind q e).join);
-      blank = leading-passes is_white t;
+      gap = take_while is_white t;
+      split = take_while-skip is_white t ∙ ap (λ xs. take_while is_white t ++ xs) (strip-join l (skip is_white t) behind s ∙ ap (λ xs. l ∷ xs) (cut-is r behind q e).join);
+      blank = take_while-passes is_white t;
     })
 
 between-by : (l r : ℕ) (t : List ℕ) (o : Option (List ℕ)) → strip l (skip is_white t) ≡ o → (p : Halves) → between_opened r o ≡ Some (Some p) → InBrackets l r t p.0 p.1
@@ -115,25 +114,25 @@ module _ (inside : List ℕ) where
   behind = skip is_op_char front
 
   abbrev version : List ℕ
-  version = leading is_solid (skip is_white behind)
+  version = take_while is_solid (skip is_white behind)
 
   abbrev after : List ℕ
   after = skip is_solid (skip is_white behind)
 
-  asked-at : (op : Op) → op_of (leading is_op_char front) ≡ Some op → (b : Bool) → (is_version_text version && is_blank_text after) ≡ b → (asked : Restriction) → cond b (Some (record { op = op; version = version })) None ≡ Some asked → IsRestriction inside asked
+  asked-at : (op : Op) → op_of (take_while is_op_char front) ≡ Some op → (b : Bool) → (is_version_text version && is_blank_text after) ≡ b → (asked : Restriction) → cond b (Some (record { op = op; version = version })) None ≡ Some asked → IsRestriction inside asked
   asked-at op o true e asked h =
       let made : ◌≡◌ {A = Restriction} (record { op = op; version = version }) asked = cc in
       let two : (is_version_text version ≡ true) × (is_blank_text after ≡ true) = both-true _ _ e in
       subst (IsRestriction inside) made (record {
         back = after;
         operator = record {
-          front = leading is_white inside;
-          operator = leading is_op_char front;
-          middle = leading is_white behind;
-          split = leading-skip is_white inside ∙ ap (λ xs. leading is_white inside ++ xs) (leading-skip is_op_char front
-              ∙ ap (λ xs. leading is_op_char front ++ xs) (leading-skip is_white behind ∙ ap (λ xs. leading is_white behind ++ xs) (leading-skip is_solid (skip is_white behind))));
-          front_blank = leading-passes is_white inside;
-          middle_blank = leading-passes is_white behind;
+          front = take_while is_white inside;
+          operator = take_while is_op_char front;
+          middle = take_while is_white behind;
+          split = take_while-skip is_white inside ∙ ap (λ xs. take_while is_white inside ++ xs) (take_while-skip is_op_char front
+              ∙ ap (λ xs. take_while is_op_char front ++ xs) (take_while-skip is_white behind ∙ ap (λ xs. take_while is_white behind ++ xs) (take_while-skip is_solid (skip is_white behind))));
+          front_blank = take_while-passes is_white inside;
+          middle_blank = take_while-passes is_white behind;
           means = o;
         };
         back_blank = two.1;
@@ -141,13 +140,13 @@ module _ (inside : List ℕ) where
       })
   asked-at op o false e asked h = absurd (cc)
 
-  asked-by : (o : Option Op) → op_of (leading is_op_char front) ≡ o → (asked : Restriction) → asked_of o version after ≡ Some asked → IsRestriction inside asked
+  asked-by : (o : Option Op) → op_of (take_while is_op_char front) ≡ o → (asked : Restriction) → asked_of o version after ≡ Some asked → IsRestriction inside asked
   asked-by None e asked h = absurd (cc)
   asked-by (Some op) e asked h = asked-at op e (is_version_text version && is_blank_text after) refl asked h
 
 pub asked-sound : (inside : List ℕ) (asked : Restriction) → restriction_of inside ≡ Some asked → IsRestriction inside asked
 unfolding restriction_of
-asked-sound inside asked h = asked-by inside (op_of (leading is_op_char (skip is_white inside))) refl asked h
+asked-sound inside asked h = asked-by inside (op_of (take_while is_op_char (skip is_white inside))) refl asked h
 
 abbrev pub Asked : Type 0
 Asked = Option Restriction × List ℕ
@@ -259,10 +258,10 @@ pub record IsProfile (piece : List ℕ) (terms : List Term) : Type 0 where
 profile-by : (piece : List ℕ) (o : Option (List ℕ)) → strip 60 (skip is_white piece) ≡ o → (terms : List Term) → profile_behind o ≡ Some terms → IsProfile piece terms
 profile-by piece None e terms h = absurd (cc)
 profile-by piece (Some inside) e terms h = record {
-  gap = leading is_white piece;
+  gap = take_while is_white piece;
   inside = inside;
-  split = leading-skip is_white piece ∙ ap (λ xs. leading is_white piece ++ xs) (strip-join 60 (skip is_white piece) inside e);
-  blank = leading-passes is_white piece;
+  split = take_while-skip is_white piece ∙ ap (λ xs. take_while is_white piece ++ xs) (strip-join 60 (skip is_white piece) inside e);
+  blank = take_while-passes is_white piece;
   reads = terms-sound Profile inside terms h;
 }
 

@@ -1,7 +1,7 @@
 -- A fault that tells of a stray character has its place in the whole text.
 use Rattle.std.proofs.Common.{◌≡◌, ℕ, suc, ◌+◌, ◌-◌, ◌<◌, Bool, true, false, ◌&&◌, cond, eqb, List, [], ◌∷◌, ◌++◌, length, get_or, refl, sym, ap, subst, ◌∙◌, arith, append_assoc, append-nil, length-append, Option, Some, None, is_some, Err}
 use Rattle.std.specs.Prelude.{nat_lt}
-use Rattle.std.specs.List.{list_all, slice_split, join_with_byte}
+use Rattle.std.specs.List.{list_all, slice_split, join_with_byte, take_while}
 use Rattle.std.specs.Option.{ok_or, option_map}
 use Rattle.std.proofs.Math.Seq.{get_or-append_seam}
 use Rattle.std.proofs.lemmas.List.Splits.{join_with_byte-slice_split}
@@ -18,9 +18,8 @@ use Rattle.deb_relations.specs.Reduction.{is_filled}
 use Rattle.deb_relations.specs.Grammar.{is_white, is_blank_text, is_op_char, op_of, TakesQualifier, TakesRestriction, TakesArchs, InBrackets, relations_limit}
 use Rattle.deb_relations.specs.Reader.{skip, strip, is_solid, asked_inside, with_rest, read_between, read_groups, restriction_of, asked_of, both, between, lists_of, with_qualifier, with_name, with_asked, with_archs, with_profiles, read_name, read_qualifier, read_restriction, terms_of, read_archs, read_profiles, profile_of, read_alternative}
 use Rattle.deb_relations.specs.Reading.{place_of, end_before, span, name_fault, version_fault, fault_behind_operator, operator_fault, asked_fault, bracket_fault, restriction_fault, words_fault, archs_fault, list_fault, lists_fault, profiles_fault, or_behind, fault_behind_restriction, fault_behind_qualifier, fault_behind_name, alternative_fault, first_fault, is_alternative, group_fault, is_group_or_blank, groups_fault, reading_of}
-use Rattle.deb_relations.proofs.LeadingLemmas.{stops, leading-skip, skip-stops}
+use Rattle.deb_relations.proofs.FrontLemmas.{stops, take_while-skip, skip-stops, skip-cons}
 use Rattle.deb_relations.proofs.SoundLemmas.{between-sound, name-sound, qualifier-sound, restriction-sound, archs-sound}
-use Rattle.deb_relations.specs.Text.{leading}
 
 -- a text that stands in the whole one and ends at a place of it
 pub record EndsAt (whole part : List ℕ) (end : ℕ) : Type 0 where
@@ -48,7 +47,7 @@ ends-behind whole part front rest end at e = record {
 }
 
 ends-skipped : (test : ℕ → Bool) (whole part : List ℕ) (end : ℕ) → EndsAt whole part end → EndsAt whole (skip test part) end
-ends-skipped test whole part end at = ends-behind whole part (leading test part) (skip test part) end at (leading-skip test part)
+ends-skipped test whole part end at = ends-behind whole part (take_while test part) (skip test part) end at (take_while-skip test part)
 
 -- behind white space, of a text that has more than that
 skipped-by : (whole part : List ℕ) (end : ℕ) (left : List ℕ) → EndsAt whole left end → stops is_white left → is_filled left ≡ true → StraysIn whole (Stray (place_of end left))
@@ -63,7 +62,7 @@ blank-by false c cs f h = refl
 
 blank-or : (part : List ℕ) → is_blank_text part ≡ false → is_filled (skip is_white part) ≡ true
 blank-or [] h = cc
-blank-or (c ∷ cs) h = blank-by (is_white c) c cs (blank-or cs) h
+blank-or (c ∷ cs) h = ap is_filled (skip-cons is_white c cs) ∙ blank-by (is_white c) c cs (blank-or cs) h
 
 pub skipped : (whole part : List ℕ) (end : ℕ) → EndsAt whole part end → is_blank_text part ≡ false → StraysIn whole (Stray (place_of end (skip is_white part)))
 skipped whole part end at some =
@@ -190,24 +189,24 @@ version-good : (version : List ℕ) → fault_of version ≡ None → is_version
 unfolding is_version_text
 version-good version e = rw e refl
 
-version-stray : (whole : List ℕ) (op : Op) (end : ℕ) (asked : List ℕ) → EndsAt whole asked end → asked_of (Some op) (leading is_solid asked) (skip is_solid asked) ≡ None
-    → (o : Option VersionFault) → fault_of (leading is_solid asked) ≡ o → StraysIn whole (version_fault o (place_of end (skip is_white (skip is_solid asked))))
+version-stray : (whole : List ℕ) (op : Op) (end : ℕ) (asked : List ℕ) → EndsAt whole asked end → asked_of (Some op) (take_while is_solid asked) (skip is_solid asked) ≡ None
+    → (o : Option VersionFault) → fault_of (take_while is_solid asked) ≡ o → StraysIn whole (version_fault o (place_of end (skip is_white (skip is_solid asked))))
 version-stray whole op end asked at e (Some fault) h = tt
 version-stray whole op end asked at e None h =
     skipped whole (skip is_solid asked) end (ends-skipped is_solid whole asked end at)
-    (asked-none op (leading is_solid asked) (skip is_solid asked) (version-good (leading is_solid asked) h) e)
+    (asked-none op (take_while is_solid asked) (skip is_solid asked) (version-good (take_while is_solid asked) h) e)
 
-operator-stray : (whole : List ℕ) (end : ℕ) (asked : List ℕ) (o : Option Op) → EndsAt whole asked end → asked_of o (leading is_solid asked) (skip is_solid asked) ≡ None
+operator-stray : (whole : List ℕ) (end : ℕ) (asked : List ℕ) (o : Option Op) → EndsAt whole asked end → asked_of o (take_while is_solid asked) (skip is_solid asked) ≡ None
     → StraysIn whole (operator_fault o (fault_behind_operator end asked))
 unfolding fault_behind_operator
 operator-stray whole end asked None at e = tt
-operator-stray whole end asked (Some op) at e = version-stray whole op end asked at e (fault_of (leading is_solid asked)) refl
+operator-stray whole end asked (Some op) at e = version-stray whole op end asked at e (fault_of (take_while is_solid asked)) refl
 
 asked-stray : (whole : List ℕ) (end : ℕ) (inside : List ℕ) → EndsAt whole inside end → restriction_of inside ≡ None → StraysIn whole (asked_fault end inside)
 unfolding asked_fault restriction_of
 asked-stray whole end inside at e =
     let front : List ℕ = skip is_white inside in
-    operator-stray whole end (skip is_white (skip is_op_char front)) (op_of (leading is_op_char front))
+    operator-stray whole end (skip is_white (skip is_op_char front)) (op_of (take_while is_op_char front))
     (ends-skipped is_white whole (skip is_op_char front) end (ends-skipped is_op_char whole front end (ends-skipped is_white whole inside end at))) e
 
 inside-none : (o : Option Restriction) (rest : List ℕ) → with_rest rest (option_map Some o) ≡ None → o ≡ None

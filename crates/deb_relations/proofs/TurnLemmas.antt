@@ -1,6 +1,6 @@
 -- One turn of each loop of the reader.
-use Rattle.std.proofs.Common.{◌≡◌, ℕ, suc, ◌<◌, ◌≤◌, Bool, true, false, cond, not, eqb, List, [], ◌∷◌, ◌++◌, filter, length, refl, sym, ap, subst, ◌∙◌, arith, append_assoc, append-nil, Option, Some, None}
-use Rattle.std.specs.List.{slice_split, onto_first}
+use Rattle.std.proofs.Common.{◌≡◌, ℕ, suc, ◌<◌, ◌≤◌, Bool, true, false, cond, not, eqb, List, [], ◌∷◌, ◌++◌, filter, length, refl, sym, ap, subst, ◌∙◌, arith, append_assoc, append-nil, Option, Some, None, length-drop}
+use Rattle.std.specs.List.{slice_split, onto_first, take_while, prefix_len}
 use Rattle.std.proofs.lemmas.Bool.Decides.{nat_tests}
 use Rattle.deb_relations.specs.declared.relations.Kind.{Kind}
 use Rattle.deb_relations.specs.declared.relations.Term.{Term}
@@ -8,9 +8,9 @@ use Rattle.deb_relations.specs.declared.relations.Alternative.{Alternative}
 use Rattle.deb_relations.specs.Reduction.{is_filled}
 use Rattle.deb_relations.specs.Grammar.{is_white, is_blank_text, is_not_blank, words}
 use Rattle.deb_relations.specs.Reader.{skip, cut, is_solid, both, all_some, term_of, profile_of, lists_of, read_group, push_group, with_group}
-use Rattle.deb_relations.proofs.LeadingLemmas.{stops, skip-stops}
+use Rattle.deb_relations.proofs.FrontLemmas.{stops, skip-stops, skip-cons}
 use Rattle.deb_relations.proofs.CutLemmas.{cut-is, split-last}
-use Rattle.deb_relations.specs.Text.{leading}
+use Rattle.std.proofs.lemmas.List.Sums.{take_while-cons}
 
 -- two halves, and none
 abbrev pub some_pair : List ℕ → List ℕ → Option (List ℕ × List ℕ)
@@ -52,14 +52,15 @@ abbrev later : List ℕ → List (List ℕ)
 later [] = []
 later (c ∷ cs) = slice_split is_white cs
 
-split-first : (t : List ℕ) → slice_split is_white t ≡ leading is_solid t ∷ later (skip is_solid t)
+split-first : (t : List ℕ) → slice_split is_white t ≡ take_while is_solid t ∷ later (skip is_solid t)
 unfolding is_solid
 split-first [] = refl
 split-first (c ∷ cs) =
-    elim (is_white c) as (λ v. cond v ([] ∷ slice_split is_white cs) (onto_first c (slice_split is_white cs)) ≡ cond (not v) (c ∷ leading is_solid cs) [] ∷ later (cond (not v) (skip is_solid cs) (c ∷ cs))) [
+    (elim (is_white c) as (λ v. cond v ([] ∷ slice_split is_white cs) (onto_first c (slice_split is_white cs)) ≡ cond (not v) (c ∷ take_while is_solid cs) [] ∷ later (cond (not v) (skip is_solid cs) (c ∷ cs))) [
       | true ↦ refl
       | false ↦ ap (onto_first c) (split-first cs)
-    ]
+    ])
+    ∙ sym (ap (λ x. x ∷ later (skip is_solid (c ∷ cs))) (take_while-cons is_solid c cs) ∙ ap (λ x. cond (is_solid c) (c ∷ take_while is_solid cs) [] ∷ later x) (skip-cons is_solid c cs))
 
 pub words-white : (c : ℕ) (cs : List ℕ) → is_white c ≡ true → words (c ∷ cs) ≡ words cs
 unfolding words
@@ -68,10 +69,11 @@ words-white c cs h = ap (λ v. filter is_filled (cond v ([] ∷ slice_split is_w
 pub words-skip : (t : List ℕ) → words (skip is_white t) ≡ words t
 words-skip [] = refl
 words-skip (c ∷ cs) =
-    elim (is_white c) as (λ v. is_white c ≡ v → words (cond v (skip is_white cs) (c ∷ cs)) ≡ words (c ∷ cs)) [
+    ap words (skip-cons is_white c cs)
+    ∙ (elim (is_white c) as (λ v. is_white c ≡ v → words (cond v (skip is_white cs) (c ∷ cs)) ≡ words (c ∷ cs)) [
       | true ↦ λ e. words-skip cs ∙ sym (words-white c cs e)
       | false ↦ λ e. refl
-    ] refl
+    ] refl)
 
 not-solid : (c : ℕ) → is_solid c ≡ false → is_white c ≡ true
 unfolding is_solid
@@ -83,21 +85,20 @@ later-words [] h = refl
 later-words (c ∷ cs) h = sym (words-white c cs (not-solid c h))
 
 -- a text that begins with a word
-pub words-first : (t : List ℕ) → is_filled (leading is_solid t) ≡ true → words t ≡ leading is_solid t ∷ words (skip is_white (skip is_solid t))
+pub words-first : (t : List ℕ) → is_filled (take_while is_solid t) ≡ true → words t ≡ take_while is_solid t ∷ words (skip is_white (skip is_solid t))
 unfolding words
 words-first t h =
     ap (filter is_filled) (split-first t)
-    ∙ ap (λ v. cond v (leading is_solid t ∷ filter is_filled (later (skip is_solid t))) (filter is_filled (later (skip is_solid t)))) h
-    ∙ ap (λ ws. leading is_solid t ∷ ws) (later-words (skip is_solid t) (skip-stops is_solid t) ∙ sym (words-skip (skip is_solid t)))
+    ∙ ap (λ v. cond v (take_while is_solid t ∷ filter is_filled (later (skip is_solid t))) (filter is_filled (later (skip is_solid t)))) h
+    ∙ ap (λ ws. take_while is_solid t ∷ ws) (later-words (skip is_solid t) (skip-stops is_solid t) ∙ sym (words-skip (skip is_solid t)))
 
-pub word-filled : (t : List ℕ) → is_filled t ≡ true → stops is_white t → is_filled (leading is_solid t) ≡ true
+pub word-filled : (t : List ℕ) → is_filled t ≡ true → stops is_white t → is_filled (take_while is_solid t) ≡ true
 unfolding is_solid
 word-filled [] h s = absurd (cc)
-word-filled (c ∷ cs) h s = ap (λ v. is_filled (cond (not v) (c ∷ leading is_solid cs) [])) s
+word-filled (c ∷ cs) h s = ap is_filled (take_while-cons is_solid c cs) ∙ ap (λ v. is_filled (cond (not v) (c ∷ take_while is_solid cs) [])) s
 
 skip-shorter : (p : ℕ → Bool) (t : List ℕ) → length (skip p t) ≤ length t
-skip-shorter p [] = omega arith
-skip-shorter p (c ∷ cs) = let more : length (skip p cs) ≤ length cs = skip-shorter p cs in elim (p c) as (λ v. length (cond v (skip p cs) (c ∷ cs)) ≤ length (c ∷ cs)) [ true ↦ omega arith | false ↦ omega arith ]
+skip-shorter p t = omega (arith, length-drop (prefix_len p t) t)
 
 pub turn-shorter : (t : List ℕ) → is_filled t ≡ true → stops is_white t → length (skip is_white (skip is_solid t)) < length t
 unfolding is_solid
@@ -105,17 +106,18 @@ turn-shorter [] h s = absurd (cc)
 turn-shorter (c ∷ cs) h s =
     let one : length (skip is_white (skip is_solid cs)) ≤ length (skip is_solid cs) = skip-shorter is_white (skip is_solid cs) in
     let two : length (skip is_solid cs) ≤ length cs = skip-shorter is_solid cs in
-    subst (λ (v : Bool). length (skip is_white (cond (not v) (skip is_solid cs) (c ∷ cs))) < length (c ∷ cs)) (sym s) (omega arith)
+    subst (λ (x : List ℕ). length (skip is_white x) < length (c ∷ cs)) (sym (skip-cons is_solid c cs))
+    (subst (λ (v : Bool). length (skip is_white (cond (not v) (skip is_solid cs) (c ∷ cs))) < length (c ∷ cs)) (sym s) (omega arith))
 
 -- a word is read, or has no reading
-pub term-turn : (kind : Kind) (made : List Term) (t : List ℕ) (term : Term) → is_filled t ≡ true → stops is_white t → term_of kind (leading is_solid t) ≡ Some term
+pub term-turn : (kind : Kind) (made : List Term) (t : List ℕ) (term : Term) → is_filled t ≡ true → stops is_white t → term_of kind (take_while is_solid t) ≡ Some term
     → onto (made ++ term ∷ []) (all_some (term_of kind) (words (skip is_white (skip is_solid t)))) ≡ onto made (all_some (term_of kind) (words t))
 term-turn kind made t term h s e =
     onto-push made term (all_some (term_of kind) (words (skip is_white (skip is_solid t))))
     ∙ ap (λ o. onto made (both o (all_some (term_of kind) (words (skip is_white (skip is_solid t)))))) (sym e)
     ∙ ap (λ ws. onto made (all_some (term_of kind) ws)) (sym (words-first t (word-filled t h s)))
 
-pub term-refused : (kind : Kind) (made : List Term) (t : List ℕ) → is_filled t ≡ true → stops is_white t → term_of kind (leading is_solid t) ≡ None
+pub term-refused : (kind : Kind) (made : List Term) (t : List ℕ) → is_filled t ≡ true → stops is_white t → term_of kind (take_while is_solid t) ≡ None
     → onto made (all_some (term_of kind) (words t)) ≡ None
 term-refused kind made t h s e =
     ap (λ ws. onto made (all_some (term_of kind) ws)) (words-first t (word-filled t h s))

@@ -1,7 +1,7 @@
 -- The reading of relations as a function, part by part; the grammar says what it is to give (Debian Policy 7.1).
-use Rattle.std.specs.Prelude.{ℕ, ◌==◌, Bool, true, false, not, ◌&&◌, List, [], ◌∷◌, ◌++◌, filter, if◌then◌else◌}
+use Rattle.std.specs.Prelude.{ℕ, drop, ◌==◌, Bool, true, false, not, ◌&&◌, List, [], ◌∷◌, ◌++◌, filter, if◌then◌else◌}
 use Rattle.std.specs.Prelude.{Option, None, Some}
-use Rattle.std.specs.List.{slice_split}
+use Rattle.std.specs.List.{slice_split, take_while, prefix_len}
 use Rattle.std.specs.Option.{option_map}
 use Rattle.deb_version.specs.declared.operator.Op.{Op}
 use Rattle.deb_version.specs.Syntax.{is_version_text}
@@ -13,12 +13,10 @@ use Rattle.deb_relations.specs.declared.relations.Alternative.{Alternative}
 use Rattle.deb_relations.specs.Reduction.{is_filled}
 use Rattle.deb_relations.specs.Grammar.{is_white, is_blank_text, is_comma, is_bar, is_right_angle, is_op_char, is_word, is_not_blank, op_of, words, are_alike}
 use Rattle.deb_relations.specs.Names.{is_package_char, is_arch_char, is_package_name}
-use Rattle.deb_relations.specs.Text.{leading}
 
 -- what stands behind the longest front of a text whose characters all pass a test (this project's own)
 abbrev pub skip : (ℕ → Bool) → List ℕ → List ℕ
-skip test [] = []
-skip test (c ∷ cs) = if test c then skip test cs else c ∷ cs
+skip test text = drop (prefix_len test text) text
 
 -- a character that is not white space (Policy 7.1)
 unfoldable pub is_solid : ℕ → Bool
@@ -74,13 +72,13 @@ read_between f none text (Some (Some halves)) = with_rest halves.1 (f halves.0)
 unfoldable pub read_name : List ℕ → Option (List ℕ × List ℕ)
 read_name text =
     let front = skip is_white text in
-    if is_package_name (leading is_package_char front) then Some (leading is_package_char front, skip is_package_char front) else None
+    if is_package_name (take_while is_package_char front) then Some (take_while is_package_char front, skip is_package_char front) else None
 
 -- a qualifier and what is left, of the text behind a colon, where one stands first (Policy 7.1)
 abbrev pub read_behind_colon : List ℕ → Option (List ℕ) → Option (Option (List ℕ) × List ℕ)
 read_behind_colon text None = Some (None, text)
 read_behind_colon text (Some behind) =
-    if is_filled (leading is_arch_char behind) then Some (Some (leading is_arch_char behind), skip is_arch_char behind) else None
+    if is_filled (take_while is_arch_char behind) then Some (Some (take_while is_arch_char behind), skip is_arch_char behind) else None
 
 -- a qualifier, where a colon stands first, and what is left (Policy 7.1)
 unfoldable pub read_qualifier : List ℕ → Option (Option (List ℕ) × List ℕ)
@@ -94,11 +92,11 @@ asked_of (Some op) version after =
 
 -- the restriction of an operator and of the text behind it, which is a version up to white space (Policy 7.1)
 abbrev pub asked_behind : Option Op → List ℕ → Option Restriction
-asked_behind op text = asked_of op (leading is_solid text) (skip is_solid text)
+asked_behind op text = asked_of op (take_while is_solid text) (skip is_solid text)
 
 -- the restriction of a text that begins with its operator (Policy 7.1)
 abbrev pub asked_from : List ℕ → Option Restriction
-asked_from text = asked_behind (op_of (leading is_op_char text)) (skip is_white (skip is_op_char text))
+asked_from text = asked_behind (op_of (take_while is_op_char text)) (skip is_white (skip is_op_char text))
 
 -- an operator and a version, as the text inside parentheses has them (Policy 7.1)
 unfoldable pub restriction_of : List ℕ → Option Restriction

@@ -1,7 +1,7 @@
 -- What a text of relations is read as: its groups, else the first fault from the left, piece by piece (Debian Policy 7.1).
 use Rattle.std.specs.Prelude.{◌≡◌, ℕ, ◌-◌, ◌+◌, ◌==◌, Bool, true, false, not, ◌&&◌, ◌||◌, List, [], ◌∷◌, ◌++◌, length, if◌then◌else◌, nat_lt, is_some, filter}
 use Rattle.std.specs.Prelude.{Option, None, Some, Result, Err}
-use Rattle.std.specs.List.{list_all, slice_split}
+use Rattle.std.specs.List.{list_all, slice_split, take_while}
 use Rattle.std.specs.Option.{ok_or}
 use Rattle.deb_version.specs.declared.fault.VersionFault.{VersionFault}
 use Rattle.deb_version.specs.declared.operator.Op.{Op}
@@ -13,7 +13,7 @@ use Rattle.deb_relations.specs.declared.relations.Alternative.{Alternative}
 use Rattle.deb_relations.specs.Reduction.{is_filled}
 use Rattle.deb_relations.specs.Grammar.{is_white, is_blank_text, is_comma, is_bar, is_right_angle, is_not_blank, is_op_char, op_of, relations_limit, TakesOperator}
 use Rattle.deb_relations.specs.Reader.{skip, strip, is_solid, between, read_name, read_qualifier, read_restriction, terms_of, read_archs, profile_of, read_alternative, read_group, read_groups}
-use Rattle.deb_relations.specs.Text.{begins, leading}
+use Rattle.deb_relations.specs.Text.{begins}
 
 -- where a text begins that ends at the place end of the whole text (this project's own)
 abbrev pub place_of : ℕ → List ℕ → ℕ
@@ -39,7 +39,7 @@ version_fault None place = Stray place
 
 -- the fault behind an operator: of the text up to white space, which is to be a version, or of what follows it (Policy 7.1)
 unfoldable pub fault_behind_operator : ℕ → List ℕ → RelationFault
-fault_behind_operator end text = version_fault (fault_of (leading is_solid text)) (place_of end (skip is_white (skip is_solid text)))
+fault_behind_operator end text = version_fault (fault_of (take_while is_solid text)) (place_of end (skip is_white (skip is_solid text)))
 
 -- the fault of an operator, else that of what is behind it (Policy 7.1)
 abbrev pub operator_fault : Option Op → RelationFault → RelationFault
@@ -50,7 +50,7 @@ operator_fault (Some op) behind = behind
 unfoldable pub asked_fault : ℕ → List ℕ → RelationFault
 asked_fault end inside =
     let front = skip is_white inside in
-    operator_fault (op_of (leading is_op_char front)) (fault_behind_operator end (skip is_white (skip is_op_char front)))
+    operator_fault (op_of (take_while is_op_char front)) (fault_behind_operator end (skip is_white (skip is_op_char front)))
 
 -- the fault of a part in brackets: they are not closed, or that of the text inside, which may depend on what is behind (Policy 7.1)
 abbrev pub bracket_fault : (List ℕ → List ℕ → RelationFault) → Option (Option (List ℕ × List ℕ)) → RelationFault

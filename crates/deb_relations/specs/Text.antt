@@ -1,5 +1,5 @@
 -- Texts as the lists of their bytes, and their order, which is that of their bytes (this project's own).
-use Rattle.std.specs.Prelude.{ℕ, Bool, false, List, [], ◌∷◌, if◌then◌else◌}
+use Rattle.std.specs.Prelude.{ℕ, Bool, false, List, [], ◌∷◌}
 use Rattle.std.specs.Coded.{Coded, coded_ℕ, coded_list}
 use Rattle.std.specs.declared.cmp.Ordering.{Ordering}
 use Rattle.std.specs.Ordering.{nat_cmp}
@@ -17,8 +17,3 @@ coded_text = coded_list coded_ℕ
 abbrev pub begins : {X : Type 0} → (X → Bool) → List X → Bool
 begins test [] = false
 begins test (x ∷ _) = test x
-
--- the longest front of a text whose characters all pass a test (this project's own)
-abbrev pub leading : (ℕ → Bool) → List ℕ → List ℕ
-leading test [] = []
-leading test (c ∷ cs) = if test c then c ∷ leading test cs else []

@@ -1,12 +1,11 @@
 //! The characters of relations, and the pieces of a text.
 
 ghost use Rattle.std.specs.Prelude.{◌≡◌, ℕ, ◌<◌, ◌≤◌, ◌==◌, not, true, false, length, slice_index};
-ghost use Rattle.std.specs.List.{list_all};
+ghost use Rattle.std.specs.List.{list_all, take_while};
 ghost use Rattle.std.specs.Option.{option_map};
 ghost use Rattle.deb_relations.specs.Grammar.{is_white, is_blank_text, is_profile_char, is_op_char};
 ghost use Rattle.deb_relations.specs.Reader.{skip, strip, cut, is_solid};
 ghost use Rattle.deb_relations.specs.Scanner.{test_of, halves_of, text_of};
-ghost use Rattle.deb_relations.specs.Text.{leading};
 
 use crate::names::{is_arch_char, is_package_char};
 
@@ -85,7 +84,7 @@ fn front_len(class: Class, text: &[u8]) -> usize
 
 // The characters of the class that a text begins with, and what follows them.
 pub(crate) fn split_leading(class: Class, text: &str) -> (&str, &str)
-    ensures front { result.0.now ≡ leading (test_of class) text.now }
+    ensures front { result.0.now ≡ take_while (test_of class) text.now }
     ensures back { result.1.now ≡ skip (test_of class) text.now }
 {
     let len = front_len(class, text.as_bytes());

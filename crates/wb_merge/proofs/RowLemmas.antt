@@ -1,7 +1,7 @@
 -- The rows of the archive's lists have names, versions and labels of their forms, and small numbers.
 use Rattle.std.proofs.Common.{◌≡◌, ℕ, ◌+◌, ◌≤◌, Bool, true, false, cond, not, ◌&&◌, ◌||◌, nat_le, List, [], ◌∷◌, length, reverse, Option, Some, None, Result, Ok, Err, IsTrue, refl, subst, arith, unwrap_or}
 use Rattle.std.specs.Prelude.{codes, is_none}
-use Rattle.std.specs.List.{list_all, AllByRecursion}
+use Rattle.std.specs.List.{list_all, AllByRecursion, take_while}
 use Rattle.std.specs.Char.{is_ascii_digit}
 use Rattle.std.proofs.lemmas.Bool.Decides.{nat_tests}
 use Rattle.std.proofs.lemmas.List.{length-reverse}
@@ -22,6 +22,7 @@ use Rattle.wb_states.specs.Record.{is_empty_text}
 use Rattle.wb_states.specs.Refusals.{name_of_field}
 use Rattle.wb_merge.specs.Rows.{SourceRow, BinaryRow, value_named, text_named, is_label_or_empty, has_source_version, last_digits, rebuild_number, wanted_fault, spare_fault, form_fault, spare_form_fault, source_fault, source_row, with_source, binary_row, source_row_of, binary_row_of, row_in, onto_rows, rows_behind, source_rows, binary_rows}
 use Rattle.wb_merge.proofs.CheckLemmas.{both-true, first_some-None}
+use Rattle.deb_relations.proofs.FrontLemmas.{take_while-passes}
 
 -- ---- rows that were read are those of paragraphs without a fault
 
@@ -133,24 +134,6 @@ source_rows-good text rows is = rows-good IsGoodSource source_row_of source-good
 
 -- ---- the rows of a Packages list
 
--- the first bytes that pass a test
-front : (ℕ → Bool) → List ℕ → List ℕ
-front test [] = []
-front test (c ∷ cs) = cond (test c) (c ∷ front test cs) []
-
-front-all : (text : List ℕ) → IsTrue (list_all is_ascii_digit (front is_ascii_digit text))
-unfolding front
-front-all [] = refl
-front-all (c ∷ cs) =
-    elim (is_ascii_digit c) as (λ v. is_ascii_digit c ≡ v → IsTrue (list_all is_ascii_digit (cond v (c ∷ front is_ascii_digit cs) []))) [
-      | true ↦ λ e. both (is_ascii_digit c) (list_all is_ascii_digit (front is_ascii_digit cs)) e (front-all cs)
-      | false ↦ λ _. refl
-    ] refl
-  where
-    both : (a b : Bool) → a ≡ true → b ≡ true → (a && b) ≡ true
-    both true b h k = k
-    both false b h k = h
-
 digit-small : (c : ℕ) → is_ascii_digit c ≡ true → c ≤ 57
 digit-small c h = grind (arith, nat_tests)
 
@@ -185,8 +168,8 @@ small-by digits ends all =
     ] refl
 
 rebuild-small : (version : List ℕ) → rebuild_number version ≤ 999
-unfolding rebuild_number last_digits front
-rebuild-small version = small-by (front is_ascii_digit (reverse version)) _ (front-all (reverse version))
+unfolding rebuild_number last_digits
+rebuild-small version = small-by (take_while is_ascii_digit (reverse version)) _ (take_while-passes is_ascii_digit (reverse version))
 
 -- the number of a row is that of a binary-only rebuild
 abbrev pub IsSmall : BinaryRow → Type 0

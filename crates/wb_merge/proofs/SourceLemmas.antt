@@ -1,15 +1,15 @@
 -- The text that names a source package, and the number at the end of a version.
-use Rattle.std.proofs.Common.{◌≡◌, ◌≢◌, ◌+◌, ◌*◌, ◌-◌, ℕ, suc, true, false, cond, eqb, length, reverse, List, [], ◌∷◌, ◌++◌, Bor, MatchOption, Option, Some, None, option_copied, refl, sym, ap, ◌∙◌, arith, ltb}
+use Rattle.std.proofs.Common.{◌≡◌, ◌≢◌, ◌+◌, ◌*◌, ◌-◌, ℕ, suc, true, false, cond, eqb, length, reverse, List, [], ◌∷◌, ◌++◌, Bor, MatchOption, Option, Some, None, option_copied, refl, sym, ap, ◌∙◌, arith, ltb, Bool}
 use Rattle.std.specs.Prelude.{codes, bytes_eq, nat_le}
-use Rattle.std.specs.List.{list_any, position_or_len}
+use Rattle.std.specs.List.{list_any, position_or_len, take_while}
 use Rattle.std.specs.Char.{is_ascii_digit}
 use Rattle.std.proofs.lemmas.Bool.Decides.{nat_tests}
 use Rattle.std.proofs.lemmas.List.{reverse-append, reverse-reverse, length-reverse}
 use Rattle.deb_version.specs.Syntax.{value_of, with_digit}
 use Rattle.deb_version.proofs.CutLemmas.{list_any-first}
-use Rattle.deb_relations.specs.Text.{leading}
 use Rattle.wb_merge.specs.Rows.{is_space, in_brackets, last_digits, ends_in, rebuild_number}
 use Rattle.wb_merge.specs.Backwards.{begins_digit, begins_plus_b}
+use Rattle.std.proofs.lemmas.List.Sums.{take_while-cons}
 
 -- ---- the space and the brackets
 
@@ -50,9 +50,13 @@ opened text inner (Some x) e is = sym (ap in_brackets e ∙ closed inner x.now i
 
 -- ---- the number at the end of a version
 
-no_more : (rest : List ℕ) → begins_digit rest ≡ false → leading is_ascii_digit rest ≡ []
+no_more : (rest : List ℕ) → begins_digit rest ≡ false → take_while is_ascii_digit rest ≡ []
 no_more [] none = refl
-no_more (c ∷ cs) none = rw none refl
+no_more (c ∷ cs) none = take_while-cons is_ascii_digit c cs ∙ ap (λ (b : Bool). cond b (c ∷ take_while is_ascii_digit cs) []) none
+
+-- a digit, and the digits behind it
+one_more : (c : ℕ) (rest : List ℕ) → is_ascii_digit c ≡ true → take_while is_ascii_digit (c ∷ rest) ≡ c ∷ take_while is_ascii_digit rest
+one_more c rest is = take_while-cons is_ascii_digit c rest ∙ ap (λ (b : Bool). cond b (c ∷ take_while is_ascii_digit rest) []) is
 
 -- no digit at the end
 pub number-none : (version : List ℕ) → begins_digit (reverse version) ≡ false → rebuild_number version ≡ 0
@@ -86,20 +90,20 @@ pub number-one : (a : ℕ) (rest version : List ℕ) → reverse version ≡ a �
     → rebuild_number version ≡ cond (begins_plus_b rest) (a - 48) 0
 unfolding rebuild_number last_digits value_of with_digit
 number-one a rest version e da none =
-    rw (e, da, no_more rest none, behind-one a rest version e) (ap (λ (n : ℕ). cond (begins_plus_b rest) n 0) (omega arith))
+    rw (e, one_more a rest da, no_more rest none, behind-one a rest version e) (ap (λ (n : ℕ). cond (begins_plus_b rest) n 0) (omega arith))
 
 pub number-two : (a b : ℕ) (rest version : List ℕ) → reverse version ≡ a ∷ b ∷ rest → is_ascii_digit a ≡ true → is_ascii_digit b ≡ true → begins_digit rest ≡ false
     → rebuild_number version ≡ cond (begins_plus_b rest) ((b - 48) * 10 + (a - 48)) 0
 unfolding rebuild_number last_digits value_of with_digit
 number-two a b rest version e da db none =
-    rw (e, da, db, no_more rest none, behind-two a b rest version e) (ap (λ (n : ℕ). cond (begins_plus_b rest) n 0) (omega arith))
+    rw (e, one_more a (b ∷ rest) da, one_more b rest db, no_more rest none, behind-two a b rest version e) (ap (λ (n : ℕ). cond (begins_plus_b rest) n 0) (omega arith))
 
 pub number-three : (a b c : ℕ) (rest version : List ℕ) → reverse version ≡ a ∷ b ∷ c ∷ rest → is_ascii_digit a ≡ true → is_ascii_digit b ≡ true → is_ascii_digit c ≡ true
     → begins_digit rest ≡ false
     → rebuild_number version ≡ cond (begins_plus_b rest) ((c - 48) * 100 + ((b - 48) * 10 + (a - 48))) 0
 unfolding rebuild_number last_digits value_of with_digit
 number-three a b c rest version e da db dc none =
-    rw (e, da, db, dc, no_more rest none, behind-three a b c rest version e) (ap (λ (n : ℕ). cond (begins_plus_b rest) n 0) (omega arith))
+    rw (e, one_more a (b ∷ c ∷ rest) da, one_more b (c ∷ rest) db, one_more c rest dc, no_more rest none, behind-three a b c rest version e) (ap (λ (n : ℕ). cond (begins_plus_b rest) n 0) (omega arith))
 
 some : (n : ℕ) → nat_le 1 (suc n) ≡ true
 some n = grind (arith, nat_tests)
@@ -112,4 +116,4 @@ pub number-more : (a b c d : ℕ) (rest version : List ℕ) → reverse version 
     → is_ascii_digit a ≡ true → is_ascii_digit b ≡ true → is_ascii_digit c ≡ true → is_ascii_digit d ≡ true → rebuild_number version ≡ 0
 unfolding rebuild_number last_digits
 number-more a b c d rest version e da db dc dd =
-    rw (e, da, db, dc, dd, length-reverse) (rw (some (suc (suc (suc (length (leading is_ascii_digit rest))))), too_many (length (leading is_ascii_digit rest))) refl)
+    rw (e, one_more a (b ∷ c ∷ d ∷ rest) da, one_more b (c ∷ d ∷ rest) db, one_more c (d ∷ rest) dc, one_more d rest dd, length-reverse) (rw (some (suc (suc (suc (length (take_while is_ascii_digit rest))))), too_many (length (take_while is_ascii_digit rest))) refl)

@@ -1,13 +1,12 @@
 -- The rows that a merge reads from the archive's lists, and their faults (Debian Policy 5.3 and 5.6; this project's own where a line says so).
 use Rattle.std.specs.Prelude.{◌≡◌, IsOk, IsTrue, ℕ, ◌+◌, Bool, true, false, not, ◌&&◌, ◌||◌, ◌==◌, nat_le, List, [], ◌∷◌, ◌++◌, length, reverse, codes, bytes_eq, Option, Some, None, Result, Ok, Err, if◌then◌else◌}
 use Rattle.std.specs.Option.{option_map, option_or, unwrap_or}
-use Rattle.std.specs.List.{AllByRecursion, AllZip, list_any, before_first, after_first}
+use Rattle.std.specs.List.{AllByRecursion, AllZip, list_any, before_first, after_first, take_while}
 use Rattle.std.specs.Char.{is_ascii_digit}
 use Rattle.deb_version.specs.Syntax.{is_version_text, value_of, ok_unless}
 use Rattle.deb_control.specs.declared.fault.ControlFaultKind.{ControlFaultKind}
 use Rattle.deb_control.specs.Lines.{lines_of, paragraphs_in, words_in}
 use Rattle.deb_control.specs.Fields.{Entry, field_named, folded_of, reading_of}
-use Rattle.deb_relations.specs.Text.{leading}
 use Rattle.wb_states.specs.declared.refusal.Refusal.{Refusal}
 use Rattle.wb_states.specs.declared.refusal.Refusal.TheVariants.{BadListing}
 use Rattle.wb_states.specs.declared.refusal.ListKind.{ListKind}
@@ -83,7 +82,7 @@ pub record NamesSource (text name : List ℕ) (version : Option (List ℕ)) : Ty
 
 -- the digits at the end of a text
 unfoldable pub last_digits : List ℕ → List ℕ
-last_digits text = reverse (leading is_ascii_digit (reverse text))
+last_digits text = reverse (take_while is_ascii_digit (reverse text))
 
 -- whether a text ends in these bytes
 unfoldable pub ends_in : List ℕ → List ℕ → Bool

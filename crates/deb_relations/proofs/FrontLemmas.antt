@@ -1,8 +1,8 @@
 -- The longest front of a text whose characters pass a test, and what follows it.
-use Rattle.std.proofs.Common.{◌≡◌, ℕ, zero, suc, ◌<◌, ◌≤◌, Bool, true, false, cond, ◌&&◌, List, [], ◌∷◌, ◌++◌, length, take, drop, get_or, refl, sym, ap, ◌∙◌, arith}
-use Rattle.std.specs.List.{list_all}
+use Rattle.std.proofs.Common.{◌≡◌, ℕ, suc, ◌<◌, ◌≤◌, Bool, true, false, cond, ◌&&◌, List, [], ◌∷◌, ◌++◌, length, take, drop, get_or, refl, sym, ap, ◌∙◌, arith, subst, ◌+◌, take-append-drop}
+use Rattle.std.specs.List.{list_all, take_while, prefix_len}
 use Rattle.deb_relations.specs.Reader.{skip}
-use Rattle.deb_relations.specs.Text.{leading}
+use Rattle.std.proofs.lemmas.List.Sums.{take_while-cons, prefix_len_is}
 
 -- both parts of a test
 pub both-true : (a b : Bool) → (a && b) ≡ true → (a ≡ true) × (b ≡ true)
@@ -23,25 +23,25 @@ abbrev pub opens : (ℕ → Bool) → List ℕ → Type 0
 opens t [] = Unit {0}
 opens t (c ∷ cs) = t c ≡ true
 
-leading-skip-at : (t : ℕ → Bool) (c : ℕ) (cs : List ℕ) (b : Bool)
-    → cs ≡ leading t cs ++ skip t cs
-    → c ∷ cs ≡ cond b (c ∷ leading t cs) [] ++ cond b (skip t cs) (c ∷ cs)
-leading-skip-at t c cs true h = ap (λ xs. c ∷ xs) h
-leading-skip-at t c cs false h = refl
+pub take_while-skip : (t : ℕ → Bool) (cs : List ℕ) → cs ≡ take_while t cs ++ skip t cs
+take_while-skip t cs = sym (take-append-drop (prefix_len t cs) cs)
 
-pub leading-skip : (t : ℕ → Bool) (cs : List ℕ) → cs ≡ leading t cs ++ skip t cs
-leading-skip t [] = refl
-leading-skip t (c ∷ cs) = leading-skip-at t c cs (t c) (leading-skip t cs)
+pub skip-cons : (t : ℕ → Bool) (c : ℕ) (cs : List ℕ) → skip t (c ∷ cs) ≡ cond (t c) (skip t cs) (c ∷ cs)
+skip-cons t c cs =
+    elim (t c) as (λ v. drop (cond v (1 + prefix_len t cs) 0) (c ∷ cs) ≡ cond v (skip t cs) (c ∷ cs)) [
+      | true ↦ let one : 1 + prefix_len t cs ≡ suc (prefix_len t cs) = omega arith in ap (λ (k : ℕ). drop k (c ∷ cs)) one
+      | false ↦ refl
+    ]
 
-leading-passes-at : (t : ℕ → Bool) (c : ℕ) (cs : List ℕ) (b : Bool) → t c ≡ b
-    → list_all t (leading t cs) ≡ true
-    → list_all t (cond b (c ∷ leading t cs) []) ≡ true
-leading-passes-at t c cs true e h = and-true (t c) (list_all t (leading t cs)) e h
-leading-passes-at t c cs false e h = refl
+take_while-passes-at : (t : ℕ → Bool) (c : ℕ) (cs : List ℕ) (b : Bool) → t c ≡ b
+    → list_all t (take_while t cs) ≡ true
+    → list_all t (cond b (c ∷ take_while t cs) []) ≡ true
+take_while-passes-at t c cs true e h = and-true (t c) (list_all t (take_while t cs)) e h
+take_while-passes-at t c cs false e h = refl
 
-pub leading-passes : (t : ℕ → Bool) (cs : List ℕ) → list_all t (leading t cs) ≡ true
-leading-passes t [] = refl
-leading-passes t (c ∷ cs) = leading-passes-at t c cs (t c) refl (leading-passes t cs)
+pub take_while-passes : (t : ℕ → Bool) (cs : List ℕ) → list_all t (take_while t cs) ≡ true
+take_while-passes t [] = refl
+take_while-passes t (c ∷ cs) = ap (list_all t) (take_while-cons t c cs) ∙ take_while-passes-at t c cs (t c) refl (take_while-passes t cs)
 
 skip-stops-at : (t : ℕ → Bool) (c : ℕ) (cs : List ℕ) (b : Bool) → t c ≡ b → stops t (skip t cs) → stops t (cond b (skip t cs) (c ∷ cs))
 skip-stops-at t c cs true e h = h
@@ -49,27 +49,27 @@ skip-stops-at t c cs false e h = e
 
 pub skip-stops : (t : ℕ → Bool) (cs : List ℕ) → stops t (skip t cs)
 skip-stops t [] = tt
-skip-stops t (c ∷ cs) = skip-stops-at t c cs (t c) refl (skip-stops t cs)
+skip-stops t (c ∷ cs) = subst (stops t) (sym (skip-cons t c cs)) (skip-stops-at t c cs (t c) refl (skip-stops t cs))
 
-leading-none : (t : ℕ → Bool) (cs : List ℕ) → stops t cs → leading t cs ≡ []
-leading-none t [] s = refl
-leading-none t (c ∷ cs) s = ap (λ b. cond b (c ∷ leading t cs) []) s
+take_while-none : (t : ℕ → Bool) (cs : List ℕ) → stops t cs → take_while t cs ≡ []
+take_while-none t [] s = refl
+take_while-none t (c ∷ cs) s = take_while-cons t c cs ∙ ap (λ b. cond b (c ∷ take_while t cs) []) s
 
 pub skip-none : (t : ℕ → Bool) (cs : List ℕ) → stops t cs → skip t cs ≡ cs
 skip-none t [] s = refl
-skip-none t (c ∷ cs) s = ap (λ b. cond b (skip t cs) (c ∷ cs)) s
+skip-none t (c ∷ cs) s = skip-cons t c cs ∙ ap (λ b. cond b (skip t cs) (c ∷ cs)) s
 
-pub leading-all : (t : ℕ → Bool) (xs rest : List ℕ) → list_all t xs ≡ true → stops t rest → leading t (xs ++ rest) ≡ xs
-leading-all t [] rest h s = leading-none t rest s
-leading-all t (x ∷ xs) rest h s =
+pub take_while-all : (t : ℕ → Bool) (xs rest : List ℕ) → list_all t xs ≡ true → stops t rest → take_while t (xs ++ rest) ≡ xs
+take_while-all t [] rest h s = take_while-none t rest s
+take_while-all t (x ∷ xs) rest h s =
     let two : (t x ≡ true) × (list_all t xs ≡ true) = both-true (t x) (list_all t xs) h in
-    ap (λ b. cond b (x ∷ leading t (xs ++ rest)) []) two.0 ∙ ap (λ ys. x ∷ ys) (leading-all t xs rest two.1 s)
+    take_while-cons t x (xs ++ rest) ∙ ap (λ b. cond b (x ∷ take_while t (xs ++ rest)) []) two.0 ∙ ap (λ ys. x ∷ ys) (take_while-all t xs rest two.1 s)
 
 pub skip-front : (t : ℕ → Bool) (xs rest : List ℕ) → list_all t xs ≡ true → skip t (xs ++ rest) ≡ skip t rest
 skip-front t [] rest h = refl
 skip-front t (x ∷ xs) rest h =
     let two : (t x ≡ true) × (list_all t xs ≡ true) = both-true (t x) (list_all t xs) h in
-    ap (λ b. cond b (skip t (xs ++ rest)) (x ∷ (xs ++ rest))) two.0 ∙ skip-front t xs rest two.1
+    skip-cons t x (xs ++ rest) ∙ ap (λ b. cond b (skip t (xs ++ rest)) (x ∷ (xs ++ rest))) two.0 ∙ skip-front t xs rest two.1
 
 pub skip-all : (t : ℕ → Bool) (xs rest : List ℕ) → list_all t xs ≡ true → stops t rest → skip t (xs ++ rest) ≡ rest
 skip-all t xs rest h s = skip-front t xs rest h ∙ skip-none t rest s
@@ -94,16 +94,10 @@ all-both p (x ∷ xs) ys h k =
     let two : (p x ≡ true) × (list_all p xs ≡ true) = both-true (p x) (list_all p xs) h in
     and-true (p x) (list_all p (xs ++ ys)) two.0 (all-both p xs ys two.1 k)
 
--- a front of a list that passes, up to its end or to an item that does not, is the leading
-pub leading-is : (t : ℕ → Bool) (cs : List ℕ) (n : ℕ) → n ≤ length cs
+-- a front of a list that passes, up to its end or to an item that does not, is the longest
+pub front-is : (t : ℕ → Bool) (cs : List ℕ) (n : ℕ) → n ≤ length cs
     → ((k : ℕ) → k < n → t (get_or cs k 0) ≡ true) → (n < length cs → t (get_or cs n 0) ≡ false)
-    → (take n cs ≡ leading t cs) × (drop n cs ≡ skip t cs)
-leading-is t [] zero h p s = (refl, refl)
-leading-is t [] (suc n) h p s = absurd (omega arith)
-leading-is t (c ∷ cs) zero h p s =
-    let e : t c ≡ false = s (omega arith) in
-    (sym (ap (λ b. cond b (c ∷ leading t cs) []) e), sym (ap (λ b. cond b (skip t cs) (c ∷ cs)) e))
-leading-is t (c ∷ cs) (suc n) h p s =
-    let e : t c ≡ true = p 0 (omega arith) in
-    let more = leading-is t cs n (omega arith) (λ k l. p (suc k) (omega arith)) (λ l. s (omega arith)) in
-    (ap (λ xs. c ∷ xs) more.0 ∙ sym (ap (λ b. cond b (c ∷ leading t cs) []) e), more.1 ∙ sym (ap (λ b. cond b (skip t cs) (c ∷ cs)) e))
+    → (take n cs ≡ take_while t cs) × (drop n cs ≡ skip t cs)
+front-is t cs n h p s =
+    let same : n ≡ prefix_len t cs = sym (prefix_len_is t cs n 0 h p s) in
+    (ap (λ (k : ℕ). take k cs) same, ap (λ (k : ℕ). drop k cs) same)
