@@ -13,11 +13,12 @@ use Rattle.wb_states.specs.Machine.{pair_cmp}
 use Rattle.wb_states.proofs.CodeLemmas.{code_of-differ}
 use Rattle.wb_states.proofs.MapLemmas.{get-lookup}
 use Rattle.wb_states.proofs.KeyLemmas.{pair_cmp_total}
-use Rattle.wb_merge.specs.Merged.{Records, is_same_flag, has_same_source, has_same_place, has_same_texts, is_same_record, change_of}
+use Rattle.wb_merge.specs.Merged.{Records, has_same_source, has_same_place, has_same_texts, is_same_record, change_of}
 use Rattle.wb_merge.specs.declared.merge.Change.TheVariants.{Kept, Changed}
 use Rattle.wb_merge.specs.Steps.{Key, IsSetAt}
 use Rattle.wb_merge.proofs.CheckLemmas.{both-true}
 use Rattle.wb_merge.proofs.NameLemmas.{bytes_eq-is, bytes_eq-itself, pair-is}
+use Rattle.std.specs.Bool.{beq}
 
 -- ---- one record more or less
 
@@ -42,8 +43,9 @@ set-inserted es fs key value = set-at es fs key (Some value)
 
 -- ---- records that are equal
 
-same-flag : (a b : Bool) → is_same_flag a b ≡ true → a ≡ b
-same-flag true b e = sym e
+same-flag : (a b : Bool) → beq a b ≡ true → a ≡ b
+same-flag true true e = refl
+same-flag true false e = absurd cc
 same-flag false true e = absurd cc
 same-flag false false e = refl
 
@@ -86,7 +88,7 @@ same-record one other e =
       message = bytes_eq-is one.message other.message texts_2.1 i;
     }
 
-flag-itself : (flag : Bool) → is_same_flag flag flag ≡ true
+flag-itself : (flag : Bool) → beq flag flag ≡ true
 flag-itself true = refl
 flag-itself false = refl
 

@@ -8,8 +8,9 @@ use Rattle.std.proofs.lemmas.List.{reverse-append, reverse-reverse, length-rever
 use Rattle.deb_version.specs.Syntax.{value_of, with_digit}
 use Rattle.deb_version.proofs.CutLemmas.{list_any-first}
 use Rattle.wb_merge.specs.Rows.{is_space, in_brackets, last_digits, ends_in, rebuild_number}
-use Rattle.wb_merge.specs.Backwards.{begins_digit, begins_plus_b}
+use Rattle.wb_merge.specs.Backwards.{begins_plus_b}
 use Rattle.std.proofs.lemmas.List.Sums.{take_while-cons}
+use Rattle.deb_relations.specs.Text.{begins}
 
 -- ---- the space and the brackets
 
@@ -50,7 +51,7 @@ opened text inner (Some x) e is = sym (ap in_brackets e ∙ closed inner x.now i
 
 -- ---- the number at the end of a version
 
-no_more : (rest : List ℕ) → begins_digit rest ≡ false → take_while is_ascii_digit rest ≡ []
+no_more : (rest : List ℕ) → begins is_ascii_digit rest ≡ false → take_while is_ascii_digit rest ≡ []
 no_more [] none = refl
 no_more (c ∷ cs) none = take_while-cons is_ascii_digit c cs ∙ ap (λ (b : Bool). cond b (c ∷ take_while is_ascii_digit cs) []) none
 
@@ -59,7 +60,7 @@ one_more : (c : ℕ) (rest : List ℕ) → is_ascii_digit c ≡ true → take_wh
 one_more c rest is = take_while-cons is_ascii_digit c rest ∙ ap (λ (b : Bool). cond b (c ∷ take_while is_ascii_digit rest) []) is
 
 -- no digit at the end
-pub number-none : (version : List ℕ) → begins_digit (reverse version) ≡ false → rebuild_number version ≡ 0
+pub number-none : (version : List ℕ) → begins is_ascii_digit (reverse version) ≡ false → rebuild_number version ≡ 0
 unfolding rebuild_number last_digits
 number-none version none = rw (no_more (reverse version) none) refl
 
@@ -86,20 +87,20 @@ behind-three a b d (x ∷ []) version e = rw (e, eqb-refl a, eqb-refl b, eqb-ref
 behind-three a b d (x ∷ y ∷ rest) version e = rw (e, eqb-refl a, eqb-refl b, eqb-refl d) (grind (arith, nat_tests))
 
 -- the numbers that they write
-pub number-one : (a : ℕ) (rest version : List ℕ) → reverse version ≡ a ∷ rest → is_ascii_digit a ≡ true → begins_digit rest ≡ false
+pub number-one : (a : ℕ) (rest version : List ℕ) → reverse version ≡ a ∷ rest → is_ascii_digit a ≡ true → begins is_ascii_digit rest ≡ false
     → rebuild_number version ≡ cond (begins_plus_b rest) (a - 48) 0
 unfolding rebuild_number last_digits value_of with_digit
 number-one a rest version e da none =
     rw (e, one_more a rest da, no_more rest none, behind-one a rest version e) (ap (λ (n : ℕ). cond (begins_plus_b rest) n 0) (omega arith))
 
-pub number-two : (a b : ℕ) (rest version : List ℕ) → reverse version ≡ a ∷ b ∷ rest → is_ascii_digit a ≡ true → is_ascii_digit b ≡ true → begins_digit rest ≡ false
+pub number-two : (a b : ℕ) (rest version : List ℕ) → reverse version ≡ a ∷ b ∷ rest → is_ascii_digit a ≡ true → is_ascii_digit b ≡ true → begins is_ascii_digit rest ≡ false
     → rebuild_number version ≡ cond (begins_plus_b rest) ((b - 48) * 10 + (a - 48)) 0
 unfolding rebuild_number last_digits value_of with_digit
 number-two a b rest version e da db none =
     rw (e, one_more a (b ∷ rest) da, one_more b rest db, no_more rest none, behind-two a b rest version e) (ap (λ (n : ℕ). cond (begins_plus_b rest) n 0) (omega arith))
 
 pub number-three : (a b c : ℕ) (rest version : List ℕ) → reverse version ≡ a ∷ b ∷ c ∷ rest → is_ascii_digit a ≡ true → is_ascii_digit b ≡ true → is_ascii_digit c ≡ true
-    → begins_digit rest ≡ false
+    → begins is_ascii_digit rest ≡ false
     → rebuild_number version ≡ cond (begins_plus_b rest) ((c - 48) * 100 + ((b - 48) * 10 + (a - 48))) 0
 unfolding rebuild_number last_digits value_of with_digit
 number-three a b c rest version e da db dc none =

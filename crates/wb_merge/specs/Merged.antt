@@ -10,6 +10,7 @@ use Rattle.wb_merge.specs.declared.merge.Change.{Change}
 use Rattle.wb_merge.specs.declared.merge.Change.TheVariants.{Absent, Added, Changed, Kept, Removed}
 use Rattle.wb_merge.specs.Listing.{ArchiveListing, map_at}
 use Rattle.wb_merge.specs.Merge.{after}
+use Rattle.std.specs.Bool.{beq}
 
 -- the records of the office, by architecture and source package
 abbrev pub Records : Type 0
@@ -39,16 +40,11 @@ pub record BecomesAt (old : Records) (arch : List ℕ) (listing : ArchiveListing
 
 -- ---- what is counted
 
--- whether two flags are equal
-abbrev pub is_same_flag : Bool → Bool → Bool
-is_same_flag true flag = flag
-is_same_flag false flag = not flag
-
 -- whether the fields of two records that say what is built are equal
 unfoldable pub has_same_source : Record → Record → Bool
 has_same_source one other =
     bytes_eq one.version other.version && (bytes_eq one.priority other.priority
-    && (bytes_eq one.section other.section && (is_same_flag one.earlier other.earlier && nat_eq one.number other.number)))
+    && (bytes_eq one.section other.section && (beq one.earlier other.earlier && nat_eq one.number other.number)))
 
 -- whether the fields that say where it stands are equal
 unfoldable pub has_same_place : Record → Record → Bool

@@ -9,7 +9,8 @@ ghost use Rattle.wb_states.specs.declared.refusal.ListingFault.TheVariants.{Cont
 ghost use Rattle.wb_states.specs.declared.refusal.ListField.TheVariants.{Source};
 ghost use Rattle.wb_states.specs.Holds.{has_value};
 ghost use Rattle.wb_merge.specs.Rows.{source_name, has_source_version, in_brackets, is_space, source_version, is_source_text, rebuild_number};
-ghost use Rattle.wb_merge.specs.Backwards.{begins_digit, begins_plus_b};
+ghost use Rattle.wb_merge.specs.Backwards.{begins_plus_b};
+ghost use Rattle.deb_relations.specs.Text.{begins};
 
 use crate::fields::parse_version;
 use deb_relations::Text;
@@ -88,7 +89,7 @@ pub(crate) fn parse_source(
 
 /// The digit at the end of a text, and what stands before it.
 fn last_digit(bytes: &[u8]) -> Option<(u8, &[u8])>
-    ensures none { IfNone result (begins_digit (reverse bytes.now) ≡ false) }
+    ensures none { IfNone result (begins is_ascii_digit (reverse bytes.now) ≡ false) }
     ensures digit { IfSome result (λ cut. is_ascii_digit cut.0 ≡ true) }
     ensures rest { IfSome result (λ cut. reverse bytes.now ≡ cut.0 ∷ reverse cut.1.now) }
 {
