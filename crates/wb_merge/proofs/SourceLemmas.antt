@@ -1,16 +1,17 @@
 -- The text that names a source package, and the number at the end of a version.
-use Rattle.std.proofs.Common.{◌≡◌, ◌≢◌, ◌+◌, ◌*◌, ◌-◌, ℕ, suc, true, false, cond, eqb, length, reverse, List, [], ◌∷◌, ◌++◌, Bor, MatchOption, Option, Some, None, option_copied, refl, sym, ap, ◌∙◌, arith, ltb, Bool}
-use Rattle.std.specs.Prelude.{codes, bytes_eq, nat_le}
-use Rattle.std.specs.List.{list_any, position_or_len, take_while}
+use Rattle.std.proofs.Common.{◌≡◌, ◌≢◌, ◌+◌, ◌*◌, ◌-◌, ℕ, suc, true, false, cond, eqb, length, reverse, List, [], ◌∷◌, ◌++◌, Bor, MatchOption, Option, Some, None, option_copied, refl, sym, ap, ◌∙◌, arith, ltb, Bool, drop, take}
+use Rattle.std.specs.Prelude.{codes, bytes_eq, nat_le, nat_eq}
+use Rattle.std.specs.List.{list_any, position_or_len, take_while, ends_with, starts_with}
 use Rattle.std.specs.Char.{is_ascii_digit}
-use Rattle.std.proofs.lemmas.Bool.Decides.{nat_tests}
+use Rattle.std.proofs.lemmas.Bool.Decides.{nat_tests, Decides-eqb}
 use Rattle.std.proofs.lemmas.List.{reverse-append, reverse-reverse, length-reverse}
 use Rattle.deb_version.specs.Syntax.{value_of, with_digit}
 use Rattle.deb_version.proofs.CutLemmas.{list_any-first}
-use Rattle.wb_merge.specs.Rows.{is_space, in_brackets, last_digits, ends_in, rebuild_number}
+use Rattle.wb_merge.specs.Rows.{is_space, in_brackets, last_digits, rebuild_number}
 use Rattle.wb_merge.specs.Backwards.{begins_plus_b}
 use Rattle.std.proofs.lemmas.List.Sums.{take_while-cons}
 use Rattle.deb_relations.specs.Text.{begins}
+use Rattle.std.proofs.lemmas.Slice.Eq.{starts_is, ends_is}
 
 -- ---- the space and the brackets
 
@@ -68,23 +69,48 @@ number-none version none = rw (no_more (reverse version) none) refl
 eqb-refl : (c : ℕ) → eqb c c ≡ true
 eqb-refl c = grind (arith, nat_tests)
 
-behind-one : (a : ℕ) (rest version : List ℕ) → reverse version ≡ a ∷ rest → ends_in (codes "+b" ++ (a ∷ [])) version ≡ begins_plus_b rest
-unfolding ends_in
-behind-one a [] version e = rw (e, eqb-refl a) refl
-behind-one a (c ∷ []) version e = rw (e, eqb-refl a) (grind (arith, nat_tests))
-behind-one a (c ∷ d ∷ rest) version e = rw (e, eqb-refl a) (grind (arith, nat_tests))
+-- a text ends in what it begins with when both are read from their ends
+same-test : (a b : Bool) → (a ≡ true → b ≡ true) → (b ≡ true → a ≡ true) → a ≡ b
+same-test true b there back = sym (there refl)
+same-test false true there back = back refl
+same-test false false there back = refl
 
-behind-two : (a b : ℕ) (rest version : List ℕ) → reverse version ≡ a ∷ b ∷ rest → ends_in (codes "+b" ++ (b ∷ a ∷ [])) version ≡ begins_plus_b rest
-unfolding ends_in
-behind-two a b [] version e = rw (e, eqb-refl a, eqb-refl b) refl
-behind-two a b (c ∷ []) version e = rw (e, eqb-refl a, eqb-refl b) (grind (arith, nat_tests))
-behind-two a b (c ∷ d ∷ rest) version e = rw (e, eqb-refl a, eqb-refl b) (grind (arith, nat_tests))
+ends_with-reverse : (text end : List ℕ) → ends_with nat_eq text end ≡ starts_with nat_eq (reverse text) (reverse end)
+ends_with-reverse text end =
+    let ends = ends_is Decides-eqb text end (ends_with nat_eq text end) refl in
+    let starts = starts_is Decides-eqb (reverse text) (reverse end) (starts_with nat_eq (reverse text) (reverse end)) refl in
+    same-test (ends_with nat_eq text end) (starts_with nat_eq (reverse text) (reverse end))
+    (λ e. starts.1 _ (ap reverse (ends.0 e) ∙ reverse-append (take (length text - length end) text) end))
+    (λ e. ends.1 (reverse (drop (length (reverse end)) (reverse text)))
+    (sym (reverse-reverse text) ∙ ap reverse (starts.0 e) ∙ reverse-append (reverse end) (drop (length (reverse end)) (reverse text))
+    ∙ ap (λ (x : List ℕ). reverse (drop (length (reverse end)) (reverse text)) ++ x) (reverse-reverse end)))
 
-behind-three : (a b d : ℕ) (rest version : List ℕ) → reverse version ≡ a ∷ b ∷ d ∷ rest → ends_in (codes "+b" ++ (d ∷ b ∷ a ∷ [])) version ≡ begins_plus_b rest
-unfolding ends_in
-behind-three a b d [] version e = rw (e, eqb-refl a, eqb-refl b, eqb-refl d) refl
-behind-three a b d (x ∷ []) version e = rw (e, eqb-refl a, eqb-refl b, eqb-refl d) (grind (arith, nat_tests))
-behind-three a b d (x ∷ y ∷ rest) version e = rw (e, eqb-refl a, eqb-refl b, eqb-refl d) (grind (arith, nat_tests))
+starts-one : (a : ℕ) (rest : List ℕ) → starts_with nat_eq (a ∷ rest) (a ∷ 98 ∷ 43 ∷ []) ≡ begins_plus_b rest
+starts-one a [] = rw (eqb-refl a) refl
+starts-one a (c ∷ []) = rw (eqb-refl a) (grind (arith, nat_tests))
+starts-one a (c ∷ d ∷ rest) = rw (eqb-refl a) (grind (arith, nat_tests))
+
+starts-two : (a b : ℕ) (rest : List ℕ) → starts_with nat_eq (a ∷ b ∷ rest) (a ∷ b ∷ 98 ∷ 43 ∷ []) ≡ begins_plus_b rest
+starts-two a b [] = rw (eqb-refl a, eqb-refl b) refl
+starts-two a b (c ∷ []) = rw (eqb-refl a, eqb-refl b) (grind (arith, nat_tests))
+starts-two a b (c ∷ d ∷ rest) = rw (eqb-refl a, eqb-refl b) (grind (arith, nat_tests))
+
+starts-three : (a b d : ℕ) (rest : List ℕ) → starts_with nat_eq (a ∷ b ∷ d ∷ rest) (a ∷ b ∷ d ∷ 98 ∷ 43 ∷ []) ≡ begins_plus_b rest
+starts-three a b d [] = rw (eqb-refl a, eqb-refl b, eqb-refl d) refl
+starts-three a b d (x ∷ []) = rw (eqb-refl a, eqb-refl b, eqb-refl d) (grind (arith, nat_tests))
+starts-three a b d (x ∷ y ∷ rest) = rw (eqb-refl a, eqb-refl b, eqb-refl d) (grind (arith, nat_tests))
+
+behind-one : (a : ℕ) (rest version : List ℕ) → reverse version ≡ a ∷ rest → ends_with nat_eq version (codes "+b" ++ (a ∷ [])) ≡ begins_plus_b rest
+behind-one a rest version e =
+    ends_with-reverse version (codes "+b" ++ (a ∷ [])) ∙ ap (λ (x : List ℕ). starts_with nat_eq x (a ∷ 98 ∷ 43 ∷ [])) e ∙ starts-one a rest
+
+behind-two : (a b : ℕ) (rest version : List ℕ) → reverse version ≡ a ∷ b ∷ rest → ends_with nat_eq version (codes "+b" ++ (b ∷ a ∷ [])) ≡ begins_plus_b rest
+behind-two a b rest version e =
+    ends_with-reverse version (codes "+b" ++ (b ∷ a ∷ [])) ∙ ap (λ (x : List ℕ). starts_with nat_eq x (a ∷ b ∷ 98 ∷ 43 ∷ [])) e ∙ starts-two a b rest
+
+behind-three : (a b d : ℕ) (rest version : List ℕ) → reverse version ≡ a ∷ b ∷ d ∷ rest → ends_with nat_eq version (codes "+b" ++ (d ∷ b ∷ a ∷ [])) ≡ begins_plus_b rest
+behind-three a b d rest version e =
+    ends_with-reverse version (codes "+b" ++ (d ∷ b ∷ a ∷ [])) ∙ ap (λ (x : List ℕ). starts_with nat_eq x (a ∷ b ∷ d ∷ 98 ∷ 43 ∷ [])) e ∙ starts-three a b d rest
 
 -- the numbers that they write
 pub number-one : (a : ℕ) (rest version : List ℕ) → reverse version ≡ a ∷ rest → is_ascii_digit a ≡ true → begins is_ascii_digit rest ≡ false

@@ -1,7 +1,7 @@
 -- The rows that a merge reads from the archive's lists, and their faults (Debian Policy 5.3 and 5.6; this project's own where a line says so).
-use Rattle.std.specs.Prelude.{◌≡◌, IsOk, IsTrue, ℕ, ◌+◌, Bool, true, false, not, ◌&&◌, ◌||◌, ◌==◌, nat_le, List, [], ◌∷◌, ◌++◌, length, reverse, codes, bytes_eq, Option, Some, None, Result, Ok, Err, if◌then◌else◌}
+use Rattle.std.specs.Prelude.{◌≡◌, IsOk, IsTrue, ℕ, ◌+◌, Bool, not, ◌&&◌, ◌||◌, ◌==◌, nat_le, List, [], ◌∷◌, ◌++◌, length, reverse, codes, bytes_eq, Option, Some, None, Result, Ok, Err, if◌then◌else◌, nat_eq}
 use Rattle.std.specs.Option.{option_map, option_or, unwrap_or}
-use Rattle.std.specs.List.{AllByRecursion, AllZip, list_any, before_first, after_first, take_while}
+use Rattle.std.specs.List.{AllByRecursion, AllZip, list_any, before_first, after_first, take_while, ends_with}
 use Rattle.std.specs.Char.{is_ascii_digit}
 use Rattle.deb_version.specs.Syntax.{is_version_text, value_of, ok_unless}
 use Rattle.deb_control.specs.declared.fault.ControlFaultKind.{ControlFaultKind}
@@ -84,19 +84,11 @@ pub record NamesSource (text name : List ℕ) (version : Option (List ℕ)) : Ty
 unfoldable pub last_digits : List ℕ → List ℕ
 last_digits text = reverse (take_while is_ascii_digit (reverse text))
 
--- whether a text ends in these bytes
-unfoldable pub ends_in : List ℕ → List ℕ → Bool
-ends_in end text = starts (reverse end) (reverse text) where
-  starts : List ℕ → List ℕ → Bool
-  starts [] ys = true
-  starts (x ∷ xs) [] = false
-  starts (x ∷ xs) (y ∷ ys) = bytes_eq (x ∷ []) (y ∷ []) && starts xs ys
-
 -- one to three digits behind `+b`, or 0 (three digits are this project's own limit)
 unfoldable pub rebuild_number : List ℕ → ℕ
 rebuild_number version =
     let digits = last_digits version in
-    if nat_le 1 (length digits) && (nat_le (length digits) 3 && ends_in (codes "+b" ++ digits) version)
+    if nat_le 1 (length digits) && (nat_le (length digits) 3 && ends_with nat_eq version (codes "+b" ++ digits))
     then value_of digits else 0
 
 -- ---- faults
