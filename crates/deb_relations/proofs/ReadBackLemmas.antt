@@ -15,7 +15,7 @@ use Rattle.deb_relations.specs.declared.relations.Alternative.{Alternative}
 use Rattle.deb_relations.specs.Printing.{term_text, op_text, qualifier_text, restriction_text, terms_text, archs_text, profile_text, profiles_text, alternative_text, group_text, printed}
 use Rattle.deb_relations.specs.Reduction.{is_filled, is_kept, without_lists, reduced_group, reduced}
 use Rattle.deb_relations.specs.Grammar.{is_white, is_blank_text, is_profile_char, is_qualifier, is_word, is_not_blank, op_of, words, are_alike, TakesQualifier, TakesRestriction, ReadsTerms, TakesArchs, ReadsProfiles, ReadsAlternative, ReadsGroup, Reads, relations_limit}
-use Rattle.deb_relations.specs.Names.{is_lower_or_digit, is_package_char, is_arch_char, begins_with_lower_or_digit, is_package_name}
+use Rattle.deb_relations.specs.Names.{is_lower_or_digit, is_package_char, is_arch_char, begins_with_lower_or_digit, is_package_name, is_arch_word}
 use Rattle.deb_relations.specs.Reader.{skip, is_solid}
 use Rattle.deb_relations.proofs.FrontLemmas.{both-true, stops, take_while-all, skip-all, all-weaker, all-both}
 use Rattle.deb_relations.proofs.CutLemmas.{split-here, split-none}
@@ -138,7 +138,7 @@ term-solid kind term h =
     elim term.negated as (λ v. list_all is_solid (cond v (33 ∷ term.word) term.word) ≡ true) [ true ↦ chars | false ↦ chars ]
 
 word-filled : (kind : Kind) (word : List ℕ) → is_word kind word ≡ true → is_filled word ≡ true
-unfolding is_word
+unfolding is_word is_arch_word
 word-filled Arch [] h = absurd (cc)
 word-filled Profile [] h = absurd (cc)
 word-filled kind (c ∷ cs) h = refl

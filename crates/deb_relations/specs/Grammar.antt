@@ -11,7 +11,7 @@ use Rattle.deb_relations.specs.declared.relations.Kind.TheVariants.{Arch, Profil
 use Rattle.deb_relations.specs.declared.relations.Term.{Term}
 use Rattle.deb_relations.specs.declared.relations.Restriction.{Restriction}
 use Rattle.deb_relations.specs.declared.relations.Alternative.{Alternative}
-use Rattle.deb_relations.specs.Names.{is_arch_char, begins_with_lower_or_digit, is_package_name}
+use Rattle.deb_relations.specs.Names.{is_arch_char, is_arch_word, is_package_name}
 use Rattle.deb_relations.specs.Printing.{term_text}
 use Rattle.deb_relations.specs.Reduction.{is_filled}
 
@@ -49,7 +49,7 @@ is_qualifier word = is_filled word && list_all is_arch_char word
 
 -- a word of a list of either kind (Policy 7.1)
 unfoldable pub is_word : Kind → List ℕ → Bool
-is_word Arch word = begins_with_lower_or_digit word && list_all is_arch_char word
+is_word Arch word = is_arch_word word
 is_word Profile word = is_filled word && list_all is_profile_char word
 
 -- the operator that a text writes, where `<` and `>` are the old forms of `<=` and `>=` (Policy 7.1)

@@ -20,6 +20,10 @@ is_arch_char c = is_lower_or_digit c || c == 45
 abbrev pub begins_with_lower_or_digit : List ℕ → Bool
 begins_with_lower_or_digit text = begins is_lower_or_digit text
 
+-- an architecture word, also one that matches several architectures (Policy 11.1.1, the form this project's own)
+unfoldable pub is_arch_word : List ℕ → Bool
+is_arch_word word = begins_with_lower_or_digit word && list_all is_arch_char word
+
 -- the name of a package, of 2 to 200 bytes (Policy 5.6.1, the upper limit this project's own)
 unfoldable pub is_package_name : List ℕ → Bool
 is_package_name name =

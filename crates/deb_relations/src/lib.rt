@@ -19,7 +19,7 @@ pub use arch::{ArchWords, arch_matches};
 pub use available::Available;
 pub use fault::RelationFault;
 pub use items::Items;
-pub use names::is_package_name;
+pub use names::{is_arch_word, is_package_name};
 pub use relations::{RELATIONS_LIMIT, Relations};
 pub use text::Text;
 

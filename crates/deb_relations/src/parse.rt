@@ -14,7 +14,7 @@ ghost use Rattle.deb_relations.specs.declared.fault.RelationFault.TheVariants.{B
 
 use crate::fault::RelationFault;
 use crate::items::Items;
-use crate::names::{begins_with_lower_or_digit, is_package_name};
+use crate::names::{is_arch_word, is_package_name};
 use crate::relations::{Alternative, Kind, RELATIONS_LIMIT, Relations, Restriction, Term};
 use crate::scanner::{Class, cut_at, is_all, skip_white, split_leading, strip};
 use crate::text::Text;
@@ -26,7 +26,7 @@ fn is_word(kind: Kind, word: &str) -> bool
     ensures { result ≡ is_word kind word.now }
 {
     match kind {
-        Kind::Arch => begins_with_lower_or_digit(word) && is_all(Class::Arch, word),
+        Kind::Arch => is_arch_word(word),
         Kind::Profile => !word.is_empty() && is_all(Class::Profile, word),
     }
 }
@@ -161,7 +161,8 @@ fn read_restriction(
 ) -> Result<(Option<Restriction>, &str), RelationFault>
     ensures ok { IfOk result (λ found. read_restriction text.now ≡ Some (found.0, found.1.now)) }
     ensures none { IfErr result (λ fault. fault ≢ Memory → read_restriction text.now ≡ None) }
-    ensures refused { IfErr result (λ fault. fault ≢ Memory → fault ≡ restriction_fault end text.now) }
+    ensures refused { IfErr result (λ fault. fault ≢ Memory
+        → fault ≡ restriction_fault end text.now) }
 {
     let Some((inside, rest)) = between('(', ')', text)? else {
         return Ok((None, text));
@@ -322,7 +323,8 @@ fn read_profiles(alloc: Global, text: &str, end: usize) -> Result<Items<Items<Te
 fn read_alternative(alloc: Global, text: &str, end: usize) -> Result<Alternative, RelationFault>
     ensures ok { IfOk result (λ a. read_alternative text.now ≡ Some a) }
     ensures none { IfErr result (λ fault. fault ≢ Memory → read_alternative text.now ≡ None) }
-    ensures refused { IfErr result (λ fault. fault ≢ Memory → fault ≡ alternative_fault end text.now) }
+    ensures refused { IfErr result (λ fault. fault ≢ Memory
+        → fault ≡ alternative_fault end text.now) }
     ensures memory { IfErr result (λ fault. fault ≡ Memory → begins_with_name text.now ≡ true) }
 {
     let (name, after_name) = read_name(alloc, text)?;

@@ -2,7 +2,7 @@
 use Rattle.std.specs.Prelude.{ℕ, Bool, not, ◌&&◌, ◌||◌, List, length, nat_le, nat_eq, codes, bytes_eq}
 use Rattle.std.specs.Char.{is_ascii_alphanumeric, is_ascii_graphic}
 use Rattle.std.specs.List.{list_all}
-use Rattle.deb_relations.specs.Names.{is_lower_or_digit, is_arch_char, begins_with_lower_or_digit}
+use Rattle.deb_relations.specs.Names.{is_lower_or_digit, is_arch_word}
 use Rattle.deb_relations.specs.Text.{begins}
 
 -- a text of this many bytes, both ends included
@@ -16,7 +16,7 @@ is_no_single_arch text = bytes_eq text (codes "all") || (bytes_eq text (codes "a
 -- the name of an architecture: 1 to 40 lower-case letters, digits and `-`, the first no `-`, and none of the words that name no single one (this project's own)
 unfoldable pub is_arch_name : List ℕ → Bool
 is_arch_name text =
-    has_length 1 40 text && (begins_with_lower_or_digit text && (list_all is_arch_char text && not (is_no_single_arch text)))
+    has_length 1 40 text && (is_arch_word text && not (is_no_single_arch text))
 
 -- the word of an operating system or a processor: 1 to 20 lower-case letters and digits, and not `any` (this project's own)
 unfoldable pub is_os_cpu_word : List ℕ → Bool

@@ -2,11 +2,11 @@
 ghost use Rattle.std.specs.Prelude.{◌≡◌};
 ghost use Rattle.std.specs.Char.{is_ascii_alphanumeric, is_ascii_graphic};
 ghost use Rattle.std.specs.List.{list_all};
-ghost use Rattle.deb_relations.specs.Names.{is_lower_or_digit, is_arch_char, begins_with_lower_or_digit, is_package_name};
+ghost use Rattle.deb_relations.specs.Names.{is_lower_or_digit, is_arch_word, is_package_name};
 ghost use Rattle.deb_relations.specs.Text.{begins};
 ghost use Rattle.wb_states.specs.Names.{is_arch_name, is_os_cpu_word, is_builder_name, is_label_text, has_length, is_builder_char};
 
-use deb_relations::is_package_name;
+use deb_relations::{is_arch_word, is_package_name};
 
 /// Whether `text` is the name of a source package: 2 to 200 bytes, lower-case letters, digits, `+`, `-`
 /// and `.`, of which the first is a letter or a digit (Debian Policy 5.6.1; the upper limit is this
@@ -25,8 +25,7 @@ pub fn is_arch(text: &str) -> bool
     ensures value { result ≡ is_arch_name text.now }
 {
     is_long_between(text, 1, 40)
-        && begins_with_lower_or_digit(text)
-        && is_all_arch(text)
+        && is_arch_word(text)
         && !(text == "all" || text == "any" || text == "source")
 }
 
@@ -70,15 +69,6 @@ fn is_lower_or_digit(c: u8) -> bool
     c.is_ascii_lowercase() || c.is_ascii_digit()
 }
 
-fn begins_with_lower_or_digit(text: &str) -> bool
-    ensures { result ≡ begins_with_lower_or_digit text.now }
-{
-    match text.as_bytes() {
-        [] => false,
-        [first, ..] => is_lower_or_digit(*first),
-    }
-}
-
 fn begins_with_letter_or_digit(text: &str) -> bool
     ensures { result ≡ begins is_ascii_alphanumeric text.now }
 {
@@ -92,13 +82,6 @@ fn is_all_lower_or_digit(text: &str) -> bool
     ensures { result ≡ list_all is_lower_or_digit text.now }
 {
     text.bytes().all(|c| is_lower_or_digit(c))
-}
-
-#[tactic(auto, unfolding(deb_relations::specs::Names::is_arch_char))]
-fn is_all_arch(text: &str) -> bool
-    ensures { result ≡ list_all is_arch_char text.now }
-{
-    text.bytes().all(|c| is_lower_or_digit(c) || c == b'-')
 }
 
 fn is_all_builder(text: &str) -> bool
