@@ -1,6 +1,7 @@
 -- What the archive lists for an architecture: each source package, what was built of it, and what is available (this project's own).
 use Rattle.std.specs.Prelude.{◌≡◌, ◌≢◌, ℕ, Bool, true, not, ◌&&◌, ◌||◌, nat_lt, List, [], ◌∷◌, ◌++◌, length, filter, map, codes, bytes_eq, Option, Some, None, unwrap_or, Result, Ok, Err, if◌then◌else◌}
-use Rattle.std.specs.List.{list_any, fold, AllByRecursion}
+use Rattle.std.specs.List.{list_any, filter_map, fold, AllByRecursion}
+use Rattle.std.specs.Option.{option_map}
 use Rattle.std.specs.declared.cmp.Ordering.{Ordering}
 use Rattle.std.specs.declared.cmp.Ordering.TheVariants.{Less, Greater}
 use Rattle.std.specs.Ordering.{nat_cmp, on, then_cmp, is_gt}
@@ -153,19 +154,13 @@ pub record ArchiveListing : Type 0 where
   pub built : finite.FinMap text_cmp Built
   pub available : Pairs
 
--- a key and its value before other entries, where it has a value
-abbrev pub onto_entry : {K X : Type 0} → K → Option X → List (K × X) → List (K × X)
-onto_entry key None entries = entries
-onto_entry key (Some value) entries = (key, value) ∷ entries
-
--- what a function gives for each of some keys, where it gives something
-abbrev pub with_values : {K X : Type 0} → (K → Option X) → List K → List (K × X)
-with_values f [] = []
-with_values f (key ∷ keys) = onto_entry key (f key) (with_values f keys)
+-- a key with the value that a function gives at it, where it gives one
+abbrev pub with_value : {K X : Type 0} → (K → Option X) → K → Option (K × X)
+with_value f key = option_map (λ value. (key, value)) (f key)
 
 -- the map that a function gives at these keys, and nothing elsewhere
 unfoldable pub map_at : {K X : Type 0} {R : K → K → Ordering} → (K → Option X) → List K → finite.FinMap R X
-map_at f keys = finite.from_entries (with_values f keys)
+map_at f keys = finite.from_entries (filter_map (with_value f) keys)
 
 -- the listing of rows
 unfoldable pub listing_of_rows : ArchWords → List SourceRow → List BinaryRow → ArchiveListing
