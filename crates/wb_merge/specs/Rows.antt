@@ -170,9 +170,9 @@ source_row fields = record {
   depends_arch = text_named (codes "Build-Depends-Arch") fields;
 }
 
--- the row of a binary package and the source that it names: its own name and version where it names none (Debian Policy 5.6.1)
-abbrev pub with_source : List ℕ → List ℕ → List ℕ → Option (List ℕ) → BinaryRow
-with_source name version arch None = record {
+-- the row of a binary package that names no source: its source has its own name and version (Debian Policy 5.6.1)
+abbrev pub own_source : List ℕ → List ℕ → List ℕ → BinaryRow
+own_source name version arch = record {
   name = name;
   version = version;
   arch = arch;
@@ -180,10 +180,11 @@ with_source name version arch None = record {
   source_version = version;
   number = 0;
 }
-with_source name version arch (Some text) = record {
-  name = name;
-  version = version;
-  arch = arch;
+
+-- the row of a binary package and the source that it names, if any (Debian Policy 5.6.1)
+abbrev pub with_source : List ℕ → List ℕ → List ℕ → Option (List ℕ) → BinaryRow
+with_source name version arch None = own_source name version arch
+with_source name version arch (Some text) = record (own_source name version arch) {
   source = source_name text;
   source_version = if has_source_version text then unwrap_or (source_version text) version else version;
   number = if has_source_version text then rebuild_number version else 0;
