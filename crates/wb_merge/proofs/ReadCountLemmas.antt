@@ -3,7 +3,7 @@ use Rattle.std.proofs.Common.{◌≡◌, ℕ, ◌+◌, ◌≤◌, Bool, true, fa
 use Rattle.std.specs.List.{slice_split, onto_first}
 use Rattle.deb_control.specs.Paragraphs.{Place, begun}
 use Rattle.wb_states.specs.declared.refusal.ListKind.TheVariants.{Sources, Packages}
-use Rattle.wb_merge.specs.Rows.{SourceRow, BinaryRow, source_row_of, binary_row_of, source_rows, binary_rows}
+use Rattle.wb_merge.specs.Rows.{SourceRow, BinaryRow, source_paragraph, binary_paragraph, source_rows, binary_rows}
 use Rattle.wb_merge.specs.Offers.{HasPassed, after_rows, rows_at}
 use Rattle.deb_control.specs.Lines.{is_feed, is_separator, is_filled, lines_of, paragraphs_in}
 
@@ -38,11 +38,11 @@ begins text place is fits = subst (λ p. HasPassed p 0) (sym is) (record { count
 
 module _ {S : Type 0} where
   pub all-sources : (add : S → SourceRow → S) (start first : S) (text : List ℕ) (place : Place) → place ≡ begun (paragraphs_in (lines_of text)) → start ≡ first
-      → after_rows add start (rows_at source_row_of Sources place) ≡ after_rows add first (source_rows text)
+      → after_rows add start (rows_at source_paragraph Sources place) ≡ after_rows add first (source_rows text)
   unfolding source_rows
-  all-sources add start first text place is same = ap (λ p. after_rows add start (rows_at source_row_of Sources p)) is ∙ ap (λ s. after_rows add s (source_rows text)) same
+  all-sources add start first text place is same = ap (λ p. after_rows add start (rows_at source_paragraph Sources p)) is ∙ ap (λ s. after_rows add s (source_rows text)) same
 
   pub all-binaries : (add : S → BinaryRow → S) (start first : S) (text : List ℕ) (place : Place) → place ≡ begun (paragraphs_in (lines_of text)) → start ≡ first
-      → after_rows add start (rows_at binary_row_of Packages place) ≡ after_rows add first (binary_rows text)
+      → after_rows add start (rows_at binary_paragraph Packages place) ≡ after_rows add first (binary_rows text)
   unfolding binary_rows
-  all-binaries add start first text place is same = ap (λ p. after_rows add start (rows_at binary_row_of Packages p)) is ∙ ap (λ s. after_rows add s (binary_rows text)) same
+  all-binaries add start first text place is same = ap (λ p. after_rows add start (rows_at binary_paragraph Packages p)) is ∙ ap (λ s. after_rows add s (binary_rows text)) same

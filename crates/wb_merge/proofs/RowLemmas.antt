@@ -6,7 +6,7 @@ use Rattle.std.specs.Char.{is_ascii_digit}
 use Rattle.std.proofs.lemmas.Bool.Decides.{nat_tests}
 use Rattle.std.proofs.lemmas.List.{length-reverse}
 use Rattle.deb_control.specs.declared.fault.ControlFaultKind.{ControlFaultKind}
-use Rattle.deb_control.specs.Fields.{Entry}
+use Rattle.deb_control.specs.Fields.{Entry, reading_of}
 use Rattle.deb_version.specs.declared.fault.VersionFault.{VersionFault}
 use Rattle.deb_version.specs.Syntax.{fault_of, is_version_text, value_of, with_digit, ok_unless}
 use Rattle.wb_states.specs.declared.refusal.ListField.{ListField}
@@ -15,12 +15,11 @@ use Rattle.wb_states.specs.declared.refusal.ListKind.{ListKind}
 use Rattle.wb_states.specs.declared.refusal.ListingFault.{ListingFault}
 use Rattle.wb_states.specs.declared.refusal.ListingFault.TheVariants.{BadValue}
 use Rattle.wb_states.specs.declared.refusal.Refusal.{Refusal}
-use Rattle.wb_states.specs.declared.refusal.Refusal.TheVariants.{BadListing}
 use Rattle.deb_relations.specs.Names.{is_package_name}
 use Rattle.wb_states.specs.Names.{is_label_text}
 use Rattle.wb_states.specs.Record.{is_empty_text}
 use Rattle.wb_states.specs.Refusals.{name_of_field}
-use Rattle.wb_merge.specs.Rows.{SourceRow, BinaryRow, value_named, text_named, is_label_or_empty, has_source_version, last_digits, rebuild_number, wanted_fault, spare_fault, form_fault, spare_form_fault, source_fault, source_row, with_source, binary_row, source_row_of, binary_row_of, row_in, onto_rows, rows_behind, source_rows, binary_rows}
+use Rattle.wb_merge.specs.Rows.{SourceRow, BinaryRow, value_named, text_named, is_label_or_empty, has_source_version, last_digits, rebuild_number, wanted_fault, spare_fault, form_fault, spare_form_fault, source_fault, source_row, with_source, binary_row, source_row_of, binary_row_of, of_fields, refused_at, onto_rows, rows_behind, source_rows, binary_rows}
 use Rattle.wb_merge.proofs.CheckLemmas.{both-true, first_some-None}
 use Rattle.deb_relations.proofs.FrontLemmas.{take_while-passes}
 
@@ -42,22 +41,19 @@ onto-is (Ok row) (Err refusal) rows is = cc
 onto-is (Ok row) (Ok later) rows is = record { row = row; later = later; head = refl; tail = refl; whole = only-ok (row ∷ later) rows is }
 
 module _ {X : Type 0} (Q : X → Type 0) (read : List Entry → Result X ListingFault) (good : (fields : List Entry) (row : X) → read fields ≡ Ok row → Q row) (which : ListKind) where
-  row-good : (number : ℕ) (parsed : Result (List Entry) ControlFaultKind) (row : X) → row_in read which number parsed ≡ Ok row → Q row
-  row-good number (Err kind) row is = cc
-  row-good number (Ok fields) row is =
-      (elim (read fields) as (λ (made : Result X ListingFault). read fields ≡ made → row_in (λ _. made) which number (Ok fields) ≡ Ok row → Q row) [
-        | Ok one ↦ λ e same. subst Q (only-ok one row same) (good fields one e)
-        | Err fault ↦ λ _ none. absurd (nothing (BadListing which number fault) none)
-      ]) refl is
-    where
-      nothing : (refusal : Refusal) → ◌≡◌ {A = Result X Refusal} (Err refusal) (Ok row) → ⊥
-      nothing refusal e = cc
+  fields-good : (reading : Result (List Entry) ControlFaultKind) (row : X) → of_fields read reading ≡ Ok row → Q row
+  fields-good (Ok fields) row is = good fields row is
+  fields-good (Err kind) row is = cc
 
-  rows-good : (passed : ℕ) (paragraphs : List (List (List ℕ))) (rows : List X) → rows_behind read which passed paragraphs ≡ Ok rows → AllByRecursion Q rows
+  row-good : (number : ℕ) (found : Result X ListingFault) (row : X) → ((one : X) → found ≡ Ok one → Q one) → refused_at which number found ≡ Ok row → Q row
+  row-good number (Ok one) row has is = subst Q (only-ok one row is) (has one refl)
+  row-good number (Err fault) row has is = cc
+
+  rows-good : (passed : ℕ) (paragraphs : List (List (List ℕ))) (rows : List X) → rows_behind (λ lines. of_fields read (reading_of lines)) which passed paragraphs ≡ Ok rows → AllByRecursion Q rows
   rows-good passed [] rows is = subst (AllByRecursion Q) (only-ok [] rows is) tt
   rows-good passed (lines ∷ later) rows is =
-      let onto = onto-is _ (rows_behind read which (passed + 1) later) rows is in
-      subst (AllByRecursion Q) onto.whole (row-good (passed + 1) _ onto.row onto.head, rows-good (passed + 1) later onto.later onto.tail)
+      let onto = onto-is _ (rows_behind (λ lines. of_fields read (reading_of lines)) which (passed + 1) later) rows is in
+      subst (AllByRecursion Q) onto.whole (row-good (passed + 1) _ onto.row (fields-good (reading_of lines)) onto.head, rows-good (passed + 1) later onto.later onto.tail)
 
 -- ---- the faults of a paragraph
 

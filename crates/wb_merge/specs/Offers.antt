@@ -3,7 +3,6 @@ use Rattle.std.specs.Prelude.{◌≡◌, ℕ, ◌+◌, ◌<◌, ◌^◌, true, L
 use Rattle.std.specs.List.{fold}
 use Rattle.std.specs.declared.cmp.Ordering.{Ordering}
 use Rattle.std.specs.FinMap as finite
-use Rattle.deb_control.specs.Fields.{Entry}
 use Rattle.deb_control.specs.Paragraphs.{Place}
 use Rattle.deb_relations.specs.declared.arch.ArchWords.{ArchWords}
 use Rattle.deb_relations.specs.Text.{text_cmp}
@@ -50,13 +49,13 @@ after_rows add start (Ok rows) = Ok (fold add start rows)
 -- ---- where a reader stands
 
 -- the rows of the paragraphs ahead, of which so many went before
-abbrev pub rows_over : {X : Type 0} → (List Entry → Result X ListingFault) → ListKind → ℕ → Option (List (List (List ℕ))) → Result (List X) Refusal
-rows_over read which passed None = Ok []
-rows_over read which passed (Some paragraphs) = rows_behind read which passed paragraphs
+abbrev pub rows_over : {X : Type 0} → (List (List ℕ) → Result X ListingFault) → ListKind → ℕ → Option (List (List (List ℕ))) → Result (List X) Refusal
+rows_over row_of which passed None = Ok []
+rows_over row_of which passed (Some paragraphs) = rows_behind row_of which passed paragraphs
 
 -- the rows that a reader of paragraphs has ahead, or the refusal for the first faulty paragraph
-abbrev pub rows_at : {X : Type 0} → (List Entry → Result X ListingFault) → ListKind → Place → Result (List X) Refusal
-rows_at read which place = rows_over read which place.passed place.ahead
+abbrev pub rows_at : {X : Type 0} → (List (List ℕ) → Result X ListingFault) → ListKind → Place → Result (List X) Refusal
+rows_at row_of which place = rows_over row_of which place.passed place.ahead
 
 -- how many paragraphs are ahead
 abbrev pub number_of : Option (List (List (List ℕ))) → ℕ
@@ -70,8 +69,8 @@ pub record HasPassed (place : Place) (passed : ℕ) : Type 0 where
   pub fits : passed + number_of place.ahead < 2 ^ 64
 
 -- a reader that went on by one paragraph, of which this is the row
-pub record GivesRow {X : Type 0} (read : List Entry → Result X ListingFault) (which : ListKind) (old : Place) (row : X) (new : Place) : Type 0 where
-  pub rows : rows_at read which old ≡ onto_rows (Ok row) (rows_at read which new)
+pub record GivesRow {X : Type 0} (row_of : List (List ℕ) → Result X ListingFault) (which : ListKind) (old : Place) (row : X) (new : Place) : Type 0 where
+  pub rows : rows_at row_of which old ≡ onto_rows (Ok row) (rows_at row_of which new)
   pub count : new.passed ≡ old.passed + 1
   pub fewer : number_of old.ahead ≡ number_of new.ahead + 1
   pub goes_on : is_some new.ahead ≡ true

@@ -5,6 +5,7 @@ use Rattle.std.specs.List.{AllByRecursion, AllZip, list_any, before_first, after
 use Rattle.std.specs.Char.{is_ascii_digit}
 use Rattle.deb_version.specs.Syntax.{is_version_text, value_of, ok_unless}
 use Rattle.deb_control.specs.declared.fault.ControlFaultKind.{ControlFaultKind}
+use Rattle.std.specs.Result.{result_map_both}
 use Rattle.deb_control.specs.Lines.{lines_of, paragraphs_in, words_in}
 use Rattle.deb_control.specs.Fields.{Entry, field_named, folded_of, reading_of}
 use Rattle.wb_states.specs.declared.refusal.Refusal.{Refusal}
@@ -204,40 +205,6 @@ source_row_of fields = ok_unless (source_fault fields) (source_row fields)
 unfoldable pub binary_row_of : List Entry → Result BinaryRow ListingFault
 binary_row_of fields = ok_unless (binary_fault fields) (binary_row fields)
 
--- ---- lists
-
--- the refusal of a list for a fault in the paragraph of this number, counted from 1
-abbrev refused_at : {X : Type 0} → ListKind → ℕ → Result X ListingFault → Result X Refusal
-refused_at which number (Ok row) = Ok row
-refused_at which number (Err fault) = Err (BadListing which number fault)
-
--- the row of a paragraph, or the refusal for its fault
-abbrev pub row_in : {X : Type 0} → (List Entry → Result X ListingFault) → ListKind → ℕ → Result (List Entry) ControlFaultKind → Result X Refusal
-row_in read which number (Ok fields) = refused_at which number (read fields)
-row_in read which number (Err kind) = Err (BadListing which number (Control kind))
-
--- a row before the rows behind it
-abbrev pub onto_rows : {X : Type 0} → Result X Refusal → Result (List X) Refusal → Result (List X) Refusal
-onto_rows (Err refusal) rows = Err refusal
-onto_rows (Ok row) (Err refusal) = Err refusal
-onto_rows (Ok row) (Ok rows) = Ok (row ∷ rows)
-
--- the rows of paragraphs, of which so many went before, or the refusal for the first that has a fault
-abbrev pub rows_behind : {X : Type 0} → (List Entry → Result X ListingFault) → ListKind → ℕ → List (List (List ℕ)) → Result (List X) Refusal
-rows_behind read which passed [] = Ok []
-rows_behind read which passed (lines ∷ later) =
-    onto_rows (row_in read which (passed + 1) (reading_of lines)) (rows_behind read which (passed + 1) later)
-
--- the rows of a Sources list, or the refusal for its first faulty paragraph
-unfoldable pub source_rows : List ℕ → Result (List SourceRow) Refusal
-source_rows text = rows_behind source_row_of Sources 0 (paragraphs_in (lines_of text))
-
--- the rows of a Packages list, or the refusal for its first faulty paragraph
-unfoldable pub binary_rows : List ℕ → Result (List BinaryRow) Refusal
-binary_rows text = rows_behind binary_row_of Packages 0 (paragraphs_in (lines_of text))
-
--- ---- the first faulty paragraph
-
 -- what is read of a paragraph's fields, or the fault for which it has none
 abbrev pub of_fields : {X : Type 0} → (List Entry → Result X ListingFault) → Result (List Entry) ControlFaultKind → Result X ListingFault
 of_fields read (Ok fields) = read fields
@@ -250,6 +217,34 @@ source_paragraph lines = of_fields source_row_of (reading_of lines)
 -- the row of a paragraph of a Packages list, or its fault: that of its lines, else that of its fields
 abbrev pub binary_paragraph : List (List ℕ) → Result BinaryRow ListingFault
 binary_paragraph lines = of_fields binary_row_of (reading_of lines)
+
+-- ---- lists
+
+-- a row, or the refusal of a list for the fault of the paragraph of this number, counted from 1
+abbrev pub refused_at : {X : Type 0} → ListKind → ℕ → Result X ListingFault → Result X Refusal
+refused_at which number = result_map_both (λ row. row) (BadListing which number)
+
+-- a row before the rows behind it
+abbrev pub onto_rows : {X : Type 0} → Result X Refusal → Result (List X) Refusal → Result (List X) Refusal
+onto_rows (Err refusal) rows = Err refusal
+onto_rows (Ok row) (Err refusal) = Err refusal
+onto_rows (Ok row) (Ok rows) = Ok (row ∷ rows)
+
+-- the rows of paragraphs, of which so many went before, or the refusal for the first that has a fault
+abbrev pub rows_behind : {X : Type 0} → (List (List ℕ) → Result X ListingFault) → ListKind → ℕ → List (List (List ℕ)) → Result (List X) Refusal
+rows_behind row_of which passed [] = Ok []
+rows_behind row_of which passed (lines ∷ later) =
+    onto_rows (refused_at which (passed + 1) (row_of lines)) (rows_behind row_of which (passed + 1) later)
+
+-- the rows of a Sources list, or the refusal for its first faulty paragraph
+unfoldable pub source_rows : List ℕ → Result (List SourceRow) Refusal
+source_rows text = rows_behind source_paragraph Sources 0 (paragraphs_in (lines_of text))
+
+-- the rows of a Packages list, or the refusal for its first faulty paragraph
+unfoldable pub binary_rows : List ℕ → Result (List BinaryRow) Refusal
+binary_rows text = rows_behind binary_paragraph Packages 0 (paragraphs_in (lines_of text))
+
+-- ---- the first faulty paragraph
 
 -- rows are those of the paragraphs, one of each, in their order
 abbrev pub AreRows : {X : Type 0} → (List (List ℕ) → Result X ListingFault) → List (List (List ℕ)) → List X → Type 0

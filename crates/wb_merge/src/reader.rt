@@ -4,7 +4,7 @@ ghost use Rattle.deb_control.specs.declared.fault.ControlFaultKind.TheVariants.{
 ghost use Rattle.wb_states.specs.declared.refusal.Refusal.TheVariants.{BadListing, Memory};
 ghost use Rattle.wb_states.specs.declared.refusal.ListKind.TheVariants.{Sources, Packages};
 ghost use Rattle.wb_states.specs.declared.refusal.ListingFault.TheVariants.{Control};
-ghost use Rattle.wb_merge.specs.Rows.{source_row_of, binary_row_of};
+ghost use Rattle.wb_merge.specs.Rows.{source_paragraph, binary_paragraph};
 ghost use Rattle.wb_merge.specs.Offers.{rows_at, HasPassed, GivesRow};
 
 use crate::rows::{BinaryRow, SourceRow};
@@ -37,11 +37,11 @@ pub(crate) fn next_source(
 ) -> Result<Option<SourceRow>, Refusal>
     requires { HasPassed paragraphs.old passed }
     ensures value { IfOk result (λ found. IfSome found (λ row.
-        GivesRow source_row_of Sources paragraphs.old row paragraphs.new)) }
+        GivesRow source_paragraph Sources paragraphs.old row paragraphs.new)) }
     ensures ended { IfOk result (λ found. found ≡ None
-        → rows_at source_row_of Sources paragraphs.old ≡ Ok []) }
+        → rows_at source_paragraph Sources paragraphs.old ≡ Ok []) }
     ensures refused { IfErr result (λ refusal. refusal ≢ Memory
-        → rows_at source_row_of Sources paragraphs.old ≡ Err refusal) }
+        → rows_at source_paragraph Sources paragraphs.old ≡ Err refusal) }
 {
     match paragraphs.next(alloc) {
         Ok(None) => Ok(None),
@@ -64,11 +64,11 @@ pub(crate) fn next_binary(
 ) -> Result<Option<BinaryRow>, Refusal>
     requires { HasPassed paragraphs.old passed }
     ensures value { IfOk result (λ found. IfSome found (λ row.
-        GivesRow binary_row_of Packages paragraphs.old row paragraphs.new)) }
+        GivesRow binary_paragraph Packages paragraphs.old row paragraphs.new)) }
     ensures ended { IfOk result (λ found. found ≡ None
-        → rows_at binary_row_of Packages paragraphs.old ≡ Ok []) }
+        → rows_at binary_paragraph Packages paragraphs.old ≡ Ok []) }
     ensures refused { IfErr result (λ refusal. refusal ≢ Memory
-        → rows_at binary_row_of Packages paragraphs.old ≡ Err refusal) }
+        → rows_at binary_paragraph Packages paragraphs.old ≡ Err refusal) }
 {
     match paragraphs.next(alloc) {
         Ok(None) => Ok(None),

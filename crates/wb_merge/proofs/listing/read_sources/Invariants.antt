@@ -2,14 +2,14 @@ use Rattle.std.proofs.Common.{◌≡◌}
 use Rattle.std.specs.FinMap as finite
 use Rattle.deb_relations.specs.Text.{text_cmp}
 use Rattle.wb_states.specs.declared.refusal.ListKind.TheVariants.{Sources}
-use Rattle.wb_merge.specs.Rows.{source_row_of, source_rows}
+use Rattle.wb_merge.specs.Rows.{source_paragraph, source_rows}
 use Rattle.wb_merge.specs.Offers.{after_rows, with_listed, rows_at, number_of, HasPassed}
 use Rattle.wb_merge.proofs.listing.read_sources.Given as goal
 
 abbrev pub invariant-loop-listed : goal.invariant-loop-listed
 invariant-loop-listed l = record {
   stands : HasPassed l.paragraphs l.passed;
-  goes : after_rows (with_listed l.arch) (finite.from_entries {R = text_cmp} l.listed.entries) (rows_at source_row_of Sources l.paragraphs)
+  goes : after_rows (with_listed l.arch) (finite.from_entries {R = text_cmp} l.listed.entries) (rows_at source_paragraph Sources l.paragraphs)
       ≡ after_rows (with_listed l.arch) finite.empty (source_rows l.sources);
 }
 
