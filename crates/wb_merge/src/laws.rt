@@ -116,6 +116,7 @@ pub fn kept_records_are_equal()
 /// a source package that is listed a hold ends exactly where the listing has a later version, or the same
 /// one built with at least the record's number (this project's own).
 pub fn merges_never_go_back()
+    // what a record has reached
     ensures version { (old : Records) (arch : List ℕ) (listing : ArchiveListing) (key : Key)
         (current new : Record) → BecomesAt old arch listing key current new
         → version_cmp new.version current.version ≢ Less }
@@ -128,6 +129,7 @@ pub fn merges_never_go_back()
     ensures not_for_us { (old : Records) (arch : List ℕ) (listing : ArchiveListing) (key : Key)
         (current new : Record) → BecomesAt old arch listing key current new
         → current.state ≡ NotForUs → new.state ≡ NotForUs }
+    // the hold of a builder
     ensures hold { (old : Records) (arch : List ℕ) (listing : ArchiveListing) (key : Key)
         (current new : Record) (listed : Listed) → BecomesAt old arch listing key current new
         → is_held current.state ≡ true → map.get listing.listed key.1 ≡ Some listed
