@@ -8,8 +8,8 @@ ghost use Rattle.deb_version.specs.Syntax.{is_version_text};
 ghost use Rattle.wb_states.specs.declared.refusal.ListingFault.TheVariants.{Control, BadValue};
 ghost use Rattle.wb_states.specs.declared.refusal.ListField.TheVariants.{Source};
 ghost use Rattle.wb_states.specs.Holds.{has_value};
-ghost use Rattle.wb_merge.specs.Rows.{source_name, has_source_version, in_brackets, is_space, source_version, is_source_text, rebuild_number};
-ghost use Rattle.wb_merge.specs.Backwards.{begins_plus_b};
+ghost use Rattle.wb_merge.specs.Rows.{source_name, has_source_version, in_brackets, is_space, source_version, is_source_text, rebuild_number, NamesSource};
+ghost use Rattle.wb_merge.specs.Backwards.{begins_plus_b, begins_digit};
 ghost use Rattle.deb_relations.specs.Text.{begins};
 
 use crate::fields::parse_version;
@@ -61,11 +61,8 @@ pub(crate) fn parse_source(
     alloc: Global,
     text: &str,
 ) -> Result<(Text, Option<Version>), ListingFault>
-    ensures name { IfOk result (λ source. source.0 ≡ source_name text.now) }
-    ensures version { IfOk result (λ source. source.1 ≡ (if has_source_version text.now
-        then source_version text.now else None)) }
+    ensures value { IfOk result (λ source. NamesSource text.now source.0 source.1) }
     ensures written { IfOk result (λ source. is_some source.1 ≡ has_source_version text.now) }
-    ensures ok { OnOk result (is_source_text text.now ≡ true) }
     ensures bad { IfErr result (λ fault. fault ≢ Control Memory → is_source_text text.now ≡ false) }
     ensures refused { IfErr result (λ fault. fault ≢ Control Memory → fault ≡ BadValue Source) }
     ensures memory { IfErr result (λ fault. fault ≡ Control Memory
