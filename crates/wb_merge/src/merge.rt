@@ -29,16 +29,6 @@ enum Change {
     Removed,
 }
 
-fn is_same_text(one: &Option<Text>, other: &Option<Text>) -> bool
-    ensures { result ≡ option_eq bytes_eq one.now other.now }
-{
-    match (one, other) {
-        (Some(one), Some(other)) => one == other,
-        (None, None) => true,
-        _ => false,
-    }
-}
-
 #[tactic(auto, unfolding(crate::specs::Merged::has_same_source))]
 fn has_same_source(one: &Record, other: &Record) -> bool
     ensures { result ≡ has_same_source one.now other.now }
@@ -53,8 +43,7 @@ fn has_same_source(one: &Record, other: &Record) -> bool
 fn has_same_place(one: &Record, other: &Record) -> bool
     ensures { result ≡ has_same_place one.now other.now }
 {
-    one.state.code() == other.state.code()
-        && (is_same_text(&one.holder, &other.holder) && one.take == other.take)
+    one.state == other.state && (one.holder == other.holder && one.take == other.take)
 }
 
 #[tactic(auto, unfolding(crate::specs::Merged::has_same_texts))]
@@ -62,7 +51,7 @@ fn has_same_texts(one: &Record, other: &Record) -> bool
     ensures { result ≡ has_same_texts one.now other.now }
 {
     one.waits == other.waits
-        && (is_same_text(&one.depends, &other.depends)
+        && (one.depends == other.depends
             && (one.note == other.note && one.message == other.message))
 }
 
