@@ -16,7 +16,7 @@ use Rattle.wb_states.specs.State.{is_held, is_not_for_us, is_installed, is_dep_w
 use Rattle.wb_merge.specs.declared.listing.Listed.{Listed}
 use Rattle.wb_merge.specs.declared.listing.Built.{Built}
 use Rattle.wb_merge.specs.Listing.{ArchiveListing}
-use Rattle.wb_merge.specs.Merge.{after, covers, built_number, are_waits_met, relisted, newer_record, same_record, same_state, newer_state, listed_record, ends_hold, HasSameHold}
+use Rattle.wb_merge.specs.Merge.{record_after, covers, built_number, are_waits_met, relisted, newer_record, same_record, same_state, newer_state, listed_record, ends_hold, HasSameHold}
 use Rattle.wb_merge.specs.Merged.{Records, after_at, BecomesAt}
 use Rattle.wb_merge.specs.Steps.{Key}
 use Rattle.wb_merge.proofs.MergeLemmas.{merged-get}
@@ -31,7 +31,7 @@ module _ (old : Records) (arch : List ℕ) (listing : ArchiveListing) (key : Key
   by_case : (P : Record → Type 0) → P current
       → ((listed : Listed) → finite.get listing.listed key.1 ≡ Some listed → P (listed_record listed built_there listing.available current))
       → (is_of : Bool) (found : Option Listed) → finite.get listing.listed key.1 ≡ found
-      → cond is_of (after (Some current) found built_there listing.available) (Some current) ≡ Some new → P new
+      → cond is_of (record_after (Some current) found built_there listing.available) (Some current) ≡ Some new → P new
   by_case P stays merges false found e is =
       let same : current ≡ new = cc in
       subst P same stays
@@ -45,13 +45,13 @@ module _ (old : Records) (arch : List ℕ) (listing : ArchiveListing) (key : Key
   unfolding after_at
   at-becomes P stays merges =
       by_case P stays merges (bytes_eq key.0 arch) (finite.get listing.listed key.1) refl
-      (ap (λ (o : Option Record). cond (bytes_eq key.0 arch) (after o (finite.get listing.listed key.1) built_there listing.available) o) (sym h.was)
+      (ap (λ (o : Option Record). cond (bytes_eq key.0 arch) (record_after o (finite.get listing.listed key.1) built_there listing.available) o) (sym h.was)
       ∙ sym (merged-get old arch listing key) ∙ h.is)
 
   by_listed : (P : Record → Type 0)
       → ((listed : Listed) → finite.get listing.listed key.1 ≡ Some listed → P (listed_record listed built_there listing.available current))
       → (found : Option Listed) → finite.get listing.listed key.1 ≡ found
-      → after (Some current) found built_there listing.available ≡ Some new → P new
+      → record_after (Some current) found built_there listing.available ≡ Some new → P new
   by_listed P merges None e is = absurd cc
   by_listed P merges (Some listed) e is =
       let same : listed_record listed built_there listing.available current ≡ new = cc in
@@ -64,8 +64,8 @@ module _ (old : Records) (arch : List ℕ) (listing : ArchiveListing) (key : Key
   at-listed P here merges =
       let same : bytes_eq key.0 arch ≡ true = ap (bytes_eq key.0) (sym here) ∙ bytes_eq-itself key.0 in
       by_listed P merges (finite.get listing.listed key.1) refl
-      (ap (λ (b : Bool). cond b (after (Some current) (finite.get listing.listed key.1) built_there listing.available) (Some current)) (sym same)
-      ∙ ap (λ (o : Option Record). cond (bytes_eq key.0 arch) (after o (finite.get listing.listed key.1) built_there listing.available) o) (sym h.was)
+      (ap (λ (b : Bool). cond b (record_after (Some current) (finite.get listing.listed key.1) built_there listing.available) (Some current)) (sym same)
+      ∙ ap (λ (o : Option Record). cond (bytes_eq key.0 arch) (record_after o (finite.get listing.listed key.1) built_there listing.available) o) (sym h.was)
       ∙ sym (merged-get old arch listing key) ∙ h.is)
 
 -- ---- versions

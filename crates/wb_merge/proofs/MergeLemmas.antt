@@ -12,7 +12,7 @@ use Rattle.deb_relations.specs.Satisfaction.{Pairs}
 use Rattle.wb_merge.specs.declared.listing.Listed.{Listed}
 use Rattle.wb_merge.specs.declared.listing.Built.{Built}
 use Rattle.wb_merge.specs.Listing.{ArchiveListing}
-use Rattle.wb_merge.specs.Merge.{after}
+use Rattle.wb_merge.specs.Merge.{record_after}
 use Rattle.wb_merge.specs.Merged.{Records, after_at, merge_keys, merged, names_of, recorded_names, after_named}
 use Rattle.wb_merge.specs.Steps.{Key, IsSetAt}
 use Rattle.wb_merge.proofs.CheckLemmas.{neither}
@@ -97,9 +97,9 @@ half_merged old arch listing names key =
     cond (bytes_eq key.0 arch && list_any (bytes_eq key.1) names) (finite.get old key) (after_at old arch listing key)
 
 none-after : (old : Option Record) (listing : ArchiveListing) (name : List ℕ) → old ≡ None → finite.get listing.listed name ≡ None
-    → after old (finite.get listing.listed name) (finite.get listing.built name) listing.available ≡ old
+    → record_after old (finite.get listing.listed name) (finite.get listing.built name) listing.available ≡ old
 none-after old listing name e f =
-    (λ i. after (e i) (f i) (finite.get listing.built name) listing.available) ∙ sym e
+    (λ i. record_after (e i) (f i) (finite.get listing.built name) listing.available) ∙ sym e
 
 -- at a key of the architecture that is not named nothing changes
 pub kept-unnamed : (old : Records) (arch : List ℕ) (listing : ArchiveListing) (key : Key) → bytes_eq key.0 arch ≡ true
@@ -108,14 +108,14 @@ unfolding after_at
 kept-unnamed old arch listing key e f =
     let nothing = unnamed old arch listing key.1 f in
     let same : key ≡ (arch, key.1) = λ i. (bytes_eq-is key.0 arch e i, key.1) in
-    ap (λ b. cond b (after (finite.get old key) (finite.get listing.listed key.1) (finite.get listing.built key.1) listing.available) (finite.get old key)) e
+    ap (λ b. cond b (record_after (finite.get old key) (finite.get listing.listed key.1) (finite.get listing.built key.1) listing.available) (finite.get old key)) e
     ∙ none-after (finite.get old key) listing key.1 (ap (finite.get old) same ∙ nothing.0) nothing.1
 
 -- at a key of another architecture nothing changes
 kept-elsewhere : (old : Records) (arch : List ℕ) (listing : ArchiveListing) (key : Key) → bytes_eq key.0 arch ≡ false → after_at old arch listing key ≡ finite.get old key
 unfolding after_at
 kept-elsewhere old arch listing key e =
-    ap (λ b. cond b (after (finite.get old key) (finite.get listing.listed key.1) (finite.get listing.built key.1) listing.available) (finite.get old key)) e
+    ap (λ b. cond b (record_after (finite.get old key) (finite.get listing.listed key.1) (finite.get listing.built key.1) listing.available) (finite.get old key)) e
 
 -- before the first name every key has what it had
 pub half-start : (old : Records) (arch : List ℕ) (listing : ArchiveListing) (key : Key) → finite.get old key ≡ half_merged old arch listing (names_of old arch listing) key
@@ -145,7 +145,7 @@ after-here old arch listing name =
 pub named-here : (old records : Records) (arch : List ℕ) (listing : ArchiveListing) (name : List ℕ) (names : List (List ℕ))
     → ((key : Key) → finite.get records key ≡ half_merged old arch listing (name ∷ names) key) → after_named listing name (finite.get records (arch, name)) ≡ after_at old arch listing (arch, name)
 named-here old records arch listing name names half =
-    ap (λ current. after current (finite.get listing.listed name) (finite.get listing.built name) listing.available) (half-here old records arch listing name names half)
+    ap (λ current. record_after current (finite.get listing.listed name) (finite.get listing.built name) listing.available) (half-here old records arch listing name names half)
     ∙ sym (after-here old arch listing name)
 
 -- another key has the same among the names with and without one
@@ -198,7 +198,7 @@ unfolding after_at
 nowhere old arch listing key e =
     let parts = keys-any old arch listing key e in
     elim (bytes_eq key.0 arch) as (λ b. bytes_eq key.0 arch ≡ b
-    → cond b (after (finite.get old key) (finite.get listing.listed key.1) (finite.get listing.built key.1) listing.available) (finite.get old key) ≡ None) [
+    → cond b (record_after (finite.get old key) (finite.get listing.listed key.1) (finite.get listing.built key.1) listing.available) (finite.get old key) ≡ None) [
       | true ↦ λ f. let unlisted : finite.get listing.listed key.1 ≡ None = none-is _ (sym (listed-any listing.listed key.1) ∙ sym (listed-key-any arch (finite.keys listing.listed) key f) ∙ parts.1) in
           none-after (finite.get old key) listing key.1 parts.0 unlisted ∙ parts.0
       | false ↦ λ f. parts.0
@@ -225,10 +225,10 @@ pub merged-unlisted : (old : Records) (arch : List ℕ) (listing : ArchiveListin
     → finite.get (merged old arch listing) (arch, name) ≡ None
 merged-unlisted old arch listing name none =
     merged-get old arch listing (arch, name) ∙ after-here old arch listing name
-    ∙ ap (λ (o : Option Listed). after (finite.get old (arch, name)) o (finite.get listing.built name) listing.available) none
+    ∙ ap (λ (o : Option Listed). record_after (finite.get old (arch, name)) o (finite.get listing.built name) listing.available) none
     ∙ nothing (finite.get old (arch, name)) (finite.get listing.built name) listing.available
   where
-    nothing : (current : Option Record) (built : Option Built) (available : Pairs) → after current None built available ≡ None
+    nothing : (current : Option Record) (built : Option Built) (available : Pairs) → record_after current None built available ≡ None
     nothing None built available = refl
     nothing (Some current) built available = refl
 

@@ -16,7 +16,7 @@ use Rattle.wb_states.proofs.KeyLemmas.{pair_cmp_total, pair_cmp-same}
 use Rattle.wb_merge.specs.declared.listing.Listed.{Listed}
 use Rattle.wb_merge.specs.declared.listing.Built.{Built}
 use Rattle.wb_merge.specs.Listing.{ArchiveListing}
-use Rattle.wb_merge.specs.Merge.{after, covers, built_number, are_waits_met, relisted, blank_record, new_record, newer_record, same_record, listed_record}
+use Rattle.wb_merge.specs.Merge.{record_after, covers, built_number, are_waits_met, relisted, blank_record, new_record, newer_record, same_record, listed_record}
 use Rattle.wb_merge.specs.Merged.{Records, after_at, merged}
 use Rattle.wb_merge.specs.Steps.{Key}
 use Rattle.wb_merge.proofs.MergeLemmas.{merged-get}
@@ -226,7 +226,7 @@ unfolding new_record relisted
 new-version listed built = tied_itself version_cmp_total listed.version
 
 pub after-twice : (current : Option Record) (listed : Option Listed) (built : Option Built) (available : Pairs)
-    → after (after current listed built available) listed built available ≡ after current listed built available
+    → record_after (record_after current listed built available) listed built available ≡ record_after current listed built available
 after-twice None None built available = refl
 after-twice (Some current) None built available = refl
 after-twice None (Some listed) built available =
@@ -235,7 +235,7 @@ after-twice (Some current) (Some listed) built available = ap Some (listed-twice
 
 -- the record at a key of an architecture or of another
 abbrev at_key : Bool → ArchiveListing → List ℕ → Option Record → Option Record
-at_key is_of listing name current = cond is_of (after current (finite.get listing.listed name) (finite.get listing.built name) listing.available) current
+at_key is_of listing name current = cond is_of (record_after current (finite.get listing.listed name) (finite.get listing.built name) listing.available) current
 
 at_key-twice : (is_of : Bool) (listing : ArchiveListing) (name : List ℕ) (current : Option Record) → at_key is_of listing name (at_key is_of listing name current) ≡ at_key is_of listing name current
 at_key-twice true listing name current = after-twice current (finite.get listing.listed name) (finite.get listing.built name) listing.available

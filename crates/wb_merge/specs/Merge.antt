@@ -124,10 +124,10 @@ listed_record listed built available current =
     (same_record listed built available current) current
 
 -- the record of a source package after a merge: none where it is not listed
-abbrev pub after : Option Record → Option Listed → Option Built → Pairs → Option Record
-after current None built available = None
-after None (Some listed) built available = Some (new_record listed built)
-after (Some current) (Some listed) built available = Some (listed_record listed built available current)
+abbrev pub record_after : Option Record → Option Listed → Option Built → Pairs → Option Record
+record_after current None built available = None
+record_after None (Some listed) built available = Some (new_record listed built)
+record_after (Some current) (Some listed) built available = Some (listed_record listed built available current)
 
 -- ---- holds
 

@@ -9,7 +9,7 @@ use Rattle.wb_states.specs.State.{code_of}
 use Rattle.wb_merge.specs.declared.merge.Change.{Change}
 use Rattle.wb_merge.specs.declared.merge.Change.TheVariants.{Absent, Added, Changed, Kept, Removed}
 use Rattle.wb_merge.specs.Listing.{ArchiveListing, map_at}
-use Rattle.wb_merge.specs.Merge.{after}
+use Rattle.wb_merge.specs.Merge.{after, record_after}
 use Rattle.std.specs.Bool.{beq}
 
 -- the records of the office, by architecture and source package
@@ -18,7 +18,7 @@ Records = finite.FinMap pair_cmp Record
 
 -- the record of a source package after a merge of a listing, from the one that it had
 abbrev pub after_named : ArchiveListing → List ℕ → Option Record → Option Record
-after_named listing name current = after current (finite.get listing.listed name) (finite.get listing.built name) listing.available
+after_named listing name current = record_after current (finite.get listing.listed name) (finite.get listing.built name) listing.available
 
 -- the record at a key after the merge of an architecture: other architectures keep theirs
 unfoldable pub after_at : Records → List ℕ → ArchiveListing → List ℕ × List ℕ → Option Record

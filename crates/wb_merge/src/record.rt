@@ -6,7 +6,7 @@ ghost use Rattle.std.specs.FinMap as map;
 ghost use Rattle.wb_states.specs.declared.refusal.Refusal.TheVariants.{Memory};
 ghost use Rattle.wb_states.specs.Moves.{note_after};
 ghost use Rattle.wb_states.specs.State.{is_dep_wait};
-ghost use Rattle.wb_merge.specs.Merge.{after, covers, built_number, are_waits_met, relisted, blank_record, new_state, new_number, new_record, newer_state, newer_number, newer_record, same_state, same_number, same_record, listed_record};
+ghost use Rattle.wb_merge.specs.Merge.{record_after, covers, built_number, are_waits_met, relisted, blank_record, new_state, new_number, new_record, newer_state, newer_number, newer_record, same_state, same_number, same_record, listed_record};
 
 use crate::{Built, Listed, Listing};
 use deb_relations::{Available, RelationFault, Relations, Text};
@@ -269,7 +269,7 @@ pub fn after(
     name: &Text,
     listing: &Listing,
 ) -> Result<Option<Record>, Refusal>
-    ensures value { IfOk result (λ new. new ≡ after (option_map deref current.entry)
+    ensures value { IfOk result (λ new. new ≡ record_after (option_map deref current.entry)
         (map.get listing.now.listed name.now) (map.get listing.now.built name.now)
         listing.now.available) }
     ensures refused { IfErr result (λ refusal. refusal ≡ Memory) }

@@ -8,7 +8,7 @@ use Rattle.wb_states.specs.declared.command.Part.{Part}
 use Rattle.wb_states.specs.declared.refusal.Refusal.{Refusal}
 use Rattle.wb_states.specs.Machine.{Machine}
 use Rattle.wb_merge.specs.Listing.{ArchiveListing}
-use Rattle.wb_merge.specs.Merge.{after}
+use Rattle.wb_merge.specs.Merge.{record_after}
 use Rattle.wb_merge.specs.Merged.{Records, after_at}
 use Rattle.wb_merge.proofs.MergeLemmas.{merged-get}
 use Rattle.wb_merge.proofs.NameLemmas.{bytes_eq-flip}
@@ -27,7 +27,7 @@ unfolding after_at
 with-same records other arch (Err refusal) key same = same
 with-same records other arch (Ok listing) key same =
     merged-get records arch listing key
-    ∙ (λ i. cond (bytes_eq key.0 arch) (after (same i) (map.get listing.listed key.1) (map.get listing.built key.1) listing.available) (same i))
+    ∙ (λ i. cond (bytes_eq key.0 arch) (record_after (same i) (map.get listing.listed key.1) (map.get listing.built key.1) listing.available) (same i))
     ∙ sym (merged-get other arch listing key)
 
 -- a part that is not for one architecture of a list is not for that of its middle

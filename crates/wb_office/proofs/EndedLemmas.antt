@@ -18,7 +18,7 @@ use Rattle.wb_states.proofs.KeyLemmas.{pair_cmp_total, pair_cmp-same, insert_all
 use Rattle.wb_states.proofs.QueueLemmas.{IsIn-filter, IsIn-find}
 use Rattle.wb_merge.specs.declared.listing.Listed.{Listed}
 use Rattle.wb_merge.specs.declared.listing.Built.{Built as WasBuilt}
-use Rattle.wb_merge.specs.Merge.{after}
+use Rattle.wb_merge.specs.Merge.{record_after}
 use Rattle.wb_office.specs.Checks.{first_refusal, is_not_held, refused_move, take_named}
 use Rattle.wb_office.specs.Moving.{again_of, move_asked, moving}
 use Rattle.wb_office.specs.Replay.{replay}
@@ -84,7 +84,7 @@ asked-other take_number machine command words move below is = at command is wher
   at (of.Rebuild arch source version number message) e = made _ tt e
 
 after-free : (take_number : ℕ) (found : Option Record) (listed : Option Listed) (built : Option WasBuilt) (available : Pairs)
-    → IfSome found (IsNotTaken take_number) → IfSome (after found listed built available) (IsNotTaken take_number)
+    → IfSome found (IsNotTaken take_number) → IfSome (record_after found listed built available) (IsNotTaken take_number)
 after-free take_number found None built available old = tt
 after-free take_number None (Some listed) built available old = let left = new-left listed built in left.take (λ taken. taken ≢ take_number) tt
 after-free take_number (Some current) (Some listed) built available old =

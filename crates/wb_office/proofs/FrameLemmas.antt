@@ -13,7 +13,7 @@ use Rattle.wb_states.specs.Moves.{moved}
 use Rattle.wb_states.specs.Queue.{Entry}
 use Rattle.wb_states.proofs.KeyLemmas.{pair_cmp_total, pair_cmp-same, eq_by_cmp-same}
 use Rattle.wb_merge.specs.Listing.{ArchiveListing}
-use Rattle.wb_merge.specs.Merge.{after}
+use Rattle.wb_merge.specs.Merge.{record_after}
 use Rattle.wb_merge.specs.Merged.{Records, after_at}
 use Rattle.wb_merge.proofs.MergeLemmas.{merged-get}
 use Rattle.wb_office.specs.Checks.{refused_move}
@@ -40,7 +40,7 @@ unfolding after_at
 part-others records arch (Err refusal) key other = refl
 part-others records arch (Ok listing) key other =
     merged-get records arch listing key
-    ∙ ap (λ b. cond b (after (map.get records key) (map.get listing.listed key.1) (map.get listing.built key.1) listing.available) (map.get records key)) other
+    ∙ ap (λ b. cond b (record_after (map.get records key) (map.get listing.listed key.1) (map.get listing.built key.1) listing.available) (map.get records key)) other
 
 either-not : (a b : Bool) → ((a || b) ≡ true → ⊥) → (a ≡ false) × (b ≡ true → ⊥)
 either-not true b apart = absurd (apart refl)

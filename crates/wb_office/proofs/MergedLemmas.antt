@@ -10,7 +10,7 @@ use Rattle.wb_states.specs.declared.refusal.Refusal.{Refusal}
 use Rattle.wb_states.specs.Machine.{Machine, pair_cmp}
 use Rattle.wb_states.proofs.KeyLemmas.{pair_cmp_total, pair_cmp-same}
 use Rattle.wb_merge.specs.Listing.{ArchiveListing}
-use Rattle.wb_merge.specs.Merge.{after}
+use Rattle.wb_merge.specs.Merge.{record_after}
 use Rattle.wb_merge.specs.Merged.{Records, after_at, merge_keys, merged}
 use Rattle.wb_merge.proofs.ListingLemmas.{map_at-get}
 use Rattle.wb_office.specs.Parts.{part_listing, records_with, records_after}
@@ -26,19 +26,19 @@ OfAll P records = (key : List ℕ × List ℕ) → IfSome (map.get records key) 
 -- what the merge of a listing makes of a record has what the record has
 abbrev pub IsKeptBy : OfKeys → List ℕ → ArchiveListing → Type 0
 IsKeptBy P arch listing = (source : List ℕ) (found : Option Record) → IfSome found (P (arch, source))
-    → IfSome (after found (map.get listing.listed source) (map.get listing.built source) listing.available) (P (arch, source))
+    → IfSome (record_after found (map.get listing.listed source) (map.get listing.built source) listing.available) (P (arch, source))
 
 after_at-keeps : (P : OfKeys) (old : Records) (arch : List ℕ) (listing : ArchiveListing) → IsKeptBy P arch listing → OfAll P old
     → (key : List ℕ × List ℕ) → IfSome (after_at old arch listing key) (P key)
 unfolding after_at
 after_at-keeps P old arch listing kept all key =
     elim (bytes_eq key.0 arch) as (λ b. bytes_eq key.0 arch ≡ b
-    → IfSome (cond b (after (map.get old key) (map.get listing.listed key.1) (map.get listing.built key.1) listing.available) (map.get old key)) (P key)) [
+    → IfSome (cond b (record_after (map.get old key) (map.get listing.listed key.1) (map.get listing.built key.1) listing.available) (map.get old key)) (P key)) [
       | true ↦ λ is.
           let here : key.0 ≡ arch = (bytes_eq-Decides key.0 arch).0 is in
           let same : (arch, key.1) ≡ key = λ i. (sym here i, key.1) in
           subst (λ (k : List ℕ × List ℕ). IfSome (map.get old k) (P k)
-          → IfSome (after (map.get old k) (map.get listing.listed k.1) (map.get listing.built k.1) listing.available) (P k)) same
+          → IfSome (record_after (map.get old k) (map.get listing.listed k.1) (map.get listing.built k.1) listing.available) (P k)) same
           (kept key.1 (map.get old (arch, key.1))) (all key)
       | false ↦ λ _. all key
     ] refl

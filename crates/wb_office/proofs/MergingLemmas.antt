@@ -10,7 +10,7 @@ use Rattle.wb_states.specs.Machine.{Machine, arch_words, with_words, AreWaits, I
 use Rattle.wb_merge.specs.declared.listing.Listed.{Listed}
 use Rattle.wb_merge.specs.declared.listing.Built.{Built}
 use Rattle.wb_merge.specs.Listing.{ArchiveListing}
-use Rattle.wb_merge.specs.Merge.{new_record, listed_record, after}
+use Rattle.wb_merge.specs.Merge.{new_record, listed_record, record_after}
 use Rattle.wb_merge.specs.Merged.{Records}
 use Rattle.wb_office.specs.Parts.{listing_for, part_listing, records_after}
 use Rattle.wb_office.proofs.ConsistencyLemmas.{with_records}
@@ -29,11 +29,11 @@ MayReplace machine key current = IsRecord machine key.0 key.1 current × IfSome 
 -- what the merge makes of a record that may be there
 after-may : (machine : Machine) (arch : List ℕ) (listing : ArchiveListing) → IsTrue (map.contains_key machine.archs arch) → IsGoodListing listing
     → (source : List ℕ) (found : Option Record) → IfSome found (MayReplace machine (arch, source))
-    → IfSome (after found (map.get listing.listed source) (map.get listing.built source) listing.available) (MayReplace machine (arch, source))
+    → IfSome (record_after found (map.get listing.listed source) (map.get listing.built source) listing.available) (MayReplace machine (arch, source))
 after-may machine arch listing known good source found old =
     at found (map.get listing.listed source) (map.get listing.built source) (good.listed source) (good.built source) old where
       at : (found : Option Record) (listed : Option Listed) (built : Option Built) → IfSome listed (IsGoodListed source) → IfSome built IsSmallBuilt
-          → IfSome found (MayReplace machine (arch, source)) → IfSome (after found listed built listing.available) (MayReplace machine (arch, source))
+          → IfSome found (MayReplace machine (arch, source)) → IfSome (record_after found listed built listing.available) (MayReplace machine (arch, source))
       at found None built fine small old = tt
       at None (Some listed) built fine small old =
           let left = new-left listed built in

@@ -21,7 +21,7 @@ use Rattle.wb_states.proofs.KeyLemmas.{pair_cmp_total, pair_cmp-same, insert_all
 use Rattle.wb_states.proofs.MoveFormLemmas.{held-before-built, held-before-uploaded}
 use Rattle.wb_merge.specs.declared.listing.Listed.{Listed}
 use Rattle.wb_merge.specs.declared.listing.Built.{Built as WasBuilt}
-use Rattle.wb_merge.specs.Merge.{relisted, blank_record, new_state, new_record, newer_state, newer_record, same_state, same_record, listed_record, after}
+use Rattle.wb_merge.specs.Merge.{relisted, blank_record, new_state, new_record, newer_state, newer_record, same_state, same_record, listed_record, record_after}
 use Rattle.wb_office.specs.Checks.{refused_move}
 use Rattle.wb_office.specs.HandOuts.{HasTakeByState, HasTakesByState}
 use Rattle.wb_office.specs.Moving.{moving}
@@ -106,7 +106,7 @@ listed-take listed built available current old =
       by Greater = old
 
 after-take : (found : Option Record) (listed : Option Listed) (built : Option WasBuilt) (available : Pairs) → IfSome found HasTakeByState
-    → IfSome (after found listed built available) HasTakeByState
+    → IfSome (record_after found listed built available) HasTakeByState
 after-take found None built available old = tt
 after-take None (Some listed) built available old = new-take listed built
 after-take (Some current) (Some listed) built available old = listed-take listed built available current old
