@@ -4,6 +4,7 @@ use Rattle.std.proofs.lemmas.Bool.{eqb-true, eq-eqb}
 use Rattle.std.specs.Map.{lookup}
 use Rattle.std.specs.BTreeMap.{is_at}
 use Rattle.std.specs.Ordering.{eq_by_cmp}
+use Rattle.std.specs.Cmp.{booleans_Decides}
 use Rattle.std.specs.Option.{option_eq}
 use Rattle.std.specs.FinMap as finite
 use Rattle.wb_states.specs.declared.record.Record.{Record}
@@ -43,12 +44,6 @@ set-inserted es fs key value = set-at es fs key (Some value)
 
 -- ---- records that are equal
 
-same-flag : (a b : Bool) → beq a b ≡ true → a ≡ b
-same-flag true true e = refl
-same-flag true false e = absurd cc
-same-flag false true e = absurd cc
-same-flag false false e = refl
-
 same-option : {X : Type 0} (test : X → X → Bool) → ((x y : X) → test x y ≡ true → x ≡ y) → (x y : Option X) → option_eq test x y ≡ true → x ≡ y
 same-option test is None None e = refl
 same-option test is None (Some y) e = absurd cc
@@ -78,7 +73,7 @@ same-record one other e =
       version = bytes_eq-is one.version other.version source.0 i;
       priority = bytes_eq-is one.priority other.priority source_1.0 i;
       section = bytes_eq-is one.section other.section source_2.0 i;
-      earlier = same-flag one.earlier other.earlier source_3.0 i;
+      earlier = (booleans_Decides one.earlier other.earlier).0 source_3.0 i;
       number = eqb-true one.number other.number source_3.1 i;
       holder = same-option bytes_eq bytes_eq-is one.holder other.holder place_1.0 i;
       take = same-option nat_eq eqb-true one.take other.take place_1.1 i;
@@ -87,10 +82,6 @@ same-record one other e =
       note = bytes_eq-is one.note other.note texts_2.0 i;
       message = bytes_eq-is one.message other.message texts_2.1 i;
     }
-
-flag-itself : (flag : Bool) → beq flag flag ≡ true
-flag-itself true = refl
-flag-itself false = refl
 
 option-itself : {X : Type 0} (test : X → X → Bool) → ((x : X) → test x x ≡ true) → (o : Option X) → option_eq test o o ≡ true
 option-itself test itself None = refl
@@ -103,7 +94,7 @@ record-itself : (current : Record) → is_same_record current current ≡ true
 unfolding is_same_record has_same_source has_same_place has_same_texts
 record-itself current = λ i.
     (bytes_eq-itself current.version i && (bytes_eq-itself current.priority i
-    && (bytes_eq-itself current.section i && (flag-itself current.earlier i && number-itself current.number i))))
+    && (bytes_eq-itself current.section i && ((booleans_Decides current.earlier current.earlier).1 refl i && number-itself current.number i))))
     && ((number-itself (code_of current.state) i && (option-itself bytes_eq bytes_eq-itself current.holder i
     && option-itself nat_eq number-itself current.take i))
     && (bytes_eq-itself current.waits i && (option-itself bytes_eq bytes_eq-itself current.depends i
