@@ -8,7 +8,7 @@ mod checks;
 mod forms;
 mod holder;
 pub mod laws;
-mod merge;
+mod merging;
 mod moved;
 mod named;
 mod office;

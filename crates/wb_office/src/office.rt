@@ -6,7 +6,7 @@ ghost use Rattle.wb_office.specs.Checks.{MayWantMemory};
 ghost use Rattle.wb_office.specs.Step.{step};
 ghost use Rattle.wb_office.specs.Utf8.{HasUtf8Texts};
 
-use crate::{builder, holder, merge, named, operator};
+use crate::{builder, holder, merging, named, operator};
 use std::alloc::Global;
 use std::marker::Model;
 use wb_states::{Command, Refusal, Reply};
@@ -183,7 +183,7 @@ impl Office {
                 message,
             ),
             Command::Merge { sources, parts } => {
-                merge::merge(self.alloc, &mut self.store, sources, parts)
+                merging::merge(self.alloc, &mut self.store, sources, parts)
             }
         }
     }

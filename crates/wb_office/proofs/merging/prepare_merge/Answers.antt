@@ -3,7 +3,7 @@ use Rattle.std.proofs.Common.{◌≡◌, ◌∙◌, sym, refl, true, false, None
 use Rattle.std.specs.List.{list_any}
 use Rattle.wb_office.specs.Parts.{is_good}
 use Rattle.wb_office.proofs.PartLemmas.{parts_refusal-none, first_refusal-Merge}
-use Rattle.wb_office.proofs.merge.prepare_merge.Goals as goal
+use Rattle.wb_office.proofs.merging.prepare_merge.Goals as goal
 
 pub returns-then-has_bad_arch-clause-refused : goal.returns-then-has_bad_arch-clause-refused
 returns-then-has_bad_arch-clause-refused c = λ _.

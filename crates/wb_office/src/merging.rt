@@ -170,10 +170,12 @@ fn prepare_merge(
     sources: &[u8],
     parts: &[Part],
 ) -> Result<Parts, Refusal>
+    // what the parts make
     ensures records { IfOk result (λ made. map.from_entries made.records.entries
         ≡ records_after store.now sources.now parts.now store.now.records) }
     ensures replies { IfOk result (λ made. made.replies.items
         ≡ part_replies store.now sources.now parts.now store.now.records) }
+    // that nothing refuses it, or what does
     ensures ok { OnOk result (first_refusal store.now (Merge sources.now parts.now) ≡ None) }
     ensures room { OnOk result (nat_le count_limit store.now.accepted ≡ false) }
     ensures memory { IfErr result (λ refusal. refusal ≡ Memory

@@ -3,7 +3,7 @@ use Rattle.std.proofs.Common.{◌≡◌, ◌++◌, ◌||◌, drop}
 use Rattle.std.specs.FinMap as map
 use Rattle.std.specs.List.{list_any}
 use Rattle.wb_office.specs.Parts.{is_good, part_replies, records_after}
-use Rattle.wb_office.proofs.merge.merge_parts.Given as goal
+use Rattle.wb_office.proofs.merging.merge_parts.Given as goal
 
 abbrev pub invariant-loop-part : goal.invariant-loop-part
 invariant-loop-part l = record {

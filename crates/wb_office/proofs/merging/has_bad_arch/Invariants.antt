@@ -1,7 +1,7 @@
 use Rattle.std.proofs.Common.{◌≡◌, drop, not}
 use Rattle.std.specs.List.{list_any}
 use Rattle.wb_states.specs.Names.{is_arch_name}
-use Rattle.wb_office.proofs.merge.has_bad_arch.Given as goal
+use Rattle.wb_office.proofs.merging.has_bad_arch.Given as goal
 
 abbrev pub invariant-loop-part : goal.invariant-loop-part
 invariant-loop-part l =
