@@ -96,12 +96,14 @@ pub(crate) fn prepare_assignment(
     current: &Record,
     builder: &Text,
 ) -> Result<Assigned, Refusal>
+    // what is handed out
     ensures key { IfOk result (λ given.
         (given.made.arch ≡ arch.now) × (given.made.source ≡ source.now)) }
     ensures value { IfOk result (λ given.
         given.made.after ≡ moved (take_move store.now builder.now) current.now) }
     ensures reply { IfOk result (λ given. given.assignment
         ≡ assignment_of ((arch.now, source.now), current.now) (store.now.handed + 1)) }
+    // that nothing refuses it, or what does
     ensures ok { OnOk result (move_refusal (take_move store.now builder.now) current.now ≡ None) }
     ensures room { OnOk result
         ((nat_le count_limit store.now.accepted || nat_le count_limit store.now.handed) ≡ false) }
