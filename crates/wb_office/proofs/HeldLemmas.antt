@@ -17,8 +17,8 @@ use Rattle.wb_states.specs.Machine.{Machine, arch_words}
 use Rattle.wb_states.specs.Moves.{move_refusal}
 use Rattle.wb_states.specs.Queue.{Entry}
 use Rattle.wb_merge.specs.Rows.{first_some}
-use Rattle.wb_office.specs.Checks.{when, text_refusal, state_refusal}
-use Rattle.wb_office.specs.Found.{outcome_unless, move_step, relations_refusal, taken_at, taken_step}
+use Rattle.wb_office.specs.Checks.{when, relations_refusal, text_refusal, state_refusal}
+use Rattle.wb_office.specs.Found.{outcome_unless, move_step, taken_at, taken_step}
 use Rattle.wb_office.specs.Moving.{moving}
 use Rattle.wb_office.specs.Step.{step, counted, after_move}
 use Rattle.wb_office.proofs.StepLemmas.{step-state, step-text}
@@ -66,9 +66,9 @@ step-Waits machine take_number relations groups reads =
     step-state machine (Waits take_number relations) (waits-text take_number relations groups reads) refl
     ∙ taken-answer machine (λ entry. to.Waits (result_unwrap_or (reading_of relations) []) (arch_words machine entry.0.0)) (taken_as machine take_number)
 
-pub waits-BadRelations : (machine : Machine) (take_number : ℕ) (relations : List ℕ) (refusal : Refusal) → relations_refusal relations ≡ Some refusal
+pub waits-BadRelations : (machine : Machine) (take_number : ℕ) (relations : List ℕ) (refusal : Refusal) → relations_refusal (Waits 0 relations) ≡ Some refusal
     → step machine (Waits take_number relations) ≡ (Err refusal, machine)
-unfolding text_refusal relations_refusal
+unfolding text_refusal
 waits-BadRelations machine take_number relations refusal is =
     step-text machine (Waits take_number relations) refusal (ap (λ first. option_or first None) is)
 

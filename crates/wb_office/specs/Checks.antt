@@ -73,11 +73,19 @@ version_named _ = None
 abbrev pub version_fault : Command → Option VersionFault
 version_fault command = option_and_then fault_of (version_named command)
 
+-- the relations that the command names
+abbrev pub relations_named : Command → Option (List ℕ)
+relations_named (Waits take_number relations) = Some relations
+relations_named (DepWait arch source version relations) = Some relations
+relations_named _ = None
+
 -- the fault of the command's relations
 abbrev pub relation_fault : Command → Option RelationFault
-relation_fault (Waits take_number relations) = result_err (reading_of relations)
-relation_fault (DepWait arch source version relations) = result_err (reading_of relations)
-relation_fault _ = None
+relation_fault command = option_and_then (λ relations. result_err (reading_of relations)) (relations_named command)
+
+-- the refusal of the command's relations, which cannot be read
+abbrev pub relations_refusal : Command → Option Refusal
+relations_refusal command = option_map (λ fault. BadRelations (Some fault)) (relation_fault command)
 
 -- the number is that of no binary-only rebuild
 abbrev pub has_bad_number : Command → Bool
@@ -215,7 +223,7 @@ abbrev pub text_checks : Command → List (Option Refusal)
 text_checks command =
     when (has_bad_name command) BadName
     ∷ option_map BadVersion (version_fault command)
-    ∷ option_map (λ fault. BadRelations (Some fault)) (relation_fault command)
+    ∷ relations_refusal command
     ∷ when (has_bad_number command) BadNumber
     ∷ when (has_long_text command) TextTooLong
     ∷ when (repeats_arch command) RepeatedArch
@@ -252,9 +260,7 @@ first_refusal machine command = option_or (text_refusal command) (state_refusal 
 
 -- the relations that the command brings are longer than any that are read
 abbrev pub has_long_relations : Command → Bool
-has_long_relations (Waits take_number relations) = nat_lt relations_limit (length relations)
-has_long_relations (DepWait arch source version relations) = nat_lt relations_limit (length relations)
-has_long_relations _ = false
+has_long_relations command = has_value (λ relations. nat_lt relations_limit (length relations)) (relations_named command)
 
 -- what is known of a command for which memory is wanted: its texts are refused in no way that is seen without memory
 pub record MayWantMemory (command : Command) : Type 0 where

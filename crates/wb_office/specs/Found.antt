@@ -1,15 +1,12 @@
 -- What is answered and done once it is known which record a command moves (this project's own).
 use Rattle.std.specs.Prelude.{ℕ, ◌+◌, ◌||◌, nat_le, List, [], ◌∷◌, Option, Some, None, Ok, Err}
-use Rattle.std.specs.Result.{result_err}
-use Rattle.std.specs.Option.{option_map}
 use Rattle.std.specs.FinMap as map
-use Rattle.deb_relations.specs.Reading.{reading_of}
 use Rattle.wb_states.specs.declared.command.Command.TheVariants.{GiveBack, Next}
 use Rattle.wb_states.specs.declared.moves.Move.{Move}
 use Rattle.wb_states.specs.declared.moves.Move.TheVariants as to
 use Rattle.wb_states.specs.declared.record.Record.{Record}
 use Rattle.wb_states.specs.declared.refusal.Refusal.{Refusal}
-use Rattle.wb_states.specs.declared.refusal.Refusal.TheVariants.{BadRelations, UnknownArch, UnknownBuilder, WrongArch, UnknownSource, NotHeld, QueueEmpty, Spent}
+use Rattle.wb_states.specs.declared.refusal.Refusal.TheVariants.{UnknownArch, UnknownBuilder, WrongArch, UnknownSource, NotHeld, QueueEmpty, Spent}
 use Rattle.wb_states.specs.declared.reply.Reply.TheVariants.{Done}
 use Rattle.wb_states.specs.declared.reply.Assignment.{Assignment}
 use Rattle.wb_states.specs.Holds.{taken_as, take_of}
@@ -31,10 +28,6 @@ outcome_unless None machine accepted = accepted
 -- an architecture, a source package or a version that has not its form
 abbrev pub key_refusal : List ℕ → List ℕ → List ℕ → Option Refusal
 key_refusal arch source version = text_refusal (GiveBack arch source version)
-
--- relations that cannot be read
-unfoldable pub relations_refusal : List ℕ → Option Refusal
-relations_refusal relations = option_map (λ fault. BadRelations (Some fault)) (result_err (reading_of relations))
 
 -- a builder that may not build for the architecture
 unfoldable pub builder_refusal : Machine → List ℕ → List ℕ → Option Refusal

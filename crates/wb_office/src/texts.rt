@@ -5,11 +5,12 @@ ghost use Rattle.std.specs.Str.{IsUtf8};
 ghost use Rattle.deb_version.specs.Syntax.{fault_of};
 ghost use Rattle.deb_relations.specs.declared.fault.RelationFault.TheVariants.{Memory as NoMemory};
 ghost use Rattle.deb_relations.specs.Reading.{reading_of};
+ghost use Rattle.wb_states.specs.declared.command.Command.TheVariants.{Waits};
 ghost use Rattle.wb_states.specs.declared.refusal.Refusal.{Refusal};
 ghost use Rattle.wb_states.specs.declared.refusal.Refusal.TheVariants.{Memory, BadVersion, BadRelations};
 ghost use Rattle.wb_states.specs.Limits.{note_limit, rebuild_limit, relations_limit};
-ghost use Rattle.wb_office.specs.Checks.{refusal_of_fault};
-ghost use Rattle.wb_office.specs.Found.{key_refusal, relations_refusal};
+ghost use Rattle.wb_office.specs.Checks.{refusal_of_fault, relations_refusal};
+ghost use Rattle.wb_office.specs.Found.{key_refusal};
 
 use crate::forms::is_bad_key;
 use deb_relations::{RelationFault, Relations, Text};
@@ -52,7 +53,7 @@ pub(crate) fn read_relations(alloc: Global, text: &Text) -> Result<Relations, Re
     ensures value { IfOk result (λ read. reading_of text.now ≡ Ok read) }
     ensures short { OnOk result (nat_lt relations_limit (length text.now) ≡ false) }
     ensures refused { IfErr result (λ refusal. refusal ≢ Memory
-        → relations_refusal text.now ≡ Some refusal) }
+        → relations_refusal (Waits 0 text.now) ≡ Some refusal) }
     ensures memory { IfErr result (λ refusal. refusal ≡ Memory
         → nat_lt relations_limit (length text.now) ≡ false) }
 {
