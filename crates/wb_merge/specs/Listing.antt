@@ -48,8 +48,7 @@ better R best next = if is_better R best next then next else unwrap_or best next
 
 -- the best of those so far and of a list
 abbrev pub best_from : {X : Type 0} → (X → X → Ordering) → Option X → List X → Option X
-best_from R best [] = best
-best_from R best (item ∷ items) = best_from R (Some (better R best item)) items
+best_from R = fold (λ best item. Some (better R best item))
 
 -- ---- source packages
 
