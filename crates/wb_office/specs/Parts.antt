@@ -1,7 +1,7 @@
 -- The parts of a merge, in their order (this project's own).
 use Rattle.std.specs.Prelude.{ℕ, Bool, true, false, List, [], ◌∷◌, Option, Some, None, Result, Ok, Err, is_ok, if◌then◌else◌}
 use Rattle.std.specs.Result.{result_err}
-use Rattle.std.specs.List.{list_any}
+use Rattle.std.specs.List.{fold, list_any, scan}
 use Rattle.std.specs.FinMap as map
 use Rattle.wb_states.specs.declared.arch.OsCpu.{OsCpu}
 use Rattle.wb_states.specs.declared.command.Part.{Part}
@@ -50,13 +50,12 @@ end_with records arch (Ok listing) = Merged (merge_counts records arch listing)
 
 -- the records after the parts, from these on
 abbrev pub records_after : Machine → List ℕ → List Part → Records → Records
-records_after machine sources [] records = records
-records_after machine sources (part ∷ parts) records =
-    records_after machine sources parts (records_with records part.arch (part_listing machine sources part))
+records_after machine sources parts records =
+    fold (λ records part. records_with records part.arch (part_listing machine sources part)) records parts
 
 -- the ends of the parts, from these records on
 abbrev pub part_replies : Machine → List ℕ → List Part → Records → List PartReply
-part_replies machine sources [] records = []
-part_replies machine sources (part ∷ parts) records =
-    record { arch = part.arch; end = end_with records part.arch (part_listing machine sources part) }
-    ∷ part_replies machine sources parts (records_with records part.arch (part_listing machine sources part))
+part_replies machine sources parts records =
+    scan (λ records part. records_with records part.arch (part_listing machine sources part))
+    (λ records part. record { arch = part.arch; end = end_with records part.arch (part_listing machine sources part) })
+    records parts
