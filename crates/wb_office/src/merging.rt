@@ -33,24 +33,14 @@ struct Parts {
 fn has_bad_arch(parts: &[Part]) -> bool
     ensures { result ≡ list_any (λ part. not (is_arch_name part.arch)) parts.now }
 {
-    for part in parts {
-        if !is_arch(part.arch.as_str()) {
-            return true;
-        }
-    }
-    false
+    parts.iter().any(|part| !is_arch(part.arch.as_str()))
 }
 
 /// Whether one of the parts is for the architecture.
 fn is_part_for(parts: &[Part], arch: &Text) -> bool
     ensures { result ≡ list_any (λ other. bytes_eq arch.now other.arch) parts.now }
 {
-    for part in parts {
-        if arch.as_str() == part.arch.as_str() {
-            return true;
-        }
-    }
-    false
+    parts.iter().any(|part| arch == &part.arch)
 }
 
 /// Whether two parts are for one architecture.
