@@ -275,5 +275,5 @@ pub(crate) fn take(
         return Err(Refusal::BadName);
     }
     let read = read_version(alloc, version)?;
-    Ok(take_named(alloc, store, arch, builder, source, &read)?)
+    take_named(alloc, store, arch, builder, source, &read)
 }

@@ -42,8 +42,7 @@ pub(crate) fn built(alloc: Global, store: &mut Store, take_number: u64) -> Resul
         → step store.old (Built take_number) ≡ (Err refusal, store.old)) }
     ensures unchanged { OnErr result (store.new ≡ store.old) }
 {
-    let change = Move::Built;
-    Ok(move_taken(alloc, store, take_number, &change)?)
+    move_taken(alloc, store, take_number, &Move::Built)
 }
 
 /// Says that the holder uploaded it.
@@ -54,8 +53,7 @@ pub(crate) fn uploaded(alloc: Global, store: &mut Store, take_number: u64) -> Re
         → step store.old (Uploaded take_number) ≡ (Err refusal, store.old)) }
     ensures unchanged { OnErr result (store.new ≡ store.old) }
 {
-    let change = Move::Uploaded;
-    Ok(move_taken(alloc, store, take_number, &change)?)
+    move_taken(alloc, store, take_number, &Move::Uploaded)
 }
 
 /// Puts it back into the queue.
@@ -66,8 +64,7 @@ pub(crate) fn put_back(alloc: Global, store: &mut Store, take_number: u64) -> Re
         → step store.old (PutBack take_number) ≡ (Err refusal, store.old)) }
     ensures unchanged { OnErr result (store.new ≡ store.old) }
 {
-    let change = Move::PutBack;
-    Ok(move_taken(alloc, store, take_number, &change)?)
+    move_taken(alloc, store, take_number, &Move::PutBack)
 }
 
 /// Lets it wait for what the relations ask for.

@@ -34,10 +34,7 @@ pub(crate) fn move_checked(
     ensures refused { IfErr result (λ refusal. refusal ≢ Memory
         → move_refusal change.now current.now ≡ Some refusal) }
 {
-    match move_record(alloc, current, change) {
-        Ok(after) => Ok(after),
-        Err(refusal) => Err(refusal),
-    }
+    move_record(alloc, current, change)
 }
 
 /// The record after the move of a command that can be counted. Nothing is written.

@@ -57,8 +57,7 @@ pub(crate) fn give_back(
     ensures unchanged { OnErr result (store.new ≡ store.old) }
 {
     let read = read_key(alloc, arch, source, version)?;
-    let change = Move::GiveBack;
-    Ok(move_named(alloc, store, arch, source, &read, &change)?)
+    move_named(alloc, store, arch, source, &read, &Move::GiveBack)
 }
 
 /// Lets it wait for what the relations ask for.
@@ -91,7 +90,7 @@ pub(crate) fn dep_wait(
         relations: groups,
         arch: words,
     };
-    Ok(move_named(alloc, store, arch, source, &read, &change)?)
+    move_named(alloc, store, arch, source, &read, &change)
 }
 
 /// Says that its build failed.
@@ -121,7 +120,7 @@ pub(crate) fn fail(
     let change = Move::Fail {
         note: note.clone()?,
     };
-    Ok(move_named(alloc, store, arch, source, &read, &change)?)
+    move_named(alloc, store, arch, source, &read, &change)
 }
 
 /// Says that it is not to be built.
@@ -152,7 +151,7 @@ pub(crate) fn not_for_us(
     let change = Move::NotForUs {
         note: note.clone()?,
     };
-    Ok(move_named(alloc, store, arch, source, &read, &change)?)
+    move_named(alloc, store, arch, source, &read, &change)
 }
 
 /// Builds it once more, as the binary-only rebuild of this number.
@@ -188,5 +187,5 @@ pub(crate) fn rebuild(
         number,
         message: message.clone()?,
     };
-    Ok(move_named(alloc, store, arch, source, &read, &change)?)
+    move_named(alloc, store, arch, source, &read, &change)
 }

@@ -91,8 +91,7 @@ pub(crate) fn read_key(
     if is_bad_key(arch, source) {
         return Err(Refusal::BadName);
     }
-    let read = read_version(alloc, version)?;
-    Ok(read)
+    read_version(alloc, version)
 }
 
 /// The first refusal of a command that a later check refuses: that of what was read before, if it is no want

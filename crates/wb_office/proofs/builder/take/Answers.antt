@@ -1,5 +1,5 @@
 use Rattle.std.proofs.Common.{◌∙◌, sym}
-use Rattle.std.proofs.lemmas.Result.{err_from_is_err_and}
+use Rattle.std.proofs.lemmas.Result.{IfErr-weaker, IfOk-weaker, err_from_is_err_and}
 use Rattle.wb_office.specs.Found.{take_step}
 use Rattle.wb_office.proofs.TakeLemmas.{take-BadName, take-BadVersion, take-is}
 use Rattle.wb_office.proofs.builder.take.Goals as goal
@@ -14,15 +14,12 @@ returns-in_err-read-clause-refused c =
     rw (p.1, p.2) (λ differs. take-BadVersion c.args.store.now c.args.arch.now c.args.builder.now c.args.source.now c.args.version.now _
     (sym c.is_bad_taker.ensures.value ∙ c.if-is_bad_taker.false) (c.in_err-read.ensures.refused differs))
 
-pub returns-in_err-take_named-clause-refused : goal.returns-in_err-take_named-clause-refused
-returns-in_err-take_named-clause-refused c =
-    let p = err_from_is_err_and c.from_residual-in_err-take_named.result c.from_residual-in_err-take_named.ensures.1 in
-    rw (p.1, p.2) (λ differs. take-is c.args.store.now c.args.arch.now c.args.builder.now c.args.source.now c.args.version.now
+pub returns-clause-refused : goal.returns-clause-refused
+returns-clause-refused c = IfErr-weaker c.take_named.result _ _ (λ _ is differs. take-is c.args.store.now c.args.arch.now c.args.builder.now c.args.source.now c.args.version.now
     (sym c.is_bad_taker.ensures.value ∙ c.if-is_bad_taker.false) c.in_ok-read.ensures.ok
-    ∙ (λ i. take_step c.args.store.now c.args.arch.now c.args.builder.now c.args.source.now (sym c.in_ok-read.ensures.value i)) ∙ c.in_err-take_named.ensures.refused differs)
+    ∙ (λ i. take_step c.args.store.now c.args.arch.now c.args.builder.now c.args.source.now (sym c.in_ok-read.ensures.value i)) ∙ is differs) c.take_named.ensures.refused
 
 pub returns-clause-reply : goal.returns-clause-reply
-returns-clause-reply c =
-    take-is c.args.store.now c.args.arch.now c.args.builder.now c.args.source.now c.args.version.now
+returns-clause-reply c = IfOk-weaker c.take_named.result _ _ (λ _ is. take-is c.args.store.now c.args.arch.now c.args.builder.now c.args.source.now c.args.version.now
     (sym c.is_bad_taker.ensures.value ∙ c.if-is_bad_taker.false) c.in_ok-read.ensures.ok
-    ∙ (λ i. take_step c.args.store.now c.args.arch.now c.args.builder.now c.args.source.now (sym c.in_ok-read.ensures.value i)) ∙ c.in_ok-take_named.ensures.reply
+    ∙ (λ i. take_step c.args.store.now c.args.arch.now c.args.builder.now c.args.source.now (sym c.in_ok-read.ensures.value i)) ∙ is) c.take_named.ensures.reply

@@ -1,12 +1,10 @@
 use Rattle.std.proofs.Common.{◌∙◌}
-use Rattle.std.proofs.lemmas.Result.{err_from_is_err_and}
+use Rattle.std.proofs.lemmas.Result.{IfErr-weaker, IfOk-weaker}
 use Rattle.wb_office.proofs.HeldLemmas.{step-Built}
 use Rattle.wb_office.proofs.holder.built.Goals as goal
 
-pub returns-in_err-move_taken-clause-refused : goal.returns-in_err-move_taken-clause-refused
-returns-in_err-move_taken-clause-refused c =
-    let p = err_from_is_err_and c.from_residual.result c.from_residual.ensures.1 in
-    rw (p.1, p.2) (λ differs. step-Built c.args.store.now c.args.take_number ∙ c.in_err-move_taken.ensures.refused differs)
-
 pub returns-clause-reply : goal.returns-clause-reply
-returns-clause-reply c = step-Built c.args.store.now c.args.take_number ∙ c.in_ok-move_taken.ensures.reply
+returns-clause-reply c = IfOk-weaker c.move_taken.result _ _ (λ _ is. step-Built c.args.store.now c.args.take_number ∙ is) c.move_taken.ensures.reply
+
+pub returns-clause-refused : goal.returns-clause-refused
+returns-clause-refused c = IfErr-weaker c.move_taken.result _ _ (λ _ is differs. step-Built c.args.store.now c.args.take_number ∙ is differs) c.move_taken.ensures.refused

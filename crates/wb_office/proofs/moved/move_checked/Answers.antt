@@ -1,11 +1,12 @@
+use Rattle.std.proofs.lemmas.Result.{IfErr-weaker, IfOk-weaker}
 use Rattle.wb_office.proofs.MoveLemmas.{move_of-Ok, move_of-Err}
 use Rattle.wb_office.proofs.moved.move_checked.Goals as goal
 
-pub returns-in-Ok-clause-value : goal.returns-in-Ok-clause-value
-returns-in-Ok-clause-value c = (move_of-Ok c.args.change.now c.args.current.now c.in-Ok.after c.in-Ok.ensures.value).1
+pub returns-clause-value : goal.returns-clause-value
+returns-clause-value c = IfOk-weaker c.move_record.result _ _ (λ after is. (move_of-Ok c.args.change.now c.args.current.now after is).1) c.move_record.ensures.value
 
-pub returns-in-Ok-clause-ok : goal.returns-in-Ok-clause-ok
-returns-in-Ok-clause-ok c = (move_of-Ok c.args.change.now c.args.current.now c.in-Ok.after c.in-Ok.ensures.value).0
+pub returns-clause-ok : goal.returns-clause-ok
+returns-clause-ok c = IfOk-weaker c.move_record.result _ _ (λ after is. (move_of-Ok c.args.change.now c.args.current.now after is).0) c.move_record.ensures.value
 
-pub returns-in-Err-clause-refused : goal.returns-in-Err-clause-refused
-returns-in-Err-clause-refused c = λ differs. move_of-Err c.args.change.now c.args.current.now c.in-Err.refusal (c.in-Err.ensures.refused differs)
+pub returns-clause-refused : goal.returns-clause-refused
+returns-clause-refused c = IfErr-weaker c.move_record.result _ _ (λ refusal is differs. move_of-Err c.args.change.now c.args.current.now refusal (is differs)) c.move_record.ensures.refused

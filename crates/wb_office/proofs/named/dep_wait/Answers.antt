@@ -1,5 +1,5 @@
 use Rattle.std.proofs.Common.{◌∙◌, sym}
-use Rattle.std.proofs.lemmas.Result.{err_from_is_err_and}
+use Rattle.std.proofs.lemmas.Result.{IfErr-weaker, IfOk-weaker, err_from_is_err_and}
 use Rattle.wb_states.specs.declared.moves.Move.TheVariants as to
 use Rattle.wb_office.specs.Found.{key_refusal, named_step}
 use Rattle.wb_office.proofs.KeyLemmas.{dep_wait-refused, dep_wait-either, dep_wait-is}
@@ -33,17 +33,12 @@ pub returns-in_err-words-clause-memory : goal.returns-in_err-words-clause-memory
 returns-in_err-words-clause-memory c =
     wanted _ (want-DepWait c.args.arch.now c.args.source.now c.args.version.now c.args.relations.now c.in_ok-read.ensures.ok c.in-Ok.ensures.short)
 
-pub returns-in_err-move_named-clause-memory : goal.returns-in_err-move_named-clause-memory
-returns-in_err-move_named-clause-memory c =
+pub returns-clause-memory : goal.returns-clause-memory
+returns-clause-memory c =
     wanted _ (want-DepWait c.args.arch.now c.args.source.now c.args.version.now c.args.relations.now c.in_ok-read.ensures.ok c.in-Ok.ensures.short)
 
-pub returns-in_err-move_named-clause-refused : goal.returns-in_err-move_named-clause-refused
-returns-in_err-move_named-clause-refused c =
-    let p = err_from_is_err_and c.from_residual-in_err-move_named.result c.from_residual-in_err-move_named.ensures.1 in
-    rw (p.1, p.2) (λ differs. dep_wait-is c.args.store.now c.args.arch.now c.args.source.now c.args.version.now c.args.relations.now c.in-Ok.groups c.in_ok-words.words c.in_ok-read.ensures.ok c.in-Ok.ensures.value c.in_ok-words.ensures.value ∙ (λ i. named_step c.args.store.now c.args.arch.now c.args.source.now (sym c.in_ok-read.ensures.value i) (to.DepWait c.in-Ok.groups c.in_ok-words.words))
-    ∙ c.in_err-move_named.ensures.refused differs)
+pub returns-clause-refused : goal.returns-clause-refused
+returns-clause-refused c = IfErr-weaker c.move_named.result _ _ (λ _ is differs. dep_wait-is c.args.store.now c.args.arch.now c.args.source.now c.args.version.now c.args.relations.now c.in-Ok.groups c.in_ok-words.words c.in_ok-read.ensures.ok c.in-Ok.ensures.value c.in_ok-words.ensures.value ∙ (λ i. named_step c.args.store.now c.args.arch.now c.args.source.now (sym c.in_ok-read.ensures.value i) (to.DepWait c.in-Ok.groups c.in_ok-words.words)) ∙ is differs) c.move_named.ensures.refused
 
 pub returns-clause-reply : goal.returns-clause-reply
-returns-clause-reply c =
-    dep_wait-is c.args.store.now c.args.arch.now c.args.source.now c.args.version.now c.args.relations.now c.in-Ok.groups c.in_ok-words.words c.in_ok-read.ensures.ok c.in-Ok.ensures.value c.in_ok-words.ensures.value ∙ (λ i. named_step c.args.store.now c.args.arch.now c.args.source.now (sym c.in_ok-read.ensures.value i) (to.DepWait c.in-Ok.groups c.in_ok-words.words))
-    ∙ c.in_ok-move_named.ensures.reply
+returns-clause-reply c = IfOk-weaker c.move_named.result _ _ (λ _ is. dep_wait-is c.args.store.now c.args.arch.now c.args.source.now c.args.version.now c.args.relations.now c.in-Ok.groups c.in_ok-words.words c.in_ok-read.ensures.ok c.in-Ok.ensures.value c.in_ok-words.ensures.value ∙ (λ i. named_step c.args.store.now c.args.arch.now c.args.source.now (sym c.in_ok-read.ensures.value i) (to.DepWait c.in-Ok.groups c.in_ok-words.words)) ∙ is) c.move_named.ensures.reply

@@ -1,5 +1,5 @@
 use Rattle.std.proofs.Common.{◌∙◌, sym}
-use Rattle.std.proofs.lemmas.Result.{err_from_is_err_and}
+use Rattle.std.proofs.lemmas.Result.{IfErr-weaker, IfOk-weaker, err_from_is_err_and}
 use Rattle.wb_states.specs.declared.moves.Move.TheVariants as to
 use Rattle.wb_office.specs.Found.{named_step}
 use Rattle.wb_office.proofs.KeyLemmas.{give_back-refused, give_back-is}
@@ -11,21 +11,16 @@ returns-in_err-read-clause-refused c =
     let p = err_from_is_err_and c.from_residual.result c.from_residual.ensures.1 in
     rw (p.1, p.2) (λ differs. give_back-refused c.args.store.now c.args.arch.now c.args.source.now c.args.version.now _ (c.in_err-read.ensures.refused differs))
 
-pub returns-in_err-move_named-clause-refused : goal.returns-in_err-move_named-clause-refused
-returns-in_err-move_named-clause-refused c =
-    let p = err_from_is_err_and c.from_residual-in_err-move_named.result c.from_residual-in_err-move_named.ensures.1 in
-    rw (p.1, p.2) (λ differs. give_back-is c.args.store.now c.args.arch.now c.args.source.now c.args.version.now c.in_ok-read.ensures.ok ∙ (λ i. named_step c.args.store.now c.args.arch.now c.args.source.now (sym c.in_ok-read.ensures.value i) to.GiveBack)
-    ∙ c.in_err-move_named.ensures.refused differs)
+pub returns-clause-refused : goal.returns-clause-refused
+returns-clause-refused c = IfErr-weaker c.move_named.result _ _ (λ _ is differs. give_back-is c.args.store.now c.args.arch.now c.args.source.now c.args.version.now c.in_ok-read.ensures.ok ∙ (λ i. named_step c.args.store.now c.args.arch.now c.args.source.now (sym c.in_ok-read.ensures.value i) to.GiveBack) ∙ is differs) c.move_named.ensures.refused
 
 pub returns-clause-reply : goal.returns-clause-reply
-returns-clause-reply c =
-    give_back-is c.args.store.now c.args.arch.now c.args.source.now c.args.version.now c.in_ok-read.ensures.ok ∙ (λ i. named_step c.args.store.now c.args.arch.now c.args.source.now (sym c.in_ok-read.ensures.value i) to.GiveBack)
-    ∙ c.in_ok-move_named.ensures.reply
+returns-clause-reply c = IfOk-weaker c.move_named.result _ _ (λ _ is. give_back-is c.args.store.now c.args.arch.now c.args.source.now c.args.version.now c.in_ok-read.ensures.ok ∙ (λ i. named_step c.args.store.now c.args.arch.now c.args.source.now (sym c.in_ok-read.ensures.value i) to.GiveBack) ∙ is) c.move_named.ensures.reply
 
 pub returns-in_err-read-clause-memory : goal.returns-in_err-read-clause-memory
 returns-in_err-read-clause-memory c =
     let p = err_from_is_err_and c.from_residual.result c.from_residual.ensures.1 in
     rw (p.1, p.2) (λ none. want-GiveBack c.args.arch.now c.args.source.now c.args.version.now (c.in_err-read.ensures.memory none))
 
-pub returns-in_err-move_named-clause-memory : goal.returns-in_err-move_named-clause-memory
-returns-in_err-move_named-clause-memory c = wanted _ (want-GiveBack c.args.arch.now c.args.source.now c.args.version.now c.in_ok-read.ensures.ok)
+pub returns-clause-memory : goal.returns-clause-memory
+returns-clause-memory c = wanted _ (want-GiveBack c.args.arch.now c.args.source.now c.args.version.now c.in_ok-read.ensures.ok)
