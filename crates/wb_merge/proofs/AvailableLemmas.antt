@@ -1,6 +1,7 @@
 -- What is available of a name are the versions of its packages that can be installed.
 use Rattle.std.proofs.Common.{◌≡◌, ℕ, Bool, true, false, cond, List, [], ◌∷◌, ◌++◌, map, filter, bytes_eq, refl, sym, ap, ◌∙◌, Option, Some, unwrap_or, append_assoc}
 use Rattle.std.specs.List.{fold}
+use Rattle.std.proofs.lemmas.Map.Text.{is_eq-slice_cmp}
 use Rattle.std.specs.FinMap as finite
 use Rattle.deb_relations.specs.declared.arch.ArchWords.{ArchWords}
 use Rattle.deb_relations.specs.Text.{text_cmp}
@@ -8,7 +9,7 @@ use Rattle.deb_relations.specs.Satisfaction.{Pairs, no_pairs, versions_of, with_
 use Rattle.wb_states.proofs.KeyLemmas.{text_cmp_total}
 use Rattle.wb_merge.specs.Rows.{BinaryRow}
 use Rattle.wb_merge.specs.Listing.{available_of, installable_versions, is_installable_on}
-use Rattle.wb_merge.proofs.NameLemmas.{bytes_eq-is, text_eq}
+use Rattle.wb_merge.proofs.NameLemmas.{bytes_eq-is}
 
 -- the versions of a name with one more, where it is of that name
 one_more : (pairs : Pairs) (name other version : List ℕ) → versions_of (with_pair pairs other version) name
@@ -16,7 +17,7 @@ one_more : (pairs : Pairs) (name other version : List ℕ) → versions_of (with
 unfolding versions_of with_pair
 one_more pairs name other version =
     ap (λ (o : Option (List (List ℕ))). unwrap_or o []) (finite.get-insert text_cmp_total pairs other (unwrap_or (finite.get pairs other) [] ++ version ∷ []) name)
-    ∙ ap (λ (b : Bool). unwrap_or (cond b (Some (unwrap_or (finite.get pairs other) [] ++ version ∷ [])) (finite.get pairs name)) []) (text_eq name other)
+    ∙ ap (λ (b : Bool). unwrap_or (cond b (Some (unwrap_or (finite.get pairs other) [] ++ version ∷ [])) (finite.get pairs name)) []) (is_eq-slice_cmp name other)
     ∙ elim (bytes_eq name other) as (λ b. bytes_eq name other ≡ b
     → unwrap_or (cond b (Some (unwrap_or (finite.get pairs other) [] ++ version ∷ [])) (finite.get pairs name)) []
     ≡ cond b (unwrap_or (finite.get pairs name) [] ++ version ∷ []) (unwrap_or (finite.get pairs name) [])) [

@@ -1,16 +1,8 @@
--- Two tests, and a list of checks, of which none fails.
-use Rattle.std.proofs.Common.{◌≡◌, Bool, true, false, ◌&&◌, ◌||◌, List, [], ◌∷◌, Option, Some, None, IsTrue, refl}
+-- A list of checks, of which none fails.
+use Rattle.std.proofs.Common.{◌≡◌, List, [], ◌∷◌, Option, Some, None, refl}
 use Rattle.std.specs.List.{AllByRecursion}
 use Rattle.std.specs.Option.{option_or}
 use Rattle.wb_merge.specs.Rows.{first_some}
-
-pub both-true : (one other : Bool) → IsTrue (one && other) → IsTrue one × IsTrue other
-both-true true other is = (refl, is)
-both-true false other is = (is, cc)
-
-pub neither : (one other : Bool) → (one || other) ≡ false → (one ≡ false) × (other ≡ false)
-neither true other is = cc
-neither false other is = (refl, is)
 
 -- where neither is there, neither is there alone
 pub option_or-None : {X : Type 0} (one other : Option X) → option_or one other ≡ None → (one ≡ None) × (other ≡ None)

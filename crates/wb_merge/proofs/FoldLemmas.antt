@@ -5,11 +5,11 @@ use Rattle.std.specs.declared.cmp.Ordering.{Ordering}
 use Rattle.std.specs.Ordering.{eq_by_cmp, is_gt}
 use Rattle.std.specs.FinMap as finite
 use Rattle.std.proofs.lemmas.Map.Text.{is_eq-slice_cmp}
+use Rattle.std.proofs.lemmas.Bool.{or_parts}
 use Rattle.deb_relations.specs.Text.{text_cmp}
 use Rattle.wb_states.proofs.KeyLemmas.{text_cmp_total, text_cmp-same}
 use Rattle.wb_merge.specs.Listing.{better, best_from, map_at, is_better}
 use Rattle.wb_merge.specs.Offers.{offered}
-use Rattle.wb_merge.proofs.CheckLemmas.{neither}
 use Rattle.wb_merge.proofs.ListingLemmas.{map_at-get}
 use Rattle.wb_merge.proofs.NameLemmas.{bytes_eq-is}
 
@@ -74,7 +74,7 @@ module _ {Row X : Type 0} (R : X → X → Ordering) (takes : Row → Bool) (key
   no-items : (rows : List Row) (name : List ℕ) → list_any (eq_by_cmp text_cmp name) (map key rows) ≡ false → items_of name rows ≡ []
   no-items [] name none = refl
   no-items (row ∷ rows) name none =
-      let both = neither _ _ none in
+      let both = or_parts _ _ none in
       ap (λ b. map item (cond (b && takes row) (row ∷ filter (is_of name) rows) (filter (is_of name) rows))) (sym (is_eq-slice_cmp name (key row)) ∙ both.0) ∙ no-items rows name both.1
 
   at_names : (b : Bool) (rows : List Row) (name : List ℕ) → list_any (eq_by_cmp text_cmp name) (map key rows) ≡ b

@@ -5,6 +5,7 @@ use Rattle.std.specs.declared.cmp.Ordering.TheVariants.{Less, Equal, Greater}
 use Rattle.std.specs.Ordering.{ordering_reverse, match_ordering}
 use Rattle.std.proofs.lemmas.Bool.Decides.{nat_tests}
 use Rattle.std.proofs.lemmas.Cmp.{tied_itself}
+use Rattle.std.proofs.lemmas.Cmp.{nat_list_eq_equiv}
 use Rattle.std.specs.FinMap as finite
 use Rattle.deb_version.specs.Order.{version_cmp}
 use Rattle.deb_version.specs.OrderLaws.{version_cmp_total}
@@ -20,7 +21,6 @@ use Rattle.wb_merge.specs.Merge.{record_after, covers, built_number, are_waits_m
 use Rattle.wb_merge.specs.Merged.{Records, after_at, BecomesAt}
 use Rattle.wb_merge.specs.Steps.{Key}
 use Rattle.wb_merge.proofs.MergeLemmas.{merged-get}
-use Rattle.wb_merge.proofs.NameLemmas.{bytes_eq-itself}
 
 -- ---- what a merge makes of a record at a key: it stays, or it is brought in line with its listing
 
@@ -62,7 +62,7 @@ module _ (old : Records) (arch : List ℕ) (listing : ArchiveListing) (key : Key
       → ((listed : Listed) → finite.get listing.listed key.1 ≡ Some listed → P (listed_record listed built_there listing.available current)) → P new
   unfolding after_at
   at-listed P here merges =
-      let same : bytes_eq key.0 arch ≡ true = ap (bytes_eq key.0) (sym here) ∙ bytes_eq-itself key.0 in
+      let same : bytes_eq key.0 arch ≡ true = ap (bytes_eq key.0) (sym here) ∙ nat_list_eq_equiv.refl key.0 in
       by_listed P merges (finite.get listing.listed key.1) refl
       (ap (λ (b : Bool). cond b (record_after (Some current) (finite.get listing.listed key.1) built_there listing.available) (Some current)) (sym same)
       ∙ ap (λ (o : Option Record). cond (bytes_eq key.0 arch) (record_after o (finite.get listing.listed key.1) built_there listing.available) o) (sym h.was)

@@ -10,6 +10,7 @@ use Rattle.std.proofs.lemmas.Bool.Decides.{nat_tests}
 use Rattle.std.proofs.lemmas.Slice.Eq.{bytes_eq-Decides}
 use Rattle.std.proofs.lemmas.Str.{IsUtf8-append, IsUtf8-from_ascii}
 use Rattle.std.proofs.lemmas.Str.Ascii.{IsAscii-nil, IsAscii-cons}
+use Rattle.std.proofs.lemmas.Bool.{and_parts}
 use Rattle.deb_version.specs.Syntax.{reading_of}
 use Rattle.deb_version.proofs.ReadingLemmas.{reading_of-ok}
 use Rattle.deb_relations.specs.declared.arch.ArchWords.{ArchWords}
@@ -31,7 +32,6 @@ use Rattle.wb_merge.specs.Rows.{SourceRow, BinaryRow, source_rows, binary_rows}
 use Rattle.wb_merge.specs.Listing.{ArchiveListing, better, best_from, joined, printed_for, within_limit, both_joined, depends_of, listed_as, is_candidate, listed_cmp, candidates, listed_of, built_as, built_cmp, is_built_from, builds, built_of, map_at, listing_of_rows, listing_in, listing_of}
 use Rattle.wb_merge.proofs.ListingLemmas.{map_at-get}
 use Rattle.wb_merge.proofs.RowLemmas.{IsGoodSource, IsSmall, source_rows-good, binary_rows-small}
-use Rattle.wb_merge.proofs.CheckLemmas.{both-true}
 
 -- what is listed of a source package has its forms
 pub record IsGoodListed (source : List ℕ) (listed : Listed) : Type 0 where
@@ -137,7 +137,7 @@ map_at-has {X} f keys Q has key =
 candidate-good : (arch : ArchWords) (name : List ℕ) (row : SourceRow) → IsGoodSource row → is_candidate arch name row ≡ true → IsGoodListed name (listed_as arch row)
 unfolding is_candidate
 candidate-good arch name row good is =
-    let same : name ≡ row.name = (bytes_eq-Decides name row.name).0 (both-true (bytes_eq name row.name) _ is).0 in
+    let same : name ≡ row.name = (bytes_eq-Decides name row.name).0 (and_parts (bytes_eq name row.name) _ is).0 in
     record {
       name = subst (λ n. IsTrue (is_package_name n)) (sym same) good.name;
       version = reading_of-ok row.version good.version;

@@ -3,7 +3,10 @@ use Rattle.std.proofs.Common.{◌≡◌, ℕ, Bool, true, false, cond, not, ◌&
 use Rattle.std.specs.List.{list_any}
 use Rattle.std.specs.Ordering.{eq_by_cmp}
 use Rattle.std.proofs.lemmas.List.Folds.{list_any-append}
+use Rattle.std.proofs.lemmas.Cmp.{nat_list_eq_equiv}
+use Rattle.std.proofs.lemmas.Map.Text.{is_eq-slice_cmp}
 use Rattle.std.specs.FinMap as finite
+use Rattle.std.proofs.lemmas.Bool.{and_right, false_from_ne_true, or_parts}
 use Rattle.deb_relations.specs.Text.{text_cmp}
 use Rattle.wb_states.specs.Machine.{pair_cmp}
 use Rattle.wb_states.specs.declared.record.Record.{Record}
@@ -15,9 +18,8 @@ use Rattle.wb_merge.specs.Listing.{ArchiveListing}
 use Rattle.wb_merge.specs.Merge.{record_after}
 use Rattle.wb_merge.specs.Merged.{Records, after_at, merge_keys, merged, names_of, recorded_names, after_named}
 use Rattle.wb_merge.specs.Steps.{Key, IsSetAt}
-use Rattle.wb_merge.proofs.CheckLemmas.{neither}
 use Rattle.wb_merge.proofs.ListingLemmas.{map_at-get}
-use Rattle.wb_merge.proofs.NameLemmas.{is-false, none-is, text_eq, bytes_eq-flip, bytes_eq-itself, bytes_eq-is, pair-eq, pair-is, IsApart, keys-apart, text_keys-apart, append-apart, filter-apart, filter-any, and-false}
+use Rattle.wb_merge.proofs.NameLemmas.{none-is, bytes_eq-is, pair-eq, pair-is, IsApart, keys-apart, text_keys-apart, append-apart, filter-apart, filter-any}
 
 -- ---- the names
 
@@ -29,9 +31,9 @@ recorded-any arch name (key ∷ keys) =
     let rest = recorded-any arch name keys in
     let others = filter (λ (key : Key). bytes_eq key.0 arch) keys in
     elim (bytes_eq key.0 arch) as (λ b. bytes_eq key.0 arch ≡ b → list_any (bytes_eq name) (map (λ (key : Key). key.1) (cond b (key ∷ others) others)) ≡ (eq_by_cmp pair_cmp (arch, name) key || list_any (eq_by_cmp pair_cmp (arch, name)) keys)) [
-      | true ↦ λ e. let here : eq_by_cmp pair_cmp (arch, name) key ≡ bytes_eq name key.1 = pair-eq (arch, name) key ∙ ap (λ b. b && bytes_eq name key.1) (bytes_eq-flip arch key.0 ∙ e) in
+      | true ↦ λ e. let here : eq_by_cmp pair_cmp (arch, name) key ≡ bytes_eq name key.1 = pair-eq (arch, name) key ∙ ap (λ b. b && bytes_eq name key.1) (nat_list_eq_equiv.symm arch key.0 ∙ e) in
           λ i. sym here i || rest i
-      | false ↦ λ e. let here : eq_by_cmp pair_cmp (arch, name) key ≡ false = pair-eq (arch, name) key ∙ ap (λ b. b && bytes_eq name key.1) (bytes_eq-flip arch key.0 ∙ e) in
+      | false ↦ λ e. let here : eq_by_cmp pair_cmp (arch, name) key ≡ false = pair-eq (arch, name) key ∙ ap (λ b. b && bytes_eq name key.1) (nat_list_eq_equiv.symm arch key.0 ∙ e) in
           rest ∙ (λ i. sym here i || list_any (eq_by_cmp pair_cmp (arch, name)) keys)
     ] refl
 
@@ -51,7 +53,7 @@ recorded-names-any old arch name = recorded-any arch name (finite.keys old) ∙ 
 
 listed-any : {X : Type 0} (listed : finite.FinMap text_cmp X) (name : List ℕ) → list_any (bytes_eq name) (finite.keys listed) ≡ finite.contains_key listed name
 listed-any listed name =
-    ap (λ (eq : List ℕ → Bool). list_any eq (finite.keys listed)) (λ i other. sym (text_eq name other) i) ∙ sym (finite.contains_key-keys listed name)
+    ap (λ (eq : List ℕ → Bool). list_any eq (finite.keys listed)) (λ i other. sym (is_eq-slice_cmp name other) i) ∙ sym (finite.contains_key-keys listed name)
 
 -- whether a source package is named
 pub names-any : (old : Records) (arch : List ℕ) (listing : ArchiveListing) (name : List ℕ)
@@ -72,7 +74,7 @@ names-apart old arch listing =
     (λ name there again. never (finite.contains_key old (arch, name)) _
     (sym (recorded-names-any old arch name) ∙ there)
     (sym (filter-any (λ name. not (finite.contains_key old (arch, name))) name (finite.keys listing.listed)) ∙ again))
-    bytes_eq-itself
+    nat_list_eq_equiv.refl
   where
     never : (a b : Bool) → a ≡ true → (not a && b) ≡ true → ⊥
     never true b e f = cc
@@ -134,12 +136,12 @@ pub half-here : (old records : Records) (arch : List ℕ) (listing : ArchiveList
     → ((key : Key) → finite.get records key ≡ half_merged old arch listing (name ∷ names) key) → finite.get records (arch, name) ≡ finite.get old (arch, name)
 half-here old records arch listing name names half =
     half (arch, name)
-    ∙ (λ i. cond (bytes_eq-itself arch i && (bytes_eq-itself name i || list_any (bytes_eq name) names)) (finite.get old (arch, name)) (after_at old arch listing (arch, name)))
+    ∙ (λ i. cond (nat_list_eq_equiv.refl arch i && (nat_list_eq_equiv.refl name i || list_any (bytes_eq name) names)) (finite.get old (arch, name)) (after_at old arch listing (arch, name)))
 
 after-here : (old : Records) (arch : List ℕ) (listing : ArchiveListing) (name : List ℕ) → after_at old arch listing (arch, name) ≡ after_named listing name (finite.get old (arch, name))
 unfolding after_at
 after-here old arch listing name =
-    ap (λ b. cond b (after_named listing name (finite.get old (arch, name))) (finite.get old (arch, name))) (bytes_eq-itself arch)
+    ap (λ b. cond b (after_named listing name (finite.get old (arch, name))) (finite.get old (arch, name))) (nat_list_eq_equiv.refl arch)
 
 -- after a name no more name is left of it
 pub named-here : (old records : Records) (arch : List ℕ) (listing : ArchiveListing) (name : List ℕ) (names : List (List ℕ))
@@ -153,8 +155,8 @@ half-other : (old : Records) (arch : List ℕ) (listing : ArchiveListing) (name 
     → (bytes_eq arch key.0 && bytes_eq name key.1) ≡ false → half_merged old arch listing (name ∷ names) key ≡ half_merged old arch listing names key
 half-other old arch listing name names key =
     elim (bytes_eq arch key.0) as (λ b. bytes_eq arch key.0 ≡ b → (b && bytes_eq name key.1) ≡ false → half_merged old arch listing (name ∷ names) key ≡ half_merged old arch listing names key) [
-      | true ↦ λ e f. λ i. cond (bytes_eq key.0 arch && ((bytes_eq-flip key.1 name ∙ f) i || list_any (bytes_eq key.1) names)) (finite.get old key) (after_at old arch listing key)
-      | false ↦ λ e f. let there : bytes_eq key.0 arch ≡ false = bytes_eq-flip key.0 arch ∙ e in
+      | true ↦ λ e f. λ i. cond (bytes_eq key.0 arch && ((nat_list_eq_equiv.symm key.1 name ∙ f) i || list_any (bytes_eq key.1) names)) (finite.get old key) (after_at old arch listing key)
+      | false ↦ λ e f. let there : bytes_eq key.0 arch ≡ false = nat_list_eq_equiv.symm key.0 arch ∙ e in
           (λ i. cond (there i && (bytes_eq key.1 name || list_any (bytes_eq key.1) names)) (finite.get old key) (after_at old arch listing key))
           ∙ (λ i. cond (sym there i && list_any (bytes_eq key.1) names) (finite.get old key) (after_at old arch listing key))
     ] refl
@@ -170,7 +172,7 @@ half-next old records new arch listing name names apart half step key =
     ∙ elim (eq_by_cmp pair_cmp (arch, name) key) as (λ b. eq_by_cmp pair_cmp (arch, name) key ≡ b → cond b (after_named listing name (finite.get records (arch, name))) (finite.get records key) ≡ half_merged old arch listing names key) [
       | true ↦ λ e. let same : (arch, name) ≡ key = pair-is (arch, name) key e in
           named-here old records arch listing name names half
-          ∙ (λ i. cond (sym (and-false (bytes_eq arch arch)) i) (finite.get old (arch, name)) (after_at old arch listing (arch, name)))
+          ∙ (λ i. cond (sym (and_right (bytes_eq arch arch) false refl) i) (finite.get old (arch, name)) (after_at old arch listing (arch, name)))
           ∙ (λ i. cond (bytes_eq arch arch && sym apart i) (finite.get old (arch, name)) (after_at old arch listing (arch, name)))
           ∙ ap (half_merged old arch listing names) same
       | false ↦ λ e. half key ∙ half-other old arch listing name names key (sym (pair-eq (arch, name) key) ∙ e)
@@ -182,7 +184,7 @@ half-next old records new arch listing name names apart half step key =
 keys-any : (old : Records) (arch : List ℕ) (listing : ArchiveListing) (key : Key) → list_any (eq_by_cmp pair_cmp key) (merge_keys old arch listing) ≡ false
     → (finite.get old key ≡ None) × (list_any (eq_by_cmp pair_cmp key) (map (λ name. (arch, name)) (finite.keys listing.listed)) ≡ false)
 keys-any old arch listing key e =
-    let parts = neither _ _ (sym (list_any-append (eq_by_cmp pair_cmp key) (finite.keys old) _) ∙ e) in
+    let parts = or_parts _ _ (sym (list_any-append (eq_by_cmp pair_cmp key) (finite.keys old) _) ∙ e) in
     (none-is _ (finite.contains_key-keys old key ∙ parts.0), parts.1)
 
 listed-key-any : (arch : List ℕ) (names : List (List ℕ)) (key : Key) → bytes_eq key.0 arch ≡ true
@@ -218,7 +220,7 @@ merged-get old arch listing key =
 -- the records of other architectures stay
 pub merged-others : (old : Records) (arch : List ℕ) (listing : ArchiveListing) (key : Key) → (key.0 ≡ arch → ⊥) → finite.get (merged old arch listing) key ≡ finite.get old key
 merged-others old arch listing key other =
-    merged-get old arch listing key ∙ kept-elsewhere old arch listing key (is-false (bytes_eq key.0 arch) (λ e. other (bytes_eq-is key.0 arch e)))
+    merged-get old arch listing key ∙ kept-elsewhere old arch listing key (false_from_ne_true (bytes_eq key.0 arch) (λ e. other (bytes_eq-is key.0 arch e)))
 
 -- what is not listed has no record
 pub merged-unlisted : (old : Records) (arch : List ℕ) (listing : ArchiveListing) (name : List ℕ) → finite.get listing.listed name ≡ None
@@ -236,4 +238,4 @@ pub half-end : (old records : Records) (arch : List ℕ) (listing : ArchiveListi
     → records ≡ merged old arch listing
 half-end old records arch listing half =
     finite.same_map pair_cmp_total pair_cmp-same _ _ (λ key.
-    half key ∙ (λ i. cond (and-false (bytes_eq key.0 arch) i) (finite.get old key) (after_at old arch listing key)) ∙ sym (merged-get old arch listing key))
+    half key ∙ (λ i. cond (and_right (bytes_eq key.0 arch) false refl i) (finite.get old key) (after_at old arch listing key)) ∙ sym (merged-get old arch listing key))

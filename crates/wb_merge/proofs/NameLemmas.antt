@@ -4,15 +4,16 @@ use Rattle.std.specs.List.{list_any}
 use Rattle.std.specs.declared.cmp.Ordering.{Ordering}
 use Rattle.std.specs.declared.cmp.Ordering.TheVariants.{Less, Equal, Greater}
 use Rattle.std.specs.Ordering.{is_lt, is_eq, ordering_then, eq_by_cmp}
-use Rattle.std.specs.Cmp.{eq_by_cmp_equiv}
 use Rattle.std.proofs.lemmas.Map.Text.{is_eq-slice_cmp}
 use Rattle.std.proofs.lemmas.Map.Views.{any-filter_same}
 use Rattle.std.proofs.lemmas.List.Folds.{list_any-append}
+use Rattle.std.proofs.lemmas.Slice.Eq.{bytes_eq-Decides}
 use Rattle.std.specs.FinMap as finite
 use Rattle.std.specs.FinMap.Entries.{below_all, is_sorted}
+use Rattle.std.proofs.lemmas.Bool.{and_right, false_from_ne_true, or_right}
 use Rattle.deb_relations.specs.Text.{text_cmp}
 use Rattle.wb_states.specs.Machine.{pair_cmp}
-use Rattle.wb_states.proofs.KeyLemmas.{text_cmp_total, text_cmp-same, pair_cmp-same, eq_by_cmp-same}
+use Rattle.wb_states.proofs.KeyLemmas.{pair_cmp-same, eq_by_cmp-same}
 use Rattle.wb_merge.specs.Steps.{Key}
 
 pub none-is : {X : Type 0} (o : Option X) → is_some o ≡ false → o ≡ None
@@ -21,17 +22,8 @@ none-is (Some x) e = absurd cc
 
 -- ---- texts
 
-pub text_eq : (x y : List ℕ) → eq_by_cmp text_cmp x y ≡ bytes_eq x y
-text_eq = is_eq-slice_cmp
-
-pub bytes_eq-flip : (x y : List ℕ) → bytes_eq x y ≡ bytes_eq y x
-bytes_eq-flip x y = sym (text_eq x y) ∙ (eq_by_cmp_equiv text_cmp_total).symm x y ∙ text_eq y x
-
-pub bytes_eq-itself : (x : List ℕ) → bytes_eq x x ≡ true
-bytes_eq-itself x = sym (text_eq x x) ∙ (eq_by_cmp_equiv text_cmp_total).refl x
-
 pub bytes_eq-is : (x y : List ℕ) → bytes_eq x y ≡ true → x ≡ y
-bytes_eq-is x y e = eq_by_cmp-same text_cmp-same x y (text_eq x y ∙ e)
+bytes_eq-is x y = (bytes_eq-Decides x y).0
 
 -- ---- keys
 
@@ -42,7 +34,7 @@ is_eq-then Greater s = refl
 
 -- two keys tie where both of their texts are equal
 pub pair-eq : (p q : Key) → eq_by_cmp pair_cmp p q ≡ (bytes_eq p.0 q.0 && bytes_eq p.1 q.1)
-pair-eq p q = is_eq-then (text_cmp p.0 q.0) (text_cmp p.1 q.1) ∙ (λ i. text_eq p.0 q.0 i && text_eq p.1 q.1 i)
+pair-eq p q = is_eq-then (text_cmp p.0 q.0) (text_cmp p.1 q.1) ∙ (λ i. is_eq-slice_cmp p.0 q.0 i && is_eq-slice_cmp p.1 q.1 i)
 
 pub pair-is : (p q : Key) → eq_by_cmp pair_cmp p q ≡ true → p ≡ q
 pair-is = eq_by_cmp-same pair_cmp-same
@@ -52,18 +44,6 @@ pair-is = eq_by_cmp-same pair_cmp-same
 abbrev pub IsApart : {K : Type 0} → (K → K → Bool) → List K → Type 0
 IsApart eq [] = Unit {0}
 IsApart eq (x ∷ xs) = (list_any (eq x) xs ≡ false) × IsApart eq xs
-
-pub is-false : (b : Bool) → (b ≡ true → ⊥) → b ≡ false
-is-false true f = absurd (f refl)
-is-false false f = refl
-
-in-rest : (a b : Bool) → b ≡ true → (a || b) ≡ true
-in-rest true b e = refl
-in-rest false b e = e
-
-pub and-false : (b : Bool) → (b && false) ≡ false
-and-false true = refl
-and-false false = refl
 
 -- what a filter keeps of a text
 pub filter-any : (p : List ℕ → Bool) (name : List ℕ) (names : List (List ℕ)) → list_any (bytes_eq name) (filter p names) ≡ (p name && list_any (bytes_eq name) names)
@@ -100,15 +80,15 @@ keys-apart {R = R} m = sorted-apart R (finite.entries m) (finite.entries_sorted 
 
 pub text_keys-apart : {X : Type 0} (m : finite.FinMap text_cmp X) → IsApart bytes_eq (finite.keys m)
 text_keys-apart m =
-    subst (λ (eq : List ℕ → List ℕ → Bool). IsApart eq (finite.keys m)) (λ i x y. text_eq x y i) (keys-apart m)
+    subst (λ (eq : List ℕ → List ℕ → Bool). IsApart eq (finite.keys m)) (λ i x y. is_eq-slice_cmp x y i) (keys-apart m)
 
 pub append-apart : {K : Type 0} (eq : K → K → Bool) (xs ys : List K) → IsApart eq xs → IsApart eq ys
     → ((x : K) → list_any (eq x) xs ≡ true → list_any (eq x) ys ≡ true → ⊥) → ((x : K) → eq x x ≡ true) → IsApart eq (xs ++ ys)
 append-apart eq [] ys hx hy never itself = hy
 append-apart eq (x ∷ xs) ys hx hy never itself =
-    let other : list_any (eq x) ys ≡ false = is-false _ (λ e. never x (λ i. itself x i || list_any (eq x) xs) e) in (
+    let other : list_any (eq x) ys ≡ false = false_from_ne_true _ (λ e. never x (λ i. itself x i || list_any (eq x) xs) e) in (
       list_any-append (eq x) xs ys ∙ (λ i. hx.0 i || other i),
-      append-apart eq xs ys hx.1 hy (λ y ex ey. never y (in-rest (eq y x) _ ex) ey) itself,
+      append-apart eq xs ys hx.1 hy (λ y ex ey. never y (or_right (eq y x) _ ex) ey) itself,
     )
 
 -- a filter keeps apart what is apart
@@ -116,6 +96,6 @@ pub filter-apart : (p : List ℕ → Bool) (names : List (List ℕ)) → IsApart
 filter-apart p [] h = tt
 filter-apart p (name ∷ names) h =
     elim (p name) as (λ b. IsApart bytes_eq (cond b (name ∷ filter p names) (filter p names))) [
-      | true ↦ (filter-any p name names ∙ (λ i. p name && h.0 i) ∙ and-false (p name), filter-apart p names h.1)
+      | true ↦ (filter-any p name names ∙ (λ i. p name && h.0 i) ∙ and_right (p name) false refl, filter-apart p names h.1)
       | false ↦ filter-apart p names h.1
     ]

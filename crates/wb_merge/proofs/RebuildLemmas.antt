@@ -9,11 +9,11 @@ use Rattle.std.proofs.lemmas.Fmt.{decimal_by_steps, decimal_nonempty, length-dec
 use Rattle.std.proofs.lemmas.List.{reverse-append}
 use Rattle.std.proofs.lemmas.List.Folds.{list_all-append}
 use Rattle.std.proofs.lemmas.List.Sums.{fold-append}
+use Rattle.std.proofs.lemmas.Bool.{and_parts}
 use Rattle.deb_version.specs.Syntax.{value_of, with_digit}
 use Rattle.wb_states.specs.declared.record.Record.{Record}
 use Rattle.wb_states.specs.Moves.{build_text_of}
 use Rattle.wb_merge.specs.Rows.{rebuild_number}
-use Rattle.wb_merge.proofs.CheckLemmas.{both-true}
 use Rattle.wb_merge.proofs.SourceLemmas.{number-one, number-two, number-three}
 
 -- ---- one to three digits behind `+b`
@@ -28,18 +28,18 @@ pub rebuild_number-ends : (front digits : List ℕ) → 1 ≤ length digits → 
 unfolding value_of with_digit
 rebuild_number-ends front [] some few all = absurd (omega arith)
 rebuild_number-ends front (a ∷ []) some few all =
-    let one = both-true (is_ascii_digit a) true all in
+    let one = and_parts (is_ascii_digit a) true all in
     number-one a (98 ∷ 43 ∷ reverse front) ((front ++ codes "+b") ++ (a ∷ [])) (backwards front (a ∷ [])) one.0 refl
     ∙ omega arith
 rebuild_number-ends front (a ∷ b ∷ []) some few all =
-    let one = both-true (is_ascii_digit a) (is_ascii_digit b && true) all in
-    let two = both-true (is_ascii_digit b) true one.1 in
+    let one = and_parts (is_ascii_digit a) (is_ascii_digit b && true) all in
+    let two = and_parts (is_ascii_digit b) true one.1 in
     number-two b a (98 ∷ 43 ∷ reverse front) ((front ++ codes "+b") ++ (a ∷ b ∷ [])) (backwards front (a ∷ b ∷ [])) two.0 one.0 refl
     ∙ omega arith
 rebuild_number-ends front (a ∷ b ∷ c ∷ []) some few all =
-    let one = both-true (is_ascii_digit a) (is_ascii_digit b && (is_ascii_digit c && true)) all in
-    let two = both-true (is_ascii_digit b) (is_ascii_digit c && true) one.1 in
-    let three = both-true (is_ascii_digit c) true two.1 in
+    let one = and_parts (is_ascii_digit a) (is_ascii_digit b && (is_ascii_digit c && true)) all in
+    let two = and_parts (is_ascii_digit b) (is_ascii_digit c && true) one.1 in
+    let three = and_parts (is_ascii_digit c) true two.1 in
     number-three c b a (98 ∷ 43 ∷ reverse front) ((front ++ codes "+b") ++ (a ∷ b ∷ c ∷ [])) (backwards front (a ∷ b ∷ c ∷ [])) three.0 two.0 one.0 refl
     ∙ omega arith
 rebuild_number-ends front (a ∷ b ∷ c ∷ d ∷ more) some few all = absurd (omega arith)

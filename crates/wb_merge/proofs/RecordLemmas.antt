@@ -1,11 +1,12 @@
 -- Records that a test finds equal are equal, and one record more or less in a map.
 use Rattle.std.proofs.Common.{◌≡◌, ◌↔◌, ℕ, Bool, true, false, cond, ◌&&◌, List, refl, sym, ap, ◌∙◌, Option, Some, None, bytes_eq, nat_eq}
-use Rattle.std.proofs.lemmas.Bool.{eqb-true, eq-eqb}
+use Rattle.std.proofs.lemmas.Bool.{and_parts, eq-eqb, eqb-true}
 use Rattle.std.specs.Map.{lookup}
 use Rattle.std.specs.BTreeMap.{is_at}
 use Rattle.std.specs.Ordering.{eq_by_cmp}
 use Rattle.std.specs.Cmp.{booleans_Decides}
 use Rattle.std.specs.Option.{option_eq}
+use Rattle.std.proofs.lemmas.Cmp.{nat_list_eq_equiv}
 use Rattle.std.specs.FinMap as finite
 use Rattle.wb_states.specs.declared.record.Record.{Record}
 use Rattle.wb_states.specs.declared.state.State.{State}
@@ -57,17 +58,17 @@ same-state one other e = code_of-differ one other (eqb-true (code_of one) (code_
 pub same-record : (one other : Record) → is_same_record one other ≡ true → one ≡ other
 unfolding is_same_record has_same_source has_same_place has_same_texts
 same-record one other e =
-    let groups = both-true _ _ e in
-    let source = both-true _ _ groups.0 in
-    let source_1 = both-true _ _ source.1 in
-    let source_2 = both-true _ _ source_1.1 in
-    let source_3 = both-true _ _ source_2.1 in
-    let others = both-true _ _ groups.1 in
-    let place = both-true _ _ others.0 in
-    let place_1 = both-true _ _ place.1 in
-    let texts = both-true _ _ others.1 in
-    let texts_1 = both-true _ _ texts.1 in
-    let texts_2 = both-true _ _ texts_1.1 in
+    let groups = and_parts _ _ e in
+    let source = and_parts _ _ groups.0 in
+    let source_1 = and_parts _ _ source.1 in
+    let source_2 = and_parts _ _ source_1.1 in
+    let source_3 = and_parts _ _ source_2.1 in
+    let others = and_parts _ _ groups.1 in
+    let place = and_parts _ _ others.0 in
+    let place_1 = and_parts _ _ place.1 in
+    let texts = and_parts _ _ others.1 in
+    let texts_1 = and_parts _ _ texts.1 in
+    let texts_2 = and_parts _ _ texts_1.1 in
     λ i. record {
       state = same-state one.state other.state place.0 i;
       version = bytes_eq-is one.version other.version source.0 i;
@@ -93,12 +94,12 @@ number-itself n = eq-eqb n n refl
 record-itself : (current : Record) → is_same_record current current ≡ true
 unfolding is_same_record has_same_source has_same_place has_same_texts
 record-itself current = λ i.
-    (bytes_eq-itself current.version i && (bytes_eq-itself current.priority i
-    && (bytes_eq-itself current.section i && ((booleans_Decides current.earlier current.earlier).1 refl i && number-itself current.number i))))
-    && ((number-itself (code_of current.state) i && (option-itself bytes_eq bytes_eq-itself current.holder i
+    (nat_list_eq_equiv.refl current.version i && (nat_list_eq_equiv.refl current.priority i
+    && (nat_list_eq_equiv.refl current.section i && ((booleans_Decides current.earlier current.earlier).1 refl i && number-itself current.number i))))
+    && ((number-itself (code_of current.state) i && (option-itself bytes_eq nat_list_eq_equiv.refl current.holder i
     && option-itself nat_eq number-itself current.take i))
-    && (bytes_eq-itself current.waits i && (option-itself bytes_eq bytes_eq-itself current.depends i
-    && (bytes_eq-itself current.note i && bytes_eq-itself current.message i))))
+    && (nat_list_eq_equiv.refl current.waits i && (option-itself bytes_eq nat_list_eq_equiv.refl current.depends i
+    && (nat_list_eq_equiv.refl current.note i && nat_list_eq_equiv.refl current.message i))))
 
 pub same-record-is : (one other : Record) → is_same_record one other ≡ true ↔ (one ≡ other)
 same-record-is one other =

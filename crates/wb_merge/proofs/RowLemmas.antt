@@ -5,6 +5,7 @@ use Rattle.std.specs.List.{list_all, AllByRecursion, take_while}
 use Rattle.std.specs.Char.{is_ascii_digit}
 use Rattle.std.proofs.lemmas.Bool.Decides.{nat_tests}
 use Rattle.std.proofs.lemmas.List.{length-reverse}
+use Rattle.std.proofs.lemmas.Bool.{and_parts}
 use Rattle.deb_control.specs.declared.fault.ControlFaultKind.{ControlFaultKind}
 use Rattle.deb_control.specs.Fields.{Entry, reading_of}
 use Rattle.deb_version.specs.declared.fault.VersionFault.{VersionFault}
@@ -137,17 +138,17 @@ value-small : (digits : List ℕ) → length digits ≤ 3 → IsTrue (list_all i
 unfolding value_of with_digit
 value-small [] short all = omega arith
 value-small (a ∷ []) short all =
-    let first = digit-small a (both-true (is_ascii_digit a) true all).0 in omega arith
+    let first = digit-small a (and_parts (is_ascii_digit a) true all).0 in omega arith
 value-small (a ∷ b ∷ []) short all =
-    let one = both-true (is_ascii_digit a) (is_ascii_digit b && true) all in
+    let one = and_parts (is_ascii_digit a) (is_ascii_digit b && true) all in
     let first = digit-small a one.0 in
-    let second = digit-small b (both-true (is_ascii_digit b) true one.1).0 in omega arith
+    let second = digit-small b (and_parts (is_ascii_digit b) true one.1).0 in omega arith
 value-small (a ∷ b ∷ c ∷ []) short all =
-    let one = both-true (is_ascii_digit a) (is_ascii_digit b && (is_ascii_digit c && true)) all in
-    let two = both-true (is_ascii_digit b) (is_ascii_digit c && true) one.1 in
+    let one = and_parts (is_ascii_digit a) (is_ascii_digit b && (is_ascii_digit c && true)) all in
+    let two = and_parts (is_ascii_digit b) (is_ascii_digit c && true) one.1 in
     let first = digit-small a one.0 in
     let second = digit-small b two.0 in
-    let third = digit-small c (both-true (is_ascii_digit c) true two.1).0 in omega arith
+    let third = digit-small c (and_parts (is_ascii_digit c) true two.1).0 in omega arith
 value-small (a ∷ b ∷ c ∷ d ∷ more) short all = absurd (omega arith)
 
 small-by : (digits : List ℕ) (ends : Bool) → IsTrue (list_all is_ascii_digit digits)
@@ -156,7 +157,7 @@ small-by digits ends all =
     elim (nat_le 1 (length (reverse digits)) && (nat_le (length (reverse digits)) 3 && ends)) as
     (λ v. (nat_le 1 (length (reverse digits)) && (nat_le (length (reverse digits)) 3 && ends)) ≡ v → cond v (value_of (reverse digits)) 0 ≤ 999) [
       | true ↦ λ e.
-          let test : nat_le (length (reverse digits)) 3 ≡ true = (both-true _ ends (both-true (nat_le 1 (length (reverse digits))) _ e).1).0 in
+          let test : nat_le (length (reverse digits)) 3 ≡ true = (and_parts _ ends (and_parts (nat_le 1 (length (reverse digits))) _ e).1).0 in
           let same : length (reverse digits) ≡ length digits = length-reverse digits in
           let short : length (reverse digits) ≤ 3 = grind (arith, nat_tests) in
           value-small digits (omega arith) all

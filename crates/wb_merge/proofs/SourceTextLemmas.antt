@@ -2,7 +2,7 @@
 use Rattle.std.proofs.Common.{◌≡◌, ℕ, ◌+◌, suc, Bool, true, false, cond, not, ◌&&◌, ◌||◌, List, [], ◌∷◌, ◌++◌, length, reverse, take, drop, bytes_eq, Option, Some, None, ◌⊎◌, inl, inr, refl, sym, ap, ◌∙◌, append_assoc, arith}
 use Rattle.std.specs.Prelude.{codes}
 use Rattle.std.specs.List.{list_any, list_all, position_or_len, before_first, after_first}
-use Rattle.std.proofs.lemmas.Bool.{eqb-true}
+use Rattle.std.proofs.lemmas.Bool.{and_parts, eqb-true, or_parts}
 use Rattle.std.proofs.lemmas.List.{take_all}
 use Rattle.std.proofs.lemmas.List.Folds.{list_any-append}
 use Rattle.std.proofs.Math.Seq.{take-append_seam, drop-append-add}
@@ -10,7 +10,6 @@ use Rattle.deb_version.specs.Syntax.{is_version_text}
 use Rattle.wb_states.specs.Holds.{has_value}
 use Rattle.deb_relations.specs.Names.{is_package_name, is_package_char, is_lower_or_digit}
 use Rattle.wb_merge.specs.Rows.{is_space, in_brackets, source_name, has_source_version, source_version, is_source_text, with_version, NamesSource}
-use Rattle.wb_merge.proofs.CheckLemmas.{both-true, neither}
 use Rattle.wb_merge.proofs.NameLemmas.{bytes_eq-is}
 use Rattle.wb_merge.proofs.SourceLemmas.{closed, last_is}
 
@@ -30,23 +29,23 @@ no_space-char c h =
 no_space-all : (name : List ℕ) → list_all is_package_char name ≡ true → list_any is_space name ≡ false
 no_space-all [] h = refl
 no_space-all (c ∷ cs) h =
-    let parts = both-true (is_package_char c) (list_all is_package_char cs) h in
+    let parts = and_parts (is_package_char c) (list_all is_package_char cs) h in
     λ i. no_space-char c parts.0 i || no_space-all cs parts.1 i
 
 no_space-name : (name : List ℕ) → is_package_name name ≡ true → list_any is_space name ≡ false
 unfolding is_package_name
-no_space-name name h = no_space-all name (both-true _ _ (both-true _ _ h).1).0
+no_space-name name h = no_space-all name (and_parts _ _ (and_parts _ _ h).1).0
 
 place-none : (name : List ℕ) → list_any is_space name ≡ false → position_or_len is_space name ≡ length name
 place-none [] h = refl
 place-none (c ∷ cs) h =
-    let parts = neither (is_space c) (list_any is_space cs) h in
+    let parts = or_parts (is_space c) (list_any is_space cs) h in
     ap (λ (b : Bool). cond (not b) (1 + position_or_len is_space cs) 0) parts.0 ∙ omega (arith, place-none cs parts.1)
 
 place-behind : (name rest : List ℕ) → list_any is_space name ≡ false → position_or_len is_space (name ++ 32 ∷ rest) ≡ length name
 place-behind [] rest h = refl
 place-behind (c ∷ cs) rest h =
-    let parts = neither (is_space c) (list_any is_space cs) h in
+    let parts = or_parts (is_space c) (list_any is_space cs) h in
     ap (λ (b : Bool). cond (not b) (1 + position_or_len is_space (cs ++ 32 ∷ rest)) 0) parts.0 ∙ omega (arith, place-behind cs rest parts.1)
 
 -- ---- a name alone
@@ -148,4 +147,4 @@ source_text-is text h =
           )
       | false ↦ λ none _.
           inl (sym (ap (λ (n : ℕ). take n text) (place-none text none) ∙ take_all (length text) text (omega arith)))
-    ]) refl (both-true _ _ h).1
+    ]) refl (and_parts _ _ h).1

@@ -1,64 +1,37 @@
 -- The counts of a merge add up to the records before it and after it, and a second merge counts every record as kept.
-use Rattle.std.proofs.Common.{◌≡◌, ℕ, ◌+◌, suc, Bool, true, false, cond, not, ◌&&◌, ◌||◌, List, [], ◌∷◌, length, filter, bytes_eq, refl, sym, ap, ◌∙◌, Option, Some, None, is_some, arith}
-use Rattle.std.specs.List.{list_any}
+use Rattle.std.proofs.Common.{◌≡◌, ℕ, ◌+◌, Bool, true, false, cond, not, ◌&&◌, ◌||◌, List, [], ◌∷◌, length, filter, bytes_eq, refl, sym, ap, ◌∙◌, Option, Some, None, is_some, arith}
+use Rattle.std.specs.List.{AllByRecursion, IsDistinct, list_any}
+use Rattle.std.proofs.lemmas.Map.Made.{length-from_same_keys}
+use Rattle.std.proofs.lemmas.Cmp.{nat_list_eq_equiv}
 use Rattle.std.specs.FinMap as finite
+use Rattle.std.proofs.lemmas.Bool.{or_parts}
 use Rattle.wb_states.specs.declared.record.Record.{Record}
 use Rattle.wb_merge.specs.Listing.{ArchiveListing}
 use Rattle.wb_merge.specs.declared.merge.Change.{Change}
 use Rattle.wb_merge.specs.declared.merge.Change.TheVariants.{Changed, Kept}
 use Rattle.wb_merge.specs.Merged.{Records, after_at, merged, names_of, is_added, is_changed, is_kept, is_removed, change_of, is_same_record, number_where, counts_over, merge_counts, all_kept, recorded_names}
 use Rattle.wb_merge.specs.Steps.{Key}
-use Rattle.wb_merge.proofs.CheckLemmas.{neither}
-use Rattle.wb_merge.proofs.NameLemmas.{IsApart, bytes_eq-flip, bytes_eq-is, bytes_eq-itself, filter-any, filter-apart, keys-apart}
+use Rattle.wb_merge.proofs.NameLemmas.{IsApart, filter-any, filter-apart, keys-apart}
 use Rattle.wb_merge.proofs.MergeLemmas.{merged-get, names-any, names-apart, recorded-apart, recorded-names-any, kept-unnamed, unnamed}
 use Rattle.wb_merge.proofs.RecordLemmas.{same-record-is}
 use Rattle.wb_merge.proofs.TwiceLemmas.{after_at-twice}
 
 -- ---- lists of the same texts, each once, are of one length
 
-others-kept : (text : List ℕ) (texts : List (List ℕ)) → list_any (bytes_eq text) texts ≡ false → filter (λ other. not (bytes_eq text other)) texts ≡ texts
-others-kept text [] e = refl
-others-kept text (first ∷ texts) e =
-    let parts = neither (bytes_eq text first) (list_any (bytes_eq text) texts) e in
-    ap (λ (b : Bool). cond (not b) (first ∷ filter (λ (other : List ℕ). not (bytes_eq text other)) texts) (filter (λ (other : List ℕ). not (bytes_eq text other)) texts)) parts.0
-    ∙ ap (λ (xs : List (List ℕ)). first ∷ xs) (others-kept text texts parts.1)
+none-equal : (text : List ℕ) (texts : List (List ℕ)) → list_any (bytes_eq text) texts ≡ false → AllByRecursion (λ other. bytes_eq text other ≡ false) texts
+none-equal text [] e = tt
+none-equal text (first ∷ texts) e =
+    let parts = or_parts (bytes_eq text first) (list_any (bytes_eq text) texts) e in
+    (parts.0, none-equal text texts parts.1)
 
-length-without : (text : List ℕ) (texts : List (List ℕ)) → IsApart bytes_eq texts → list_any (bytes_eq text) texts ≡ true
-    → length texts ≡ suc (length (filter (λ other. not (bytes_eq text other)) texts))
-length-without text [] apart e = absurd cc
-length-without text (first ∷ texts) apart e =
-    let others = filter (λ (other : List ℕ). not (bytes_eq text other)) texts in
-    (elim (bytes_eq text first) as (λ b. bytes_eq text first ≡ b → (b || list_any (bytes_eq text) texts) ≡ true
-    → suc (length texts) ≡ suc (length (cond (not b) (first ∷ others) others))) [
-      | true ↦ λ is _.
-          let none : list_any (bytes_eq text) texts ≡ false = ap (λ (t : List ℕ). list_any (bytes_eq t) texts) (bytes_eq-is text first is) ∙ apart.0 in
-          ap (λ (xs : List (List ℕ)). suc (length xs)) (sym (others-kept text texts none))
-      | false ↦ λ _ later. ap suc (length-without text texts apart.1 later)
-    ]) refl e
-
-without-any : (text name : List ℕ) (xs : List (List ℕ)) → list_any (bytes_eq text) xs ≡ false
-    → (not (bytes_eq text name) && (bytes_eq name text || list_any (bytes_eq name) xs)) ≡ list_any (bytes_eq name) xs
-without-any text name xs none =
-    elim (bytes_eq text name) as (λ b. bytes_eq text name ≡ b → (not b && (bytes_eq name text || list_any (bytes_eq name) xs)) ≡ list_any (bytes_eq name) xs) [
-      | true ↦ λ is. sym none ∙ ap (λ (t : List ℕ). list_any (bytes_eq t) xs) (bytes_eq-is text name is)
-      | false ↦ λ is. ap (λ (b : Bool). b || list_any (bytes_eq name) xs) (bytes_eq-flip name text ∙ is)
-    ] refl
+distinct : (texts : List (List ℕ)) → IsApart bytes_eq texts → IsDistinct bytes_eq texts
+unfolding IsDistinct
+distinct [] apart = tt
+distinct (text ∷ texts) apart = (none-equal text texts apart.0, distinct texts apart.1)
 
 pub same-length : (xs ys : List (List ℕ)) → IsApart bytes_eq xs → IsApart bytes_eq ys
     → ((name : List ℕ) → list_any (bytes_eq name) xs ≡ list_any (bytes_eq name) ys) → length xs ≡ length ys
-same-length [] [] apart_x apart_y same = refl
-same-length [] (y ∷ ys) apart_x apart_y same = absurd (never (same y ∙ (λ i. bytes_eq-itself y i || list_any (bytes_eq y) ys))) where
-  never : false ≡ true → ⊥
-  never e = cc
-same-length (x ∷ xs) ys apart_x apart_y same =
-    let others = filter (λ (other : List ℕ). not (bytes_eq x other)) ys in
-    let there : list_any (bytes_eq x) ys ≡ true = sym (same x) ∙ (λ i. bytes_eq-itself x i || list_any (bytes_eq x) xs) in
-    let rest : length xs ≡ length others =
-    same-length xs others apart_x.1 (filter-apart (λ other. not (bytes_eq x other)) ys apart_y)
-    (λ name. sym (without-any x name xs apart_x.0)
-    ∙ ap (λ (b : Bool). not (bytes_eq x name) && b) (same name)
-    ∙ sym (filter-any (λ other. not (bytes_eq x other)) name ys)) in
-    ap suc rest ∙ sym (length-without x ys apart_y there)
+same-length xs ys apart_x apart_y = length-from_same_keys nat_list_eq_equiv xs ys (distinct xs apart_x) (distinct ys apart_y)
 
 -- ---- what is counted in parts is counted
 
@@ -135,7 +108,7 @@ module _ (old : Records) (arch : List ℕ) (listing : ArchiveListing) where
         | true ↦ λ _. and-true (is_some (after_at old arch listing (arch, name)))
         | false ↦ λ e.
             let nothing : after_at old arch listing (arch, name) ≡ None =
-            kept-unnamed old arch listing (arch, name) (bytes_eq-itself arch) e ∙ (unnamed old arch listing name e).0 in
+            kept-unnamed old arch listing (arch, name) (nat_list_eq_equiv.refl arch) e ∙ (unnamed old arch listing name e).0 in
             ap (λ (o : Option Record). is_some o && false) nothing ∙ ap is_some (sym nothing)
       ] refl
     where

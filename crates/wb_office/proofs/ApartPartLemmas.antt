@@ -1,7 +1,9 @@
 -- Each part of a merge changes the records of its own architecture alone, whatever the other parts do.
 use Rattle.std.proofs.Common.{◌≡◌, ℕ, Bool, true, false, cond, List, [], ◌∷◌, ◌++◌, Some, None, Result, Ok, Err, is_ok, refl, sym, ap, ◌∙◌, bytes_eq}
+use Rattle.std.proofs.lemmas.Cmp.{nat_list_eq_equiv}
 use Rattle.std.specs.FinMap as map
 use Rattle.std.specs.List.{list_any}
+use Rattle.std.proofs.lemmas.Bool.{or_parts}
 use Rattle.wb_states.specs.declared.command.Command.{Command}
 use Rattle.wb_states.specs.declared.command.Command.TheVariants.{Merge}
 use Rattle.wb_states.specs.declared.command.Part.{Part}
@@ -11,8 +13,6 @@ use Rattle.wb_merge.specs.Listing.{ArchiveListing}
 use Rattle.wb_merge.specs.Merge.{record_after}
 use Rattle.wb_merge.specs.Merged.{Records, after_at}
 use Rattle.wb_merge.proofs.MergeLemmas.{merged-get}
-use Rattle.wb_merge.proofs.NameLemmas.{bytes_eq-flip}
-use Rattle.wb_merge.proofs.CheckLemmas.{neither}
 use Rattle.wb_office.specs.Checks.{first_refusal, has_repeated_arch}
 use Rattle.wb_office.specs.Moving.{again_of}
 use Rattle.wb_office.specs.Parts.{part_listing, records_after, records_with}
@@ -32,9 +32,9 @@ with-same records other arch (Ok listing) key same =
 
 -- a part that is not for one architecture of a list is not for that of its middle
 middle-other : (test : Part → Bool) (before : List Part) (part : Part) (behind : List Part) → list_any test (before ++ part ∷ behind) ≡ false → test part ≡ false
-middle-other test [] part behind is = (neither (test part) (list_any test behind) is).0
+middle-other test [] part behind is = (or_parts (test part) (list_any test behind) is).0
 middle-other test (one ∷ before) part behind is =
-    middle-other test before part behind (neither (test one) (list_any test (before ++ part ∷ behind)) is).1
+    middle-other test before part behind (or_parts (test one) (list_any test (before ++ part ∷ behind)) is).1
 
 not-both : (b : Bool) → b ≡ false → b ≡ true → ⊥
 not-both b fails holds = clash (sym holds ∙ fails) where
@@ -46,14 +46,14 @@ merged-part : (machine : Machine) (sources : List ℕ) (before : List Part) (par
     → map.get (records_after machine sources (before ++ part ∷ behind) records) key
     ≡ map.get (records_with records part.arch (part_listing machine sources part)) key
 merged-part machine sources [] part behind records key once here =
-    let later = (neither (list_any (λ other. bytes_eq part.arch other.arch) behind) (has_repeated_arch behind) once).0 in
+    let later = (or_parts (list_any (λ other. bytes_eq part.arch other.arch) behind) (has_repeated_arch behind) once).0 in
     parts-others machine sources behind (records_with records part.arch (part_listing machine sources part)) key
     (not-both (list_any (λ other. bytes_eq key.0 other.arch) behind) (ap (λ (name : List ℕ). list_any (λ other. bytes_eq name other.arch) behind) here ∙ later))
 merged-part machine sources (one ∷ before) part behind records key once here =
     let rest : List Part = before ++ part ∷ behind in
-    let both = neither (list_any (λ other. bytes_eq one.arch other.arch) rest) (has_repeated_arch rest) once in
+    let both = or_parts (list_any (λ other. bytes_eq one.arch other.arch) rest) (has_repeated_arch rest) once in
     let apart : bytes_eq key.0 one.arch ≡ false =
-    ap (λ (name : List ℕ). bytes_eq name one.arch) here ∙ bytes_eq-flip part.arch one.arch
+    ap (λ (name : List ℕ). bytes_eq name one.arch) here ∙ nat_list_eq_equiv.symm part.arch one.arch
     ∙ middle-other (λ other. bytes_eq one.arch other.arch) before part behind both.0 in
     let first : Records = records_with records one.arch (part_listing machine sources one) in
     merged-part machine sources before part behind first key both.1 here

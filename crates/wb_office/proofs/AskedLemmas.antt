@@ -4,6 +4,7 @@ use Rattle.std.specs.Result.{result_err, result_unwrap_or}
 use Rattle.std.proofs.lemmas.Bool.Decides.{nat_tests}
 use Rattle.std.specs.FinSet as set
 use Rattle.std.specs.Str.{IsUtf8}
+use Rattle.std.proofs.lemmas.Bool.{and_parts, not-false, or_parts}
 use Rattle.deb_relations.specs.declared.fault.RelationFault.{RelationFault}
 use Rattle.deb_relations.specs.declared.relations.Alternative.{Alternative}
 use Rattle.deb_relations.specs.Grammar.{Reads}
@@ -20,12 +21,11 @@ use Rattle.wb_states.specs.Names.{is_arch_name, is_builder_name}
 use Rattle.wb_states.specs.Queue.{Entry}
 use Rattle.wb_states.specs.Record.{IsTextWithin}
 use Rattle.wb_states.proofs.QueueLemmas.{head_of-waits}
-use Rattle.wb_merge.proofs.CheckLemmas.{both-true, neither}
 use Rattle.wb_office.specs.Moving.{target_of, move_asked}
 use Rattle.wb_office.specs.Utf8.{HasUtf8Texts}
 use Rattle.wb_office.proofs.MovedLemmas.{IsGoodMove}
 use Rattle.wb_office.proofs.MovingLemmas.{record_named-is}
-use Rattle.wb_office.proofs.PassLemmas.{Passes, not-false}
+use Rattle.wb_office.proofs.PassLemmas.{Passes}
 
 -- a text that is not too long
 short-text : (limit : ℕ) (text : List ℕ) → IsUtf8 text → nat_lt limit (length text) ≡ false → IsTextWithin limit text
@@ -55,7 +55,7 @@ none move e = absurd (apart e) where
 
 good-rebuild : (number : ℕ) → (nat_eq number 0 || nat_lt rebuild_limit number) ≡ false → number ≤ rebuild_limit
 good-rebuild number is =
-    let low : nat_lt rebuild_limit number ≡ false = (neither (nat_eq number 0) (nat_lt rebuild_limit number) is).1 in
+    let low : nat_lt rebuild_limit number ≡ false = (or_parts (nat_eq number 0) (nat_lt rebuild_limit number) is).1 in
     grind (arith, nat_tests)
 
 -- a command that hands out gives the next take number
@@ -71,13 +71,13 @@ asked-good machine handed (of.AddBuilder name arch) entry move utf8 given pass t
 asked-good machine handed (of.Enter arch source version priority section) entry move utf8 given pass target is = none move is
 asked-good machine handed (of.Merge sources parts) entry move utf8 given pass target is = none move is
 asked-good machine handed (of.Next arch builder after) entry move utf8 given pass target is =
-    let names = both-true (is_arch_name arch) (is_builder_name builder) (not-false _ pass.names) in
+    let names = and_parts (is_arch_name arch) (is_builder_name builder) (not-false _ pass.names) in
     let here : entry.0.0 ≡ arch = (head_of-waits machine arch entry target).1 in
     let may : IsTrue (set.contains machine.builders (builder, entry.0.0)) = subst (λ a. IsTrue (set.contains machine.builders (builder, a))) (sym here) (not-false _ pass.others) in
     same-move machine handed entry.0.0 (to.Take builder (machine.handed + 1)) move is (names.1, (may, (refl, given)))
 asked-good machine handed (of.Take arch builder source version) entry move utf8 given pass target is =
-    let names = both-true (is_arch_name arch) (is_builder_name builder && is_package_name source) (not-false _ pass.names) in
-    let later = both-true (is_builder_name builder) (is_package_name source) names.1 in
+    let names = and_parts (is_arch_name arch) (is_builder_name builder && is_package_name source) (not-false _ pass.names) in
+    let later = and_parts (is_builder_name builder) (is_package_name source) names.1 in
     let here : entry.0.0 ≡ arch = ap (λ (key : List ℕ × List ℕ). key.0) (record_named-is machine arch source entry target).1 in
     let may : IsTrue (set.contains machine.builders (builder, entry.0.0)) = subst (λ a. IsTrue (set.contains machine.builders (builder, a))) (sym here) (not-false _ pass.others) in
     same-move machine handed entry.0.0 (to.Take builder (machine.handed + 1)) move is (later.0, (may, (refl, given)))

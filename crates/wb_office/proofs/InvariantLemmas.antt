@@ -1,6 +1,6 @@
 -- Every step keeps the invariant of the office.
 use Rattle.std.proofs.Common.{◌≡◌, ℕ, ◌+◌, ◌<◌, ◌≤◌, Bool, true, false, ◌&&◌, ◌||◌, inl, inr, is_none, Option, Some, None, IsTrue, IfSome, refl, sym, ap, subst, ◌∙◌, List, [], ◌∷◌, nat_le, arith}
-use Rattle.std.proofs.lemmas.Bool.{leb-false}
+use Rattle.std.proofs.lemmas.Bool.{and_parts, leb-false, not-false, or_parts}
 use Rattle.std.specs.FinMap as map
 use Rattle.deb_version.specs.Syntax.{fault_of}
 use Rattle.deb_version.proofs.ReadingLemmas.{reading_of-ok}
@@ -24,9 +24,8 @@ use Rattle.wb_office.proofs.ConsistencyLemmas.{IsFreshOrKept, with_arch, with_bu
 use Rattle.wb_office.proofs.MergingLemmas.{merging-keeps}
 use Rattle.wb_office.proofs.MovedLemmas.{IsGoodMove, moved-well, moved-holder, moved-waits, moved-number}
 use Rattle.wb_office.proofs.MovingLemmas.{moving-may}
-use Rattle.wb_office.proofs.PassLemmas.{Passes, step-either, not-false}
+use Rattle.wb_office.proofs.PassLemmas.{Passes, step-either}
 use Rattle.wb_states.proofs.SettledLemmas.{empty_within}
-use Rattle.wb_merge.proofs.CheckLemmas.{both-true, neither}
 
 -- ---- a source package that is entered
 
@@ -114,16 +113,16 @@ room-for machine is = leb-false count_limit machine.accepted is
 state_after-keeps : (machine : Machine) (command : Command) → IsConsistent machine → HasUtf8Texts command → Passes machine command → again_of machine command ≡ None
     → IsConsistent (counted machine (state_after machine command))
 state_after-keeps machine (of.AddArch name os cpu) old utf8 pass again =
-    let names = both-true (is_arch_name name) (is_os_cpu_word os && is_os_cpu_word cpu) (not-false _ pass.names) in
-    let words = both-true (is_os_cpu_word os) (is_os_cpu_word cpu) names.1 in
+    let names = and_parts (is_arch_name name) (is_os_cpu_word os && is_os_cpu_word cpu) (not-false _ pass.names) in
+    let words = and_parts (is_os_cpu_word os) (is_os_cpu_word cpu) names.1 in
     with_arch machine name (record { os = os; cpu = cpu }) old (record { name = names.0; os = words.0; cpu = words.1 }) pass.there (room-for machine pass.room)
 state_after-keeps machine (of.AddBuilder name arch) old utf8 pass again =
-    let names = both-true (is_builder_name name) (is_arch_name arch) (not-false _ pass.names) in
+    let names = and_parts (is_builder_name name) (is_arch_name arch) (not-false _ pass.names) in
     with_builder machine name arch old (record { name = names.0; known = not-false _ pass.arch }) (room-for machine pass.room)
 state_after-keeps machine (of.Enter arch source version priority section) old utf8 pass again =
-    let names = both-true (is_arch_name arch) (is_package_name source && (is_label_text priority && is_label_text section)) (not-false _ pass.names) in
-    let later = both-true (is_package_name source) (is_label_text priority && is_label_text section) names.1 in
-    let labels = both-true (is_label_text priority) (is_label_text section) later.1 in
+    let names = and_parts (is_arch_name arch) (is_package_name source && (is_label_text priority && is_label_text section)) (not-false _ pass.names) in
+    let later = and_parts (is_package_name source) (is_label_text priority && is_label_text section) names.1 in
+    let labels = and_parts (is_label_text priority) (is_label_text section) later.1 in
     let is : IsRecord (record machine { handed = machine.handed }) arch source (entered version priority section) = record {
       name = later.0;
       known = not-false _ pass.arch;
@@ -136,10 +135,10 @@ state_after-keeps machine (of.Enter arch source version priority section) old ut
     with_record machine (arch, source) (entered version priority section) machine.handed old is tt (omega arith) given (room-for machine pass.room)
 state_after-keeps machine (of.Next arch builder after) old utf8 pass again =
     let counts = nat_le count_limit machine.accepted || nat_le count_limit machine.handed in
-    let spent = neither (nat_le count_limit machine.accepted) (nat_le count_limit machine.handed) (sym (ap (λ found. is_none found && counts) again) ∙ pass.room) in
+    let spent = or_parts (nat_le count_limit machine.accepted) (nat_le count_limit machine.handed) (sym (ap (λ found. is_none found && counts) again) ∙ pass.room) in
     taking-keeps machine (of.Next arch builder after) old utf8 refl pass (leb-false count_limit machine.handed spent.1) (room-for machine spent.0)
 state_after-keeps machine (of.Take arch builder source version) old utf8 pass again =
-    let spent = neither (nat_le count_limit machine.accepted) (nat_le count_limit machine.handed) pass.room in
+    let spent = or_parts (nat_le count_limit machine.accepted) (nat_le count_limit machine.handed) pass.room in
     taking-keeps machine (of.Take arch builder source version) old utf8 refl pass (leb-false count_limit machine.handed spent.1) (room-for machine spent.0)
 state_after-keeps machine (of.Merge sources parts) old utf8 pass again = merging-keeps machine sources parts old (room-for machine pass.room)
 state_after-keeps machine (of.Built take_number) old utf8 pass again = moving-keeps machine (of.Built take_number) old utf8 tt pass (room-for machine pass.room)

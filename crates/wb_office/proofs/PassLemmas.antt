@@ -1,5 +1,5 @@
 -- What is known of a command that no check refuses, and what a step then does.
-use Rattle.std.proofs.Common.{◌≡◌, Bool, true, false, not, Option, Some, None, IsTrue, refl, sym, option_map}
+use Rattle.std.proofs.Common.{◌≡◌, Bool, true, false, Option, Some, None, refl, option_map}
 use Rattle.wb_states.specs.declared.command.Command.{Command}
 use Rattle.wb_states.specs.declared.refusal.Refusal.{Refusal}
 use Rattle.wb_states.specs.declared.refusal.Refusal.TheVariants.{BadVersion, BadRelations}
@@ -16,10 +16,6 @@ when-None false refusal is = refl
 pub option_map-None : {X Y : Type 0} (f : X → Y) (found : Option X) → option_map f found ≡ None → found ≡ None
 option_map-None f None is = refl
 option_map-None f (Some x) is = cc
-
-pub not-false : (test : Bool) → not test ≡ false → IsTrue test
-not-false true is = refl
-not-false false is = sym is
 
 -- what is known of a command that no check refuses
 pub record Passes (machine : Machine) (command : Command) : Type 0 where

@@ -3,6 +3,7 @@ use Rattle.std.proofs.Common.{◌≡◌, ℕ, ◌+◌, ◌≤◌, ◌&&◌, Bool
 use Rattle.std.proofs.lemmas.Bool.{ltb-false, le-ltb, lt-ltb}
 use Rattle.std.proofs.lemmas.Cmp.{tied_itself}
 use Rattle.std.specs.Ordering.{is_eq}
+use Rattle.std.proofs.lemmas.Cmp.{nat_list_eq_equiv}
 use Rattle.std.specs.FinMap as map
 use Rattle.wb_states.specs.declared.command.Command.TheVariants.{Next}
 use Rattle.wb_states.specs.declared.moves.Move.TheVariants as to
@@ -19,7 +20,6 @@ use Rattle.wb_states.specs.Queue.{Entry, IsIn, head_of}
 use Rattle.wb_states.specs.State.{code_of}
 use Rattle.wb_states.proofs.KeyLemmas.{pair_cmp_total, pair_cmp-same, insert_all}
 use Rattle.wb_states.proofs.QueueLemmas.{IsIn-filter, IsIn-find, IsIn-sorted_by, head_of-waits}
-use Rattle.wb_merge.proofs.NameLemmas.{bytes_eq-itself}
 use Rattle.wb_office.specs.Checks.{first_refusal}
 use Rattle.wb_office.specs.Found.{held_assignment}
 use Rattle.wb_office.specs.Moving.{again_of, moving, with_move}
@@ -181,7 +181,7 @@ retried : (machine : Machine) (arch builder : List ℕ) (known : ℕ) (entry : E
     → building_after (handed_to machine builder entry) arch builder known ≡ Some (taken builder (machine.handed + 1) entry)
 unfolding handed_to taken moved
 retried machine arch builder known entry head below none =
-    one-later (handed_to machine builder entry) arch builder known (entry.0, put) stands (bytes_eq-itself builder) later only
+    one-later (handed_to machine builder entry) arch builder known (entry.0, put) stands (nat_list_eq_equiv.refl builder) later only
   where
     put : Record
     put = moved (to.Take builder (machine.handed + 1)) entry.1
@@ -192,7 +192,7 @@ retried machine arch builder known entry head below none =
 
     later : (bytes_eq entry.0.0 arch && nat_lt known (machine.handed + 1)) ≡ true
     later = ap (λ (name : List ℕ). bytes_eq name arch && nat_lt known (machine.handed + 1)) (head_of-waits machine arch entry head).1
-        ∙ (λ i. bytes_eq-itself arch i && lt-ltb known (machine.handed + 1) (omega arith) i)
+        ∙ (λ i. nat_list_eq_equiv.refl arch i && lt-ltb known (machine.handed + 1) (omega arith) i)
 
     IsIt : List ℕ × List ℕ → Record → Type 0
     IsIt key current = is_held_by builder (key, current) ≡ true → is_building_after arch known (key, current) ≡ true

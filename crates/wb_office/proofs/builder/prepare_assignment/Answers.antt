@@ -1,12 +1,12 @@
 use Rattle.std.proofs.Common.{◌≡◌, ◌+◌, ◌∙◌, sym, ap, ℕ, nat_le, ◌||◌, false}
 use Rattle.std.proofs.lemmas.Result.{err_from_is_err_and}
+use Rattle.std.proofs.lemmas.Bool.{or_parts}
 use Rattle.wb_states.specs.declared.moves.Move.TheVariants as to
 use Rattle.wb_states.specs.Limits.{count_limit}
 use Rattle.wb_states.specs.Moves.{moved}
 use Rattle.wb_office.specs.Step.{assignment_of}
 use Rattle.wb_office.proofs.AssignmentLemmas.{assignment_step-refused, assignment_step-Spent, take-any}
 use Rattle.wb_office.proofs.builder.prepare_assignment.Goals as goal
-use Rattle.wb_merge.proofs.CheckLemmas.{neither}
 
 pub returns-in_err-after-clause-refused : goal.returns-in_err-after-clause-refused
 returns-in_err-after-clause-refused c =
@@ -25,14 +25,14 @@ returns-clause-value c =
     let room : (nat_le count_limit c.args.store.now.accepted || nat_le count_limit c.args.store.now.handed) ≡ false =
     sym c.is_assignment_spent.ensures.value ∙ c.if-is_assignment_spent.false in
     c.in_ok-after.ensures.value
-    ∙ ap (λ (k : ℕ). moved (to.Take c.args.builder.now k) c.args.current.now) (c.next_take-take_number.ensures.value (neither _ _ room).1)
+    ∙ ap (λ (k : ℕ). moved (to.Take c.args.builder.now k) c.args.current.now) (c.next_take-take_number.ensures.value (or_parts _ _ room).1)
 
 pub returns-clause-reply : goal.returns-clause-reply
 returns-clause-reply c =
     let room : (nat_le count_limit c.args.store.now.accepted || nat_le count_limit c.args.store.now.handed) ≡ false =
     sym c.is_assignment_spent.ensures.value ∙ c.if-is_assignment_spent.false in
     c.in_ok-assignment.ensures.value
-    ∙ ap (λ (k : ℕ). assignment_of ((c.args.arch.now, c.args.source.now), c.args.current.now) k) (c.next_take-take_number.ensures.value (neither _ _ room).1)
+    ∙ ap (λ (k : ℕ). assignment_of ((c.args.arch.now, c.args.source.now), c.args.current.now) k) (c.next_take-take_number.ensures.value (or_parts _ _ room).1)
 
 pub returns-clause-ok : goal.returns-clause-ok
 returns-clause-ok c =
