@@ -1,6 +1,6 @@
 -- The step of a command, by what its texts and what the office has refuse.
 use Rattle.std.specs.Option.{option_or}
-use Rattle.std.proofs.Common.{◌≡◌, [], ◌∷◌, Option, Some, None, Ok, Err, refl, ap, ◌∙◌}
+use Rattle.std.proofs.Common.{◌≡◌, [], ◌∷◌, Option, Some, None, Result, Ok, Err, IfOk, OnOk, refl, ap, ◌∙◌}
 use Rattle.wb_states.specs.declared.command.Command.{Command}
 use Rattle.wb_states.specs.declared.refusal.Refusal.{Refusal}
 use Rattle.wb_states.specs.Machine.{Machine}
@@ -9,6 +9,11 @@ use Rattle.wb_office.specs.Checks.{text_refusal, state_refusal, first_refusal}
 use Rattle.wb_office.specs.Found.{outcome_unless}
 use Rattle.wb_office.specs.Moving.{again_of}
 use Rattle.wb_office.specs.Step.{Outcome, outcome, step, reply_to, state_after, counted}
+
+-- what is known of an answer, and what is known where there is one
+pub with-known : {X E : Type 0} (answer : Result X E) (P : X → Type 0) (Q : Type 0) → IfOk answer P → OnOk answer Q → IfOk answer (λ x. P x × Q)
+with-known (Ok x) P Q is known = (is, known)
+with-known (Err e) P Q is known = tt
 
 pub step-refused : (machine : Machine) (command : Command) (refusal : Refusal) → first_refusal machine command ≡ Some refusal
     → step machine command ≡ (Err refusal, machine)

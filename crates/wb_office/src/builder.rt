@@ -188,7 +188,7 @@ fn next_head(
         return Err(Refusal::QueueEmpty);
     };
     let given = prepare_assignment(alloc, store, arch, source, current, builder)?;
-    Ok(keep_assignment(store, given)?)
+    keep_assignment(store, given)
 }
 
 /// Hands the head of the architecture's queue to the builder, or tells it again what it builds there
@@ -220,7 +220,7 @@ pub(crate) fn next(
     }
     let held = assignment_again(alloc, store, arch, builder, after)?;
     match held {
-        None => Ok(next_head(alloc, store, arch, builder)?),
+        None => next_head(alloc, store, arch, builder),
         Some(assignment) => {
             let row = store.office_row();
             Ok(Reply::Again {
@@ -250,7 +250,7 @@ fn take_named(
     check_builds(store, arch, builder)?;
     let current = find_source(alloc, store, arch, source, version)?;
     let given = prepare_assignment(alloc, store, arch, source, current, builder)?;
-    Ok(keep_assignment(store, given)?)
+    keep_assignment(store, given)
 }
 
 /// Hands the source package that the builder names to it, under the take number after the last.

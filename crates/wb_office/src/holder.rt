@@ -31,7 +31,7 @@ fn move_taken(
         return Err(Refusal::NotHeld);
     };
     let made = prepare_move(alloc, store, arch, source, current, change)?;
-    Ok(keep_move(store, made)?)
+    keep_move(store, made)
 }
 
 /// Says that the holder built it.
@@ -92,5 +92,5 @@ pub(crate) fn waits(
         arch: words,
     };
     let made = prepare_move(alloc, store, arch, source, current, &change)?;
-    Ok(keep_move(store, made)?)
+    keep_move(store, made)
 }

@@ -37,7 +37,7 @@ fn move_named(
     }
     let current = find_source(alloc, store, arch, source, version)?;
     let made = prepare_move(alloc, store, arch, source, current, change)?;
-    Ok(keep_move(store, made)?)
+    keep_move(store, made)
 }
 
 /// Puts it back into the queue.

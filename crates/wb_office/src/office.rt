@@ -79,7 +79,7 @@ impl Office {
         ensures unchanged { OnErr result (self.new ≡ self.old) }
         ensures consistent { IsConsistent self.old → IsConsistent self.new }
     {
-        Ok(self.carry_out(command)?)
+        self.carry_out(command)
     }
 
     /// Carries out one command by its kind.

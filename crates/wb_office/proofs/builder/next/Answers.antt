@@ -1,5 +1,5 @@
 use Rattle.std.proofs.Common.{◌∙◌, sym, Ok, Err}
-use Rattle.std.proofs.lemmas.Result.{err_from_is_err_and}
+use Rattle.std.proofs.lemmas.Result.{IfErr-weaker, IfOk-weaker, err_from_is_err_and}
 use Rattle.wb_states.specs.declared.refusal.Refusal.TheVariants.{AfterAhead}
 use Rattle.wb_states.specs.declared.reply.Reply.TheVariants.{Again}
 use Rattle.wb_office.proofs.NextLemmas.{next-BadName, next-builder, next-AfterAhead, next-again, next-new}
@@ -21,18 +21,17 @@ returns-then-is_ahead-clause-refused c = λ _.
     (sym c.is_bad_asker.ensures.value ∙ c.if-is_bad_asker.false) c.in_ok-check_builds.ensures.ok (sym c.is_ahead.ensures.value ∙ c.if-is_ahead.true)
     ∙ (λ i. (Err (AfterAhead (sym c.office_row-counts.ensures.value i).handed), c.args.store.now))
 
-pub returns-in_ok-next_head-in-None-clause-reply : goal.returns-in_ok-next_head-in-None-clause-reply
-returns-in_ok-next_head-in-None-clause-reply c =
+pub returns-in-None-clause-reply : goal.returns-in-None-clause-reply
+returns-in-None-clause-reply c = IfOk-weaker c.next_head.result _ _ (λ _ is.
     next-new c.args.store.now c.args.arch.now c.args.builder.now c.args.after
     (sym c.is_bad_asker.ensures.value ∙ c.if-is_bad_asker.false) c.in_ok-check_builds.ensures.ok (sym c.is_ahead.ensures.value ∙ c.if-is_ahead.false)
-    (sym c.in-None.is ∙ c.in_ok-held.ensures.value) ∙ c.in_ok-next_head-in-None.ensures.reply
+    (sym c.in-None.is ∙ c.in_ok-held.ensures.value) ∙ is) c.next_head.ensures.reply
 
-pub returns-in_err-next_head-in-None-clause-refused : goal.returns-in_err-next_head-in-None-clause-refused
-returns-in_err-next_head-in-None-clause-refused c =
-    let p = err_from_is_err_and c.from_residual-in_err-next_head-in-None.result c.from_residual-in_err-next_head-in-None.ensures.1 in
-    rw (p.1, p.2) (λ differs. next-new c.args.store.now c.args.arch.now c.args.builder.now c.args.after
+pub returns-in-None-clause-refused : goal.returns-in-None-clause-refused
+returns-in-None-clause-refused c = IfErr-weaker c.next_head.result _ _ (λ _ is differs.
+    next-new c.args.store.now c.args.arch.now c.args.builder.now c.args.after
     (sym c.is_bad_asker.ensures.value ∙ c.if-is_bad_asker.false) c.in_ok-check_builds.ensures.ok (sym c.is_ahead.ensures.value ∙ c.if-is_ahead.false)
-    (sym c.in-None.is ∙ c.in_ok-held.ensures.value) ∙ c.in_err-next_head-in-None.ensures.refused differs)
+    (sym c.in-None.is ∙ c.in_ok-held.ensures.value) ∙ is differs) c.next_head.ensures.refused
 
 pub returns-in-Some-clause-reply : goal.returns-in-Some-clause-reply
 returns-in-Some-clause-reply c =

@@ -1,7 +1,8 @@
 use Rattle.std.proofs.Common.{◌∙◌}
-use Rattle.std.proofs.lemmas.Result.{err_from_is_err_and}
+use Rattle.std.proofs.lemmas.Result.{IfOk-weaker, err_from_is_err_and}
 use Rattle.wb_office.proofs.NextLemmas.{head_step-QueueEmpty, head_step-assignment}
 use Rattle.wb_office.proofs.AssignmentLemmas.{assignment_step-kept}
+use Rattle.wb_office.proofs.StepLemmas.{with-known}
 use Rattle.wb_office.proofs.builder.next_head.Goals as goal
 
 pub returns-in_default-clause-refused : goal.returns-in_default-clause-refused
@@ -14,8 +15,8 @@ returns-in_err-given-clause-refused c =
     ∙ c.in_err-given.ensures.refused differs)
 
 pub returns-clause-reply : goal.returns-clause-reply
-returns-clause-reply c =
+returns-clause-reply c = IfOk-weaker c.keep_assignment.result _ _ (λ _ is.
     head_step-assignment c.args.store.now c.args.arch.now c.args.builder.now c.in-Some.source.now c.in-Some.current.now c.in-Some.ensures.value
     ∙ assignment_step-kept c.args.store.now _ c.args.builder.now c.args.arch.now c.in-Some.source.now _ _ c.in-Some.current.now _ _ _
-    c.in_ok-given.ensures.ok c.in_ok-given.ensures.room c.in_ok-given.ensures.key c.in_ok-given.ensures.value c.in_ok-given.ensures.reply
-    c.in_ok-keep_assignment.ensures.reply c.in_ok-keep_assignment.ensures.ok
+    c.in_ok-given.ensures.ok c.in_ok-given.ensures.room c.in_ok-given.ensures.key c.in_ok-given.ensures.value c.in_ok-given.ensures.reply is.0 is.1)
+    (with-known c.keep_assignment.result _ _ c.keep_assignment.ensures.reply c.keep_assignment.ensures.ok)

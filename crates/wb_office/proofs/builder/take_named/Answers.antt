@@ -1,7 +1,8 @@
 use Rattle.std.proofs.Common.{◌∙◌}
-use Rattle.std.proofs.lemmas.Result.{err_from_is_err_and}
+use Rattle.std.proofs.lemmas.Result.{IfOk-weaker, err_from_is_err_and}
 use Rattle.wb_office.proofs.TakeLemmas.{take_step-builder, take_step-found, take_step-assignment}
 use Rattle.wb_office.proofs.AssignmentLemmas.{assignment_step-kept}
+use Rattle.wb_office.proofs.StepLemmas.{with-known}
 use Rattle.wb_office.proofs.builder.take_named.Goals as goal
 
 pub returns-in_err-check_builds-clause-refused : goal.returns-in_err-check_builds-clause-refused
@@ -23,9 +24,9 @@ returns-in_err-given-clause-refused c =
     c.in_ok-check_builds.ensures.ok c.in_ok-current.ensures.value c.in_ok-current.ensures.ok ∙ c.in_err-given.ensures.refused differs)
 
 pub returns-clause-reply : goal.returns-clause-reply
-returns-clause-reply c =
+returns-clause-reply c = IfOk-weaker c.keep_assignment.result _ _ (λ _ is.
     take_step-assignment c.args.store.now c.args.arch.now c.args.builder.now c.args.source.now c.args.version.now c.in_ok-current.current.now
     c.in_ok-check_builds.ensures.ok c.in_ok-current.ensures.value c.in_ok-current.ensures.ok
     ∙ assignment_step-kept c.args.store.now _ c.args.builder.now c.args.arch.now c.args.source.now _ _ c.in_ok-current.current.now _ _ _
-    c.in_ok-given.ensures.ok c.in_ok-given.ensures.room c.in_ok-given.ensures.key c.in_ok-given.ensures.value c.in_ok-given.ensures.reply
-    c.in_ok-keep_assignment.ensures.reply c.in_ok-keep_assignment.ensures.ok
+    c.in_ok-given.ensures.ok c.in_ok-given.ensures.room c.in_ok-given.ensures.key c.in_ok-given.ensures.value c.in_ok-given.ensures.reply is.0 is.1)
+    (with-known c.keep_assignment.result _ _ c.keep_assignment.ensures.reply c.keep_assignment.ensures.ok)

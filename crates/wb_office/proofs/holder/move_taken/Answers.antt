@@ -1,7 +1,8 @@
 use Rattle.std.proofs.Common.{◌∙◌, sym}
-use Rattle.std.proofs.lemmas.Result.{err_from_is_err_and}
+use Rattle.std.proofs.lemmas.Result.{IfOk-weaker, err_from_is_err_and}
 use Rattle.wb_office.proofs.HeldLemmas.{taken_step-NotHeld, taken_step-moves}
 use Rattle.wb_office.proofs.MoveLemmas.{move_step-made}
+use Rattle.wb_office.proofs.StepLemmas.{with-known}
 use Rattle.wb_office.proofs.holder.move_taken.Goals as goal
 
 pub returns-in_default-clause-refused : goal.returns-in_default-clause-refused
@@ -16,7 +17,8 @@ returns-in_err-made-clause-refused c =
     ∙ c.in_err-made.ensures.refused differs)
 
 pub returns-clause-reply : goal.returns-clause-reply
-returns-clause-reply c =
+returns-clause-reply c = IfOk-weaker c.keep_move.result _ _ (λ _ is.
     taken_step-moves c.args.store.now c.args.take_number (λ _. c.args.change.now) ((c.in-Some.arch.now, c.in-Some.source.now), c.in-Some.current.now) (sym c.in-Some.ensures.value)
     ∙ move_step-made c.args.store.now _ c.in-Some.arch.now c.in-Some.source.now c.in-Some.current.now c.args.change.now c.in_ok-made.made _
-    c.in_ok-made.ensures.ok c.in_ok-made.ensures.room c.in_ok-made.ensures.value c.in_ok-keep_move.ensures.reply c.in_ok-keep_move.ensures.ok
+    c.in_ok-made.ensures.ok c.in_ok-made.ensures.room c.in_ok-made.ensures.value is.0 is.1)
+    (with-known c.keep_move.result _ _ c.keep_move.ensures.reply c.keep_move.ensures.ok)

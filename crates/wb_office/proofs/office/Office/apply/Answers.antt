@@ -3,4 +3,4 @@ use Rattle.wb_office.proofs.office.Office.apply.Goals as goal
 
 pub returns-clause-consistent : goal.returns-clause-consistent
 returns-clause-consistent c =
-    applied-keeps _ _ c.args.command.now _ c.in_ok-carry_out.ensures.reply c.in_ok-carry_out.ensures.utf8
+    applied-keeps c.carry_out.result _ _ c.args.command.now c.carry_out.ensures.reply c.carry_out.ensures.utf8 c.carry_out.ensures.unchanged
