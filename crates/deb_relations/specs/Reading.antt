@@ -152,8 +152,7 @@ is_asked_char c = is_solid c && not (c == 41)
 
 -- whether a text begins with white space or a closing parenthesis (Policy 7.1)
 abbrev pub ends_asked : List ℕ → Bool
-ends_asked [] = false
-ends_asked (c ∷ cs) = is_white c || c == 41
+ends_asked text = begins (λ c. is_white c || c == 41) text
 
 -- behind a parenthesis and an operator a text that is no version, for this fault, up to white space or the closing parenthesis (Policy 7.1)
 pub record HasBadVersion (text : List ℕ) (fault : VersionFault) : Type 0 where
