@@ -1,6 +1,6 @@
 pub mod ArgumentLemmas
 pub mod AskedLemmas
-pub mod OnLiterals
+pub mod LiteralLemmas
 pub mod RowLemmas
 pub mod TreeLemmas
 pub mod UsageLemmas

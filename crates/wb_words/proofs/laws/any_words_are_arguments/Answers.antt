@@ -3,7 +3,7 @@ use Rattle.clap.proofs.OnLiterals.{clap_on_literals}
 use Rattle.wb_states.specs.declared.command.Command.TheVariants.{Built, PutBack, Rebuild, Uploaded, Waits}
 use Rattle.wb_words.specs.Arguments.{joined, number_in}
 use Rattle.wb_words.proofs.AskedLemmas.{operator-asked, builder-asked, next-asked}
-use Rattle.wb_words.proofs.OnLiterals.{words_on_literals}
+use Rattle.wb_words.proofs.LiteralLemmas.{words_on_literals}
 use Rattle.wb_words.proofs.laws.any_words_are_arguments.Goals as goal
 
 pub returns : goal.returns

@@ -1,7 +1,7 @@
 use Rattle.std.proofs.Common.{refl}
 use Rattle.clap.proofs.OnLiterals.{clap_on_literals}
 use Rattle.wb_words.specs.Arguments.{part_in}
-use Rattle.wb_words.proofs.OnLiterals.{words_on_literals}
+use Rattle.wb_words.proofs.LiteralLemmas.{words_on_literals}
 use Rattle.wb_words.proofs.laws.merge_lines_name_files.Goals as goal
 
 pub returns : goal.returns
