@@ -14,5 +14,6 @@ mod tests;
 
 pub use fault::{ControlFault, ControlFaultKind};
 pub use field::{Field, Lines};
+pub use lines::is_blank_line;
 pub use paragraph::Paragraph;
 pub use paragraphs::Paragraphs;

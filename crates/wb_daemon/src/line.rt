@@ -4,7 +4,7 @@ ghost use Rattle.std.specs.Str.{is_utf8};
 ghost use Rattle.std.specs.Io.KnownBytes.{Consumes, IsAtEnd};
 ghost use Rattle.wb_daemon.specs.declared.line.ByteRead.TheVariants.{End};
 ghost use Rattle.deb_control.specs.Lines.{words_in};
-ghost use Rattle.wb_daemon.specs.Line.{bytes_of, is_blank_line, line_limit, TookLine};
+ghost use Rattle.wb_daemon.specs.Line.{bytes_of, line_limit, TookLine};
 
 use std::alloc::{AllocError, Global};
 use std::io::Read;
@@ -65,13 +65,6 @@ pub(crate) fn read_line<R: Read>(reader: &mut R, room: &mut [u8]) -> LineRead
         ByteRead::End => LineRead::Last(room.len()),
         ByteRead::Failed => LineRead::Failed,
     }
-}
-
-/// Whether the line is of spaces and tabs alone.
-pub(crate) fn is_blank_line(line: &[u8]) -> bool
-    ensures value { result ≡ is_blank_line line.now }
-{
-    line.iter().all(|c| *c == b' ' || *c == b'\t')
 }
 
 /// The words of the line. The only error is that there is no memory for the list.
