@@ -80,7 +80,7 @@ pub(crate) fn words_in<'a>(alloc: Global, text: &'a str) -> Result<Vec<&'a str>,
 /// The line as text, where it is UTF-8.
 pub(crate) fn text_of(line: &[u8]) -> Option<&str>
     ensures value { IfSome result (λ text. (text.now ≡ line.now) × (is_utf8 line.now ≡ true)) }
-    ensures err { result ≡ None → is_utf8 line.now ≡ false }
+    ensures refused { result ≡ None → is_utf8 line.now ≡ false }
 {
     match str::from_utf8(line) {
         Ok(text) => Some(text),

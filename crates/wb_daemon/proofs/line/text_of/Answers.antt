@@ -8,5 +8,5 @@ returns-in-Ok-clause-value c =
     let told = c.in-Ok.ensures.cases in
     (told.0, is_utf8-from_IsUtf8 c.args.line.now told.1)
 
-pub returns-in-Err-clause-err : goal.returns-in-Err-clause-err
-returns-in-Err-clause-err c = λ _. is_utf8-false c.args.line.now c.in-Err.ensures.cases.0
+pub returns-in-Err-clause-refused : goal.returns-in-Err-clause-refused
+returns-in-Err-clause-refused c = λ _. is_utf8-false c.args.line.now c.in-Err.ensures.cases.0
