@@ -15,8 +15,8 @@ use Rattle.wb_api.specs.Encoding.{line_fault_text}
 use Rattle.deb_control.specs.Lines.{words_in}
 use Rattle.wb_daemon.specs.Line.{is_blank_line, is_long}
 use Rattle.wb_daemon.specs.Lists.{Gives, GivesMerge, GivesNoMore}
-use Rattle.wb_daemon.specs.Run.{Said, Says, Accepts, AsksFor, LineAsks, SaysHeard, Heard, Silence, Fault, Asks, heard_in, heard_of, asked_of_line, fault_said, memory_said, needs_memory, with_feed}
-use Rattle.wb_daemon.specs.Turn.{Answers, AnswersAsked, AnswersInPart, AppendsFront, TookFedLine, TookLastLine, LacksAnswer, StopsTurn, Turns}
+use Rattle.wb_daemon.specs.Run.{Said, Says, Accepts, AsksFor, LineAsks, SaysOfKind, LineKind, Blank, Fault, Request, kind_of_line, kind_of_asked, asked_of_line, fault_said, memory_said, needs_memory, with_feed}
+use Rattle.wb_daemon.specs.Turn.{Answers, SaysAskedOrMemory, AnswersInPart, AppendsFront, TookFedLine, TookLastLine, LacksAnswer, StopsTurn, Turns}
 use Rattle.wb_daemon.specs.declared.run.Cause.{Cause}
 use Rattle.wb_daemon.specs.declared.run.Cause.TheVariants as why
 use Rattle.wb_daemon.specs.declared.run.Turn.{Turn}
@@ -24,30 +24,30 @@ use Rattle.wb_daemon.specs.declared.run.Turn.TheVariants.{More, End, Stop}
 use Rattle.wb_daemon.proofs.LineLemmas.{Appends-same}
 use Rattle.wb_daemon.proofs.ListLemmas.{GivesParts-more}
 
--- ---- what is heard in a line
+-- ---- the kind of a line
 
-heard_in-long : (line : List ℕ) → is_long line ≡ true → heard_in line ≡ Fault
-unfolding heard_in
-heard_in-long line h =
-    ap (λ b. cond b Fault (cond (is_blank_line line) Silence (heard_of (asked_of_line line)))) h
+kind_of_line-long : (line : List ℕ) → is_long line ≡ true → kind_of_line line ≡ Fault
+unfolding kind_of_line
+kind_of_line-long line h =
+    ap (λ b. cond b Fault (cond (is_blank_line line) Blank (kind_of_asked (asked_of_line line)))) h
 
-heard_in-blank : (line : List ℕ) → is_long line ≡ false → is_blank_line line ≡ true → heard_in line ≡ Silence
-unfolding heard_in
-heard_in-blank line h k =
-    ap (λ b. cond b Fault (cond (is_blank_line line) Silence (heard_of (asked_of_line line)))) h
-    ∙ ap (λ b. cond b Silence (heard_of (asked_of_line line))) k
+kind_of_line-blank : (line : List ℕ) → is_long line ≡ false → is_blank_line line ≡ true → kind_of_line line ≡ Blank
+unfolding kind_of_line
+kind_of_line-blank line h k =
+    ap (λ b. cond b Fault (cond (is_blank_line line) Blank (kind_of_asked (asked_of_line line)))) h
+    ∙ ap (λ b. cond b Blank (kind_of_asked (asked_of_line line))) k
 
-heard_in-read : (line : List ℕ) → is_long line ≡ false → is_blank_line line ≡ false
-    → heard_in line ≡ heard_of (asked_of_line line)
-unfolding heard_in
-heard_in-read line h k =
-    ap (λ b. cond b Fault (cond (is_blank_line line) Silence (heard_of (asked_of_line line)))) h
-    ∙ ap (λ b. cond b Silence (heard_of (asked_of_line line))) k
+kind_of_line-read : (line : List ℕ) → is_long line ≡ false → is_blank_line line ≡ false
+    → kind_of_line line ≡ kind_of_asked (asked_of_line line)
+unfolding kind_of_line
+kind_of_line-read line h k =
+    ap (λ b. cond b Fault (cond (is_blank_line line) Blank (kind_of_asked (asked_of_line line)))) h
+    ∙ ap (λ b. cond b Blank (kind_of_asked (asked_of_line line))) k
 
--- what may be said to what is heard in a line may be said to the line
-Says-heard : (gives : Gives) (machine : Machine) (line : List ℕ) (heard : Heard) (said : Said) → heard_in line ≡ heard
-    → SaysHeard gives machine heard said → Says gives machine line said
-Says-heard gives machine line heard said e h = inl (subst (λ (x : Heard). SaysHeard gives machine x said) (sym e) h)
+-- what may be said to a line of its kind may be said to the line
+Says-kind : (gives : Gives) (machine : Machine) (line : List ℕ) (kind : LineKind) (said : Said) → kind_of_line line ≡ kind
+    → SaysOfKind gives machine kind said → Says gives machine line said
+Says-kind gives machine line kind said e h = inl (subst (λ (x : LineKind). SaysOfKind gives machine x said) (sym e) h)
 
 needs_memory-read : (line : List ℕ) → is_long line ≡ false → is_blank_line line ≡ false → is_utf8 line ≡ true → IsTrue (needs_memory line)
 needs_memory-read line h k u =
@@ -62,7 +62,7 @@ needs_memory-long line h = ap (λ b. not b && (not (is_blank_line line) && is_ut
 pub Says-long : (gives : Gives) (machine : Machine) (line other : List ℕ) (said : Said) → is_long line ≡ true → is_long other ≡ true
     → Says gives machine line said → Says gives machine other said
 Says-long gives machine line other said h k (inl e) =
-    inl (subst (λ (x : Heard). SaysHeard gives machine x said) (heard_in-long line h ∙ sym (heard_in-long other k)) e)
+    inl (subst (λ (x : LineKind). SaysOfKind gives machine x said) (kind_of_line-long line h ∙ sym (kind_of_line-long other k)) e)
 Says-long gives machine line other said h k (inr p) = absurd (false≢true (sym (needs_memory-long line h) ∙ p.0))
 
 utf8-asked : (line : List ℕ) (asked : Asked) (b : Bool) → is_utf8 line ≡ b → asked_of_line line ≡ Some asked → b ≡ true
@@ -75,15 +75,15 @@ utf8-asked line asked false u e =
 
 -- what may be said to what a line asks for may be said to the line
 pub Says-asked : (gives : Gives) (machine : Machine) (line : List ℕ) (asked : Asked) (said : Said) → is_long line ≡ false → is_blank_line line ≡ false
-    → asked_of_line line ≡ Some asked → AnswersAsked gives machine asked said → Says gives machine line said
+    → asked_of_line line ≡ Some asked → SaysAskedOrMemory gives machine asked said → Says gives machine line said
 Says-asked gives machine line asked said h k e (inl p) =
-    Says-heard gives machine line (Asks asked) said (heard_in-read line h k ∙ ap heard_of e) p
+    Says-kind gives machine line (Request asked) said (kind_of_line-read line h k ∙ ap kind_of_asked e) p
 Says-asked gives machine line asked said h k e (inr p) =
     inr (needs_memory-read line h k (utf8-asked line asked (is_utf8 line) refl e), p)
 
 pub Says-fault : (gives : Gives) (machine : Machine) (line : List ℕ) (said : Said) → is_long line ≡ false → is_blank_line line ≡ false
     → asked_of_line line ≡ None → said ≡ fault_said machine → Says gives machine line said
-Says-fault gives machine line said h k e p = Says-heard gives machine line Fault said (heard_in-read line h k ∙ ap heard_of e) p
+Says-fault gives machine line said h k e p = Says-kind gives machine line Fault said (kind_of_line-read line h k ∙ ap kind_of_asked e) p
 
 pub Says-memory : (gives : Gives) (machine : Machine) (line : List ℕ) (said : Said) → is_long line ≡ false → is_blank_line line ≡ false
     → IsTrue (is_utf8 line) → said ≡ memory_said machine → Says gives machine line said
@@ -96,18 +96,18 @@ GivesMerge-more : (old new : Gives) → GivesNoMore old new → (sources : List 
 GivesMerge-more old new m sources names command g =
     (g.0, g.1, (m sources g.0 g.2.0, g.2.1), GivesParts-more old new m names g.1 g.3, g.4)
 
-SaysHeard-more : (old new : Gives) → GivesNoMore old new → (machine : Machine) (heard : Heard) (said : Said)
-    → SaysHeard new machine heard said → SaysHeard old machine heard said
-SaysHeard-more old new m machine Silence said h = h
-SaysHeard-more old new m machine Fault said h = h
-SaysHeard-more old new m machine (Asks (asked_Command command)) said h = h
-SaysHeard-more old new m machine (Asks (asked_Merge sources parts)) said (inl h) =
+SaysOfKind-more : (old new : Gives) → GivesNoMore old new → (machine : Machine) (kind : LineKind) (said : Said)
+    → SaysOfKind new machine kind said → SaysOfKind old machine kind said
+SaysOfKind-more old new m machine Blank said h = h
+SaysOfKind-more old new m machine Fault said h = h
+SaysOfKind-more old new m machine (Request (asked_Command command)) said h = h
+SaysOfKind-more old new m machine (Request (asked_Merge sources parts)) said (inl h) =
     inl (h.0, GivesMerge-more old new m sources parts h.0 h.1, h.2)
-SaysHeard-more old new m machine (Asks (asked_Merge sources parts)) said (inr h) = inr h
+SaysOfKind-more old new m machine (Request (asked_Merge sources parts)) said (inr h) = inr h
 
 Says-more : (old new : Gives) → GivesNoMore old new → (machine : Machine) (line : List ℕ) (said : Said)
     → Says new machine line said → Says old machine line said
-Says-more old new m machine line said (inl h) = inl (SaysHeard-more old new m machine (heard_in line) said h)
+Says-more old new m machine line said (inl h) = inl (SaysOfKind-more old new m machine (kind_of_line line) said h)
 Says-more old new m machine line said (inr h) = inr h
 
 Answers-more : (old new : Gives) → GivesNoMore old new → (line : List ℕ) (before after : Machine) (a b : Option (List ℕ)) (status : ℕ)
@@ -158,7 +158,7 @@ reply-accepted machine after command reply e =
 -- a line that is neither long nor blank asks for what its words ask for
 pub LineAsks-asked : (gives : Gives) (line : List ℕ) (asked : Asked) (command : Command) → is_long line ≡ false → is_blank_line line ≡ false
     → asked_of_line line ≡ Some asked → AsksFor gives asked command → LineAsks gives line command
-LineAsks-asked gives line asked command h k e a = (asked, heard_in-read line h k ∙ ap heard_of e, a)
+LineAsks-asked gives line asked command h k e a = (asked, kind_of_line-read line h k ∙ ap kind_of_asked e, a)
 
 -- a line that was not answered stops the turn
 pub stops_turn : (gives : Gives) (cause : Cause) (line : List ℕ) (before after : Machine) (i j a b : Option (List ℕ))
@@ -172,14 +172,14 @@ stops_turn gives why.Room line before after i j a b g h = absurd h
 pub answers-blank : (gives : Gives) (machine : Machine) (line : List ℕ) (written : Option (List ℕ)) → is_long line ≡ false → is_blank_line line ≡ true
     → Answers gives line machine machine written written 0
 answers-blank gives machine line written h k =
-    ([], omega arith, Says-heard gives machine line Silence _ (heard_in-blank line h k) refl, Appends-same written)
+    ([], omega arith, Says-kind gives machine line Blank _ (kind_of_line-blank line h k) refl, Appends-same written)
 
 pub answers-long : (gives : Gives) (line : List ℕ) (machine : Machine) (old new : Option (List ℕ)) → is_long line ≡ true
     → Appends old new (with_feed line_fault_text) → Answers gives line machine machine old new 2
 answers-long gives line machine old new h p =
-    (with_feed line_fault_text, omega arith, Says-heard gives machine line Fault _ (heard_in-long line h) refl, p)
+    (with_feed line_fault_text, omega arith, Says-kind gives machine line Fault _ (kind_of_line-long line h) refl, p)
 
 pub answers-long_cut : (gives : Gives) (line : List ℕ) (machine : Machine) (old new : Option (List ℕ)) → is_long line ≡ true
     → AppendsFront old new (with_feed line_fault_text) → AnswersInPart gives line machine machine old new
 answers-long_cut gives line machine old new h p =
-    (fault_said machine, Says-heard gives machine line Fault _ (heard_in-long line h) refl, refl, p)
+    (fault_said machine, Says-kind gives machine line Fault _ (kind_of_line-long line h) refl, refl, p)

@@ -15,7 +15,7 @@ use Rattle.wb_api.proofs.OneLineLemmas.{reply_text-one, refusal_text-one}
 use Rattle.wb_daemon.specs.Answered.{HasLines, is_answered}
 use Rattle.wb_daemon.specs.Line.{is_blank_line, is_long}
 use Rattle.wb_daemon.specs.Lists.{Gives}
-use Rattle.wb_daemon.specs.Run.{Fault, Runs, Said, Says, SaysAsked, SaysHeard, Silence, answer_said, asked_of_line, command_said, heard_in, heard_of, with_feed}
+use Rattle.wb_daemon.specs.Run.{Fault, Runs, Said, Says, SaysAsked, SaysOfKind, Blank, answer_said, asked_of_line, command_said, kind_of_line, kind_of_asked, with_feed}
 
 -- what is said to a line: nothing where it is not answered, else one line
 abbrev SaidTo : Bool → Said → Type 0
@@ -42,12 +42,12 @@ asked-one gives machine (asked_Command command) said e = command-one machine com
 asked-one gives machine (asked_Merge sources parts) said (inl h) = command-one machine h.0 said h.2
 asked-one gives machine (asked_Merge sources parts) said (inr e) = fixed-one file_fault_text said (ap (λ (s : Said). s.text) e) refl
 
-heard-one : (gives : Gives) (machine : Machine) (long blank : Bool) (asked : Option Asked) (said : Said)
-    → SaysHeard gives machine (cond long Fault (cond blank Silence (heard_of asked))) said → SaidTo (long || not blank) said
-heard-one gives machine true blank asked said e = fixed-one line_fault_text said (ap (λ (s : Said). s.text) e) refl
-heard-one gives machine false true asked said e = ap (λ (s : Said). s.text) e
-heard-one gives machine false false None said e = fixed-one line_fault_text said (ap (λ (s : Said). s.text) e) refl
-heard-one gives machine false false (Some asked) said h = asked-one gives machine asked said h
+kind-one : (gives : Gives) (machine : Machine) (long blank : Bool) (asked : Option Asked) (said : Said)
+    → SaysOfKind gives machine (cond long Fault (cond blank Blank (kind_of_asked asked))) said → SaidTo (long || not blank) said
+kind-one gives machine true blank asked said e = fixed-one line_fault_text said (ap (λ (s : Said). s.text) e) refl
+kind-one gives machine false true asked said e = ap (λ (s : Said). s.text) e
+kind-one gives machine false false None said e = fixed-one line_fault_text said (ap (λ (s : Said). s.text) e) refl
+kind-one gives machine false false (Some asked) said h = asked-one gives machine asked said h
 
 wanted-one : (long blank utf8 : Bool) (said : Said) → (not long && (not blank && utf8)) ≡ true → said.text ≡ with_feed memory_text
     → SaidTo (long || not blank) said
@@ -56,8 +56,8 @@ wanted-one false true utf8 said n e = cc
 wanted-one false false utf8 said n e = fixed-one memory_text said e refl
 
 says-one : (gives : Gives) (machine : Machine) (line : List ℕ) (said : Said) → Says gives machine line said → SaidTo (is_answered line) said
-unfolding heard_in
-says-one gives machine line said (inl h) = heard-one gives machine (is_long line) (is_blank_line line) (asked_of_line line) said h
+unfolding kind_of_line
+says-one gives machine line said (inl h) = kind-one gives machine (is_long line) (is_blank_line line) (asked_of_line line) said h
 says-one gives machine line said (inr h) =
     wanted-one (is_long line) (is_blank_line line) (is_utf8 line) said h.0 (ap (λ (s : Said). s.text) h.1)
 

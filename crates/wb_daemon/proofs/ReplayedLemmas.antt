@@ -12,8 +12,7 @@ use Rattle.wb_words.specs.declared.words.Asked.TheVariants.{Command as asked_Com
 use Rattle.wb_daemon.specs.Line.{ended_in, input_lines}
 use Rattle.wb_daemon.specs.Lists.{Gives}
 use Rattle.wb_daemon.specs.Replays.{IsReplay, IsReplayCut, LeavesReplay, SaysNoReply}
-use Rattle.wb_daemon.specs.Run.{Asks, AsksFor, EndsInput, Fault, Heard, LineAsks, Runs, Said, Says, SaysAsked, SaysHeard, Silence, StopsInLine, answer_said, command_said, followed, heard_in, silent}
-use Rattle.wb_daemon.specs.Turn.{StopsForCause}
+use Rattle.wb_daemon.specs.Run.{Request, AsksFor, EndsInput, Fault, LineKind, LineAsks, Runs, Said, Says, SaysAsked, SaysOfKind, Blank, StopsForCause, StopsInLine, answer_said, command_said, followed, kind_of_line, nothing_said}
 use Rattle.wb_daemon.specs.declared.run.Cause.{Cause}
 use Rattle.wb_daemon.specs.declared.run.Cause.TheVariants as why
 use Rattle.wb_daemon.proofs.RunLemmas.{Runs-snoc}
@@ -32,16 +31,16 @@ abbrev Carries : Gives → Machine → List ℕ → Said → Type 0
 Carries gives machine line said =
     SaysNoReply machine said ⊎ ((command : Command) × LineAsks gives line command × (said ≡ command_said machine command))
 
-heard-carries : (gives : Gives) (machine : Machine) (line : List ℕ) (said : Said) (heard : Heard) → heard_in line ≡ heard
-    → SaysHeard gives machine heard said → Carries gives machine line said
-heard-carries gives machine line said Silence e h = inl (inl (inl h))
-heard-carries gives machine line said Fault e h = inl (inl (inr h))
-heard-carries gives machine line said (Asks (asked_Command command)) e h = inr (command, (asked_Command command, e, refl), h)
-heard-carries gives machine line said (Asks (asked_Merge sources parts)) e (inl h) = inr (h.0, (asked_Merge sources parts, e, h.1), h.2)
-heard-carries gives machine line said (Asks (asked_Merge sources parts)) e (inr h) = inl (inr (inl h))
+kind-carries : (gives : Gives) (machine : Machine) (line : List ℕ) (said : Said) (kind : LineKind) → kind_of_line line ≡ kind
+    → SaysOfKind gives machine kind said → Carries gives machine line said
+kind-carries gives machine line said Blank e h = inl (inl (inl h))
+kind-carries gives machine line said Fault e h = inl (inl (inr h))
+kind-carries gives machine line said (Request (asked_Command command)) e h = inr (command, (asked_Command command, e, refl), h)
+kind-carries gives machine line said (Request (asked_Merge sources parts)) e (inl h) = inr (h.0, (asked_Merge sources parts, e, h.1), h.2)
+kind-carries gives machine line said (Request (asked_Merge sources parts)) e (inr h) = inl (inr (inl h))
 
 Says-carries : (gives : Gives) (machine : Machine) (line : List ℕ) (said : Said) → Says gives machine line said → Carries gives machine line said
-Says-carries gives machine line said (inl h) = heard-carries gives machine line said (heard_in line) refl h
+Says-carries gives machine line said (inl h) = kind-carries gives machine line said (kind_of_line line) refl h
 Says-carries gives machine line said (inr h) = inl (inr (inr h.1))
 
 unmoved : (machine : Machine) (said : Said) → SaysNoReply machine said → said.machine ≡ machine
@@ -52,10 +51,10 @@ unmoved machine said (inr (inr e)) = ap (λ (s : Said). s.machine) e
 
 -- ---- lines in their order
 
-silent_more : (gives : Gives) (machine : Machine) (line : List ℕ) (lines : List (List ℕ)) (whole said later : Said) → whole ≡ followed said later
+no_command_more : (gives : Gives) (machine : Machine) (line : List ℕ) (lines : List (List ℕ)) (whole said later : Said) → whole ≡ followed said later
     → SaysNoReply machine said → IsReplay gives machine lines later → IsReplay gives machine (line ∷ lines) whole
-silent_more gives machine line lines whole said later e quiet rest =
-    (rest.0, (said, later, e, inl (quiet, rest.1)), ap (λ (s : Said). s.machine) e ∙ rest.2)
+no_command_more gives machine line lines whole said later e none rest =
+    (rest.0, (said, later, e, inl (none, rest.1)), ap (λ (s : Said). s.machine) e ∙ rest.2)
 
 command_more : (gives : Gives) (machine : Machine) (line : List ℕ) (lines : List (List ℕ)) (whole said later : Said) → whole ≡ followed said later
     → (command : Command) → LineAsks gives line command → said ≡ command_said machine command
@@ -71,8 +70,8 @@ command_more gives machine line lines whole said later e command asks same rest 
 pub Runs-replay : (gives : Gives) (lines : List (List ℕ)) (machine : Machine) (whole : Said) → Runs gives machine lines whole → IsReplay gives machine lines whole
 Runs-replay gives [] machine whole h = ([], (h, refl), ap (λ (s : Said). s.machine) h)
 Runs-replay gives (line ∷ lines) machine whole h = elim (Says-carries gives machine line h.0 h.2) [
-  | inl quiet ↦ silent_more gives machine line lines whole h.0 h.1 h.4 quiet
-      (Runs-replay gives lines machine h.1 (subst (λ m. Runs gives m lines h.1) (unmoved machine h.0 quiet) h.3))
+  | inl none ↦ no_command_more gives machine line lines whole h.0 h.1 h.4 none
+      (Runs-replay gives lines machine h.1 (subst (λ m. Runs gives m lines h.1) (unmoved machine h.0 none) h.3))
   | inr k ↦ command_more gives machine line lines whole h.0 h.1 h.4 k.0 k.1 k.2 (Runs-replay gives lines h.0.machine h.1 h.3)
 ]
 
@@ -86,7 +85,7 @@ SaysAsked-command gives machine (asked_Merge sources parts) command h = inl (com
 LineAsks-says : (gives : Gives) (machine : Machine) (line : List ℕ) (command : Command) → LineAsks gives line command
     → Says gives machine line (command_said machine command)
 LineAsks-says gives machine line command h =
-    inl (subst (λ (x : Heard). SaysHeard gives machine x (command_said machine command)) (sym h.1) (SaysAsked-command gives machine h.0 command h.2))
+    inl (subst (λ (x : LineKind). SaysOfKind gives machine x (command_said machine command)) (sym h.1) (SaysAsked-command gives machine h.0 command h.2))
 
 -- the lines that were acted on, with what is said to the last of them
 snoc-replay : (gives : Gives) (lines earlier : List (List ℕ)) (last : List ℕ) (machine : Machine) (answered said : Said) → lines ≡ earlier ++ last ∷ []
@@ -97,23 +96,23 @@ snoc-replay gives lines earlier last machine answered said e runs says =
 
 pub StopsInLine-replay : (gives : Gives) (seen : List ℕ) (left : Option (List ℕ)) (machine : Machine) (text : List ℕ) (after : Machine)
     → StopsInLine gives seen left machine text after → IsReplayCut gives seen left machine text after
-StopsInLine-replay gives seen left machine text after (lines, heard, inl s) = (
+StopsInLine-replay gives seen left machine text after (inl (lines, acted, s)) = (
   lines,
   followed s.answered s.said,
   drop s.written s.said.text,
-  heard,
+  acted,
   snoc-replay gives lines s.earlier s.last machine s.answered s.said s.parts s.runs s.says,
   s.office,
   ap (λ t. s.answered.text ++ t) (sym (take-append-drop s.written s.said.text))
       ∙ sym (append_assoc s.answered.text (take s.written s.said.text) (drop s.written s.said.text))
       ∙ ap (λ t. t ++ drop s.written s.said.text) (sym s.front),
 )
-StopsInLine-replay gives seen left machine text after (lines, heard, inr s) =
+StopsInLine-replay gives seen left machine text after (inr (lines, acted, s)) =
     let said = command_said s.answered.machine s.command in (
       lines,
       followed s.answered said,
       said.text,
-      heard,
+      acted,
       snoc-replay gives lines s.earlier s.last machine s.answered said s.parts s.runs (LineAsks-says gives s.answered.machine s.last s.command s.asks),
       s.accepted.1 ∙ sym (command_said-machine s.answered.machine s.command),
       ap (λ t. t ++ said.text) (sym s.unwritten),
@@ -135,11 +134,11 @@ StopsInLine-leaves gives seen left before text after h =
     let cut = StopsInLine-replay gives seen left before text after h in (cut.0, cut.1, cut.4, cut.5)
 
 -- what a run leaves that stopped, for whatever cause
-pub StopsForCause-leaves : (gives : Gives) (cause : Cause) (before after : Machine) (input left old new : Option (List ℕ))
-    → StopsForCause gives cause before after input left old new → LeavesReplay gives before after
-StopsForCause-leaves gives why.Read before after input left old new h = Runs-leaves gives before after (ended_in h.0) h.1 h.4.0 h.4.1
-StopsForCause-leaves gives why.Write before after input left old new h = StopsInLine-leaves gives h.0 left before h.1 after (h.4.0, h.4.1, inl h.4.2)
-StopsForCause-leaves gives why.Reply before after input left old new h = StopsInLine-leaves gives h.0 left before h.1 after (h.4.0, h.4.1, inr h.4.2)
-StopsForCause-leaves gives why.Lines before after input left old new h = Runs-leaves gives before after (ended_in h.4.0) h.1 h.4.4.0 h.4.4.1
-StopsForCause-leaves gives why.Room before after input left old new h =
-    ([], silent before, Runs-replay gives [] before (silent before) refl, h.4.2)
+pub StopsForCause-leaves : (gives : Gives) (cause : Cause) (input left old new : Option (List ℕ)) (before after : Machine)
+    → StopsForCause gives cause input left old new before after → LeavesReplay gives before after
+StopsForCause-leaves gives why.Read input left old new before after h = Runs-leaves gives before after (ended_in h.0) h.1 h.4.0 h.4.1
+StopsForCause-leaves gives why.Write input left old new before after h = StopsInLine-leaves gives h.0 left before h.1 after (inl h.4)
+StopsForCause-leaves gives why.Reply input left old new before after h = StopsInLine-leaves gives h.0 left before h.1 after (inr h.4)
+StopsForCause-leaves gives why.Lines input left old new before after h = Runs-leaves gives before after (ended_in h.4.0) h.1 h.4.4.0 h.4.4.1
+StopsForCause-leaves gives why.Room input left old new before after h =
+    ([], nothing_said before, Runs-replay gives [] before (nothing_said before) refl, h.4.2)

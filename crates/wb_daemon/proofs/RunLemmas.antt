@@ -12,8 +12,8 @@ use Rattle.deb_control.proofs.RunLemmas.{slice_split-run, slice_split-end}
 use Rattle.deb_control.specs.Lines.{is_feed, IsOneLine}
 use Rattle.wb_daemon.specs.Line.{ended_in, is_long, input_lines, line_limit, lines_limit, through_long, AreWithinLimit}
 use Rattle.wb_daemon.specs.Lists.{Gives, IsAllOf}
-use Rattle.wb_daemon.specs.Run.{Said, Says, Runs, EndsInput, RunStops, StopsBeforeReply, StopsBetween, StopsWithin, WereHeard, followed, silent}
-use Rattle.wb_daemon.specs.Turn.{Answers, AnswersInPart, TookFedLine, TookLastLine, LacksAnswer, LacksReply, StopsForCause, StopsTurn}
+use Rattle.wb_daemon.specs.Run.{Said, Says, Runs, EndsInput, StopsBeforeReply, StopsBetween, StopsForCause, StopsWithin, WereActedOn, followed, nothing_said}
+use Rattle.wb_daemon.specs.Turn.{Answers, AnswersInPart, TookFedLine, TookLastLine, LacksAnswer, LacksReply, StopsTurn}
 use Rattle.wb_daemon.specs.declared.run.Cause.{Cause}
 use Rattle.wb_daemon.specs.declared.run.Cause.TheVariants.{Read, Write, Reply, Lines, Room}
 use Rattle.wb_daemon.proofs.LineLemmas.{Appends-same, Appends-then, Consumes-then}
@@ -117,7 +117,7 @@ pub Runs-snoc : (gives : Gives) (lines : List (List ℕ)) (machine : Machine) (w
     → Runs gives machine lines whole → Says gives whole.machine line said → Runs gives machine (lines ++ line ∷ []) (followed whole said)
 Runs-snoc gives [] machine whole line said p q = (
   said,
-  silent said.machine,
+  nothing_said said.machine,
   subst (λ (x : Said). Says gives x.machine line said) p q,
   refl,
   ap (λ (x : Said). followed x said) p ∙ said-same {m = said.machine} (sym (append-nil said.text)) (zero-max said.status ∙ sym (max-zero said.status)),
@@ -253,12 +253,12 @@ module _ {gives : Gives} {input now old new : Option (List ℕ)} {before after :
       (status, subst (λ l. Runs gives before l (record { text = far.text; machine = after; status = status })) (sym (ended_in-fed far.lines line far.are h)) far.runs)
 
   -- the reader failed within a line
-  pub stops-read : (line : List ℕ) (left : Option (List ℕ)) → IsOneLine line → Consumes now left line → StopsForCause gives Read before after input left old new
+  pub stops-read : (line : List ℕ) (left : Option (List ℕ)) → IsOneLine line → Consumes now left line → StopsForCause gives Read input left old new before after
   stops-read line left h p =
       (fed far.lines ++ line, far.text, Consumes-then input now left (fed far.lines) line far.taken p, far.written, between line h)
 
   -- a byte follows the last line that a run may have
-  pub stops-limit : (byte : ℕ) (left : Option (List ℕ)) → count ≡ lines_limit → Consumes now left (byte ∷ []) → StopsForCause gives Lines before after input left old new
+  pub stops-limit : (byte : ℕ) (left : Option (List ℕ)) → count ≡ lines_limit → Consumes now left (byte ∷ []) → StopsForCause gives Lines input left old new before after
   stops-limit byte left full p =
       let acted = fed far.lines ++ [] in (
         fed far.lines ++ byte ∷ [],
@@ -309,55 +309,46 @@ module _ {gives : Gives} {input now old new : Option (List ℕ)} {before after :
   }
 
   -- the bytes of the lines that were acted on
-  heard : (line : List ℕ) (left : Option (List ℕ)) → TookFedLine line now left ⊎ TookLastLine line now left
-      → (seen : List ℕ) × Consumes input left seen × WereHeard seen left (far.lines ++ line ∷ [])
-  heard line left (inl g) =
+  acted_on : (line : List ℕ) (left : Option (List ℕ)) → TookFedLine line now left ⊎ TookLastLine line now left
+      → (seen : List ℕ) × Consumes input left seen × WereActedOn seen left (far.lines ++ line ∷ [])
+  acted_on line left (inl g) =
       let all = far.lines ++ line ∷ [] in (
         fed all,
         after_line far line left g.2,
         inl (sym (ap ended_in (sym (append-nil (fed all))) ∙ ended_in-fed all [] (AreLines-snoc far.lines line far.are g.1 g.0) refl)),
       )
-  heard line left (inr g) = (
+  acted_on line left (inr g) = (
     fed far.lines ++ line,
     Consumes-then input now left (fed far.lines) line far.taken g.1,
     inr (sym (input_lines-last far.lines line far.are g.0), at_last line left g.2),
   )
 
   stops-unanswered : (cause : Cause) (line : List ℕ) (left written : Option (List ℕ)) (next : Machine)
-      → TookFedLine line now left ⊎ TookLastLine line now left → LacksAnswer gives line after next new written cause → StopsForCause gives cause before next input left old written
+      → TookFedLine line now left ⊎ TookLastLine line now left → LacksAnswer gives line after next new written cause → StopsForCause gives cause input left old written before next
   stops-unanswered Read line left written next g a = absurd a
   stops-unanswered Write line left written next g a =
-      let h = heard line left g in
+      let h = acted_on line left g in
       (h.0, far.text ++ take a.3.0 a.0.text, h.1, Appends-then old new written far.text _ far.written a.3.2, (far.lines ++ line ∷ [], h.2, within line written next a))
   stops-unanswered Reply line left written next g a =
-      let h = heard line left g in
+      let h = acted_on line left g in
       (h.0, far.text, h.1, subst (λ w. Appends old w far.text) (sym a.3) far.written, (far.lines ++ line ∷ [], h.2, before_reply line written next a))
   stops-unanswered Lines line left written next g a = absurd a
   stops-unanswered Room line left written next g a = absurd a
 
   -- a turn stopped
   pub stops-turn : (cause : Cause) (left written : Option (List ℕ)) (next : Machine)
-      → StopsTurn gives cause after next now left new written → StopsForCause gives cause before next input left old written
+      → StopsTurn gives cause after next now left new written → StopsForCause gives cause input left old written before next
   stops-turn Read left written next t =
-      subst (λ w. StopsForCause gives Read before next input left old w) (sym t.4)
-      (subst (λ m. StopsForCause gives Read before m input left old new) (sym t.3) (stops-read t.0 left t.1 t.2))
+      subst (λ w. StopsForCause gives Read input left old w before next) (sym t.4)
+      (subst (λ m. StopsForCause gives Read input left old new before m) (sym t.3) (stops-read t.0 left t.1 t.2))
   stops-turn Write left written next t = stops-unanswered Write t.0 left written next t.1 t.2
   stops-turn Reply left written next t = stops-unanswered Reply t.0 left written next t.1 t.2
   stops-turn Lines left written next t = absurd t.2
   stops-turn Room left written next t = absurd t.2
 
 -- a run that could not begin
-pub stops-at_once : (gives : Gives) (input old : Option (List ℕ)) (machine : Machine) → StopsForCause gives Room machine machine input input old old
+pub stops-at_once : (gives : Gives) (input old : Option (List ℕ)) (machine : Machine) → StopsForCause gives Room input input old old machine machine
 stops-at_once gives input old machine = ([], [], Consumes-same input, Appends-same old, (refl, refl, refl))
-
--- a run that stopped, for whatever cause
-pub StopsForCause-stops : (gives : Gives) (cause : Cause) (input left old new : Option (List ℕ)) (before after : Machine)
-    → StopsForCause gives cause before after input left old new → RunStops gives input left old new before after
-StopsForCause-stops gives Read input left old new before after h = (h.0, h.1, h.2, h.3, inl (inl h.4))
-StopsForCause-stops gives Write input left old new before after h = (h.0, h.1, h.2, h.3, inr (inr (h.4.0, h.4.1, inl h.4.2)))
-StopsForCause-stops gives Reply input left old new before after h = (h.0, h.1, h.2, h.3, inr (inr (h.4.0, h.4.1, inr h.4.2)))
-StopsForCause-stops gives Lines input left old new before after h = (h.0, h.1, h.2, h.3, inl (inr h.4))
-StopsForCause-stops gives Room input left old new before after h = (h.0, h.1, h.2, h.3, inr (inl h.4))
 
 -- the run goes on, or ends, with the greater of two statuses
 pub so_far-next : {gives : Gives} {input now old new : Option (List ℕ)} {before after : Machine} {status count : ℕ} (far : SoFar gives input now old new before after status count)

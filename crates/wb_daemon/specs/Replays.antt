@@ -4,17 +4,17 @@ use Rattle.wb_states.specs.Machine.{Machine}
 use Rattle.wb_states.specs.declared.command.Command.{Command}
 use Rattle.wb_office.specs.Replay.{replay}
 use Rattle.wb_daemon.specs.Lists.{Gives}
-use Rattle.wb_daemon.specs.Run.{Said, LineAsks, WereHeard, command_said, fault_said, file_said, followed, memory_said, silent}
+use Rattle.wb_daemon.specs.Run.{Said, LineAsks, WereActedOn, command_said, fault_said, file_said, followed, memory_said, nothing_said}
 
 -- nothing is carried out for a line: it is blank, or at fault, or a list of it cannot be read, or it finds no memory
 abbrev pub SaysNoReply : Machine → Said → Type 0
 SaysNoReply machine said =
-    ((said ≡ silent machine) ⊎ (said ≡ fault_said machine))
+    ((said ≡ nothing_said machine) ⊎ (said ≡ fault_said machine))
     ⊎ ((said ≡ file_said machine) ⊎ (said ≡ memory_said machine))
 
 -- the commands that lines have the office carry out, in their order: a line gives one, or none
 abbrev pub CarriesOut : Gives → Machine → List (List ℕ) → Said → List Command → Type 0
-CarriesOut gives machine [] whole commands = (whole ≡ silent machine) × (commands ≡ [])
+CarriesOut gives machine [] whole commands = (whole ≡ nothing_said machine) × (commands ≡ [])
 CarriesOut gives machine (line ∷ lines) whole commands =
     (said later : Said) × (whole ≡ followed said later)
     × ((SaysNoReply machine said × CarriesOut gives machine lines later commands)
@@ -32,8 +32,8 @@ abbrev pub LeavesReplay : Gives → Machine → Machine → Type 0
 LeavesReplay gives before after =
     (lines : List (List ℕ)) × (whole : Said) × IsReplay gives before lines whole × (after ≡ whole.machine)
 
--- a run that was cut off left what the lines that it heard leave, and wrote a front of what is said to them
+-- a run that was cut off left what the lines that it acted on leave, and wrote a front of what is said to them
 abbrev pub IsReplayCut : Gives → List ℕ → Option (List ℕ) → Machine → List ℕ → Machine → Type 0
 IsReplayCut gives seen left machine text after =
-    (lines : List (List ℕ)) × (whole : Said) × (rest : List ℕ) × WereHeard seen left lines × IsReplay gives machine lines whole
+    (lines : List (List ℕ)) × (whole : Said) × (rest : List ℕ) × WereActedOn seen left lines × IsReplay gives machine lines whole
     × (after ≡ whole.machine) × (whole.text ≡ text ++ rest)

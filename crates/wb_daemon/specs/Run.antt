@@ -17,6 +17,8 @@ use Rattle.wb_api.specs.Encoding.{reply_text, refusal_text, memory_text, line_fa
 use Rattle.deb_control.specs.Lines.{words_in}
 use Rattle.wb_daemon.specs.Line.{is_blank_line, is_long, input_lines, ended_in, lines_limit, AreWithinLimit}
 use Rattle.wb_daemon.specs.Lists.{Gives, GivesMerge, IsAllOf}
+use Rattle.wb_daemon.specs.declared.run.Cause.{Cause}
+use Rattle.wb_daemon.specs.declared.run.Cause.TheVariants as why
 
 -- what is said to lines: the text, the office after it, and the status: 0 accepted, 1 refused, 2 no command, 3 a list that cannot be read
 pub record Said : Type 0 where
@@ -29,8 +31,8 @@ abbrev pub with_feed : List ℕ → List ℕ
 with_feed text = text ++ 10 ∷ []
 
 -- nothing is said, and the office stays as it is
-abbrev pub silent : Machine → Said
-silent machine = record { text = []; machine = machine; status = 0 }
+abbrev pub nothing_said : Machine → Said
+nothing_said machine = record { text = []; machine = machine; status = 0 }
 
 -- a line that is no command changes nothing
 abbrev pub fault_said : Machine → Said
@@ -58,22 +60,22 @@ command_said machine command =
 unfoldable pub asked_of_line : List ℕ → Option Asked
 asked_of_line line = if is_utf8 line then asked_in (words_in line) else None
 
--- what is heard in a line: nothing where it is blank, what it asks for, or that it is at fault
-pub data Heard : Type 0 where
-  Silence : Heard
-  Fault : Heard
-  Asks : Asked → Heard
+-- the kinds of lines: blank ones, ones at fault, and requests for what they ask for
+pub data LineKind : Type 0 where
+  Blank : LineKind
+  Fault : LineKind
+  Request : Asked → LineKind
 
--- what is heard in a line that asks for this, or for nothing that there is
-abbrev pub heard_of : Option Asked → Heard
-heard_of None = Fault
-heard_of (Some asked) = Asks asked
+-- the kind of a line whose words ask for this, or for nothing that there is
+abbrev pub kind_of_asked : Option Asked → LineKind
+kind_of_asked None = Fault
+kind_of_asked (Some asked) = Request asked
 
--- what is heard in a line: it is too long, or blank, or read as words
-unfoldable pub heard_in : List ℕ → Heard
-heard_in line =
+-- the kind of a line: it is too long, or blank, or read as words
+unfoldable pub kind_of_line : List ℕ → LineKind
+kind_of_line line =
     if is_long line then Fault
-    else (if is_blank_line line then Silence else heard_of (asked_of_line line))
+    else (if is_blank_line line then Blank else kind_of_asked (asked_of_line line))
 
 -- what a line asks for is this command, or the merge of what its lists may be read as
 abbrev pub AsksFor : Gives → Asked → Command → Type 0
@@ -82,7 +84,7 @@ AsksFor gives (asked_Merge sources parts) command = GivesMerge gives sources par
 
 -- a line asks for a command
 abbrev pub LineAsks : Gives → List ℕ → Command → Type 0
-LineAsks gives line command = (asked : Asked) × (heard_in line ≡ Asks asked) × AsksFor gives asked command
+LineAsks gives line command = (asked : Asked) × (kind_of_line line ≡ Request asked) × AsksFor gives asked command
 
 -- a command is accepted, and the office is then in this state
 abbrev pub Accepts : Machine → Command → Machine → Type 0
@@ -99,11 +101,11 @@ abbrev pub SaysAsked : Gives → Machine → Asked → Said → Type 0
 SaysAsked gives machine (asked_Command command) said = said ≡ command_said machine command
 SaysAsked gives machine (asked_Merge sources parts) said = SaysMerge gives machine sources parts said
 
--- what may be said to what is heard in a line
-abbrev pub SaysHeard : Gives → Machine → Heard → Said → Type 0
-SaysHeard gives machine Silence said = said ≡ silent machine
-SaysHeard gives machine Fault said = said ≡ fault_said machine
-SaysHeard gives machine (Asks asked) said = SaysAsked gives machine asked said
+-- what may be said to a line of this kind
+abbrev pub SaysOfKind : Gives → Machine → LineKind → Said → Type 0
+SaysOfKind gives machine Blank said = said ≡ nothing_said machine
+SaysOfKind gives machine Fault said = said ≡ fault_said machine
+SaysOfKind gives machine (Request asked) said = SaysAsked gives machine asked said
 
 -- a line for whose words memory is needed
 abbrev pub needs_memory : List ℕ → Bool
@@ -112,7 +114,7 @@ needs_memory line = not (is_long line) && (not (is_blank_line line) && is_utf8 l
 -- what may be said to a line: that there is no memory for it is possible at each line with words
 abbrev pub Says : Gives → Machine → List ℕ → Said → Type 0
 Says gives machine line said =
-    SaysHeard gives machine (heard_in line) said ⊎ (IsTrue (needs_memory line) × (said ≡ memory_said machine))
+    SaysOfKind gives machine (kind_of_line line) said ⊎ (IsTrue (needs_memory line) × (said ≡ memory_said machine))
 
 -- one thing is said, and then another; the greater status is that of both
 abbrev pub followed : Said → Said → Said
@@ -124,7 +126,7 @@ followed first later = record {
 
 -- what is said to lines in their order, from this state of the office on
 abbrev pub Runs : Gives → Machine → List (List ℕ) → Said → Type 0
-Runs gives machine [] whole = whole ≡ silent machine
+Runs gives machine [] whole = whole ≡ nothing_said machine
 Runs gives machine (line ∷ lines) whole =
     (said later : Said) × Says gives machine line said × Runs gives said.machine lines later × (whole ≡ followed said later)
 
@@ -156,8 +158,8 @@ abbrev pub NeverBegins : List ℕ → Machine → List ℕ → Machine → Type 
 NeverBegins seen before text after = (seen ≡ []) × (text ≡ []) × (after ≡ before)
 
 -- the lines that were acted on, of the bytes that were read: those that a line feed had ended, or all where nothing follows or one is too long
-abbrev pub WereHeard : List ℕ → Option (List ℕ) → List (List ℕ) → Type 0
-WereHeard seen left lines =
+abbrev pub WereActedOn : List ℕ → Option (List ℕ) → List (List ℕ) → Type 0
+WereActedOn seen left lines =
     (lines ≡ ended_in seen)
     ⊎ ((lines ≡ input_lines seen) × (IsAtEnd left ⊎ IsTrue (list_any is_long lines)))
 
@@ -187,20 +189,28 @@ pub record StopsBeforeReply (gives : Gives) (lines : List (List ℕ)) (before : 
   pub accepted : Accepts answered.machine command after
   pub unwritten : text ≡ answered.text
 
+-- a run that stopped for this cause: a read or a write failed, or there was no memory for a reply, or more follows its last line, or it has no room for a line
+abbrev pub StopsFor : Gives → Cause → List ℕ → Option (List ℕ) → Machine → List ℕ → Machine → Type 0
+StopsFor gives why.Read seen left before text after = StopsBetween gives seen before text after
+StopsFor gives why.Write seen left before text after =
+    (lines : List (List ℕ)) × WereActedOn seen left lines × StopsWithin gives lines before text after
+StopsFor gives why.Reply seen left before text after =
+    (lines : List (List ℕ)) × WereActedOn seen left lines × StopsBeforeReply gives lines before text after
+StopsFor gives why.Lines seen left before text after = StopsAtLimit gives seen before text after
+StopsFor gives why.Room seen left before text after = NeverBegins seen before text after
+
 -- a run that did not answer the last line that it acted on: the answer was not written whole, or there is no memory for the reply
 abbrev pub StopsInLine : Gives → List ℕ → Option (List ℕ) → Machine → List ℕ → Machine → Type 0
 StopsInLine gives seen left before text after =
-    (lines : List (List ℕ)) × WereHeard seen left lines
-    × (StopsWithin gives lines before text after ⊎ StopsBeforeReply gives lines before text after)
+    StopsFor gives why.Write seen left before text after ⊎ StopsFor gives why.Reply seen left before text after
 
--- why a run stops: a read failed, or more follows its last line, or it has no room for a line, or a line was not answered
-abbrev pub StopsFor : Gives → List ℕ → Option (List ℕ) → Machine → List ℕ → Machine → Type 0
-StopsFor gives seen left before text after =
-    (StopsBetween gives seen before text after ⊎ StopsAtLimit gives seen before text after)
-    ⊎ (NeverBegins seen before text after ⊎ StopsInLine gives seen left before text after)
+-- a run that stopped for this cause before its input ended: what it had read, and what it wrote
+abbrev pub StopsForCause : Gives → Cause → Option (List ℕ) → Option (List ℕ) → Option (List ℕ) → Option (List ℕ) → Machine → Machine → Type 0
+StopsForCause gives cause old_input new_input old_text new_text before after =
+    (seen text : List ℕ) × Consumes old_input new_input seen × Appends old_text new_text text
+    × StopsFor gives cause seen new_input before text after
 
--- a run that stopped before its input ended: what it had read, what it wrote, and why it stopped
+-- a run that stopped before its input ended, for one of the causes
 abbrev pub RunStops : Gives → Option (List ℕ) → Option (List ℕ) → Option (List ℕ) → Option (List ℕ) → Machine → Machine → Type 0
 RunStops gives old_input new_input old_text new_text before after =
-    (seen text : List ℕ) × Consumes old_input new_input seen × Appends old_text new_text text
-    × StopsFor gives seen new_input before text after
+    (cause : Cause) × StopsForCause gives cause old_input new_input old_text new_text before after

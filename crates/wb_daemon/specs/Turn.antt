@@ -8,10 +8,10 @@ use Rattle.wb_words.specs.declared.words.Asked.{Asked}
 use Rattle.deb_control.specs.Lines.{IsOneLine}
 use Rattle.wb_daemon.specs.Line.{is_long}
 use Rattle.wb_daemon.specs.Lists.{Gives}
-use Rattle.wb_daemon.specs.Run.{Said, Says, SaysAsked, command_said, memory_said, with_feed, Accepts, EndsInput, LineAsks, NeverBegins, StopsAtLimit, StopsBeforeReply, StopsBetween, StopsWithin, WereHeard}
+use Rattle.wb_daemon.specs.Run.{Said, Says, SaysAsked, command_said, memory_said, with_feed, Accepts, EndsInput, LineAsks, StopsForCause}
 use Rattle.wb_daemon.specs.declared.answer.Answer.{Answer}
 use Rattle.wb_daemon.specs.declared.run.Cause.{Cause}
-use Rattle.wb_daemon.specs.declared.run.Cause.TheVariants.{Read, Write, Reply, Lines, Room}
+use Rattle.wb_daemon.specs.declared.run.Cause.TheVariants.{Read, Write, Reply}
 use Rattle.wb_daemon.specs.declared.run.RunEnd.{RunEnd}
 use Rattle.wb_daemon.specs.declared.run.RunEnd.TheVariants.{Ended, Stopped}
 use Rattle.wb_daemon.specs.declared.run.Turn.{Turn}
@@ -22,13 +22,13 @@ abbrev pub said_by : Answer → Machine → Said
 said_by answer after = record { text = with_feed (cow_str_bytes answer.text); machine = after; status = answer.status }
 
 -- what may be said to a command: that there is no memory for it is possible too
-abbrev pub AnswersCommand : Machine → Command → Said → Type 0
-AnswersCommand machine command said =
+abbrev pub SaysCommandOrMemory : Machine → Command → Said → Type 0
+SaysCommandOrMemory machine command said =
     (said ≡ command_said machine command) ⊎ (said ≡ memory_said machine)
 
 -- what may be said to what a line asks for: that there is no memory for it is possible too
-abbrev pub AnswersAsked : Gives → Machine → Asked → Said → Type 0
-AnswersAsked gives machine asked said = SaysAsked gives machine asked said ⊎ (said ≡ memory_said machine)
+abbrev pub SaysAskedOrMemory : Gives → Machine → Asked → Said → Type 0
+SaysAskedOrMemory gives machine asked said = SaysAsked gives machine asked said ⊎ (said ≡ memory_said machine)
 
 -- a front of a text, but not the whole, is appended
 abbrev pub AppendsFront : Option (List ℕ) → Option (List ℕ) → List ℕ → Type 0
@@ -80,25 +80,9 @@ Turns gives (End status) before after old_input new_input old new =
 Turns gives (Stop cause) before after old_input new_input old new =
     StopsTurn gives cause before after old_input new_input old new
 
--- what holds of a run that stopped for this cause
-abbrev pub StopsBy : Gives → Cause → List ℕ → Option (List ℕ) → Machine → List ℕ → Machine → Type 0
-StopsBy gives Read seen left before text after = StopsBetween gives seen before text after
-StopsBy gives Write seen left before text after =
-    (lines : List (List ℕ)) × WereHeard seen left lines × StopsWithin gives lines before text after
-StopsBy gives Reply seen left before text after =
-    (lines : List (List ℕ)) × WereHeard seen left lines × StopsBeforeReply gives lines before text after
-StopsBy gives Lines seen left before text after = StopsAtLimit gives seen before text after
-StopsBy gives Room seen left before text after = NeverBegins seen before text after
-
--- a run that stopped for this cause: what it had read, and what it wrote
-abbrev pub StopsForCause : Gives → Cause → Machine → Machine → Option (List ℕ) → Option (List ℕ) → Option (List ℕ) → Option (List ℕ) → Type 0
-StopsForCause gives cause before after old_input new_input old new =
-    (seen text : List ℕ) × Consumes old_input new_input seen × Appends old new text
-    × StopsBy gives cause seen new_input before text after
-
 -- what a run did: it ended with its input, or stopped before
 abbrev pub Ran : Gives → RunEnd → Machine → Machine → Option (List ℕ) → Option (List ℕ) → Option (List ℕ) → Option (List ℕ) → Type 0
 Ran gives (Ended status) before after old_input new_input old new =
     (status ≤ 3) × EndsInput gives old_input old new before after status
 Ran gives (Stopped cause) before after old_input new_input old new =
-    StopsForCause gives cause before after old_input new_input old new
+    StopsForCause gives cause old_input new_input old new before after

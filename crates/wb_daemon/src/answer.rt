@@ -7,7 +7,7 @@ ghost use Rattle.wb_daemon.specs.Lists.{GivesNoMore};
 ghost use Rattle.wb_daemon.specs.Run.{asked_of_line, file_said, memory_said, Accepts, AsksFor, LineAsks, Says};
 ghost use Rattle.wb_states.specs.Machine.{IsConsistent, Machine};
 ghost use Rattle.wb_states.specs.declared.command.Command.{Command};
-ghost use Rattle.wb_daemon.specs.Turn.{said_by, AnswersAsked, AnswersCommand};
+ghost use Rattle.wb_daemon.specs.Turn.{said_by, SaysAskedOrMemory, SaysCommandOrMemory};
 
 use crate::line::{text_of, words_in};
 use crate::lists::{Lists, merge_of};
@@ -58,7 +58,7 @@ fn asked_of_line(alloc: Global, line: &[u8]) -> Result<Asked, WordsFault>
 /// was accepted and there is no memory for the reply.
 fn answer_to(alloc: Global, office: &mut Office, command: &Command) -> Option<Answer>
     ensures value { IfSome result (λ answer. (answer.status ≤ 3)
-        × AnswersCommand office.old command.now (said_by answer office.new)) }
+        × SaysCommandOrMemory office.old command.now (said_by answer office.new)) }
     ensures memory { result ≡ None → Accepts office.old command.now office.new }
     ensures consistent { IsConsistent office.old → IsConsistent office.new }
 {
@@ -109,7 +109,7 @@ fn answer_asked<L: Lists>(
     asked: &Asked,
 ) -> Option<Answer>
     ensures value { IfSome result (λ answer. (answer.status ≤ 3)
-        × AnswersAsked (L.gives lists.old) office.old asked.now (said_by answer office.new)) }
+        × SaysAskedOrMemory (L.gives lists.old) office.old asked.now (said_by answer office.new)) }
     ensures memory { result ≡ None → (command : Command)
         × AsksFor (L.gives lists.old) asked.now command × Accepts office.old command office.new }
     ensures kept { GivesNoMore (L.gives lists.old) (L.gives lists.new) }
@@ -135,12 +135,15 @@ pub(crate) fn answer_of<L: Lists>(
     lists: &mut L,
     line: &[u8],
 ) -> Option<Answer>
+    // a line that is read as words
     requires short { is_long line.now ≡ false }
     requires words { is_blank_line line.now ≡ false }
+    // what is said to it
     ensures value { IfSome result (λ answer. (answer.status ≤ 3)
         × Says (L.gives lists.old) office.old line.now (said_by answer office.new)) }
     ensures memory { result ≡ None → (command : Command)
         × LineAsks (L.gives lists.old) line.now command × Accepts office.old command office.new }
+    // what is left of the lists and the office
     ensures kept { GivesNoMore (L.gives lists.old) (L.gives lists.new) }
     ensures consistent { IsConsistent office.old → IsConsistent office.new }
 {

@@ -2,7 +2,7 @@
 use Rattle.std.proofs.Common.{refl, sym, subst, inl, inr, IfSome}
 use Rattle.wb_daemon.specs.Lists.{GivesMerge}
 use Rattle.wb_daemon.specs.Run.{AsksFor}
-use Rattle.wb_daemon.specs.Turn.{said_by, AnswersAsked}
+use Rattle.wb_daemon.specs.Turn.{said_by, SaysAskedOrMemory}
 use Rattle.wb_daemon.proofs.answer.answer_asked.Goals as goal
 
 pub returns-in-Command-clause-memory : goal.returns-in-Command-clause-memory
@@ -26,7 +26,7 @@ returns-in-Ok-Some-clause-memory g c = λ e.
 pub returns-in-Ok-None-clause-value : goal.returns-in-Ok-None-clause-value
 returns-in-Ok-None-clause-value g c = (
   c.file_answer.ensures.status,
-  subst (λ asked. AnswersAsked (g.L.Lists.gives c.args.lists.now) c.args.office.now asked (said_by c.file_answer.result c.args.office.now))
+  subst (λ asked. SaysAskedOrMemory (g.L.Lists.gives c.args.lists.now) c.args.office.now asked (said_by c.file_answer.result c.args.office.now))
       (sym c.in-Merge.is) (inl (inr (c.file_answer.ensures.value c.args.office.now))),
 )
 
