@@ -13,6 +13,9 @@ use Rattle.deb_relations.specs.Faults.{fault_name as name_of_relation_fault}
 use Rattle.deb_relations.specs.declared.fault.RelationFault.{RelationFault}
 use Rattle.wb_states.specs.State.{name_of}
 use Rattle.wb_states.specs.Refusals.{code_of_refusal, name_of_refusal, name_of_list, name_of_field}
+use Rattle.wb_states.specs.declared.refusal.ListField.{ListField}
+use Rattle.wb_states.specs.declared.refusal.ListKind.{ListKind}
+use Rattle.wb_states.specs.declared.refusal.ListingFault.{ListingFault}
 use Rattle.wb_states.specs.declared.refusal.ListingFault.TheVariants.{Control, Missing, BadValue}
 use Rattle.wb_states.specs.declared.refusal.Refusal.{Refusal}
 use Rattle.wb_states.specs.declared.refusal.Refusal.TheVariants.{OtherVersion, WrongState, AfterAhead, BadVersion, BadRelations, BadListing}
@@ -41,30 +44,32 @@ abbrev pub name_of_relations_fault : Option RelationFault → List ℕ
 name_of_relations_fault None = codes "Nothing"
 name_of_relations_fault (Some fault) = name_of_relation_fault fault
 
--- the text of a refusal after its opening brace: its number and its name, and what some tell further (this project's own)
-unfoldable pub refusal_members : Refusal → List ℕ
-refusal_members (OtherVersion have) = concat
-    (codes "\"code\":5,\"have\":" ∷ quoted have ∷ codes ",\"refused\":\"OtherVersion\"}" ∷ [])
-refusal_members (WrongState state) = concat
-    (codes "\"code\":6,\"refused\":\"WrongState\",\"state\":" ∷ quoted (name_of state) ∷ codes "}" ∷ [])
-refusal_members (AfterAhead handed) = concat
-    (codes "\"code\":9,\"handed\":" ∷ decimal handed ∷ codes ",\"refused\":\"AfterAhead\"}" ∷ [])
-refusal_members (BadVersion fault) = concat
-    (codes "\"code\":12,\"fault\":" ∷ quoted (name_of_fault fault) ∷ codes ",\"refused\":\"BadVersion\"}" ∷ [])
-refusal_members (BadRelations fault) = concat
-    (codes "\"code\":13,\"fault\":" ∷ quoted (name_of_relations_fault fault) ∷ codes ",\"refused\":\"BadRelations\"}" ∷ [])
-refusal_members (BadListing which paragraph (Control kind)) = concat
+-- the text of the refusal of a list after its opening brace, for this fault of a field in a paragraph (this project's own)
+abbrev pub field_fault_members : ListKind → ℕ → List ℕ → ListField → List ℕ
+field_fault_members which paragraph fault field = concat
+    (codes "\"code\":15,\"fault\":" ∷ quoted fault ∷
+    codes ",\"field\":" ∷ quoted (name_of_field field) ∷
+    codes ",\"paragraph\":" ∷ decimal paragraph ∷
+    codes ",\"refused\":\"BadListing\",\"which\":" ∷ quoted (name_of_list which) ∷ codes "}" ∷ [])
+
+-- the text of the refusal of a list after its opening brace, for this fault in a paragraph (this project's own)
+abbrev pub listing_fault_members : ListKind → ℕ → ListingFault → List ℕ
+listing_fault_members which paragraph (Control kind) = concat
     (codes "\"code\":15,\"fault\":" ∷ quoted (fault_name kind) ∷
     codes ",\"paragraph\":" ∷ decimal paragraph ∷
     codes ",\"refused\":\"BadListing\",\"which\":" ∷ quoted (name_of_list which) ∷ codes "}" ∷ [])
-refusal_members (BadListing which paragraph (Missing field)) = concat
-    (codes "\"code\":15,\"fault\":\"Missing\",\"field\":" ∷ quoted (name_of_field field) ∷
-    codes ",\"paragraph\":" ∷ decimal paragraph ∷
-    codes ",\"refused\":\"BadListing\",\"which\":" ∷ quoted (name_of_list which) ∷ codes "}" ∷ [])
-refusal_members (BadListing which paragraph (BadValue field)) = concat
-    (codes "\"code\":15,\"fault\":\"BadValue\",\"field\":" ∷ quoted (name_of_field field) ∷
-    codes ",\"paragraph\":" ∷ decimal paragraph ∷
-    codes ",\"refused\":\"BadListing\",\"which\":" ∷ quoted (name_of_list which) ∷ codes "}" ∷ [])
+listing_fault_members which paragraph (Missing field) = field_fault_members which paragraph (codes "Missing") field
+listing_fault_members which paragraph (BadValue field) = field_fault_members which paragraph (codes "BadValue") field
+
+-- the text of a refusal after its opening brace: its number and its name, and what some tell further (this project's own)
+unfoldable pub refusal_members : Refusal → List ℕ
+refusal_members (OtherVersion have) = concat (codes "\"code\":5,\"have\":" ∷ quoted have ∷ codes ",\"refused\":\"OtherVersion\"}" ∷ [])
+refusal_members (WrongState state) = concat (codes "\"code\":6,\"refused\":\"WrongState\",\"state\":" ∷ quoted (name_of state) ∷ codes "}" ∷ [])
+refusal_members (AfterAhead handed) = concat (codes "\"code\":9,\"handed\":" ∷ decimal handed ∷ codes ",\"refused\":\"AfterAhead\"}" ∷ [])
+refusal_members (BadVersion fault) = concat (codes "\"code\":12,\"fault\":" ∷ quoted (name_of_fault fault) ∷ codes ",\"refused\":\"BadVersion\"}" ∷ [])
+refusal_members (BadRelations fault) =
+    concat (codes "\"code\":13,\"fault\":" ∷ quoted (name_of_relations_fault fault) ∷ codes ",\"refused\":\"BadRelations\"}" ∷ [])
+refusal_members (BadListing which paragraph fault) = listing_fault_members which paragraph fault
 refusal_members refusal = concat
     (codes "\"code\":" ∷ decimal (code_of_refusal refusal) ∷
     codes ",\"refused\":" ∷ quoted (name_of_refusal refusal) ∷ codes "}" ∷ [])

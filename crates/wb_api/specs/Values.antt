@@ -5,6 +5,7 @@ use Rattle.serde_json.specs.View.{items_of}
 use Rattle.deb_version.specs.Faults.{fault_name as name_of_fault}
 use Rattle.wb_states.specs.State.{name_of}
 use Rattle.wb_states.specs.Refusals.{code_of_refusal, name_of_refusal, name_of_list, name_of_field, name_of_listing_fault}
+use Rattle.wb_states.specs.declared.refusal.ListField.{ListField}
 use Rattle.wb_states.specs.declared.refusal.ListKind.{ListKind}
 use Rattle.wb_states.specs.declared.refusal.ListingFault.{ListingFault}
 use Rattle.wb_states.specs.declared.refusal.ListingFault.TheVariants.{Control, Missing, BadValue}
@@ -32,7 +33,17 @@ value_of_assignment ok accepted assignment = object
     (member (codes "take") (number (unsigned assignment.take))
     (member (codes "version") (string assignment.version) no_members)))))))))
 
--- the object of a fault in a paragraph of a list (this project's own)
+-- the object of the refusal of a list, for this fault of a field in a paragraph (this project's own)
+abbrev pub value_of_field_fault : ListKind → ℕ → List ℕ → ListField → Data
+value_of_field_fault which paragraph fault field = object
+    (member (codes "code") (number (unsigned 15))
+    (member (codes "fault") (string fault)
+    (member (codes "field") (string (name_of_field field))
+    (member (codes "paragraph") (number (unsigned paragraph))
+    (member (codes "refused") (string (codes "BadListing"))
+    (member (codes "which") (string (name_of_list which)) no_members))))))
+
+-- the object of the refusal of a list, for this fault in a paragraph (this project's own)
 abbrev pub value_of_listing_fault : ListKind → ℕ → ListingFault → Data
 value_of_listing_fault which paragraph (Control kind) = object
     (member (codes "code") (number (unsigned 15))
@@ -40,43 +51,26 @@ value_of_listing_fault which paragraph (Control kind) = object
     (member (codes "paragraph") (number (unsigned paragraph))
     (member (codes "refused") (string (codes "BadListing"))
     (member (codes "which") (string (name_of_list which)) no_members)))))
-value_of_listing_fault which paragraph (Missing field) = object
-    (member (codes "code") (number (unsigned 15))
-    (member (codes "fault") (string (codes "Missing"))
-    (member (codes "field") (string (name_of_field field))
-    (member (codes "paragraph") (number (unsigned paragraph))
-    (member (codes "refused") (string (codes "BadListing"))
-    (member (codes "which") (string (name_of_list which)) no_members))))))
-value_of_listing_fault which paragraph (BadValue field) = object
-    (member (codes "code") (number (unsigned 15))
-    (member (codes "fault") (string (codes "BadValue"))
-    (member (codes "field") (string (name_of_field field))
-    (member (codes "paragraph") (number (unsigned paragraph))
-    (member (codes "refused") (string (codes "BadListing"))
-    (member (codes "which") (string (name_of_list which)) no_members))))))
+value_of_listing_fault which paragraph (Missing field) = value_of_field_fault which paragraph (codes "Missing") field
+value_of_listing_fault which paragraph (BadValue field) = value_of_field_fault which paragraph (codes "BadValue") field
+
+-- the object of a refusal that tells this further, under a key between `code` and `refused` (this project's own)
+abbrev pub value_with_member : Refusal → List ℕ → Data → Data
+value_with_member refusal key told = object
+    (member (codes "code") (number (unsigned (code_of_refusal refusal)))
+    (member key told
+    (member (codes "refused") (string (name_of_refusal refusal)) no_members)))
 
 -- the object of a refusal (this project's own)
 abbrev pub value_of_refusal : Refusal → Data
-value_of_refusal (OtherVersion have) = object
-    (member (codes "code") (number (unsigned 5))
-    (member (codes "have") (string have)
-    (member (codes "refused") (string (codes "OtherVersion")) no_members)))
+value_of_refusal (OtherVersion have) = value_with_member (OtherVersion have) (codes "have") (string have)
 value_of_refusal (WrongState state) = object
     (member (codes "code") (number (unsigned 6))
     (member (codes "refused") (string (codes "WrongState"))
     (member (codes "state") (string (name_of state)) no_members)))
-value_of_refusal (AfterAhead handed) = object
-    (member (codes "code") (number (unsigned 9))
-    (member (codes "handed") (number (unsigned handed))
-    (member (codes "refused") (string (codes "AfterAhead")) no_members)))
-value_of_refusal (BadVersion fault) = object
-    (member (codes "code") (number (unsigned 12))
-    (member (codes "fault") (string (name_of_fault fault))
-    (member (codes "refused") (string (codes "BadVersion")) no_members)))
-value_of_refusal (BadRelations fault) = object
-    (member (codes "code") (number (unsigned 13))
-    (member (codes "fault") (string (name_of_relations_fault fault))
-    (member (codes "refused") (string (codes "BadRelations")) no_members)))
+value_of_refusal (AfterAhead handed) = value_with_member (AfterAhead handed) (codes "handed") (number (unsigned handed))
+value_of_refusal (BadVersion fault) = value_with_member (BadVersion fault) (codes "fault") (string (name_of_fault fault))
+value_of_refusal (BadRelations fault) = value_with_member (BadRelations fault) (codes "fault") (string (name_of_relations_fault fault))
 value_of_refusal (BadListing which paragraph fault) = value_of_listing_fault which paragraph fault
 value_of_refusal refusal = object
     (member (codes "code") (number (unsigned (code_of_refusal refusal)))
