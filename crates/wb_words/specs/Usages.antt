@@ -32,6 +32,10 @@ word_arguments = map (λ id. (id, Word))
 abbrev pub subject : List Argument
 subject = word_arguments (codes "arch" ∷ codes "source" ∷ codes "version" ∷ [])
 
+-- the arguments that name an architecture and a builder
+abbrev pub arch_and_builder : List Argument
+arch_and_builder = word_arguments (codes "arch" ∷ codes "builder" ∷ [])
+
 -- the subcommands of operators
 abbrev pub operator_usages : List Usage
 operator_usages = (codes "add-arch", word_arguments (codes "name" ∷ codes "os" ∷ codes "cpu" ∷ []))
@@ -46,14 +50,8 @@ operator_usages = (codes "add-arch", word_arguments (codes "name" ∷ codes "os"
 
 -- the subcommands of builders
 abbrev pub builder_usages : List Usage
-builder_usages = (
-  codes "next",
-  word_arguments (codes "arch" ∷ codes "builder" ∷ []) ++ (codes "after", NamedWord) ∷ [],
-)
-    ∷ (
-      codes "take",
-      word_arguments (codes "arch" ∷ codes "builder" ∷ codes "source" ∷ codes "version" ∷ []),
-    )
+builder_usages = (codes "next", arch_and_builder ++ (codes "after", NamedWord) ∷ [])
+    ∷ (codes "take", arch_and_builder ++ word_arguments (codes "source" ∷ codes "version" ∷ []))
     ∷ (codes "built", word_arguments (codes "take" ∷ []))
     ∷ (codes "uploaded", word_arguments (codes "take" ∷ []))
     ∷ (codes "put-back", word_arguments (codes "take" ∷ []))
