@@ -13,10 +13,10 @@ use Rattle.wb_words.specs.declared.words.Asked.TheVariants.{Command as asked_Com
 use Rattle.wb_words.specs.declared.words.PartNames.{PartNames}
 use Rattle.wb_api.specs.Encoding.{line_fault_text}
 use Rattle.deb_control.specs.Lines.{words_in}
-use Rattle.wb_daemon.specs.Line.{is_blank_line, is_long}
+use Rattle.wb_daemon.specs.Line.{is_blank_line, is_long, with_feed}
 use Rattle.wb_daemon.specs.Lists.{Gives, GivesMerge, GivesNoMore}
-use Rattle.wb_daemon.specs.Run.{Said, Says, Accepts, AsksFor, LineAsks, SaysOfKind, LineKind, Blank, Fault, Request, kind_of_line, kind_of_asked, asked_of_line, fault_said, memory_said, needs_memory, with_feed}
-use Rattle.wb_daemon.specs.Turn.{Answers, SaysAskedOrMemory, AnswersInPart, AppendsFront, TookFedLine, TookLastLine, LacksAnswer, StopsTurn, Turns}
+use Rattle.wb_daemon.specs.Run.{Said, Says, Accepts, AsksFor, LineAsks, SaysOfKind, LineKind, Blank, Fault, Request, kind_of_line, kind_of_asked, asked_of_line, fault_said, memory_said, needs_memory}
+use Rattle.wb_daemon.specs.Turn.{Answers, SaysAskedOrMemory, AnswersInPart, AppendsFront, TookEndedLine, TookLastLine, LacksAnswer, StopsTurn, Turns}
 use Rattle.wb_daemon.specs.declared.run.Cause.{Cause}
 use Rattle.wb_daemon.specs.declared.run.Cause.TheVariants as why
 use Rattle.wb_daemon.specs.declared.run.Turn.{Turn}
@@ -162,7 +162,7 @@ LineAsks-asked gives line asked command h k e a = (asked, kind_of_line-read line
 
 -- a line that was not answered stops the turn
 pub stops_turn : (gives : Gives) (cause : Cause) (line : List ℕ) (before after : Machine) (i j a b : Option (List ℕ))
-    → TookFedLine line i j ⊎ TookLastLine line i j → LacksAnswer gives line before after a b cause → StopsTurn gives cause before after i j a b
+    → TookEndedLine line i j ⊎ TookLastLine line i j → LacksAnswer gives line before after a b cause → StopsTurn gives cause before after i j a b
 stops_turn gives why.Read line before after i j a b g h = absurd h
 stops_turn gives why.Write line before after i j a b g h = (line, g, h)
 stops_turn gives why.Reply line before after i j a b g h = (line, g, h)

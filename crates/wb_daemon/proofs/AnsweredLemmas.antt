@@ -13,9 +13,9 @@ use Rattle.wb_words.specs.declared.words.Asked.TheVariants.{Command as asked_Com
 use Rattle.wb_api.specs.Encoding.{reply_text, refusal_text, memory_text, line_fault_text, file_fault_text}
 use Rattle.wb_api.proofs.OneLineLemmas.{reply_text-one, refusal_text-one}
 use Rattle.wb_daemon.specs.Answered.{HasLines, is_answered}
-use Rattle.wb_daemon.specs.Line.{is_blank_line, is_long}
+use Rattle.wb_daemon.specs.Line.{is_blank_line, is_long, with_feed}
 use Rattle.wb_daemon.specs.Lists.{Gives}
-use Rattle.wb_daemon.specs.Run.{Fault, Runs, Said, Says, SaysAsked, SaysOfKind, Blank, answer_said, asked_of_line, command_said, kind_of_line, kind_of_asked, with_feed}
+use Rattle.wb_daemon.specs.Run.{Fault, Runs, Said, Says, SaysAsked, SaysOfKind, Blank, answer_said, asked_of_line, command_said, kind_of_line, kind_of_asked}
 
 -- what is said to a line: nothing where it is not answered, else one line
 abbrev SaidTo : Bool → Said → Type 0

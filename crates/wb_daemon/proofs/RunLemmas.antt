@@ -3,6 +3,7 @@ use Rattle.std.proofs.Common.{◌≡◌, ℕ, ◌+◌, ◌-◌, ◌<◌, ◌≤�
 use Rattle.std.proofs.Math.Nat.{max-zero, zero-max}
 use Rattle.std.proofs.lemmas.Bool.{or_left, or_parts, or_right}
 use Rattle.std.proofs.lemmas.Bool.Decides.{nat_tests}
+use Rattle.std.proofs.lemmas.Grind.{flat_map-append}
 use Rattle.std.proofs.lemmas.List.Folds.{list_any-append}
 use Rattle.std.proofs.lemmas.List.Splits.{length-slice_split, slice_split-cons_no}
 use Rattle.std.specs.Io.KnownBytes.{Appends, Consumes, IsAtEnd}
@@ -10,10 +11,10 @@ use Rattle.std.specs.List.{list_any, onto_first, slice_split}
 use Rattle.wb_states.specs.Machine.{Machine}
 use Rattle.deb_control.proofs.RunLemmas.{slice_split-run, slice_split-end}
 use Rattle.deb_control.specs.Lines.{is_feed, IsOneLine}
-use Rattle.wb_daemon.specs.Line.{ended_in, is_long, input_lines, line_limit, lines_limit, through_long, AreWithinLimit}
+use Rattle.wb_daemon.specs.Line.{ended_in, is_long, input_lines, line_limit, lines_limit, through_long, with_feed, with_feeds, AreWithinLimit}
 use Rattle.wb_daemon.specs.Lists.{Gives, IsAllOf}
 use Rattle.wb_daemon.specs.Run.{Said, Says, Runs, EndsInput, StopsBeforeReply, StopsBetween, StopsForCause, StopsWithin, WereActedOn, followed, nothing_said}
-use Rattle.wb_daemon.specs.Turn.{Answers, AnswersInPart, TookFedLine, TookLastLine, LacksAnswer, LacksReply, StopsTurn}
+use Rattle.wb_daemon.specs.Turn.{Answers, AnswersInPart, TookEndedLine, TookLastLine, LacksAnswer, LacksReply, StopsTurn}
 use Rattle.wb_daemon.specs.declared.run.Cause.{Cause}
 use Rattle.wb_daemon.specs.declared.run.Cause.TheVariants.{Read, Write, Reply, Lines, Room}
 use Rattle.wb_daemon.proofs.LineLemmas.{Appends-same, Appends-then, Consumes-then}
@@ -22,19 +23,14 @@ use lib.Seq.{take-append_seam}
 
 -- ---- lines and their bytes
 
--- lines, each with its line feed
-abbrev pub fed : List (List ℕ) → List ℕ
-fed [] = []
-fed (line ∷ lines) = line ++ 10 ∷ fed lines
-
 -- lines that a run answers and goes on
 abbrev pub AreLines : List (List ℕ) → Type 0
 AreLines [] = Unit {0}
 AreLines (line ∷ lines) = IsOneLine line × (is_long line ≡ false) × AreLines lines
 
-fed-snoc : (lines : List (List ℕ)) (line : List ℕ) → fed (lines ++ line ∷ []) ≡ fed lines ++ (line ++ 10 ∷ [])
-fed-snoc [] line = refl
-fed-snoc (x ∷ xs) line = ap (λ l. x ++ 10 ∷ l) (fed-snoc xs line) ∙ sym (append_assoc x (10 ∷ fed xs) (line ++ 10 ∷ []))
+with_feeds-snoc : (lines : List (List ℕ)) (line : List ℕ) → with_feeds (lines ++ line ∷ []) ≡ with_feeds lines ++ with_feed line
+with_feeds-snoc lines line =
+    flat_map-append with_feed lines (line ∷ []) ∙ ap (λ l. with_feeds lines ++ l) (append-nil (with_feed line))
 
 AreLines-snoc : (lines : List (List ℕ)) (line : List ℕ) → AreLines lines → IsOneLine line → is_long line ≡ false → AreLines (lines ++ line ∷ [])
 AreLines-snoc [] line a h k = (h, k, tt)
@@ -56,12 +52,12 @@ split-front (c ∷ cs) more h =
     let before = split-front cs more parts.1 in
     (before.0, before.1, slice_split-cons_no is_feed c (cs ++ more) parts.0 ∙ ap (onto_first c) before.2)
 
-split-fed : (lines : List (List ℕ)) (more : List ℕ) → AreLines lines → slice_split is_feed (fed lines ++ more) ≡ lines ++ slice_split is_feed more
-split-fed [] more a = refl
-split-fed (x ∷ xs) more a =
-    ap (slice_split is_feed) (append_assoc x (10 ∷ fed xs) more)
-    ∙ slice_split-run is_feed x 10 (fed xs ++ more) a.0 refl
-    ∙ ap (λ l. x ∷ l) (split-fed xs more a.2)
+split-with_feeds : (lines : List (List ℕ)) (more : List ℕ) → AreLines lines → slice_split is_feed (with_feeds lines ++ more) ≡ lines ++ slice_split is_feed more
+split-with_feeds [] more a = refl
+split-with_feeds (x ∷ xs) more a =
+    ap (slice_split is_feed) (append_assoc (with_feed x) (with_feeds xs) more ∙ append_assoc x (10 ∷ []) (with_feeds xs ++ more))
+    ∙ slice_split-run is_feed x 10 (with_feeds xs ++ more) a.0 refl
+    ∙ ap (λ l. x ∷ l) (split-with_feeds xs more a.2)
 
 through-lines : (lines rest : List (List ℕ)) → AreLines lines → through_long (lines ++ rest) ≡ lines ++ through_long rest
 through-lines [] rest a = refl
@@ -69,10 +65,10 @@ through-lines (x ∷ xs) rest a =
     ap (λ b. x ∷ cond b [] (through_long (xs ++ rest))) a.1 ∙ ap (λ l. x ∷ l) (through-lines xs rest a.2)
 
 -- the lines of an input whose last line has no line feed
-input_lines-last : (lines : List (List ℕ)) (line : List ℕ) → AreLines lines → IsOneLine line → input_lines (fed lines ++ line) ≡ lines ++ line ∷ []
+input_lines-last : (lines : List (List ℕ)) (line : List ℕ) → AreLines lines → IsOneLine line → input_lines (with_feeds lines ++ line) ≡ lines ++ line ∷ []
 unfolding input_lines
 input_lines-last lines line a h =
-    ap through_long (split-fed lines line a ∙ ap (λ l. lines ++ l) (slice_split-end is_feed line h))
+    ap through_long (split-with_feeds lines line a ∙ ap (λ l. lines ++ l) (slice_split-end is_feed line h))
     ∙ through-lines lines (line ∷ []) a
     ∙ ap (λ l. lines ++ line ∷ l) (cond-same (is_long line) [])
 
@@ -81,14 +77,14 @@ is_long-append line more h = grind (arith, nat_tests, length-append line more)
 
 -- the lines of an input with a line that is too long
 input_lines-long : (lines : List (List ℕ)) (line more : List ℕ) → AreLines lines → IsOneLine line → is_long line ≡ true
-    → (last : List ℕ) × (is_long last ≡ true) × (input_lines (fed lines ++ (line ++ more)) ≡ lines ++ last ∷ [])
+    → (last : List ℕ) × (is_long last ≡ true) × (input_lines (with_feeds lines ++ (line ++ more)) ≡ lines ++ last ∷ [])
 unfolding input_lines
 input_lines-long lines line more a h k =
     let front = split-front line more h in
     let long = is_long-append line front.0 k in (
       line ++ front.0,
       long,
-      ap through_long (split-fed lines (line ++ more) a ∙ ap (λ l. lines ++ l) front.2)
+      ap through_long (split-with_feeds lines (line ++ more) a ∙ ap (λ l. lines ++ l) front.2)
           ∙ through-lines lines ((line ++ front.0) ∷ front.1) a
           ∙ ap (λ b. lines ++ (line ++ front.0) ∷ cond b [] (through_long front.1)) long,
     )
@@ -99,10 +95,10 @@ take-front lines line =
     ap (λ n. take n (lines ++ line ∷ [])) count ∙ take-append_seam lines (line ∷ [])
 
 -- the lines that line feeds have ended, where a line without one follows
-ended_in-fed : (lines : List (List ℕ)) (line : List ℕ) → AreLines lines → IsOneLine line → ended_in (fed lines ++ line) ≡ lines
+ended_in-with_feeds : (lines : List (List ℕ)) (line : List ℕ) → AreLines lines → IsOneLine line → ended_in (with_feeds lines ++ line) ≡ lines
 unfolding ended_in
-ended_in-fed lines line a h =
-    ap (λ l. take (length l - 1) l) (split-fed lines line a ∙ ap (λ l. lines ++ l) (slice_split-end is_feed line h)) ∙ take-front lines line
+ended_in-with_feeds lines line a h =
+    ap (λ l. take (length l - 1) l) (split-with_feeds lines line a ∙ ap (λ l. lines ++ l) (slice_split-end is_feed line h)) ∙ take-front lines line
 
 -- ---- one line more
 
@@ -137,7 +133,7 @@ pub record SoFar (gives : Gives) (input now old new : Option (List ℕ)) (before
   pub text : List ℕ
   pub are : AreLines lines
   pub counted : length lines ≡ count
-  pub taken : Consumes input now (fed lines)
+  pub taken : Consumes input now (with_feeds lines)
   pub runs : Runs gives before lines (record { text = text; machine = after; status = status })
   pub written : Appends old new text
   pub small : status ≤ 3
@@ -159,12 +155,12 @@ so_far-start gives input old machine = record {
 }
 
 module _ {gives : Gives} {input now old new : Option (List ℕ)} {before after : Machine} {status count : ℕ} (far : SoFar gives input now old new before after status count) where
-  after_line : (line : List ℕ) (left : Option (List ℕ)) → Consumes now left (line ++ 10 ∷ []) → Consumes input left (fed (far.lines ++ line ∷ []))
+  after_line : (line : List ℕ) (left : Option (List ℕ)) → Consumes now left (with_feed line) → Consumes input left (with_feeds (far.lines ++ line ∷ []))
   after_line line left p =
-      subst (Consumes input left) (sym (fed-snoc far.lines line)) (Consumes-then input now left (fed far.lines) (line ++ 10 ∷ []) far.taken p)
+      subst (Consumes input left) (sym (with_feeds-snoc far.lines line)) (Consumes-then input now left (with_feeds far.lines) (with_feed line) far.taken p)
 
   pub so_far-line : (line : List ℕ) (left written : Option (List ℕ)) (next : Machine) (more : ℕ)
-      → TookFedLine line now left → Answers gives line after next new written more
+      → TookEndedLine line now left → Answers gives line after next new written more
       → SoFar gives input left old written before next (max status more) (count + 1)
   so_far-line line left written next more g a = record {
     lines = far.lines ++ line ∷ [];
@@ -194,11 +190,11 @@ nothing_left rest (inr h) = absurd h
 
 -- the lines of an input whose last line was read, in so far as it is not too long
 last_lines : (gives : Gives) (lines : List (List ℕ)) (line rest : List ℕ) → AreLines lines → IsOneLine line → (rest ≡ []) ⊎ (is_long line ≡ true)
-    → (last : List ℕ) × (input_lines (fed lines ++ (line ++ rest)) ≡ lines ++ last ∷ [])
+    → (last : List ℕ) × (input_lines (with_feeds lines ++ (line ++ rest)) ≡ lines ++ last ∷ [])
     × ((machine : Machine) (said : Said) → Says gives machine line said → Says gives machine last said)
 last_lines gives lines line rest a h (inl e) = (
   line,
-  ap (λ l. input_lines (fed lines ++ l)) (ap (λ r. line ++ r) e ∙ append-nil line) ∙ input_lines-last lines line a h,
+  ap (λ l. input_lines (with_feeds lines ++ l)) (ap (λ r. line ++ r) e ∙ append-nil line) ∙ input_lines-last lines line a h,
   λ _ _ q. q,
 )
 last_lines gives lines line rest a h (inr k) =
@@ -229,47 +225,47 @@ module _ {gives : Gives} {input now old new : Option (List ℕ)} {before after :
   pub ends-line : (line : List ℕ) (left written : Option (List ℕ)) (next : Machine) (more greatest : ℕ) → count < lines_limit → greatest ≡ max status more
       → TookLastLine line now left → Answers gives line after next new written more → EndsInput gives input old written before next greatest
   ends-line line left written next more greatest few e g a =
-      let whole = whole_input (is_long line ≡ true) input now left (fed far.lines) line far.taken g.1 g.2 in
+      let whole = whole_input (is_long line ≡ true) input now left (with_feeds far.lines) line far.taken g.1 g.2 in
       let last = last_lines gives far.lines line whole.0 far.are g.0 whole.2 in
       subst (λ n. EndsInput gives input old written before next n) (sym e)
-      (ended (fed far.lines ++ (line ++ whole.0)) last.0 written next more whole.1 last.1
+      (ended (with_feeds far.lines ++ (line ++ whole.0)) last.0 written next more whole.1 last.1
       (inl (omega (arith, length-append far.lines (last.0 ∷ []), far.counted, few)))
       (a.0, a.1, last.2 _ _ a.2, a.3))
 
   -- nothing follows the last line that a run may have
   pub ends-nothing : (left : Option (List ℕ)) → count ≡ lines_limit → Consumes now left [] → IsAtEnd left → EndsInput gives input old new before after status
   ends-nothing left full p e =
-      let whole = whole_input ⊥ input now left (fed far.lines) [] far.taken p (inl e) in
+      let whole = whole_input ⊥ input now left (with_feeds far.lines) [] far.taken p (inl e) in
       subst (λ n. EndsInput gives input old new before after n) (max-zero status)
-      (ended (fed far.lines ++ ([] ++ whole.0)) [] new after 0 whole.1
-      (ap (λ l. input_lines (fed far.lines ++ l)) (nothing_left whole.0 whole.2) ∙ input_lines-last far.lines [] far.are refl)
+      (ended (with_feeds far.lines ++ ([] ++ whole.0)) [] new after 0 whole.1
+      (ap (λ l. input_lines (with_feeds far.lines ++ l)) (nothing_left whole.0 whole.2) ∙ input_lines-last far.lines [] far.are refl)
       (inr (far.lines, refl, far.counted ∙ full))
       (answers-blank gives after [] new refl refl))
 
   -- ---- how a run stops
 
-  between : (line : List ℕ) → IsOneLine line → StopsBetween gives (fed far.lines ++ line) before far.text after
+  between : (line : List ℕ) → IsOneLine line → StopsBetween gives (with_feeds far.lines ++ line) before far.text after
   between line h =
-      (status, subst (λ l. Runs gives before l (record { text = far.text; machine = after; status = status })) (sym (ended_in-fed far.lines line far.are h)) far.runs)
+      (status, subst (λ l. Runs gives before l (record { text = far.text; machine = after; status = status })) (sym (ended_in-with_feeds far.lines line far.are h)) far.runs)
 
   -- the reader failed within a line
   pub stops-read : (line : List ℕ) (left : Option (List ℕ)) → IsOneLine line → Consumes now left line → StopsForCause gives Read input left old new before after
   stops-read line left h p =
-      (fed far.lines ++ line, far.text, Consumes-then input now left (fed far.lines) line far.taken p, far.written, between line h)
+      (with_feeds far.lines ++ line, far.text, Consumes-then input now left (with_feeds far.lines) line far.taken p, far.written, between line h)
 
   -- a byte follows the last line that a run may have
   pub stops-limit : (byte : ℕ) (left : Option (List ℕ)) → count ≡ lines_limit → Consumes now left (byte ∷ []) → StopsForCause gives Lines input left old new before after
   stops-limit byte left full p =
-      let acted = fed far.lines ++ [] in (
-        fed far.lines ++ byte ∷ [],
+      let acted = with_feeds far.lines ++ [] in (
+        with_feeds far.lines ++ byte ∷ [],
         far.text,
-        Consumes-then input now left (fed far.lines) (byte ∷ []) far.taken p,
+        Consumes-then input now left (with_feeds far.lines) (byte ∷ []) far.taken p,
         far.written,
         (
           acted,
           byte,
-          ap (λ l. l ++ byte ∷ []) (sym (append-nil (fed far.lines))),
-          ap length (ended_in-fed far.lines [] far.are refl) ∙ far.counted ∙ full,
+          ap (λ l. l ++ byte ∷ []) (sym (append-nil (with_feeds far.lines))),
+          ap length (ended_in-with_feeds far.lines [] far.are refl) ∙ far.counted ∙ full,
           between [] refl,
         ),
       )
@@ -309,22 +305,22 @@ module _ {gives : Gives} {input now old new : Option (List ℕ)} {before after :
   }
 
   -- the bytes of the lines that were acted on
-  acted_on : (line : List ℕ) (left : Option (List ℕ)) → TookFedLine line now left ⊎ TookLastLine line now left
+  acted_on : (line : List ℕ) (left : Option (List ℕ)) → TookEndedLine line now left ⊎ TookLastLine line now left
       → (seen : List ℕ) × Consumes input left seen × WereActedOn seen left (far.lines ++ line ∷ [])
   acted_on line left (inl g) =
       let all = far.lines ++ line ∷ [] in (
-        fed all,
+        with_feeds all,
         after_line far line left g.2,
-        inl (sym (ap ended_in (sym (append-nil (fed all))) ∙ ended_in-fed all [] (AreLines-snoc far.lines line far.are g.1 g.0) refl)),
+        inl (sym (ap ended_in (sym (append-nil (with_feeds all))) ∙ ended_in-with_feeds all [] (AreLines-snoc far.lines line far.are g.1 g.0) refl)),
       )
   acted_on line left (inr g) = (
-    fed far.lines ++ line,
-    Consumes-then input now left (fed far.lines) line far.taken g.1,
+    with_feeds far.lines ++ line,
+    Consumes-then input now left (with_feeds far.lines) line far.taken g.1,
     inr (sym (input_lines-last far.lines line far.are g.0), at_last line left g.2),
   )
 
   stops-unanswered : (cause : Cause) (line : List ℕ) (left written : Option (List ℕ)) (next : Machine)
-      → TookFedLine line now left ⊎ TookLastLine line now left → LacksAnswer gives line after next new written cause → StopsForCause gives cause input left old written before next
+      → TookEndedLine line now left ⊎ TookLastLine line now left → LacksAnswer gives line after next new written cause → StopsForCause gives cause input left old written before next
   stops-unanswered Read line left written next g a = absurd a
   stops-unanswered Write line left written next g a =
       let h = acted_on line left g in
@@ -353,7 +349,7 @@ stops-at_once gives input old machine = ([], [], Consumes-same input, Appends-sa
 -- the run goes on, or ends, with the greater of two statuses
 pub so_far-next : {gives : Gives} {input now old new : Option (List ℕ)} {before after : Machine} {status count : ℕ} (far : SoFar gives input now old new before after status count)
     (line : List ℕ) (left written : Option (List ℕ)) (next : Machine) (more greatest : ℕ)
-    → TookFedLine line now left → Answers gives line after next new written more → greatest ≡ max status more
+    → TookEndedLine line now left → Answers gives line after next new written more → greatest ≡ max status more
     → SoFar gives input left old written before next greatest (count + 1)
 so_far-next {gives} {input} {old} {before} {count} far line left written next more greatest g a e =
     subst (λ n. SoFar gives input left old written before next n (count + 1)) (sym e) (so_far-line far line left written next more g a)

@@ -1,9 +1,8 @@
 -- Which lines of an input are answered, and how many lines an output has (this project's own).
 use Rattle.std.specs.Prelude.{◌≡◌, ℕ, Bool, not, ◌||◌, List, length}
-use Rattle.std.specs.List.{AllByRecursion, flat_map}
+use Rattle.std.specs.List.{AllByRecursion}
 use Rattle.deb_control.specs.Lines.{IsOneLine}
-use Rattle.wb_daemon.specs.Line.{is_blank_line, is_long}
-use Rattle.wb_daemon.specs.Run.{with_feed}
+use Rattle.wb_daemon.specs.Line.{is_blank_line, is_long, with_feeds}
 
 -- a line that is answered: each but those of spaces and tabs alone, of which one that is too long is none
 abbrev pub is_answered : List ℕ → Bool
@@ -12,6 +11,6 @@ is_answered line = is_long line || not (is_blank_line line)
 -- a text of this many lines, each ended by its line feed
 pub record HasLines (number : ℕ) (text : List ℕ) : Type 0 where
   pub lines : List (List ℕ)
-  pub joined : text ≡ flat_map with_feed lines
+  pub joined : text ≡ with_feeds lines
   pub each : AllByRecursion IsOneLine lines
   pub count : length lines ≡ number

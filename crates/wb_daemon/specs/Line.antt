@@ -1,10 +1,10 @@
 -- The lines that a run reads (this project's own).
 use Rattle.std.specs.Prelude.{◌≡◌, ◌⊎◌, ℕ, ◌-◌, ◌≤◌, Bool, true, nat_lt, if◌then◌else◌, List, [], ◌∷◌, ◌++◌, length, take, Option}
-use Rattle.std.specs.List.{list_all, slice_split}
+use Rattle.std.specs.List.{flat_map, list_all, slice_split}
 use Rattle.std.specs.Io.KnownBytes.{Consumes, IsAtEnd}
 use Rattle.deb_control.specs.Lines.{is_blank, is_feed, IsOneLine}
 use Rattle.wb_daemon.specs.declared.line.LineRead.{LineRead}
-use Rattle.wb_daemon.specs.declared.line.LineRead.TheVariants.{Fed, Last, TooLong, Failed}
+use Rattle.wb_daemon.specs.declared.line.LineRead.TheVariants.{Ended, Last, TooLong, Failed}
 use Rattle.wb_daemon.specs.declared.line.ByteRead.{ByteRead}
 use Rattle.wb_daemon.specs.declared.line.ByteRead.TheVariants as byte
 
@@ -15,6 +15,14 @@ line_limit = 65536
 -- the greatest number of lines that end with a line feed
 abbrev pub lines_limit : ℕ
 lines_limit = 1_000_000_000
+
+-- a text and the line feed after it
+abbrev pub with_feed : List ℕ → List ℕ
+with_feed text = text ++ 10 ∷ []
+
+-- texts, each with the line feed after it
+abbrev pub with_feeds : List (List ℕ) → List ℕ
+with_feeds texts = flat_map with_feed texts
 
 -- a line that is too long
 abbrev pub is_long : List ℕ → Bool
@@ -51,7 +59,7 @@ bytes_of byte.Failed = []
 
 -- what a read took from the reader: a line and its line feed, the last line, more than a line may have, or what came before a read that failed
 abbrev pub TookLine : List ℕ → Option (List ℕ) → Option (List ℕ) → LineRead → Type 0
-TookLine room old new (Fed len) = (len ≤ line_limit) × IsOneLine (take len room) × Consumes old new (take len room ++ 10 ∷ [])
+TookLine room old new (Ended len) = (len ≤ line_limit) × IsOneLine (take len room) × Consumes old new (with_feed (take len room))
 TookLine room old new (Last len) = (len ≤ line_limit) × IsOneLine (take len room) × Consumes old new (take len room) × IsAtEnd new
 TookLine room old new TooLong = (line : List ℕ) × (is_long line ≡ true) × IsOneLine line × Consumes old new line
 TookLine room old new Failed = (line : List ℕ) × IsOneLine line × Consumes old new line

@@ -15,7 +15,7 @@ use Rattle.wb_words.specs.declared.words.Asked.TheVariants.{Command as asked_Com
 use Rattle.wb_words.specs.declared.words.PartNames.{PartNames}
 use Rattle.wb_api.specs.Encoding.{reply_text, refusal_text, memory_text, line_fault_text, file_fault_text}
 use Rattle.deb_control.specs.Lines.{words_in}
-use Rattle.wb_daemon.specs.Line.{is_blank_line, is_long, input_lines, ended_in, lines_limit, AreWithinLimit}
+use Rattle.wb_daemon.specs.Line.{is_blank_line, is_long, input_lines, ended_in, lines_limit, with_feed, AreWithinLimit}
 use Rattle.wb_daemon.specs.Lists.{Gives, GivesMerge, IsAllOf}
 use Rattle.wb_daemon.specs.declared.run.Cause.{Cause}
 use Rattle.wb_daemon.specs.declared.run.Cause.TheVariants as why
@@ -25,10 +25,6 @@ pub record Said : Type 0 where
   pub text : List ℕ
   pub machine : Machine
   pub status : ℕ
-
--- a text and the line feed after it
-abbrev pub with_feed : List ℕ → List ℕ
-with_feed text = text ++ 10 ∷ []
 
 -- nothing is said, and the office stays as it is
 abbrev pub nothing_said : Machine → Said

@@ -1,14 +1,14 @@
 -- What one turn of a run does: it reads a line and answers it (this project's own).
-use Rattle.std.specs.Prelude.{◌≡◌, ℕ, ◌<◌, ◌≤◌, false, true, ◌⊎◌, List, [], ◌∷◌, ◌++◌, length, take, Option}
+use Rattle.std.specs.Prelude.{◌≡◌, ℕ, ◌<◌, ◌≤◌, false, true, ◌⊎◌, List, length, take, Option}
 use Rattle.std.specs.Cow.{cow_str_bytes}
 use Rattle.std.specs.Io.KnownBytes.{Appends, Consumes, IsAtEnd}
 use Rattle.wb_states.specs.Machine.{Machine}
 use Rattle.wb_states.specs.declared.command.Command.{Command}
 use Rattle.wb_words.specs.declared.words.Asked.{Asked}
 use Rattle.deb_control.specs.Lines.{IsOneLine}
-use Rattle.wb_daemon.specs.Line.{is_long}
+use Rattle.wb_daemon.specs.Line.{is_long, with_feed}
 use Rattle.wb_daemon.specs.Lists.{Gives}
-use Rattle.wb_daemon.specs.Run.{Said, Says, SaysAsked, command_said, memory_said, with_feed, Accepts, EndsInput, LineAsks, StopsForCause}
+use Rattle.wb_daemon.specs.Run.{Said, Says, SaysAsked, command_said, memory_said, Accepts, EndsInput, LineAsks, StopsForCause}
 use Rattle.wb_daemon.specs.declared.answer.Answer.{Answer}
 use Rattle.wb_daemon.specs.declared.run.Cause.{Cause}
 use Rattle.wb_daemon.specs.declared.run.Cause.TheVariants.{Read, Write, Reply}
@@ -56,8 +56,8 @@ LacksAnswer gives line before after old new Reply = LacksReply gives line before
 LacksAnswer gives line before after old new cause = ⊥
 
 -- a line and its line feed were taken from the reader
-abbrev pub TookFedLine : List ℕ → Option (List ℕ) → Option (List ℕ) → Type 0
-TookFedLine line old new = (is_long line ≡ false) × IsOneLine line × Consumes old new (line ++ 10 ∷ [])
+abbrev pub TookEndedLine : List ℕ → Option (List ℕ) → Option (List ℕ) → Type 0
+TookEndedLine line old new = (is_long line ≡ false) × IsOneLine line × Consumes old new (with_feed line)
 
 -- the last line was taken from the reader: nothing follows, or it is too long
 abbrev pub TookLastLine : List ℕ → Option (List ℕ) → Option (List ℕ) → Type 0
@@ -68,13 +68,13 @@ abbrev pub StopsTurn : Gives → Cause → Machine → Machine → Option (List 
 StopsTurn gives Read before after old_input new_input old new =
     (line : List ℕ) × IsOneLine line × Consumes old_input new_input line × (after ≡ before) × (new ≡ old)
 StopsTurn gives cause before after old_input new_input old new =
-    (line : List ℕ) × (TookFedLine line old_input new_input ⊎ TookLastLine line old_input new_input)
+    (line : List ℕ) × (TookEndedLine line old_input new_input ⊎ TookLastLine line old_input new_input)
     × LacksAnswer gives line before after old new cause
 
 -- what a turn did: a line was answered and more may follow, or the last line was answered, or the run stops
 abbrev pub Turns : Gives → Turn → Machine → Machine → Option (List ℕ) → Option (List ℕ) → Option (List ℕ) → Option (List ℕ) → Type 0
 Turns gives (More status) before after old_input new_input old new =
-    (line : List ℕ) × TookFedLine line old_input new_input × Answers gives line before after old new status
+    (line : List ℕ) × TookEndedLine line old_input new_input × Answers gives line before after old new status
 Turns gives (End status) before after old_input new_input old new =
     (line : List ℕ) × TookLastLine line old_input new_input × Answers gives line before after old new status
 Turns gives (Stop cause) before after old_input new_input old new =

@@ -24,7 +24,7 @@ pub(crate) enum ByteRead {
 #[derive(Clone, Copy)]
 pub(crate) enum LineRead {
     /// A line of this length, and then a line feed.
-    Fed(usize),
+    Ended(usize),
     /// A line of this length at the end of the input.
     Last(usize),
     /// The line is longer than a line may be.
@@ -53,14 +53,14 @@ pub(crate) fn read_line<R: Read>(reader: &mut R, room: &mut [u8]) -> LineRead
 {
     for len in 0..room.len() {
         match read_byte(reader) {
-            ByteRead::Byte(b'\n') => return LineRead::Fed(len),
+            ByteRead::Byte(b'\n') => return LineRead::Ended(len),
             ByteRead::Byte(byte) => room[len] = byte,
             ByteRead::End => return LineRead::Last(len),
             ByteRead::Failed => return LineRead::Failed,
         }
     }
     match read_byte(reader) {
-        ByteRead::Byte(b'\n') => LineRead::Fed(room.len()),
+        ByteRead::Byte(b'\n') => LineRead::Ended(room.len()),
         ByteRead::Byte(_) => LineRead::TooLong,
         ByteRead::End => LineRead::Last(room.len()),
         ByteRead::Failed => LineRead::Failed,

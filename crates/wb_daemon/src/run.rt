@@ -106,7 +106,7 @@ fn take_turn<R: Read, W: Write, L: Lists>(
     ensures consistent { IsConsistent office.old → IsConsistent office.new }
 {
     match read_line(reader, room) {
-        LineRead::Fed(len) => {
+        LineRead::Ended(len) => {
             let (line, _) = room.split_at(len);
             match answer_line(alloc, office, line, writer, lists) {
                 Ok(status) => Turn::More(status),

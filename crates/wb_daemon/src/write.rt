@@ -1,7 +1,7 @@
 //! Answers written to a writer, of which each write may fail.
 ghost use Rattle.std.specs.Prelude.{◌≡◌, length, true, false};
 ghost use Rattle.std.specs.Io.KnownBytes.{Appends};
-ghost use Rattle.wb_daemon.specs.Run.{with_feed};
+ghost use Rattle.wb_daemon.specs.Line.{with_feed};
 ghost use Rattle.wb_daemon.specs.Turn.{AppendsFront};
 
 use std::io::Write;

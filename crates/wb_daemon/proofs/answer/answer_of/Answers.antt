@@ -2,7 +2,7 @@
 use Rattle.std.proofs.Common.{◌≡◌, ap, refl, arith}
 use Rattle.std.proofs.lemmas.Option.{IfSome_then}
 use Rattle.wb_words.specs.declared.fault.WordsFault.TheVariants.{NoCommand, Memory}
-use Rattle.wb_daemon.specs.Run.{with_feed}
+use Rattle.wb_daemon.specs.Line.{with_feed}
 use Rattle.wb_daemon.proofs.AnswerLemmas.{LineAsks-asked, Says-asked, Says-fault, Says-memory}
 use Rattle.wb_daemon.proofs.answer.answer_of.Goals as goal
 

@@ -1,6 +1,6 @@
 -- What was written of what is said to the line.
 use Rattle.std.proofs.Common.{◌∙◌, sym, refl, subst}
-use Rattle.wb_daemon.specs.Run.{with_feed}
+use Rattle.wb_daemon.specs.Line.{with_feed}
 use Rattle.wb_daemon.specs.Turn.{AppendsFront, said_by}
 use Rattle.wb_daemon.proofs.AnswerLemmas.{answers-blank}
 use Rattle.wb_daemon.proofs.run.answer_line.Goals as goal

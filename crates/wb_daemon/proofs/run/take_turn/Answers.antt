@@ -1,7 +1,7 @@
 -- What a turn did.
 use Rattle.std.proofs.Common.{◌∙◌, subst, take, inl, inr}
 use Rattle.std.specs.Io.KnownBytes.{Appends}
-use Rattle.wb_daemon.specs.Run.{with_feed}
+use Rattle.wb_daemon.specs.Line.{with_feed}
 use Rattle.wb_daemon.specs.Turn.{AppendsFront, LacksAnswer}
 use Rattle.wb_daemon.proofs.AnswerLemmas.{answers-long, answers-long_cut, stops_turn}
 use Rattle.wb_daemon.proofs.RunLemmas.{short_line}
@@ -9,14 +9,14 @@ use Rattle.wb_daemon.proofs.run.take_turn.Goals as goal
 
 pub returns-in-Err-clause-value : goal.returns-in-Err-clause-value
 returns-in-Err-clause-value g c =
-    let took = c.in-Fed.ensures.value in
-    let line = take c.in-Fed.len c.read_line.new.room in
+    let took = c.in-Ended.ensures.value in
+    let line = take c.in-Ended.len c.read_line.new.room in
     let lacks = subst (λ l. LacksAnswer (g.L.Lists.gives c.args.lists.now) l c.args.office.now c.answer_line.new.office
     (g.W.Write.contents c.args.writer.now) (g.W.Write.contents c.answer_line.new.writer) c.in-Err.cause)
     {y = line} c.split_at.ensures.front c.in-Err.ensures.err in
     stops_turn (g.L.Lists.gives c.args.lists.now) c.in-Err.cause line c.args.office.now c.answer_line.new.office
     (g.R.Read.remaining c.args.reader.now) (g.R.Read.remaining c.read_line.new.reader) (g.W.Write.contents c.args.writer.now) (g.W.Write.contents c.answer_line.new.writer)
-    (inl (short_line c.read_line.new.room c.in-Fed.len took.0, took.1, took.2)) lacks
+    (inl (short_line c.read_line.new.room c.in-Ended.len took.0, took.1, took.2)) lacks
 
 pub returns-in-Err-answer_line-clause-value : goal.returns-in-Err-answer_line-clause-value
 returns-in-Err-answer_line-clause-value g c =
