@@ -1,5 +1,5 @@
 -- What a text of relations is read as: its groups, else the first fault from the left, piece by piece (Debian Policy 7.1).
-use Rattle.std.specs.Prelude.{◌≡◌, ℕ, ◌-◌, ◌+◌, ◌==◌, Bool, true, false, not, ◌&&◌, ◌||◌, List, [], ◌∷◌, ◌++◌, length, if◌then◌else◌, nat_lt, is_some, filter}
+use Rattle.std.specs.Prelude.{◌≡◌, ℕ, ◌-◌, ◌+◌, ◌==◌, Bool, true, not, ◌&&◌, ◌||◌, List, [], ◌∷◌, ◌++◌, length, if◌then◌else◌, nat_lt, is_some, filter}
 use Rattle.std.specs.Prelude.{Option, None, Some, Result, Err}
 use Rattle.std.specs.List.{list_all, slice_split, take_while}
 use Rattle.std.specs.Option.{ok_or}

@@ -18,9 +18,7 @@ use Rattle.wb_states.proofs.KeyLemmas.{pair_cmp_total}
 use Rattle.wb_merge.specs.Merged.{Records, has_same_source, has_same_place, has_same_texts, is_same_record, change_of}
 use Rattle.wb_merge.specs.declared.merge.Change.TheVariants.{Kept, Changed}
 use Rattle.wb_merge.specs.Steps.{Key, IsSetAt}
-use Rattle.wb_merge.proofs.CheckLemmas.{both-true}
-use Rattle.wb_merge.proofs.NameLemmas.{bytes_eq-is, bytes_eq-itself, pair-is}
-use Rattle.std.specs.Bool.{beq}
+use Rattle.wb_merge.proofs.NameLemmas.{bytes_eq-is, pair-is}
 
 -- ---- one record more or less
 

@@ -9,7 +9,7 @@ ghost use Rattle.wb_states.specs.declared.refusal.ListingFault.TheVariants.{Cont
 ghost use Rattle.wb_states.specs.declared.refusal.ListField.TheVariants.{Source};
 ghost use Rattle.wb_states.specs.Holds.{has_value};
 ghost use Rattle.wb_merge.specs.Rows.{source_name, has_source_version, in_brackets, is_space, source_version, is_source_text, rebuild_number, NamesSource};
-ghost use Rattle.wb_merge.specs.Backwards.{begins_plus_b, begins_digit};
+ghost use Rattle.wb_merge.specs.Backwards.{begins_plus_b};
 ghost use Rattle.deb_relations.specs.Text.{begins};
 
 use crate::fields::parse_version;
