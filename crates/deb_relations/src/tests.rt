@@ -1,6 +1,8 @@
 mod reading;
 
-use crate::{ArchWords, Available, RelationFault, Relations, arch_matches, is_package_name};
+use crate::{
+    ArchWords, Available, RelationFault, Relations, arch_matches, is_arch_word, is_package_name,
+};
 use deb_version::{Version, VersionFault};
 use std::test::Fail;
 
@@ -44,6 +46,25 @@ fn packages_have_names(rt: HostRuntime) -> Result<(), Fail> {
     ];
     for (text, want) in cases {
         assert_eq!(rt; is_package_name(text), want, "at {text}");
+    }
+    Ok(())
+}
+
+#[test]
+fn words_are_of_architectures(rt: HostRuntime) -> Result<(), Fail> {
+    let cases = [
+        ("amd64", true),
+        ("hurd-i386", true),
+        ("linux-any", true),
+        ("x32", true),
+        ("", false),
+        ("-any", false),
+        ("!amd64", false),
+        ("PowerPC", false),
+        ("arm_64", false),
+    ];
+    for (text, want) in cases {
+        assert_eq!(rt; is_arch_word(text), want, "at {text}");
     }
     Ok(())
 }
