@@ -1,10 +1,11 @@
 -- Where memory is wanted: the first line of a paragraph is then that of a field.
-use Rattle.std.proofs.Common.{◌≡◌, ◌∙◌, sym, ap, ℕ, ◌<◌, ◌≤◌, Bool, true, length, map, List, [], ◌⊎◌, inl, inr, arith, None}
-use Rattle.std.specs.Prelude.{nat_lt, not, ◌&&◌, IsUtf8, is_none}
+use Rattle.std.proofs.Common.{◌≡◌, ◌∙◌, sym, ap, ℕ, ◌<◌, ◌≤◌, true, length, map, List, [], ◌⊎◌, inl, inr, arith, None}
+use Rattle.std.specs.Prelude.{nat_lt, not, IsUtf8, is_none}
 use Rattle.std.specs.List.{before_first, after_first, concat}
 use Rattle.std.specs.Str.{is_utf8}
 use Rattle.std.proofs.lemmas.Str.{is_utf8-from_IsUtf8}
 use Rattle.std.proofs.lemmas.Bool.Decides.{nat_tests}
+use Rattle.std.proofs.lemmas.Bool.{and_from}
 use Rattle.deb_control.specs.Lines.{is_feed, lines_of, body_of, lines_in}
 use Rattle.deb_control.specs.Fields.{Entry, names_in, line_fault, largest_paragraph, begin_with_field, takes_memory}
 use Rattle.deb_control.proofs.LineLemmas.{concat-lines_of}
@@ -29,9 +30,6 @@ begins-behind fields left text line rest (inl first) some front behind good =
     begins-at fields left text line rest (inl first) some front behind (ap (λ xs. line_fault (names_in xs) line) (sym first.0) ∙ good)
 begins-behind fields left text line rest (inr begun) some front behind good = begun
 
-both-true : (b c : Bool) → b ≡ true → c ≡ true → (b && c) ≡ true
-both-true b c e f = rw e f
-
 not_less : (m n : ℕ) → n ≤ m → not (nat_lt m n) ≡ true
 not_less m n h = grind (arith, nat_tests)
 
@@ -41,5 +39,5 @@ pub takes_memory-of : (bytes text : List ℕ) → length bytes ≤ largest_parag
 unfolding takes_memory lines_in
 takes_memory-of bytes text small utf8 begun =
     let whole : concat (lines_of bytes) ≡ bytes = concat-lines_of bytes in
-    both-true _ _ (ap (λ xs. not (nat_lt largest_paragraph (length xs))) whole ∙ not_less largest_paragraph (length bytes) small)
-    (both-true _ _ (ap is_utf8 whole ∙ is_utf8-from_IsUtf8 bytes utf8.1) (ap (λ xs. begin_with_field (map body_of (lines_of xs))) (sym utf8.0) ∙ begun))
+    and_from _ _ (ap (λ xs. not (nat_lt largest_paragraph (length xs))) whole ∙ not_less largest_paragraph (length bytes) small)
+    (and_from _ _ (ap is_utf8 whole ∙ is_utf8-from_IsUtf8 bytes utf8.1) (ap (λ xs. begin_with_field (map body_of (lines_of xs))) (sym utf8.0) ∙ begun))

@@ -1,12 +1,9 @@
 -- Lemmas behind the law that a text is its lines.
 use Rattle.std.proofs.Common.{◌≡◌, ◌∙◌, sym, ap, refl, ℕ, ◌<◌, Bool, true, false, ◌||◌, length, List, [], ◌∷◌, ◌++◌, append-nil, append_assoc, ◌⊎◌, inl, inr, arith}
 use Rattle.std.specs.List.{list_any, onto_first}
+use Rattle.std.proofs.lemmas.Bool.{or_parts}
 use borrow.Author.Tests.{eqb-true}
 use Rattle.deb_control.specs.Lines.{is_feed, lines_of, HaveLines}
-
-apart : (b c : Bool) → (b || c) ≡ false → (b ≡ false) × (c ≡ false)
-apart true c e = cc
-apart false c e = (refl, e)
 
 together : (b c : Bool) → b ≡ false → c ≡ false → (b || c) ≡ false
 together b c e f = rw e f
@@ -40,15 +37,15 @@ other-first c cs e = rw e refl
 line-ended : (body rest : List ℕ) → list_any is_feed body ≡ false → lines_of (body ++ (10 ∷ rest)) ≡ (body ++ 10 ∷ []) ∷ lines_of rest
 line-ended [] rest free = refl
 line-ended (c ∷ cs) rest free =
-    let two = apart (is_feed c) (list_any is_feed cs) free in
+    let two = or_parts (is_feed c) (list_any is_feed cs) free in
     other-first c (cs ++ (10 ∷ rest)) two.0 ∙ ap (onto_first c) (line-ended cs rest two.1)
 
 -- a line that lacks it is the only one
 line-open : (body : List ℕ) → 0 < length body → list_any is_feed body ≡ false → lines_of body ≡ body ∷ []
 line-open [] some free = absurd (omega arith)
-line-open (c ∷ []) some free = other-first c [] (apart (is_feed c) false free).0
+line-open (c ∷ []) some free = other-first c [] (or_parts (is_feed c) false free).0
 line-open (c ∷ d ∷ ds) some free =
-    let two = apart (is_feed c) (list_any is_feed (d ∷ ds)) free in
+    let two = or_parts (is_feed c) (list_any is_feed (d ∷ ds)) free in
     other-first c (d ∷ ds) two.0 ∙ ap (onto_first c) (line-open (d ∷ ds) (omega arith) two.1)
 
 first-by : (line rest body : List ℕ) → list_any is_feed body ≡ false

@@ -5,6 +5,7 @@ use Rattle.std.proofs.lemmas.Bool.Decides.{nat_tests}
 use Rattle.std.proofs.lemmas.Slice.Eq.{bytes_eq-Decides}
 use Rattle.std.specs.Prelude.{bytes_eq, codes}
 use Rattle.std.specs.Option.{is_none, option_map}
+use Rattle.std.proofs.lemmas.Bool.{and_parts, and_from}
 use Rattle.deb_version.specs.declared.operator.Op.{Op}
 use Rattle.deb_version.specs.Syntax.{fault_of, is_upstream_char, is_revision_char, is_version_text}
 use Rattle.deb_relations.specs.declared.relations.Kind.{Kind}
@@ -17,7 +18,7 @@ use Rattle.deb_relations.specs.Reduction.{is_filled}
 use Rattle.deb_relations.specs.Grammar.{is_white, is_blank_text, is_profile_char, is_op_char, is_qualifier, is_word, is_not_blank, op_of, words, TakesName, TakesQualifier, InBrackets, IsRestriction, TakesRestriction, ReadsTerms, TakesArchs, ReadsProfiles, ReadsAlternative, ReadsGroup, Reads}
 use Rattle.deb_relations.specs.Names.{is_lower_or_digit, is_package_char, is_arch_char, begins_with_lower_or_digit, is_package_name, is_arch_word}
 use Rattle.deb_relations.specs.Reader.{skip, strip, is_solid, between, between_opened, read_between, with_rest, read_name, read_behind_colon, read_qualifier, asked_of, asked_behind, asked_from, restriction_of, asked_inside, read_restriction, term_behind, term_of, both, all_some, filled_only, terms_of, alike_only, archs_of, read_archs, profile_behind, profile_of, lists_of, read_profiles, with_profiles, with_archs, with_asked, with_qualifier, with_name, read_alternative, read_group, read_groups}
-use Rattle.deb_relations.proofs.FrontLemmas.{both-true, and-true, stops, opens, take_while-all, skip-all, opens-stops, opens-weaker, all-weaker, all-both, skip-cons}
+use Rattle.deb_relations.proofs.FrontLemmas.{stops, opens, take_while-all, skip-all, opens-stops, opens-weaker, all-weaker, all-both, skip-cons}
 use Rattle.deb_relations.proofs.CutLemmas.{strip-here, cut-here, split-here, split-none}
 use Rattle.deb_relations.proofs.TurnLemmas.{lists-cons, split-has}
 use Rattle.deb_relations.proofs.VersionFormLemmas.{version-form, version-filled}
@@ -67,7 +68,7 @@ bracket-opens p l r t inside rest b w h =
 blank-skip : (t : List ℕ) → is_blank_text t ≡ true → skip is_white t ≡ []
 blank-skip [] h = refl
 blank-skip (c ∷ cs) h =
-    let two : (is_white c ≡ true) × (is_blank_text cs ≡ true) = both-true _ _ h in
+    let two : (is_white c ≡ true) × (is_blank_text cs ≡ true) = and_parts _ _ h in
     skip-cons is_white c cs ∙ ap (λ v. cond v (skip is_white cs) (c ∷ cs)) two.0 ∙ blank-skip cs two.1
 
 pub profiles-open : (t : List ℕ) (lists : List (List Term)) → ReadsProfiles t lists → opens is_angle (skip is_white t)
@@ -110,8 +111,8 @@ begins-stops (c ∷ cs) rest h = lower-not-white c h
 pub name-complete : (t name rest : List ℕ) → TakesName t name rest → opens is_behind_name rest → read_name t ≡ Some (name, rest)
 unfolding read_name is_package_name
 name-complete t name rest h o =
-    let form : (begins_with_lower_or_digit name ≡ true) × (_ ≡ true) = both-true _ _ h.form in
-    let chars : (list_all is_package_char name ≡ true) × (_ ≡ true) = both-true _ _ form.1 in
+    let form : (begins_with_lower_or_digit name ≡ true) × (_ ≡ true) = and_parts _ _ h.form in
+    let chars : (list_all is_package_char name ≡ true) × (_ ≡ true) = and_parts _ _ form.1 in
     let front : skip is_white t ≡ name ++ rest = ap (skip is_white) h.split ∙ skip-all is_white h.gap (name ++ rest) h.blank (begins-stops name rest form.0) in
     let end : stops is_package_char rest = opens-stops is_behind_name is_package_char rest behind-no-package o in
     let one : take_while is_package_char (skip is_white t) ≡ name = ap (take_while is_package_char) front ∙ take_while-all is_package_char name rest chars.0 end in
@@ -128,7 +129,7 @@ qualifier-complete t None rest h o =
     let none : strip 58 t ≡ None = ap (strip 58) h ∙ strip-not is_next 58 rest o colon-not-next in
     ap (read_behind_colon t) none ∙ ap (λ x. Some (None, x)) h
 qualifier-complete t (Some word) rest h o =
-    let two : (is_filled word ≡ true) × (list_all is_arch_char word ≡ true) = both-true _ _ h.1 in
+    let two : (is_filled word ≡ true) × (list_all is_arch_char word ≡ true) = and_parts _ _ h.1 in
     let end : stops is_arch_char rest = opens-stops is_next is_arch_char rest next-no-arch o in
     let some : strip 58 t ≡ Some (word ++ rest) = ap (strip 58) h.0 ∙ strip-here 58 (word ++ rest) in
     let one : take_while is_arch_char (word ++ rest) ≡ word = take_while-all is_arch_char word rest two.1 end in
@@ -183,16 +184,16 @@ version-other c h = grind (arith, nat_tests)
 
 all-opens : (p : ℕ → Bool) (xs : List ℕ) → list_all p xs ≡ true → opens p xs
 all-opens p [] h = tt
-all-opens p (x ∷ xs) h = (both-true (p x) (list_all p xs) h).0
+all-opens p (x ∷ xs) h = (and_parts (p x) (list_all p xs) h).0
 
 -- the first of two texts opens, where it is filled
 front-stops : (p q : ℕ → Bool) (xs rest : List ℕ) → ((c : ℕ) → p c ≡ true → q c ≡ false) → list_all p xs ≡ true → stops q rest → stops q (xs ++ rest)
 front-stops p q [] rest f h s = s
-front-stops p q (x ∷ xs) rest f h s = f x (both-true (p x) (list_all p xs) h).0
+front-stops p q (x ∷ xs) rest f h s = f x (and_parts (p x) (list_all p xs) h).0
 
 filled-stops : (p q : ℕ → Bool) (xs rest : List ℕ) → ((c : ℕ) → p c ≡ true → q c ≡ false) → list_all p xs ≡ true → is_filled xs ≡ true → stops q (xs ++ rest)
 filled-stops p q [] rest f h k = absurd (cc)
-filled-stops p q (x ∷ xs) rest f h k = f x (both-true (p x) (list_all p xs) h).0
+filled-stops p q (x ∷ xs) rest f h k = f x (and_parts (p x) (list_all p xs) h).0
 
 op-filled : (t : List ℕ) (op : Op) → op_of t ≡ Some op → is_filled t ≡ true
 unfolding op_of
@@ -252,7 +253,7 @@ asked-complete inside asked h =
     ∙ ap (asked_behind (Some asked.op)) e3
     ∙ ap (λ x. asked_of (Some asked.op) x (skip is_solid last)) e4
     ∙ ap (asked_of (Some asked.op) v) e5
-    ∙ ap (λ b. cond b (Some (record { op = asked.op; version = v })) None) (and-true (is_none (fault_of v)) (is_blank_text h.back) (ap is_none h.version) h.back_blank)
+    ∙ ap (λ b. cond b (Some (record { op = asked.op; version = v })) None) (and_from (is_none (fault_of v)) (is_blank_text h.back) (ap is_none h.version) h.back_blank)
 
 pub restriction-complete : (t : List ℕ) (asked : Option Restriction) (rest : List ℕ) → TakesRestriction t asked rest → opens is_square (skip is_white rest) → read_restriction t ≡ Some (asked, rest)
 unfolding read_restriction is_white
@@ -267,22 +268,22 @@ module _ (p : ℕ → Bool) (white : (c : ℕ) → is_white c ≡ true → p c �
   onto-all : (c : ℕ) (ps : List (List ℕ)) → list_all (list_all p) (onto_first c ps) ≡ true → (list_all (list_all p) ps ≡ true) × ((is_filled ps ≡ true) → p c ≡ true)
   onto-all c [] h = (refl, λ k. absurd (cc))
   onto-all c (x ∷ ps) h =
-      let two = both-true (p c && list_all p x) (list_all (list_all p) ps) h in
-      let one = both-true (p c) (list_all p x) two.0 in
-      (and-true (list_all p x) (list_all (list_all p) ps) one.1 two.1, λ k. one.0)
+      let two = and_parts (p c && list_all p x) (list_all (list_all p) ps) h in
+      let one = and_parts (p c) (list_all p x) two.0 in
+      (and_from (list_all p x) (list_all (list_all p) ps) one.1 two.1, λ k. one.0)
 
   parts-all : (t : List ℕ) → list_all (list_all p) (slice_split is_white t) ≡ true → list_all p t ≡ true
   parts-all [] h = refl
   parts-all (c ∷ cs) h =
       elim (is_white c) as (λ v. is_white c ≡ v → list_all (list_all p) (cond v ([] ∷ slice_split is_white cs) (onto_first c (slice_split is_white cs))) ≡ true → (p c && list_all p cs) ≡ true) [
-        | true ↦ λ e k. and-true (p c) (list_all p cs) (white c e) (parts-all cs k)
-        | false ↦ λ e k. let two = onto-all c (slice_split is_white cs) k in and-true (p c) (list_all p cs) (two.1 (split-has is_white cs)) (parts-all cs two.0)
+        | true ↦ λ e k. and_from (p c) (list_all p cs) (white c e) (parts-all cs k)
+        | false ↦ λ e k. let two = onto-all c (slice_split is_white cs) k in and_from (p c) (list_all p cs) (two.1 (split-has is_white cs)) (parts-all cs two.0)
       ] refl h
 
   filter-all : (ps : List (List ℕ)) → list_all (list_all p) (filter is_filled ps) ≡ true → list_all (list_all p) ps ≡ true
   filter-all [] h = refl
   filter-all ([] ∷ ps) h = filter-all ps h
-  filter-all ((x ∷ xs) ∷ ps) h = let two = both-true (list_all p (x ∷ xs)) (list_all (list_all p) (filter is_filled ps)) h in and-true (list_all p (x ∷ xs)) (list_all (list_all p) ps) two.0 (filter-all ps two.1)
+  filter-all ((x ∷ xs) ∷ ps) h = let two = and_parts (list_all p (x ∷ xs)) (list_all (list_all p) (filter is_filled ps)) h in and_from (list_all p (x ∷ xs)) (list_all (list_all p) ps) two.0 (filter-all ps two.1)
 
   words-all : (t : List ℕ) → list_all (list_all p) (words t) ≡ true → list_all p t ≡ true
   unfolding words
@@ -294,8 +295,8 @@ arch-is-profile c h = grind (arith, nat_tests)
 
 pub word-chars : (kind : Kind) (word : List ℕ) → is_word kind word ≡ true → list_all is_profile_char word ≡ true
 unfolding is_word is_arch_word
-word-chars Arch word h = all-weaker is_arch_char is_profile_char arch-is-profile word (both-true _ _ h).1
-word-chars Profile word h = (both-true _ _ h).1
+word-chars Arch word h = all-weaker is_arch_char is_profile_char arch-is-profile word (and_parts _ _ h).1
+word-chars Profile word h = (and_parts _ _ h).1
 
 profile-other : (r : ℕ) → is_profile_char r ≡ false → (c : ℕ) → is_profile_char c ≡ true → other r c ≡ true
 profile-other r e c h =
@@ -307,13 +308,13 @@ profile-other r e c h =
 term-inside : (kind : Kind) (r : ℕ) → is_profile_char r ≡ false → other r 33 ≡ true → (term : Term) → is_word kind term.word ≡ true → list_all (other r) (term_text term) ≡ true
 term-inside kind r e m term h =
     let chars : list_all (other r) term.word ≡ true = all-weaker is_profile_char (other r) (profile-other r e) term.word (word-chars kind term.word h) in
-    elim term.negated as (λ v. list_all (other r) (cond v (33 ∷ term.word) term.word) ≡ true) [ true ↦ and-true (other r 33) (list_all (other r) term.word) m chars | false ↦ chars ]
+    elim term.negated as (λ v. list_all (other r) (cond v (33 ∷ term.word) term.word) ≡ true) [ true ↦ and_from (other r 33) (list_all (other r) term.word) m chars | false ↦ chars ]
 
 terms-texts : (kind : Kind) (r : ℕ) → is_profile_char r ≡ false → other r 33 ≡ true → (terms : List Term) → list_all (λ term. is_word kind term.word) terms ≡ true → list_all (list_all (other r)) (map term_text terms) ≡ true
 terms-texts kind r e m [] h = refl
 terms-texts kind r e m (term ∷ terms) h =
-    let two = both-true (is_word kind term.word) (list_all (λ term. is_word kind term.word) terms) h in
-    and-true _ _ (term-inside kind r e m term two.0) (terms-texts kind r e m terms two.1)
+    let two = and_parts (is_word kind term.word) (list_all (λ term. is_word kind term.word) terms) h in
+    and_from _ _ (term-inside kind r e m term two.0) (terms-texts kind r e m terms two.1)
 
 terms-inside : (kind : Kind) (r : ℕ) → is_profile_char r ≡ false → other r 33 ≡ true → ((c : ℕ) → is_white c ≡ true → other r c ≡ true) → (inside : List ℕ) (terms : List Term) → ReadsTerms kind inside terms → list_all (other r) inside ≡ true
 terms-inside kind r e m w inside terms h =
@@ -325,7 +326,7 @@ profile-not-mark c h = grind (arith, nat_tests)
 
 strip-word : (word : List ℕ) → list_all is_profile_char word ≡ true → strip 33 word ≡ None
 strip-word [] h = refl
-strip-word (c ∷ cs) h = ap (λ v. cond v (Some cs) None) (profile-not-mark c (both-true (is_profile_char c) (list_all is_profile_char cs) h).0)
+strip-word (c ∷ cs) h = ap (λ v. cond v (Some cs) None) (profile-not-mark c (and_parts (is_profile_char c) (list_all is_profile_char cs) h).0)
 
 term-at : (kind : Kind) (negated : Bool) (word : List ℕ) → is_word kind word ≡ true → term_of kind (cond negated (33 ∷ word) word) ≡ Some (record { negated = negated; word = word })
 unfolding term_of
@@ -335,7 +336,7 @@ term-at kind false word h = ap (term_behind kind word) (strip-word word (word-ch
 terms-at : (kind : Kind) (terms : List Term) → list_all (λ term. is_word kind term.word) terms ≡ true → all_some (term_of kind) (map term_text terms) ≡ Some terms
 terms-at kind [] h = refl
 terms-at kind (term ∷ terms) h =
-    let two = both-true (is_word kind term.word) (list_all (λ term. is_word kind term.word) terms) h in
+    let two = and_parts (is_word kind term.word) (list_all (λ term. is_word kind term.word) terms) h in
     ap (λ o. both o (all_some (term_of kind) (map term_text terms))) (term-at kind term.negated term.word two.0)
     ∙ ap (both (Some term)) (terms-at kind terms two.1)
 

@@ -15,10 +15,11 @@ use Rattle.deb_relations.specs.Reduction.{is_filled}
 use Rattle.deb_relations.specs.Grammar.{is_white, is_op_char, op_of, TakesName, TakesQualifier, InBrackets}
 use Rattle.deb_relations.specs.Reader.{skip, strip, cut, is_solid, between_opened, between, read_name, read_qualifier, read_restriction, terms_of, read_archs, profile_of}
 use Rattle.deb_relations.specs.Reading.{place_of, end_before, span, name_fault, version_fault, fault_behind_operator, operator_fault, asked_fault, bracket_fault, restriction_fault, words_fault, archs_fault, list_fault, lists_fault, profiles_fault, or_behind, fault_behind_restriction, fault_behind_qualifier, fault_behind_name, alternative_fault, first_fault, is_alternative, group_fault, is_group_or_blank, groups_fault, is_asked_char, ends_asked, HasBadVersion}
-use Rattle.deb_relations.proofs.FrontLemmas.{stops, both-true, and-true, take_while-skip, take_while-passes, skip-stops}
+use Rattle.deb_relations.proofs.FrontLemmas.{stops, take_while-skip, take_while-passes, skip-stops}
 use Rattle.deb_relations.proofs.CutLemmas.{cut-clear}
 use Rattle.deb_relations.proofs.SoundLemmas.{between-sound, name-sound, qualifier-sound}
 use Rattle.std.specs.Option.{option_map}
+use Rattle.std.proofs.lemmas.Bool.{and_parts, and_from}
 
 -- a text that stands in another
 pub record StandsIn (part text : List ℕ) : Type 0 where
@@ -61,18 +62,18 @@ ended-here (c ∷ cs) rest s =
 
 -- the front and the back of a text whose characters pass
 all-front : (p : ℕ → Bool) (xs ys : List ℕ) → list_all p (xs ++ ys) ≡ true → list_all p xs ≡ true
-all-front p xs ys h = (both-true (list_all p xs) (list_all p ys) (sym (list_all-append p xs ys) ∙ h)).0
+all-front p xs ys h = (and_parts (list_all p xs) (list_all p ys) (sym (list_all-append p xs ys) ∙ h)).0
 
 all-back : (p : ℕ → Bool) (xs ys : List ℕ) → list_all p (xs ++ ys) ≡ true → list_all p ys ≡ true
-all-back p xs ys h = (both-true (list_all p xs) (list_all p ys) (sym (list_all-append p xs ys) ∙ h)).1
+all-back p xs ys h = (and_parts (list_all p xs) (list_all p ys) (sym (list_all-append p xs ys) ∙ h)).1
 
 all-asked : (xs : List ℕ) → list_all is_solid xs ≡ true → list_all (λ b. not (eqb b 41)) xs ≡ true → list_all is_asked_char xs ≡ true
 unfolding is_asked_char
 all-asked [] s h = refl
 all-asked (c ∷ cs) s h =
-    let p : (is_solid c ≡ true) × (list_all is_solid cs ≡ true) = both-true (is_solid c) (list_all is_solid cs) s in
-    let q : (not (eqb c 41) ≡ true) × (list_all (λ b. not (eqb b 41)) cs ≡ true) = both-true (not (eqb c 41)) (list_all (λ b. not (eqb b 41)) cs) h in
-    and-true (is_solid c && not (eqb c 41)) (list_all is_asked_char cs) (and-true (is_solid c) (not (eqb c 41)) p.0 q.0) (all-asked cs p.1 q.1)
+    let p : (is_solid c ≡ true) × (list_all is_solid cs ≡ true) = and_parts (is_solid c) (list_all is_solid cs) s in
+    let q : (not (eqb c 41) ≡ true) × (list_all (λ b. not (eqb b 41)) cs ≡ true) = and_parts (not (eqb c 41)) (list_all (λ b. not (eqb b 41)) cs) h in
+    and_from (is_solid c && not (eqb c 41)) (list_all is_asked_char cs) (and_from (is_solid c) (not (eqb c 41)) p.0 q.0) (all-asked cs p.1 q.1)
 
 has-in : (part text : List ℕ) (fault : VersionFault) → StandsIn part text → HasBadVersion part fault → HasBadVersion text fault
 has-in part text fault s h = record {

@@ -1,17 +1,9 @@
 -- The longest front of a text whose characters pass a test, and what follows it.
-use Rattle.std.proofs.Common.{◌≡◌, ℕ, suc, ◌<◌, ◌≤◌, Bool, true, false, cond, ◌&&◌, List, [], ◌∷◌, ◌++◌, length, take, drop, get_or, refl, sym, ap, ◌∙◌, arith, subst, ◌+◌, take-append-drop}
+use Rattle.std.proofs.Common.{◌≡◌, ℕ, suc, ◌<◌, ◌≤◌, Bool, true, false, cond, List, [], ◌∷◌, ◌++◌, length, take, drop, get_or, refl, sym, ap, ◌∙◌, arith, subst, ◌+◌, take-append-drop}
 use Rattle.std.specs.List.{list_all, take_while, prefix_len}
 use Rattle.deb_relations.specs.Reader.{skip}
 use Rattle.std.proofs.lemmas.List.Sums.{take_while-cons, prefix_len_is}
-
--- both parts of a test
-pub both-true : (a b : Bool) → (a && b) ≡ true → (a ≡ true) × (b ≡ true)
-both-true true b h = (refl, h)
-both-true false b h = absurd (cc)
-
-pub and-true : (a b : Bool) → a ≡ true → b ≡ true → (a && b) ≡ true
-and-true true b p q = q
-and-true false b p q = p
+use Rattle.std.proofs.lemmas.Bool.{and_parts, and_from}
 
 -- an empty text, or one whose first character does not pass
 abbrev pub stops : (ℕ → Bool) → List ℕ → Type 0
@@ -36,7 +28,7 @@ skip-cons t c cs =
 take_while-passes-at : (t : ℕ → Bool) (c : ℕ) (cs : List ℕ) (b : Bool) → t c ≡ b
     → list_all t (take_while t cs) ≡ true
     → list_all t (cond b (c ∷ take_while t cs) []) ≡ true
-take_while-passes-at t c cs true e h = and-true (t c) (list_all t (take_while t cs)) e h
+take_while-passes-at t c cs true e h = and_from (t c) (list_all t (take_while t cs)) e h
 take_while-passes-at t c cs false e h = refl
 
 pub take_while-passes : (t : ℕ → Bool) (cs : List ℕ) → list_all t (take_while t cs) ≡ true
@@ -62,13 +54,13 @@ skip-none t (c ∷ cs) s = skip-cons t c cs ∙ ap (λ b. cond b (skip t cs) (c 
 pub take_while-all : (t : ℕ → Bool) (xs rest : List ℕ) → list_all t xs ≡ true → stops t rest → take_while t (xs ++ rest) ≡ xs
 take_while-all t [] rest h s = take_while-none t rest s
 take_while-all t (x ∷ xs) rest h s =
-    let two : (t x ≡ true) × (list_all t xs ≡ true) = both-true (t x) (list_all t xs) h in
+    let two : (t x ≡ true) × (list_all t xs ≡ true) = and_parts (t x) (list_all t xs) h in
     take_while-cons t x (xs ++ rest) ∙ ap (λ b. cond b (x ∷ take_while t (xs ++ rest)) []) two.0 ∙ ap (λ ys. x ∷ ys) (take_while-all t xs rest two.1 s)
 
 pub skip-front : (t : ℕ → Bool) (xs rest : List ℕ) → list_all t xs ≡ true → skip t (xs ++ rest) ≡ skip t rest
 skip-front t [] rest h = refl
 skip-front t (x ∷ xs) rest h =
-    let two : (t x ≡ true) × (list_all t xs ≡ true) = both-true (t x) (list_all t xs) h in
+    let two : (t x ≡ true) × (list_all t xs ≡ true) = and_parts (t x) (list_all t xs) h in
     skip-cons t x (xs ++ rest) ∙ ap (λ b. cond b (skip t (xs ++ rest)) (x ∷ (xs ++ rest))) two.0 ∙ skip-front t xs rest two.1
 
 pub skip-all : (t : ℕ → Bool) (xs rest : List ℕ) → list_all t xs ≡ true → stops t rest → skip t (xs ++ rest) ≡ rest
@@ -85,14 +77,14 @@ opens-weaker p q (c ∷ cs) f h = f c h
 pub all-weaker : (p q : ℕ → Bool) → ((c : ℕ) → p c ≡ true → q c ≡ true) → (xs : List ℕ) → list_all p xs ≡ true → list_all q xs ≡ true
 all-weaker p q f [] h = refl
 all-weaker p q f (x ∷ xs) h =
-    let two : (p x ≡ true) × (list_all p xs ≡ true) = both-true (p x) (list_all p xs) h in
-    and-true (q x) (list_all q xs) (f x two.0) (all-weaker p q f xs two.1)
+    let two : (p x ≡ true) × (list_all p xs ≡ true) = and_parts (p x) (list_all p xs) h in
+    and_from (q x) (list_all q xs) (f x two.0) (all-weaker p q f xs two.1)
 
 pub all-both : (p : ℕ → Bool) (xs ys : List ℕ) → list_all p xs ≡ true → list_all p ys ≡ true → list_all p (xs ++ ys) ≡ true
 all-both p [] ys h k = k
 all-both p (x ∷ xs) ys h k =
-    let two : (p x ≡ true) × (list_all p xs ≡ true) = both-true (p x) (list_all p xs) h in
-    and-true (p x) (list_all p (xs ++ ys)) two.0 (all-both p xs ys two.1 k)
+    let two : (p x ≡ true) × (list_all p xs ≡ true) = and_parts (p x) (list_all p xs) h in
+    and_from (p x) (list_all p (xs ++ ys)) two.0 (all-both p xs ys two.1 k)
 
 -- a front of a list that passes, up to its end or to an item that does not, is the longest
 pub front-is : (t : ℕ → Bool) (cs : List ℕ) (n : ℕ) → n ≤ length cs

@@ -6,6 +6,7 @@ use Rattle.std.specs.Str.{IsUtf8, IsAscii}
 use Rattle.std.proofs.lemmas.Bool.Decides.{nat_tests}
 use Rattle.std.proofs.lemmas.Str.{IsUtf8-from_ascii}
 use Rattle.std.proofs.lemmas.Str.Ascii.{IsAscii-nil, IsAscii-cons}
+use Rattle.std.proofs.lemmas.Bool.{and_parts}
 use Rattle.deb_version.specs.declared.operator.Op.{Op}
 use Rattle.deb_version.specs.declared.operator.Op.TheVariants.{Earlier, EarlierOrEqual, Equal, LaterOrEqual, Later}
 use Rattle.deb_version.specs.Syntax.{fault_of, is_upstream_char, is_revision_char}
@@ -20,7 +21,7 @@ use Rattle.deb_relations.specs.Reduction.{is_filled, reduced}
 use Rattle.deb_relations.specs.Grammar.{is_profile_char, is_qualifier, is_word, Reads}
 use Rattle.deb_relations.specs.Names.{is_lower_or_digit, is_package_char, is_arch_char, is_package_name, begins_with_lower_or_digit}
 use Rattle.deb_relations.specs.Reading.{reading_of}
-use Rattle.deb_relations.proofs.FrontLemmas.{both-true, all-weaker, all-both}
+use Rattle.deb_relations.proofs.FrontLemmas.{all-weaker, all-both}
 use Rattle.deb_relations.proofs.CompleteLemmas.{word-chars}
 use Rattle.deb_relations.proofs.ReadingLemmas.{reading-reads}
 use Rattle.deb_relations.proofs.ReadBackLemmas.{Good, AllGood, AllGroups, reads-good, reduced-good}
@@ -37,7 +38,7 @@ IsLow text = list_all is_low text ≡ true
 low-ascii : (text : List ℕ) → IsLow text → IsAscii text
 low-ascii [] h = IsAscii-nil
 low-ascii (c ∷ cs) h =
-    let two = both-true (is_low c) (list_all is_low cs) h in
+    let two = and_parts (is_low c) (list_all is_low cs) h in
     let here : is_low c ≡ true = two.0 in
     IsAscii-cons c cs (grind (arith, nat_tests)) (low-ascii cs two.1)
 
@@ -60,7 +61,7 @@ version-low c h = grind (arith, nat_tests)
 name-low : (name : List ℕ) → is_package_name name ≡ true → IsLow name
 unfolding is_package_name
 name-low name h =
-    all-weaker is_package_char is_low package-low name (both-true _ _ (both-true (begins_with_lower_or_digit name) _ h).1).0
+    all-weaker is_package_char is_low package-low name (and_parts _ _ (and_parts (begins_with_lower_or_digit name) _ h).1).0
 
 -- ---- the parts of an alternative
 
@@ -71,7 +72,7 @@ HasQualifier (Some word) = is_qualifier word ≡ true
 qualifier-low : (qualifier : Option (List ℕ)) → HasQualifier qualifier → IsLow (qualifier_text qualifier)
 unfolding is_qualifier
 qualifier-low None h = refl
-qualifier-low (Some word) h = all-weaker is_arch_char is_low arch-low word (both-true (is_filled word) _ h).1
+qualifier-low (Some word) h = all-weaker is_arch_char is_low arch-low word (and_parts (is_filled word) _ h).1
 
 abbrev HasRestriction : Option Restriction → Type 0
 HasRestriction None = Unit {0}
@@ -113,7 +114,7 @@ term-low kind term h =
 each-term-low : (kind : Kind) (terms : List Term) → list_all (λ term. is_word kind term.word) terms ≡ true → AllByRecursion (λ term. IsLow (term_text term)) terms
 each-term-low kind [] h = tt
 each-term-low kind (term ∷ terms) h =
-    let two = both-true (is_word kind term.word) (list_all (λ term. is_word kind term.word) terms) h in
+    let two = and_parts (is_word kind term.word) (list_all (λ term. is_word kind term.word) terms) h in
     (term-low kind term two.0, each-term-low kind terms two.1)
 
 terms-low : (kind : Kind) (terms : List Term) → list_all (λ term. is_word kind term.word) terms ≡ true → IsLow (terms_text terms)

@@ -3,6 +3,7 @@ use Rattle.std.proofs.Common.{◌≡◌, ℕ, ◌≤◌, Bool, true, false, cond
 use Rattle.std.specs.Prelude.{codes}
 use Rattle.std.specs.List.{list_all, slice_split, flat_map, AllZip, take_while}
 use Rattle.std.proofs.lemmas.Bool.Decides.{nat_tests}
+use Rattle.std.proofs.lemmas.Bool.{and_parts}
 use Rattle.deb_version.specs.declared.operator.Op.{Op}
 use Rattle.deb_version.specs.declared.operator.Op.TheVariants.{Earlier, EarlierOrEqual, Equal, LaterOrEqual, Later}
 use Rattle.deb_version.specs.Syntax.{fault_of, is_upstream_char, is_revision_char}
@@ -17,7 +18,7 @@ use Rattle.deb_relations.specs.Reduction.{is_filled, is_kept, without_lists, red
 use Rattle.deb_relations.specs.Grammar.{is_white, is_blank_text, is_profile_char, is_qualifier, is_word, is_not_blank, op_of, words, are_alike, TakesQualifier, TakesRestriction, ReadsTerms, TakesArchs, ReadsProfiles, ReadsAlternative, ReadsGroup, Reads, relations_limit}
 use Rattle.deb_relations.specs.Names.{is_lower_or_digit, is_package_char, is_arch_char, begins_with_lower_or_digit, is_package_name, is_arch_word}
 use Rattle.deb_relations.specs.Reader.{skip, is_solid}
-use Rattle.deb_relations.proofs.FrontLemmas.{both-true, stops, take_while-all, skip-all, all-weaker, all-both}
+use Rattle.deb_relations.proofs.FrontLemmas.{stops, take_while-all, skip-all, all-weaker, all-both}
 use Rattle.deb_relations.proofs.CutLemmas.{split-here, split-none}
 use Rattle.deb_relations.proofs.TurnLemmas.{words-first, words-skip, words-white, split-has}
 use Rattle.deb_relations.proofs.CompleteLemmas.{lower-not-white, other, word-chars}
@@ -176,7 +177,7 @@ white-space = refl
 words-behind : (kind : Kind) (terms : List Term) → AreWords kind terms → words (behind_terms terms) ≡ map term_text terms
 words-behind kind [] h = words-none
 words-behind kind (y ∷ ys) h =
-    let two = both-true (is_word kind y.word) (list_all (λ term. is_word kind term.word) ys) h in
+    let two = and_parts (is_word kind y.word) (list_all (λ term. is_word kind term.word) ys) h in
     words-white 32 (term_text y ++ behind_terms ys) white-space
     ∙ words-one kind y (behind_terms ys) two.0 (behind-stops ys)
     ∙ ap (λ x. term_text y ∷ x) (words-behind kind ys two.1)
@@ -189,7 +190,7 @@ terms-read : (kind : Kind) (terms : List Term) → is_filled terms ≡ true → 
 unfolding terms_text
 terms-read kind [] f h = absurd (cc)
 terms-read kind (term ∷ terms) f h =
-    let two = both-true (is_word kind term.word) (list_all (λ term. is_word kind term.word) terms) h in
+    let two = and_parts (is_word kind term.word) (list_all (λ term. is_word kind term.word) terms) h in
     record { written = words-terms kind term terms two.0 two.1; filled = refl; forms = h }
 
 -- the parts of a printed alternative
@@ -321,20 +322,20 @@ inner-behind : (kind : Kind) (terms : List Term) → AreWords kind terms → lis
 unfolding is_inner
 inner-behind kind [] h = refl
 inner-behind kind (y ∷ ys) h =
-    let two = both-true (is_word kind y.word) (list_all (λ term. is_word kind term.word) ys) h in
+    let two = and_parts (is_word kind y.word) (list_all (λ term. is_word kind term.word) ys) h in
     all-both is_inner (term_text y) (behind_terms ys) (inner-term kind y two.0) (inner-behind kind ys two.1)
 
 inner-terms : (kind : Kind) (terms : List Term) → AreWords kind terms → list_all is_inner (terms_text terms) ≡ true
 unfolding terms_text
 inner-terms kind [] h = refl
 inner-terms kind (term ∷ terms) h =
-    let two = both-true (is_word kind term.word) (list_all (λ term. is_word kind term.word) terms) h in
+    let two = and_parts (is_word kind term.word) (list_all (λ term. is_word kind term.word) terms) h in
     all-both is_inner (term_text term) (behind_terms terms) (inner-term kind term two.0) (inner-behind kind terms two.1)
 
 inner-qualifier : (q : Option (List ℕ)) → GoodQualifier q → list_all is_inner (qualifier_text q) ≡ true
 unfolding is_inner is_qualifier
 inner-qualifier None h = refl
-inner-qualifier (Some word) h = all-weaker is_arch_char is_inner inner-arch word (both-true (is_filled word) (list_all is_arch_char word) h).1
+inner-qualifier (Some word) h = all-weaker is_arch_char is_inner inner-arch word (and_parts (is_filled word) (list_all is_arch_char word) h).1
 
 inner-op : (op : Op) → list_all is_inner (op_text op) ≡ true
 unfolding is_inner
@@ -367,8 +368,8 @@ inner-profiles (terms ∷ more) h =
 inner-alternative : (a : Alternative) → Good a → list_all is_inner (alternative_text a) ≡ true
 unfolding alternative_text is_package_name
 inner-alternative a h =
-    let form = both-true (begins_with_lower_or_digit a.name) _ h.name in
-    let chars : list_all is_package_char a.name ≡ true = (both-true (list_all is_package_char a.name) _ form.1).0 in
+    let form = and_parts (begins_with_lower_or_digit a.name) _ h.name in
+    let chars : list_all is_package_char a.name ≡ true = (and_parts (list_all is_package_char a.name) _ form.1).0 in
     let end : list_all is_inner (archs_text a.archs ++ profiles_text a.profiles) ≡ true = all-both is_inner (archs_text a.archs) (profiles_text a.profiles) (inner-archs a.archs h.archs) (inner-profiles a.profiles h.profiles) in
     let more : list_all is_inner (restriction_text a.restriction ++ (archs_text a.archs ++ profiles_text a.profiles)) ≡ true = all-both is_inner (restriction_text a.restriction) _ (inner-restriction a.restriction h.restriction) end in
     let tail : list_all is_inner (qualifier_text a.qualifier ++ (restriction_text a.restriction ++ (archs_text a.archs ++ profiles_text a.profiles))) ≡ true = all-both is_inner (qualifier_text a.qualifier) _ (inner-qualifier a.qualifier h.qualifier) more in
@@ -376,11 +377,11 @@ inner-alternative a h =
 
 inner-comma : (c : ℕ) → is_inner c ≡ true → other 44 c ≡ true
 unfolding is_inner
-inner-comma c h = (both-true (other 44 c) (other 124 c) h).0
+inner-comma c h = (and_parts (other 44 c) (other 124 c) h).0
 
 inner-bar : (c : ℕ) → is_inner c ≡ true → other 124 c ≡ true
 unfolding is_inner
-inner-bar c h = (both-true (other 44 c) (other 124 c) h).1
+inner-bar c h = (and_parts (other 44 c) (other 124 c) h).1
 
 abbrev behind_alternatives : List Alternative → List ℕ
 behind_alternatives more = flat_map (λ y. codes " | " ++ alternative_text y) more
@@ -434,7 +435,7 @@ not_blank-alternative : (gap rest : List ℕ) (a : Alternative) → Good a → i
 unfolding alternative_text is_package_name
 not_blank-alternative gap rest a h =
     let tail : List ℕ = qualifier_text a.qualifier ++ (restriction_text a.restriction ++ (archs_text a.archs ++ profiles_text a.profiles)) in
-    ap (λ x. is_blank_text (gap ++ x)) (append_assoc a.name tail rest) ∙ not-blank gap a.name (tail ++ rest) (both-true (begins_with_lower_or_digit a.name) _ h.name).0
+    ap (λ x. is_blank_text (gap ++ x)) (append_assoc a.name tail rest) ∙ not-blank gap a.name (tail ++ rest) (and_parts (begins_with_lower_or_digit a.name) _ h.name).0
 
 not_blank-group : (gap : List ℕ) (group : List Alternative) → is_filled group ≡ true → AllGood group → is_not_blank (gap ++ group_text group) ≡ true
 unfolding is_not_blank group_text

@@ -3,6 +3,7 @@ use Rattle.std.proofs.Common.{◌≡◌, ◌⊎◌, inl, inr, ℕ, ◌≤◌, Bo
 use Rattle.std.specs.List.{list_all, slice_split, join_with_byte, AllZip, take_while}
 use Rattle.std.proofs.lemmas.List.Splits.{join_with_byte-slice_split}
 use Rattle.std.specs.Option.{is_none, option_map}
+use Rattle.std.proofs.lemmas.Bool.{and_parts, and_from}
 use Rattle.deb_version.specs.declared.fault.VersionFault.{VersionFault}
 use Rattle.deb_version.specs.declared.operator.Op.{Op}
 use Rattle.deb_version.specs.Syntax.{fault_of, is_version_text}
@@ -16,7 +17,7 @@ use Rattle.deb_relations.specs.Reduction.{is_filled}
 use Rattle.deb_relations.specs.Grammar.{is_white, is_blank_text, is_op_char, is_qualifier, is_word, is_not_blank, op_of, words, are_alike, TakesName, TakesQualifier, InBrackets, IsRestriction, TakesRestriction, ReadsTerms, TakesArchs, ReadsProfiles, ReadsAlternative, ReadsGroup, Reads, relations_limit}
 use Rattle.deb_relations.specs.Names.{is_package_char, is_arch_char, is_package_name}
 use Rattle.deb_relations.specs.Reader.{skip, strip, cut, is_solid, between, between_opened, read_between, with_rest, read_name, read_behind_colon, read_qualifier, asked_of, restriction_of, asked_inside, read_restriction, term_behind, term_of, both, all_some, filled_only, terms_of, alike_only, archs_of, read_archs, profile_behind, profile_of, lists_of, read_profiles, with_profiles, with_archs, with_asked, with_qualifier, with_name, read_alternative, read_group, read_groups}
-use Rattle.deb_relations.proofs.FrontLemmas.{both-true, and-true, take_while-skip, take_while-passes}
+use Rattle.deb_relations.proofs.FrontLemmas.{take_while-skip, take_while-passes}
 use Rattle.deb_relations.proofs.CutLemmas.{strip-join, cut-is}
 
 name-at : (t : List ℕ) (b : Bool) → is_package_name (take_while is_package_char (skip is_white t)) ≡ b → (p : List ℕ × List ℕ)
@@ -46,7 +47,7 @@ unfolding is_qualifier
 qualifier-at t behind j true e p h =
     let made : ◌≡◌ {A = Qualified} (Some (take_while is_arch_char behind), skip is_arch_char behind) p = cc in
     subst (λ (q : Qualified). TakesQualifier t q.0 q.1) made
-    (j ∙ ap (λ xs. 58 ∷ xs) (take_while-skip is_arch_char behind), and-true _ _ e (take_while-passes is_arch_char behind))
+    (j ∙ ap (λ xs. 58 ∷ xs) (take_while-skip is_arch_char behind), and_from _ _ e (take_while-passes is_arch_char behind))
 qualifier-at t behind j false e p h = absurd (cc)
 
 qualifier-by : (t : List ℕ) (o : Option (List ℕ)) → strip 58 t ≡ o → (p : Qualified) → read_behind_colon t o ≡ Some p → TakesQualifier t p.0 p.1
@@ -122,7 +123,7 @@ module _ (inside : List ℕ) where
   asked-at : (op : Op) → op_of (take_while is_op_char front) ≡ Some op → (b : Bool) → (is_version_text version && is_blank_text after) ≡ b → (asked : Restriction) → cond b (Some (record { op = op; version = version })) None ≡ Some asked → IsRestriction inside asked
   asked-at op o true e asked h =
       let made : ◌≡◌ {A = Restriction} (record { op = op; version = version }) asked = cc in
-      let two : (is_version_text version ≡ true) × (is_blank_text after ≡ true) = both-true _ _ e in
+      let two : (is_version_text version ≡ true) × (is_blank_text after ≡ true) = and_parts _ _ e in
       subst (IsRestriction inside) made (record {
         back = after;
         operator = record {
@@ -207,7 +208,7 @@ terms-written kind [] (term ∷ terms) e = absurd e
 terms-written kind (w ∷ ws) [] e = absurd e
 terms-written kind (w ∷ ws) (term ∷ terms) e =
     let more = terms-written kind ws terms e.1 in
-    (ap (λ x. x ∷ ws) e.0.0 ∙ ap (λ xs. term_text term ∷ xs) more.0, and-true _ _ e.0.1 more.1)
+    (ap (λ x. x ∷ ws) e.0.0 ∙ ap (λ xs. term_text term ∷ xs) more.0, and_from _ _ e.0.1 more.1)
 
 terms-by : (kind : Kind) (inside : List ℕ) (o : Option (List Term)) → all_some (term_of kind) (words inside) ≡ o → (terms : List Term) → filled_only o ≡ Some terms → ReadsTerms kind inside terms
 terms-by kind inside None e terms h = absurd (cc)

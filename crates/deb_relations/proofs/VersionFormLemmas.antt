@@ -4,12 +4,13 @@ use Rattle.std.specs.List.{list_all, position_or_len}
 use Rattle.std.specs.Option.{option_or, option_map}
 use Rattle.std.specs.Char.{is_ascii_digit}
 use Rattle.std.proofs.lemmas.Bool.Decides.{nat_tests}
+use Rattle.std.proofs.lemmas.Bool.{and_from, not-false}
 use Rattle.deb_version.specs.declared.fault.VersionFault.{VersionFault}
 use Rattle.deb_version.specs.declared.fault.VersionFault.TheVariants.{EpochEmpty, EpochNotNumber, UpstreamEmpty, UpstreamBad, RevisionEmpty, RevisionBad}
 use Rattle.deb_version.specs.Syntax.{is_revision_char, is_upstream_char, has_epoch, epoch_text, has_revision, upstream_text, revision_text, upstream_start, upstream_end, fault_of, length_fault, number_fault, epoch_fault, upstream_fault, revision_fault, upstream_part_fault, revision_part_fault, rest_fault}
 use Rattle.deb_version.proofs.LawLemmas.{text_parts}
 use Rattle.deb_relations.specs.Reduction.{is_filled}
-use Rattle.deb_relations.proofs.FrontLemmas.{all-both, all-weaker, and-true}
+use Rattle.deb_relations.proofs.FrontLemmas.{all-both, all-weaker}
 
 abbrev pub Fault : Type 0
 Fault = Option VersionFault
@@ -22,14 +23,6 @@ or-none (Some fault) g h = absurd (cc)
 passed-by : (b : Bool) (fault : VersionFault) (more : Fault) → cond b (Some fault) more ≡ None → (b ≡ false) × (more ≡ None)
 passed-by true fault more h = absurd (cc)
 passed-by false fault more h = (refl, h)
-
-not-false : (b : Bool) → not b ≡ false → b ≡ true
-not-false true h = refl
-not-false false h = absurd (cc)
-
-not-true : (b : Bool) → not b ≡ true → b ≡ false
-not-true true h = absurd (cc)
-not-true false h = refl
 
 number-digits : (digits : List ℕ) → number_fault digits ≡ None → list_all is_ascii_digit digits ≡ true
 unfolding number_fault
@@ -81,11 +74,11 @@ hyphen-char = refl
 
 epoch-by : (b : Bool) (digits : List ℕ) → cond b (number_fault digits) None ≡ None → list_all is_upstream_char (cond b (digits ++ 58 ∷ []) []) ≡ true
 epoch-by true digits h =
-    all-both is_upstream_char digits (58 ∷ []) (all-weaker is_ascii_digit is_upstream_char digit-char digits (number-digits digits h)) (and-true (is_upstream_char 58) true colon-char refl)
+    all-both is_upstream_char digits (58 ∷ []) (all-weaker is_ascii_digit is_upstream_char digit-char digits (number-digits digits h)) (and_from (is_upstream_char 58) true colon-char refl)
 epoch-by false digits h = refl
 
 revision-by : (b : Bool) (start : ℕ) (part : List ℕ) → cond b (revision_part_fault start part) None ≡ None → list_all is_upstream_char (cond b (45 ∷ part) []) ≡ true
-revision-by true start part h = and-true (is_upstream_char 45) _ hyphen-char (all-weaker is_revision_char is_upstream_char revision-char part (revision-chars start part h))
+revision-by true start part h = and_from (is_upstream_char 45) _ hyphen-char (all-weaker is_revision_char is_upstream_char revision-char part (revision-chars start part h))
 revision-by false start part h = refl
 
 -- a version has its characters alone

@@ -1,5 +1,5 @@
 -- Lemmas behind the laws of the definitions.
-use Rattle.std.proofs.Common.{◌≡◌, ℕ, ◌+◌, ◌-◌, ◌<◌, Bool, true, false, not, ◌&&◌, cond, List, [], ◌∷◌, ◌++◌, map, length, get_or, take, drop, refl, sym, ap, ◌∙◌, arith, append-nil, append_assoc, take-append-drop}
+use Rattle.std.proofs.Common.{◌≡◌, ℕ, ◌+◌, ◌-◌, ◌<◌, Bool, true, false, not, cond, List, [], ◌∷◌, ◌++◌, map, length, get_or, take, drop, refl, sym, ap, ◌∙◌, arith, append-nil, append_assoc, take-append-drop}
 use Rattle.std.specs.Prelude.{ℤ, pos}
 use Rattle.std.specs.Char.{is_ascii_digit}
 use Rattle.std.specs.List.{list_any, list_all, position_or_len}
@@ -9,15 +9,12 @@ use Rattle.std.specs.Ordering.{ordering_then, int_cmp}
 use Rattle.std.specs.Cmp.{tied_itself, int_cmp_total}
 use Rattle.std.proofs.lemmas.List.{drop_more}
 use Rattle.std.proofs.lemmas.List.Sums.{split_at_first, passes_at_first}
+use Rattle.std.proofs.lemmas.Bool.{and_parts, not-true}
 use borrow.Author.Tests.{ltb-true, eqb-true}
 use Rattle.deb_version.specs.Syntax.{is_colon, is_hyphen, has_epoch, epoch_text, rest_of, has_revision, upstream_text, revision_text, with_digit, value_after, value_of, TextIsItsParts}
 use Rattle.deb_version.specs.Order.{weight_of, key_in_run, key_in_digits, key_of, key_cmp, part_cmp}
 use Rattle.deb_version.specs.OrderLaws.{MayFollow, KeyIsByRuns, TildeIsEarlier}
 use Rattle.deb_version.proofs.CutLemmas.{hyphens, last-passes, list_any-first, list_any-last, has_revision-is, no_revision, revision_at}
-
-both : (b c : Bool) → (b && c) ≡ true → (b ≡ true) × (c ≡ true)
-both true c e = (refl, e)
-both false c e = cc
 
 pub then-same : (x : ℤ) (o : Ordering) → ordering_then (int_cmp x x) o ≡ o
 then-same x o = ap (λ p. ordering_then p o) (tied_itself int_cmp_total x)
@@ -53,7 +50,7 @@ digits-then : (n : ℕ) (digits rest : List ℕ) → list_all is_ascii_digit dig
 digits-then n [] [] d m = refl
 digits-then n [] (c ∷ cs) d m = rw m refl
 digits-then n (x ∷ xs) rest d m =
-    let two = both (is_ascii_digit x) (list_all is_ascii_digit xs) d in
+    let two = and_parts (is_ascii_digit x) (list_all is_ascii_digit xs) d in
     let first : is_ascii_digit x ≡ true = two.0 in
     rw first (digits-then (with_digit n x) xs rest two.1 m)
 
@@ -61,21 +58,17 @@ after-digits : (digits rest : List ℕ) → MayFollow digits rest → IsAfterDig
 after-digits digits [] m = tt
 after-digits digits (c ∷ cs) m = m.1
 
-not-true : (b : Bool) → not b ≡ true → b ≡ false
-not-true true e = sym e
-not-true false e = refl
-
 pub run-then : (run digits rest : List ℕ) → list_all (λ c. not (is_ascii_digit c)) run ≡ true → list_all is_ascii_digit digits ≡ true → MayFollow digits rest
     → key_in_run (run ++ (digits ++ rest)) ≡ map weight_of run ++ (pos 0 ∷ pos (value_of digits) ∷ key_of rest)
 unfolding value_of
 run-then [] [] [] r d m = refl
 run-then [] [] (c ∷ cs) r d m = absurd (omega (arith, m.0))
 run-then [] (x ∷ xs) rest r d m =
-    let two = both (is_ascii_digit x) (list_all is_ascii_digit xs) d in
+    let two = and_parts (is_ascii_digit x) (list_all is_ascii_digit xs) d in
     let first : is_ascii_digit x ≡ true = two.0 in
     rw first (ap (λ k. pos 0 ∷ k) (digits-then (with_digit 0 x) xs rest two.1 (after-digits (x ∷ xs) rest m)))
 run-then (c ∷ cs) digits rest r d m =
-    let two = both (not (is_ascii_digit c)) (list_all (λ x. not (is_ascii_digit x)) cs) r in
+    let two = and_parts (not (is_ascii_digit c)) (list_all (λ x. not (is_ascii_digit x)) cs) r in
     let other : is_ascii_digit c ≡ false = not-true (is_ascii_digit c) two.0 in
     rw other (ap (λ k. weight_of c ∷ k) (run-then cs digits rest two.1 d m))
 

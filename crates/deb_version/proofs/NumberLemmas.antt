@@ -1,5 +1,5 @@
 -- Lemmas on the number that decimal digits write.
-use Rattle.std.proofs.Common.{◌≢◌, Bool, true, false, ◌&&◌, sym, length, get_or, take, drop, ap, ◌∙◌, ◌≡◌, ℕ, ◌+◌, ◌-◌, ◌*◌, ◌<◌, ◌≤◌, List, [], ◌∷◌, refl, arith}
+use Rattle.std.proofs.Common.{◌≢◌, true, sym, length, get_or, take, drop, ap, ◌∙◌, ◌≡◌, ℕ, ◌+◌, ◌-◌, ◌*◌, ◌<◌, ◌≤◌, List, [], ◌∷◌, refl, arith}
 use Rattle.std.specs.List.{list_all}
 use Rattle.std.specs.Char.{is_ascii_digit}
 use Rattle.std.proofs.lemmas.List.{take_all}
@@ -9,6 +9,7 @@ use Rattle.std.specs.declared.cmp.Ordering.TheVariants.{Less, Equal, Greater}
 use Rattle.std.specs.Ordering.{ordering_then, nat_cmp}
 use Rattle.std.specs.Cmp.Lexicographic.{slice_cmp}
 use Rattle.std.proofs.lemmas.Cmp.{by_ranked, ranked}
+use Rattle.std.proofs.lemmas.Bool.{and_parts}
 use Rattle.deb_version.specs.Syntax.{with_digit, value_after, value_of}
 
 -- a digit more makes no number smaller
@@ -37,17 +38,13 @@ pub record DigitStep (n : ℕ) (digits : List ℕ) : Type 0 where
   pub high : get_or digits 0 0 ≤ 57
   pub next : with_digit n (get_or digits 0 0) ≤ value_after n digits
 
-both : (b c : Bool) → (b && c) ≡ true → (b ≡ true) × (c ≡ true)
-both true c e = (refl, e)
-both false c e = cc
-
 all-taken : (x : ℕ) (xs : List ℕ) → take (length (x ∷ xs) - 1) xs ≡ xs
 all-taken x xs = take_all (length (x ∷ xs) - 1) xs (omega arith)
 
 pub digit_step : (n : ℕ) (digits : List ℕ) → 1 ≤ length digits → list_all is_ascii_digit digits ≡ true → DigitStep n digits
 digit_step n [] h d = absurd (omega arith)
 digit_step n (c ∷ cs) h d =
-    let two = both (is_ascii_digit c) (list_all is_ascii_digit cs) d in
+    let two = and_parts (is_ascii_digit c) (list_all is_ascii_digit cs) d in
     let one : is_ascii_digit c ≡ true = two.0 in
     record {
       value = ap (value_after (n * 10 + (c - 48))) (all-taken c cs) ∙ ap (λ m. value_after m cs) (sym (with_digit-is n c));
@@ -70,7 +67,7 @@ pub zero_step : (digits : List ℕ) → 1 ≤ length digits → get_or digits 0 
 zero_step [] h e = absurd (omega arith)
 zero_step (c ∷ cs) h e = record {
   value = ap value_of (all-taken c cs) ∙ sym (value_of-zero cs) ∙ ap (λ d. value_of (d ∷ cs)) (sym e);
-  others = λ d. ap (list_all is_ascii_digit) (all-taken c cs) ∙ (both (is_ascii_digit c) (list_all is_ascii_digit cs) d).1;
+  others = λ d. ap (list_all is_ascii_digit) (all-taken c cs) ∙ (and_parts (is_ascii_digit c) (list_all is_ascii_digit cs) d).1;
 }
 
 then-equal : (o : Ordering) → o ≡ ordering_then o Equal
@@ -89,7 +86,7 @@ pub value_after-below : (m n : ℕ) (xs ys : List ℕ) → m < n → length xs �
 value_after-below m n [] ys h l d = omega (arith, value_after_grows n ys)
 value_after-below m n (x ∷ xs) [] h l d = absurd (omega arith)
 value_after-below m n (x ∷ xs) (y ∷ ys) h l d =
-    let two = both (is_ascii_digit x) (list_all is_ascii_digit xs) d in
+    let two = and_parts (is_ascii_digit x) (list_all is_ascii_digit xs) d in
     let high : x ≤ 57 = digit-high x two.0 in
     value_after-below (with_digit m x) (with_digit n y) xs ys (omega (arith, with_digit-is m x, with_digit-is n y)) (omega arith) two.1
 
@@ -114,8 +111,8 @@ value_after-same_length m n [] [] l d e = then-equal (nat_cmp m n)
 value_after-same_length m n [] (y ∷ ys) l d e = absurd (omega arith)
 value_after-same_length m n (x ∷ xs) [] l d e = absurd (omega arith)
 value_after-same_length m n (x ∷ xs) (y ∷ ys) l d e =
-    let left = both (is_ascii_digit x) (list_all is_ascii_digit xs) d in
-    let right = both (is_ascii_digit y) (list_all is_ascii_digit ys) e in
+    let left = and_parts (is_ascii_digit x) (list_all is_ascii_digit xs) d in
+    let right = and_parts (is_ascii_digit y) (list_all is_ascii_digit ys) e in
     value_after-same_length (with_digit m x) (with_digit n y) xs ys (omega arith) left.1 right.1
     ∙ ap (λ o. ordering_then o (slice_cmp nat_cmp xs ys)) (digit-cmp m n x y (digit-low x left.0) (digit-high x left.0) (digit-low y right.0) (digit-high y right.0))
     ∙ ordering_then-assoc (nat_cmp m n) (nat_cmp x y) (slice_cmp nat_cmp xs ys)
@@ -124,7 +121,7 @@ shorter-below : (xs ys : List ℕ) → length xs < length ys → list_all is_asc
 unfolding value_of
 shorter-below xs [] l d e z = absurd (omega arith)
 shorter-below xs (y ∷ ys) l d e z =
-    let low : 48 ≤ y = digit-low y (both (is_ascii_digit y) (list_all is_ascii_digit ys) e).0 in
+    let low : 48 ≤ y = digit-low y (and_parts (is_ascii_digit y) (list_all is_ascii_digit ys) e).0 in
     value_after-below 0 (with_digit 0 y) xs ys (omega (arith, with_digit-is 0 y)) (omega arith) d
 
 same-length : (xs ys : List ℕ) → length xs ≡ length ys → list_all is_ascii_digit xs ≡ true → list_all is_ascii_digit ys ≡ true → nat_cmp (value_of xs) (value_of ys) ≡ slice_cmp nat_cmp xs ys

@@ -9,6 +9,7 @@ use Rattle.std.proofs.lemmas.List.{reverse-append, length-reverse}
 use Rattle.std.proofs.lemmas.List.Folds.{list_any-append}
 use Rattle.std.proofs.lemmas.List.Sorted.{list_any-IsPermutation, IsPermutation-reverse}
 use Rattle.std.proofs.lemmas.Bool.Decides.{nat_tests}
+use Rattle.std.proofs.lemmas.Bool.{and_parts, not-true, not-false}
 use borrow.Author.Tests.{ltb-false, eqb-true}
 use Rattle.deb_version.specs.declared.fault.VersionFault.{VersionFault}
 use Rattle.deb_version.specs.declared.fault.VersionFault.TheVariants.{Empty, EpochEmpty, EpochNotNumber, EpochTooLarge, UpstreamEmpty, UpstreamBad, RevisionEmpty, RevisionBad, TooLong}
@@ -17,10 +18,6 @@ use Rattle.deb_version.specs.Grammar.{epoch_part, revision_part, IsEpoch, IsUpst
 use Rattle.deb_version.proofs.CutLemmas.{list_any-first}
 use Rattle.deb_version.proofs.LawLemmas.{text_parts}
 use Rattle.deb_version.proofs.ReadingLemmas.{ok_unless-Ok}
-
-both : (b c : Bool) → (b && c) ≡ true → (b ≡ true) × (c ≡ true)
-both true c e = (refl, e)
-both false c e = cc
 
 -- what no fault says
 left-None : (f g : Option VersionFault) → option_or f g ≡ None → (f ≡ None) × (g ≡ None)
@@ -33,14 +30,6 @@ cond-None false fault f e = (refl, e)
 
 fault-None : (b : Bool) (fault : VersionFault) (f : Option VersionFault) → b ≡ false → f ≡ None → cond b (Some fault) f ≡ None
 fault-None b fault f e h = rw e h
-
-not-true : (b : Bool) → not b ≡ true → b ≡ false
-not-true true e = cc
-not-true false e = refl
-
-not-false : (b : Bool) → not b ≡ false → b ≡ true
-not-false true e = refl
-not-false false e = cc
 
 some-length : (n : ℕ) → eqb n 0 ≡ false → 0 < n
 some-length n e = grind (arith, nat_tests)
@@ -153,7 +142,7 @@ list_any-seam p front back c h =
 none-by : (q p : ℕ → Bool) → ((c : ℕ) → q c ≡ true → p c ≡ false) → (xs : List ℕ) → list_all q xs ≡ true → list_any p xs ≡ false
 none-by q p f [] h = refl
 none-by q p f (x ∷ xs) h =
-    let two = both (q x) (list_all q xs) h in
+    let two = and_parts (q x) (list_all q xs) h in
     any-apart (p x) (list_any p xs) (f x two.0) (none-by q p f xs two.1)
 
 apart-by : (q : ℕ → Bool) (n c : ℕ) (b : Bool) → q n ≡ false → eqb c n ≡ b → q c ≡ true → eqb c n ≡ false

@@ -6,7 +6,7 @@ use Rattle.std.specs.declared.cmp.Ordering.TheVariants.{Less, Equal, Greater}
 use Rattle.std.specs.Ordering.{is_lt}
 use Rattle.std.specs.Cmp.{on_total}
 use Rattle.std.specs.FinMap as finite
-use Rattle.std.proofs.lemmas.Bool.{eqb-true, eq-eqb}
+use Rattle.std.proofs.lemmas.Bool.{eqb-true, eq-eqb, and_from}
 use Rattle.std.proofs.lemmas.Bool.Decides.{nat_tests}
 use Rattle.std.proofs.lemmas.Cmp.{ranked, nat_cmp_total}
 use Rattle.std.proofs.lemmas.Slice.Eq.{bytes_eq-Decides}
@@ -238,10 +238,6 @@ split : (a b : Bool) → (a && b) ≡ true → (a ≡ true) × (b ≡ true)
 split true b h = (refl, h)
 split false b h = absurd cc
 
-both : (a b : Bool) → a ≡ true → b ≡ true → (a && b) ≡ true
-both true b p q = q
-both false b p q = absurd cc
-
 after-is : (m n : ℕ) → nat_lt m n ≡ true → m < n
 after-is m n h = grind (arith, nat_tests)
 
@@ -265,7 +261,7 @@ module _ (machine : Machine) (arch builder : List ℕ) (after : ℕ) where
   building-in : (entry : Entry) → IsBuildingAfter machine arch builder after entry → IsIn entry (held_of machine builder) × (is_building_after arch after entry ≡ true)
   building-in entry h = (
     (held_of-in machine builder entry).1 (h.kept, h.holder),
-    both _ _ ((bytes_eq-Decides entry.0.0 arch).1 h.on_arch) (both _ _ ((building-is entry.1.state).1 h.state) (after-test after (take_of entry) h.later)),
+    and_from _ _ ((bytes_eq-Decides entry.0.0 arch).1 h.on_arch) (and_from _ _ ((building-is entry.1.state).1 h.state) (after-test after (take_of entry) h.later)),
   )
 
   pub building_after-is : (entry : Entry) → building_after machine arch builder after ≡ Some entry → IsBuildingAfter machine arch builder after entry
