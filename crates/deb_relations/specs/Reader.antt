@@ -2,7 +2,7 @@
 use Rattle.std.specs.Prelude.{ℕ, drop, ◌==◌, Bool, true, false, not, ◌&&◌, List, [], ◌∷◌, ◌++◌, filter, if◌then◌else◌}
 use Rattle.std.specs.Prelude.{Option, None, Some}
 use Rattle.std.specs.List.{slice_split, take_while, prefix_len}
-use Rattle.std.specs.Option.{option_map}
+use Rattle.std.specs.Option.{option_map, option_and_then}
 use Rattle.deb_version.specs.declared.operator.Op.{Op}
 use Rattle.deb_version.specs.Syntax.{is_version_text}
 use Rattle.deb_relations.specs.declared.relations.Kind.{Kind}
@@ -29,8 +29,7 @@ strip c (x ∷ xs) = if x == c then Some xs else None
 
 -- two halves of a text with one character more before the first, where there are two (this project's own)
 abbrev pub onto_front : ℕ → Option (List ℕ × List ℕ) → Option (List ℕ × List ℕ)
-onto_front c None = None
-onto_front c (Some halves) = Some (c ∷ halves.0, halves.1)
+onto_front c = option_map (λ halves. (c ∷ halves.0, halves.1))
 
 -- what stands before the first c, and behind it, where the text has one (this project's own)
 abbrev pub cut : ℕ → List ℕ → Option (List ℕ × List ℕ)
@@ -50,8 +49,7 @@ all_some f (x ∷ xs) = both (f x) (all_some f xs)
 
 -- what was read and what is left, where something was (this project's own)
 abbrev pub with_rest : {X : Type 0} → List ℕ → Option X → Option (X × List ℕ)
-with_rest rest None = None
-with_rest rest (Some x) = Some (x, rest)
+with_rest rest = option_map (λ x. (x, rest))
 
 -- what stands between two brackets and behind them, of the text behind the first of them, where that stands (this project's own)
 abbrev pub between_opened : ℕ → Option (List ℕ) → Option (Option (List ℕ × List ℕ))
@@ -135,8 +133,7 @@ terms_of kind inside = filled_only (all_some (term_of kind) (words inside))
 
 -- the words that were read, where all are negated or none is (Policy 7.1)
 abbrev pub alike_only : Option (List Term) → Option (List Term)
-alike_only None = None
-alike_only (Some terms) = if are_alike terms then Some terms else None
+alike_only = option_and_then (λ terms. if are_alike terms then Some terms else None)
 
 -- architecture words of one sign (Policy 7.1)
 unfoldable pub archs_of : List ℕ → Option (List Term)
@@ -148,8 +145,7 @@ read_archs text = read_between archs_of [] text (between 91 93 text)
 
 -- a list of build profiles, of the text behind its opening bracket, where that stands (Policy 7.1)
 abbrev pub profile_behind : Option (List ℕ) → Option (List Term)
-profile_behind None = None
-profile_behind (Some inside) = terms_of Profile inside
+profile_behind = option_and_then (terms_of Profile)
 
 -- a list of build profiles, before its closing bracket (Policy 7.1)
 unfoldable pub profile_of : List ℕ → Option (List Term)
@@ -167,29 +163,24 @@ read_profiles text = lists_of (slice_split is_right_angle text)
 
 -- an alternative of these parts and of its build profiles, where they were read (Policy 7.1)
 abbrev pub with_profiles : List ℕ → Option (List ℕ) → Option Restriction → List Term → Option (List (List Term)) → Option Alternative
-with_profiles name qualifier asked archs None = None
-with_profiles name qualifier asked archs (Some profiles) =
-    Some (record { name = name; qualifier = qualifier; restriction = asked; archs = archs; profiles = profiles })
+with_profiles name qualifier asked archs =
+    option_map (λ profiles. record { name = name; qualifier = qualifier; restriction = asked; archs = archs; profiles = profiles })
 
 -- an alternative of these parts, of its architectures, where they were read, and of what is left (Policy 7.1)
 abbrev pub with_archs : List ℕ → Option (List ℕ) → Option Restriction → Option (List Term × List ℕ) → Option Alternative
-with_archs name qualifier asked None = None
-with_archs name qualifier asked (Some found) = with_profiles name qualifier asked found.0 (read_profiles found.1)
+with_archs name qualifier asked = option_and_then (λ found. with_profiles name qualifier asked found.0 (read_profiles found.1))
 
 -- an alternative of a name and a qualifier, of the version that it asks for, where it was read, and of what is left (Policy 7.1)
 abbrev pub with_asked : List ℕ → Option (List ℕ) → Option (Option Restriction × List ℕ) → Option Alternative
-with_asked name qualifier None = None
-with_asked name qualifier (Some found) = with_archs name qualifier found.0 (read_archs found.1)
+with_asked name qualifier = option_and_then (λ found. with_archs name qualifier found.0 (read_archs found.1))
 
 -- an alternative of a name, of its qualifier, where it was read, and of what is left (Policy 7.1)
 abbrev pub with_qualifier : List ℕ → Option (Option (List ℕ) × List ℕ) → Option Alternative
-with_qualifier name None = None
-with_qualifier name (Some found) = with_asked name found.0 (read_restriction found.1)
+with_qualifier name = option_and_then (λ found. with_asked name found.0 (read_restriction found.1))
 
 -- an alternative of its name, where it was read, and of what is left (Policy 7.1)
 abbrev pub with_name : Option (List ℕ × List ℕ) → Option Alternative
-with_name None = None
-with_name (Some found) = with_qualifier found.0 (read_qualifier found.1)
+with_name = option_and_then (λ found. with_qualifier found.0 (read_qualifier found.1))
 
 -- an alternative, part by part (Policy 7.1)
 unfoldable pub read_alternative : List ℕ → Option Alternative
@@ -205,8 +196,7 @@ read_groups text = all_some read_group (filter is_not_blank (slice_split is_comm
 
 -- groups, and one more behind them, where it was read (Policy 7.1)
 abbrev pub push_group : List (List Alternative) → Option (List Alternative) → Option (List (List Alternative))
-push_group made None = None
-push_group made (Some group) = Some (made ++ group ∷ [])
+push_group made = option_map (λ group. made ++ group ∷ [])
 
 -- groups, and behind them that of a piece, where the piece is not blank (Policy 7.1)
 unfoldable pub with_group : List (List Alternative) → List ℕ → Option (List (List Alternative))

@@ -2,7 +2,7 @@
 use Rattle.std.specs.Prelude.{◌≡◌, ℕ, ◌-◌, ◌+◌, ◌==◌, Bool, true, not, ◌&&◌, ◌||◌, List, [], ◌∷◌, ◌++◌, length, if◌then◌else◌, nat_lt, is_some, filter}
 use Rattle.std.specs.Prelude.{Option, None, Some, Result, Err}
 use Rattle.std.specs.List.{list_all, slice_split, take_while}
-use Rattle.std.specs.Option.{ok_or}
+use Rattle.std.specs.Option.{ok_or, option_map_or}
 use Rattle.deb_version.specs.declared.fault.VersionFault.{VersionFault}
 use Rattle.deb_version.specs.declared.operator.Op.{Op}
 use Rattle.deb_version.specs.Syntax.{fault_of}
@@ -89,8 +89,7 @@ profiles_fault end text = lists_fault end (slice_split is_right_angle text)
 
 -- the fault of a part of an alternative where that has no reading, else of what is left behind it (this project's own)
 abbrev pub or_behind : {X : Type 0} → RelationFault → (List ℕ → RelationFault) → Option (X × List ℕ) → RelationFault
-or_behind fault behind None = fault
-or_behind fault behind (Some found) = behind found.1
+or_behind fault behind found = option_map_or (λ pair. behind pair.1) found fault
 
 -- the fault of the architectures, else of what is behind them (Policy 7.1)
 abbrev pub fault_behind_restriction : ℕ → List ℕ → RelationFault
