@@ -9,7 +9,7 @@ use Rattle.std.proofs.lemmas.Bool.{and_parts}
 use Rattle.deb_control.specs.declared.fault.ControlFaultKind.{ControlFaultKind}
 use Rattle.deb_control.specs.Fields.{Entry, reading_of}
 use Rattle.deb_version.specs.declared.fault.VersionFault.{VersionFault}
-use Rattle.deb_version.specs.Syntax.{fault_of, is_version_text, value_of, with_digit, ok_unless}
+use Rattle.deb_version.specs.Syntax.{fault_of, is_version_text, value_of, with_digit}
 use Rattle.wb_states.specs.declared.refusal.ListField.{ListField}
 use Rattle.wb_states.specs.declared.refusal.ListField.TheVariants.{Package, Version, Architecture, Priority, Section}
 use Rattle.wb_states.specs.declared.refusal.ListKind.{ListKind}
@@ -23,6 +23,7 @@ use Rattle.wb_states.specs.Refusals.{name_of_field}
 use Rattle.wb_merge.specs.Rows.{SourceRow, BinaryRow, value_named, text_named, is_label_or_empty, has_source_version, last_digits, rebuild_number, wanted_fault, spare_fault, form_fault, spare_form_fault, source_fault, source_row, with_source, binary_row, source_row_of, binary_row_of, of_fields, refused_at, onto_rows, rows_behind, source_rows, binary_rows}
 use Rattle.wb_merge.proofs.CheckLemmas.{first_some-None}
 use Rattle.deb_relations.proofs.FrontLemmas.{take_while-passes}
+use Rattle.deb_version.proofs.ReadingLemmas.{ok_unless-Ok}
 
 -- ---- rows that were read are those of paragraphs without a fault
 
@@ -98,10 +99,6 @@ pub record IsGoodSource (row : SourceRow) : Type 0 where
   pub priority : IsTrue (is_empty_text row.priority || is_label_text row.priority)
   pub section : IsTrue (is_empty_text row.section || is_label_text row.section)
 
-faultless-row : {X : Type 0} (fault : Option ListingFault) (made row : X) → ok_unless fault made ≡ Ok row → (fault ≡ None) × (made ≡ row)
-faultless-row None made row is = (refl, only-ok made row is)
-faultless-row (Some fault) made row is = cc
-
 empty-label : IsTrue (is_label_or_empty [])
 unfolding is_label_or_empty
 empty-label = refl
@@ -109,7 +106,7 @@ empty-label = refl
 source-good : (fields : List Entry) (row : SourceRow) → source_row_of fields ≡ Ok row → IsGoodSource row
 unfolding source_row_of source_fault
 source-good fields row is =
-    let made = faultless-row (source_fault fields) (source_row fields) row is in
+    let made = ok_unless-Ok (source_fault fields) (source_row fields) row is in
     let none = first_some-None (
     wanted_fault Package is_package_name fields
     ∷ wanted_fault Version is_version_text fields
@@ -183,7 +180,7 @@ source-small name version arch (Some text) = chosen-small (has_source_version te
 binary-small : (fields : List Entry) (row : BinaryRow) → binary_row_of fields ≡ Ok row → IsSmall row
 unfolding binary_row_of
 binary-small fields row is =
-    let made = faultless-row _ (binary_row fields) row is in
+    let made = ok_unless-Ok _ (binary_row fields) row is in
     subst IsSmall made.1
     (source-small (text_named (codes "Package") fields) (text_named (codes "Version") fields) (text_named (codes "Architecture") fields) (value_named (codes "Source") fields))
 

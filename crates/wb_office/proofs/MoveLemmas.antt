@@ -1,8 +1,8 @@
 -- A record that was found is moved, or the move is refused.
-use Rattle.std.proofs.Common.{◌≡◌, ℕ, ◌+◌, true, false, List, Option, Some, None, Result, Ok, Err, refl, sym, ◌∙◌, nat_le}
+use Rattle.std.proofs.Common.{◌≡◌, ℕ, ◌+◌, true, false, List, Some, None, Ok, Err, sym, ◌∙◌, nat_le}
 use Rattle.std.specs.FinMap as map
 use Rattle.std.specs.Option.{option_or}
-use Rattle.deb_version.specs.Syntax.{ok_unless}
+use Rattle.deb_version.proofs.ReadingLemmas.{ok_unless-Ok, ok_unless-Err}
 use Rattle.wb_states.specs.declared.moves.Move.{Move}
 use Rattle.wb_states.specs.declared.record.Record.{Record}
 use Rattle.wb_states.specs.declared.refusal.Refusal.{Refusal}
@@ -21,20 +21,13 @@ use Rattle.wb_office.specs.Step.{counted, after_move}
 pub move_of-Ok : (move : Move) (current after : Record) → move_of move current ≡ Ok after
     → (move_refusal move current ≡ None) × (after ≡ moved move current)
 unfolding move_of
-move_of-Ok move current after = found (move_refusal move current) where
-  found : (first : Option Refusal) → ok_unless first (moved move current) ≡ Ok after → (first ≡ None) × (after ≡ moved move current)
-  found None is = (refl, only (moved move current) after is) where
-    only : (x y : Record) → (let left : Result Record Refusal = Ok x in left) ≡ Ok y → y ≡ x
-    only x y e = cc
-  found (Some refusal) is = cc
+move_of-Ok move current after is =
+    let parts = ok_unless-Ok (move_refusal move current) (moved move current) after is in (parts.0, sym parts.1)
 
 pub move_of-Err : (move : Move) (current : Record) (refusal : Refusal) → move_of move current ≡ Err refusal
     → move_refusal move current ≡ Some refusal
 unfolding move_of
-move_of-Err move current refusal = found (move_refusal move current) where
-  found : (first : Option Refusal) → ok_unless first (moved move current) ≡ Err refusal → first ≡ Some refusal
-  found None is = cc
-  found (Some other) is = cc
+move_of-Err move current refusal is = ok_unless-Err (move_refusal move current) (moved move current) refusal is
 
 pub move_step-refused : (machine : Machine) (entry : Entry) (move : Move) (refusal : Refusal)
     → move_refusal move entry.1 ≡ Some refusal → move_step machine entry move ≡ (Err refusal, machine)

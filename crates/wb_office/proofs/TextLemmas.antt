@@ -1,10 +1,10 @@
 -- The refusals of the texts of commands.
-use Rattle.std.proofs.Common.{◌≡◌, ◌≢◌, ◌<◌, Bool, true, false, nat_lt, length, List, ℕ, Option, Some, None, Err, refl, sym, ◌∙◌, ap, option_map, IsOk}
+use Rattle.std.proofs.Common.{◌≡◌, ◌≢◌, ◌<◌, Bool, true, false, nat_lt, length, List, ℕ, Some, None, Err, refl, sym, ◌∙◌, ap, option_map, IsOk}
 use Rattle.std.specs.Result.{result_err}
 use Rattle.std.proofs.lemmas.Bool.{ltb-true}
 use Rattle.deb_version.specs.declared.fault.VersionFault.{VersionFault}
 use Rattle.deb_version.specs.declared.fault.VersionFault.TheVariants.{Empty, EpochEmpty, EpochNotNumber, EpochTooLarge, UpstreamEmpty, UpstreamBad, RevisionEmpty, RevisionBad, TooLong, Memory as NoMemory}
-use Rattle.deb_version.specs.Syntax.{fault_of, reading_of, parts_of, ok_unless}
+use Rattle.deb_version.specs.Syntax.{fault_of, reading_of}
 use Rattle.deb_relations.specs.declared.fault.RelationFault.{RelationFault}
 use Rattle.deb_relations.specs.declared.fault.RelationFault.TheVariants.{Memory as NoRelationMemory, TooLong as RelationsTooLong}
 use Rattle.deb_relations.specs.Reading.{reading_of as relations_of}
@@ -13,33 +13,20 @@ use Rattle.wb_states.specs.declared.refusal.Refusal.{Refusal}
 use Rattle.wb_states.specs.declared.refusal.Refusal.TheVariants.{Memory, BadVersion, BadRelations}
 use Rattle.wb_states.specs.Limits.{relations_limit}
 use Rattle.wb_office.specs.Checks.{refusal_of_fault, relations_refusal}
-
-fault_of-refused : (text : List ℕ) (fault : VersionFault) → reading_of text ≡ Err fault → fault_of text ≡ Some fault
-unfolding reading_of
-fault_of-refused text fault = found (fault_of text) where
-  found : (first : Option VersionFault) → ok_unless first (parts_of text) ≡ Err fault → first ≡ Some fault
-  found None is = cc
-  found (Some other) is = cc
-
-pub fault_of-read : (text : List ℕ) → IsOk (reading_of text) → fault_of text ≡ None
-unfolding reading_of
-fault_of-read text = found (fault_of text) where
-  found : (first : Option VersionFault) → IsOk (ok_unless first (parts_of text)) → first ≡ None
-  found None is = refl
-  found (Some other) is = cc
+use Rattle.deb_version.proofs.ReadingLemmas.{fault_of-Err, fault_of-IsOk}
 
 -- the refusal of a text that is no version is that of its fault
 pub read-refused : (text : List ℕ) (fault : VersionFault) → (fault ≢ NoMemory → reading_of text ≡ Err fault) → refusal_of_fault fault ≢ Memory
     → option_map BadVersion (fault_of text) ≡ Some (refusal_of_fault fault)
-read-refused text Empty reads differs = ap (option_map BadVersion) (fault_of-refused text Empty (reads (λ e. cc)))
-read-refused text EpochEmpty reads differs = ap (option_map BadVersion) (fault_of-refused text EpochEmpty (reads (λ e. cc)))
-read-refused text EpochNotNumber reads differs = ap (option_map BadVersion) (fault_of-refused text EpochNotNumber (reads (λ e. cc)))
-read-refused text EpochTooLarge reads differs = ap (option_map BadVersion) (fault_of-refused text EpochTooLarge (reads (λ e. cc)))
-read-refused text UpstreamEmpty reads differs = ap (option_map BadVersion) (fault_of-refused text UpstreamEmpty (reads (λ e. cc)))
-read-refused text (UpstreamBad place) reads differs = ap (option_map BadVersion) (fault_of-refused text (UpstreamBad place) (reads (λ e. cc)))
-read-refused text RevisionEmpty reads differs = ap (option_map BadVersion) (fault_of-refused text RevisionEmpty (reads (λ e. cc)))
-read-refused text (RevisionBad place) reads differs = ap (option_map BadVersion) (fault_of-refused text (RevisionBad place) (reads (λ e. cc)))
-read-refused text TooLong reads differs = ap (option_map BadVersion) (fault_of-refused text TooLong (reads (λ e. cc)))
+read-refused text Empty reads differs = ap (option_map BadVersion) (fault_of-Err text Empty (reads (λ e. cc)))
+read-refused text EpochEmpty reads differs = ap (option_map BadVersion) (fault_of-Err text EpochEmpty (reads (λ e. cc)))
+read-refused text EpochNotNumber reads differs = ap (option_map BadVersion) (fault_of-Err text EpochNotNumber (reads (λ e. cc)))
+read-refused text EpochTooLarge reads differs = ap (option_map BadVersion) (fault_of-Err text EpochTooLarge (reads (λ e. cc)))
+read-refused text UpstreamEmpty reads differs = ap (option_map BadVersion) (fault_of-Err text UpstreamEmpty (reads (λ e. cc)))
+read-refused text (UpstreamBad place) reads differs = ap (option_map BadVersion) (fault_of-Err text (UpstreamBad place) (reads (λ e. cc)))
+read-refused text RevisionEmpty reads differs = ap (option_map BadVersion) (fault_of-Err text RevisionEmpty (reads (λ e. cc)))
+read-refused text (RevisionBad place) reads differs = ap (option_map BadVersion) (fault_of-Err text (RevisionBad place) (reads (λ e. cc)))
+read-refused text TooLong reads differs = ap (option_map BadVersion) (fault_of-Err text TooLong (reads (λ e. cc)))
 read-refused text NoMemory reads differs = absurd (differs refl)
 
 pub relations-refused : (text : List ℕ) (fault : RelationFault) (refusal : Refusal)
@@ -61,7 +48,7 @@ version-memory text (UpstreamBad place) reads is = cc
 version-memory text RevisionEmpty reads is = cc
 version-memory text (RevisionBad place) reads is = cc
 version-memory text TooLong reads is = cc
-version-memory text NoMemory reads is = fault_of-read text (reads refl)
+version-memory text NoMemory reads is = fault_of-IsOk text (reads refl)
 
 -- a text that would be refused for its length, and is not, is not too long
 pub relations-short : (text : List ℕ) → (65536 < length text → ⊥) → nat_lt relations_limit (length text) ≡ false
