@@ -1,6 +1,7 @@
 -- What the rows of the archive's lists add to a listing, one after another (this project's own).
-use Rattle.std.specs.Prelude.{◌≡◌, ℕ, ◌+◌, ◌<◌, ◌^◌, true, List, [], length, bytes_eq, Option, Some, None, is_some, Result, Ok, Err, if◌then◌else◌}
+use Rattle.std.specs.Prelude.{◌≡◌, ℕ, ◌+◌, ◌<◌, ◌^◌, true, List, [], length, bytes_eq, Option, is_some, Result, Ok, Err, if◌then◌else◌}
 use Rattle.std.specs.List.{fold}
+use Rattle.std.specs.Option.{option_map_or}
 use Rattle.std.specs.declared.cmp.Ordering.{Ordering}
 use Rattle.std.specs.FinMap as finite
 use Rattle.deb_control.specs.Paragraphs.{Place}
@@ -48,19 +49,13 @@ after_rows add start (Ok rows) = Ok (fold add start rows)
 
 -- ---- where a reader stands
 
--- the rows of the paragraphs ahead, of which so many went before
-abbrev pub rows_over : {X : Type 0} → (List (List ℕ) → Result X ListingFault) → ListKind → ℕ → Option (List (List (List ℕ))) → Result (List X) Refusal
-rows_over row_of which passed None = Ok []
-rows_over row_of which passed (Some paragraphs) = rows_behind row_of which passed paragraphs
-
 -- the rows that a reader of paragraphs has ahead, or the refusal for the first faulty paragraph
 abbrev pub rows_at : {X : Type 0} → (List (List ℕ) → Result X ListingFault) → ListKind → Place → Result (List X) Refusal
-rows_at row_of which place = rows_over row_of which place.passed place.ahead
+rows_at row_of which place = option_map_or (rows_behind row_of which place.passed) place.ahead (Ok [])
 
 -- how many paragraphs are ahead
 abbrev pub number_of : Option (List (List (List ℕ))) → ℕ
-number_of None = 0
-number_of (Some paragraphs) = length paragraphs
+number_of ahead = option_map_or length ahead 0
 
 -- a reader that went through so many paragraphs, and can count those ahead
 pub record HasPassed (place : Place) (passed : ℕ) : Type 0 where
