@@ -6,6 +6,7 @@ use Rattle.std.proofs.lemmas.Bool.{and_parts, eqb-true, or_parts}
 use Rattle.std.proofs.lemmas.List.{take_all}
 use Rattle.std.proofs.lemmas.List.Folds.{list_any-append}
 use Rattle.std.proofs.Math.Seq.{take-append_seam, drop-append-add}
+use Rattle.std.proofs.lemmas.Option.{cond_some}
 use Rattle.deb_version.specs.Syntax.{is_version_text}
 use Rattle.wb_states.specs.Holds.{has_value}
 use Rattle.deb_relations.specs.Names.{is_package_name, is_package_char, is_lower_or_digit}
@@ -92,10 +93,6 @@ name-with_version name version h v =
 bracket-is : (c d : ℕ) → bytes_eq (c ∷ []) (d ∷ []) ≡ true → c ≡ d
 bracket-is c d e = let same : c ∷ [] ≡ d ∷ [] = bytes_eq-is (c ∷ []) (d ∷ []) e in cc
 
-chosen : {X : Type 0} (b : Bool) (x y : X) → cond b (Some x) None ≡ Some y → (b ≡ true) × (x ≡ y)
-chosen true x y e = (refl, cc)
-chosen false x y e = absurd cc
-
 chosen-first : {X : Type 0} (b : Bool) (o : Option X) (y : X) → cond b o None ≡ Some y → (b ≡ true) × (o ≡ Some y)
 chosen-first true o y e = (refl, e)
 chosen-first false o y e = absurd cc
@@ -104,7 +101,7 @@ chosen-first false o y e = absurd cc
 unbracketed : (inner backwards version : List ℕ) → reverse inner ≡ backwards → in_brackets (40 ∷ inner) ≡ Some version → inner ≡ version ++ 41 ∷ []
 unbracketed inner [] version e is = let none = rw e at is in absurd cc
 unbracketed inner (c ∷ cs) version e is =
-    let parts = chosen (bytes_eq (c ∷ []) (codes ")")) (reverse cs) version (rw e at is) in
+    let parts = cond_some (bytes_eq (c ∷ []) (codes ")")) (reverse cs) version (rw e at is) in
     last_is inner c cs e ∙ (λ i. parts.1 i ++ bracket-is c 41 parts.0 i ∷ [])
 
 in_brackets-is : (text version : List ℕ) → in_brackets text ≡ Some version → text ≡ 40 ∷ (version ++ 41 ∷ [])

@@ -3,7 +3,7 @@ use Rattle.std.proofs.Common.{◌≡◌, ℕ, Bool, true, false, cond, List, [],
 use Rattle.std.proofs.lemmas.Cmp.{nat_list_eq_equiv}
 use Rattle.std.specs.FinMap as map
 use Rattle.std.specs.List.{list_any}
-use Rattle.std.proofs.lemmas.Bool.{or_parts}
+use Rattle.std.proofs.lemmas.Bool.{both_ways, or_parts}
 use Rattle.wb_states.specs.declared.command.Command.{Command}
 use Rattle.wb_states.specs.declared.command.Command.TheVariants.{Merge}
 use Rattle.wb_states.specs.declared.command.Part.{Part}
@@ -36,11 +36,6 @@ middle-other test [] part behind is = (or_parts (test part) (list_any test behin
 middle-other test (one ∷ before) part behind is =
     middle-other test before part behind (or_parts (test one) (list_any test (before ++ part ∷ behind)) is).1
 
-not-both : (b : Bool) → b ≡ false → b ≡ true → ⊥
-not-both b fails holds = clash (sym holds ∙ fails) where
-  clash : true ≡ false → ⊥
-  clash e = cc
-
 merged-part : (machine : Machine) (sources : List ℕ) (before : List Part) (part : Part) (behind : List Part) (records : Records) (key : List ℕ × List ℕ)
     → has_repeated_arch (before ++ part ∷ behind) ≡ false → key.0 ≡ part.arch
     → map.get (records_after machine sources (before ++ part ∷ behind) records) key
@@ -48,7 +43,7 @@ merged-part : (machine : Machine) (sources : List ℕ) (before : List Part) (par
 merged-part machine sources [] part behind records key once here =
     let later = (or_parts (list_any (λ other. bytes_eq part.arch other.arch) behind) (has_repeated_arch behind) once).0 in
     parts-others machine sources behind (records_with records part.arch (part_listing machine sources part)) key
-    (not-both (list_any (λ other. bytes_eq key.0 other.arch) behind) (ap (λ (name : List ℕ). list_any (λ other. bytes_eq name other.arch) behind) here ∙ later))
+    (both_ways (list_any (λ other. bytes_eq key.0 other.arch) behind) (ap (λ (name : List ℕ). list_any (λ other. bytes_eq name other.arch) behind) here ∙ later))
 merged-part machine sources (one ∷ before) part behind records key once here =
     let rest : List Part = before ++ part ∷ behind in
     let both = or_parts (list_any (λ other. bytes_eq one.arch other.arch) rest) (has_repeated_arch rest) once in

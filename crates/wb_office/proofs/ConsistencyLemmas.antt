@@ -5,6 +5,7 @@ use Rattle.std.specs.Ordering.{eq_by_cmp}
 use Rattle.std.specs.Cmp.{IsTotalOrder}
 use Rattle.std.specs.FinMap as map
 use Rattle.std.specs.FinSet as set
+use Rattle.std.proofs.lemmas.Bool.{or_right}
 use Rattle.wb_states.specs.declared.arch.OsCpu.{OsCpu}
 use Rattle.wb_states.specs.declared.record.Record.{Record}
 use Rattle.wb_states.specs.Limits.{count_limit}
@@ -69,10 +70,7 @@ contains_key-insert {V = V} {R = R} total m k v q h = ap is_some (map.get-insert
 
 -- an item that was there is there after an insertion
 pub contains-insert : {K : Type 0} {R : K → K → Ordering} → IsTotalOrder R → (s : set.FinSet R) (k q : K) → IsTrue (set.contains s q) → IsTrue (set.contains (set.insert s k) q)
-contains-insert {R = R} total s k q h = set.contains-insert total s k q ∙ either (eq_by_cmp R q k) (set.contains s q) h where
-  either : (a b : Bool) → b ≡ true → (a || b) ≡ true
-  either true b h = refl
-  either false b h = h
+contains-insert {R = R} total s k q h = set.contains-insert total s k q ∙ or_right (eq_by_cmp R q k) (set.contains s q) h
 
 -- an architecture more, which was not there, leaves the others as they were
 others-kept : (archs : map.FinMap text_cmp OsCpu) (arch : List ℕ) (words : OsCpu) → map.contains_key archs arch ≡ false

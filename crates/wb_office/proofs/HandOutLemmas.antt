@@ -4,6 +4,7 @@ use Rattle.std.specs.List.{cons_option}
 use Rattle.std.specs.Ordering.{is_eq}
 use Rattle.std.proofs.lemmas.Cmp.{tied_itself}
 use Rattle.std.specs.FinMap as map
+use Rattle.std.proofs.lemmas.Option.{same_Some}
 use Rattle.wb_states.specs.declared.command.Command.{Command}
 use Rattle.wb_states.specs.declared.command.Command.TheVariants as of
 use Rattle.wb_states.specs.declared.moves.Move.{Move}
@@ -44,9 +45,6 @@ unfolding may_go
 taken-free holder take_number NeedsBuild is = refl
 taken-free holder take_number _ is = cc
 
-only : {X : Type 0} (x y : X) → Some x ≡ Some y → x ≡ y
-only x y e = cc
-
 -- a command of a builder that asks for a record: its reply tells of the record that it moves
 abbrev AsksFor : Machine → Command → List ℕ → Type 0
 AsksFor machine command builder =
@@ -58,7 +56,7 @@ assigned-given : (machine : Machine) (builder : List ℕ) (found : Option Entry)
     → (entry : Entry) × ((found ≡ Some entry) × ((given.key ≡ entry.0) × ((given.take ≡ machine.handed + 1) × (given.builder ≡ builder))))
 assigned-given machine builder None given is = cc
 assigned-given machine builder (Some entry) given is =
-    let same : record { builder = builder; key = entry.0; take = machine.handed + 1 } ≡ given = only _ _ is in
+    let same : record { builder = builder; key = entry.0; take = machine.handed + 1 } ≡ given = same_Some _ _ is in
     (entry, (refl, (sym (ap (λ (g : HandOut). g.key) same), (sym (ap (λ (g : HandOut). g.take) same), sym (ap (λ (g : HandOut). g.builder) same)))))
 
 accepted-given : (machine : Machine) (command : Command) (builder : List ℕ) (given : HandOut) → AsksFor machine command builder → Passes machine command

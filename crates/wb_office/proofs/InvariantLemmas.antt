@@ -1,6 +1,6 @@
 -- Every step keeps the invariant of the office.
-use Rattle.std.proofs.Common.{◌≡◌, ℕ, ◌+◌, ◌<◌, ◌≤◌, Bool, true, false, ◌&&◌, ◌||◌, inl, inr, is_none, Option, Some, None, IsTrue, IfSome, refl, sym, ap, subst, ◌∙◌, List, [], ◌∷◌, nat_le, arith}
-use Rattle.std.proofs.lemmas.Bool.{and_parts, leb-false, not-false, or_parts}
+use Rattle.std.proofs.Common.{◌≡◌, ℕ, ◌+◌, ◌<◌, ◌≤◌, false, ◌&&◌, ◌||◌, inl, inr, is_none, Option, Some, None, IsTrue, IfSome, refl, sym, ap, subst, ◌∙◌, List, [], ◌∷◌, nat_le, arith}
+use Rattle.std.proofs.lemmas.Bool.{and_parts, leb-false, not-false, or_parts, or_right}
 use Rattle.std.specs.FinMap as map
 use Rattle.deb_version.specs.Syntax.{fault_of}
 use Rattle.deb_version.proofs.ReadingLemmas.{reading_of-ok}
@@ -31,10 +31,7 @@ use Rattle.wb_states.proofs.SettledLemmas.{empty_within}
 
 -- a label is a label or empty
 labelled : (text : List ℕ) → IsTrue (is_label_text text) → IsTrue (is_empty_text text || is_label_text text)
-labelled text is = either (is_empty_text text) (is_label_text text) is where
-  either : (a b : Bool) → b ≡ true → (a || b) ≡ true
-  either true b h = refl
-  either false b h = h
+labelled text is = or_right (is_empty_text text) (is_label_text text) is
 
 entered-well : (version priority section : List ℕ) → fault_of version ≡ None → IsTrue (is_label_text priority) → IsTrue (is_label_text section)
     → IsWellFormed (entered version priority section)
