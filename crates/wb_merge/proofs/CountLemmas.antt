@@ -4,7 +4,7 @@ use Rattle.std.proofs.lemmas.List.{drop_all}
 use Rattle.std.specs.FinMap as finite
 use Rattle.wb_states.specs.declared.reply.MergeCounts.{MergeCounts}
 use Rattle.wb_merge.specs.Listing.{ArchiveListing}
-use Rattle.wb_merge.specs.Merged.{Records, after_at, merged, names_of, is_added, is_changed, is_kept, is_removed, change_of, number_where, counts_over, merge_counts, all_kept, after_named}
+use Rattle.wb_merge.specs.Merged.{Records, record_after_at, merged, names_of, is_added, is_changed, is_kept, is_removed, change_of, number_where, counts_over, merge_counts, all_kept, record_after_named}
 use Rattle.wb_merge.specs.declared.merge.Change.{Change}
 use Rattle.wb_merge.specs.declared.merge.Change.TheVariants.{Absent, Added, Changed, Kept, Removed}
 use Rattle.wb_merge.specs.Steps.{Key, record_at, IsSetAt, AreWithin, counted}
@@ -75,15 +75,15 @@ counted-next counts Removed added changed kept removed = λ i. record {
 
 counts-next : (counts : MergeCounts) (old : Records) (arch : List ℕ) (listing : ArchiveListing) (name : List ℕ) (names : List (List ℕ))
     → plus counts (counts_over old arch listing (name ∷ names))
-    ≡ plus (counted counts (change_of (finite.get old (arch, name)) (after_at old arch listing (arch, name)))) (counts_over old arch listing names)
+    ≡ plus (counted counts (change_of (finite.get old (arch, name)) (record_after_at old arch listing (arch, name)))) (counts_over old arch listing names)
 unfolding counts_over
 counts-next counts old arch listing name names =
-    let change = change_of (finite.get old (arch, name)) (after_at old arch listing (arch, name)) in
+    let change = change_of (finite.get old (arch, name)) (record_after_at old arch listing (arch, name)) in
     (λ i. plus counts (record {
-      added = length-more (is_added change) name (filter (λ name. is_added (change_of (finite.get old (arch, name)) (after_at old arch listing (arch, name)))) names) i;
-      changed = length-more (is_changed change) name (filter (λ name. is_changed (change_of (finite.get old (arch, name)) (after_at old arch listing (arch, name)))) names) i;
-      kept = length-more (is_kept change) name (filter (λ name. is_kept (change_of (finite.get old (arch, name)) (after_at old arch listing (arch, name)))) names) i;
-      removed = length-more (is_removed change) name (filter (λ name. is_removed (change_of (finite.get old (arch, name)) (after_at old arch listing (arch, name)))) names) i;
+      added = length-more (is_added change) name (filter (λ name. is_added (change_of (finite.get old (arch, name)) (record_after_at old arch listing (arch, name)))) names) i;
+      changed = length-more (is_changed change) name (filter (λ name. is_changed (change_of (finite.get old (arch, name)) (record_after_at old arch listing (arch, name)))) names) i;
+      kept = length-more (is_kept change) name (filter (λ name. is_kept (change_of (finite.get old (arch, name)) (record_after_at old arch listing (arch, name)))) names) i;
+      removed = length-more (is_removed change) name (filter (λ name. is_removed (change_of (finite.get old (arch, name)) (record_after_at old arch listing (arch, name)))) names) i;
     }))
     ∙ counted-next counts change (number_where is_added old arch listing names) (number_where is_changed old arch listing names) (number_where is_kept old arch listing names) (number_where is_removed old arch listing names)
 
@@ -136,8 +136,8 @@ half_merged-start old arch listing = record {
 
 pub half_merged-next : (old records new : Records) (arch : List ℕ) (listing : ArchiveListing) (counts : MergeCounts) (name : List ℕ) (left : List (List ℕ))
     → IsHalfMerged old records arch listing counts (name ∷ left)
-    → IsSetAt records (arch, name) (after_named listing name (finite.get records (arch, name))) new
-    → IsHalfMerged old new arch listing (counted counts (change_of (record_at records (arch, name)) (after_named listing name (finite.get records (arch, name))))) left
+    → IsSetAt records (arch, name) (record_after_named listing name (finite.get records (arch, name))) new
+    → IsHalfMerged old new arch listing (counted counts (change_of (record_at records (arch, name)) (record_after_named listing name (finite.get records (arch, name))))) left
 half_merged-next old records new arch listing counts name left h step = record {
   apart = h.apart.1;
   half = half-next old records new arch listing name left h.apart.0 h.half step;
@@ -150,8 +150,8 @@ half_merged-next old records new arch listing counts name left h step = record {
 pub half_merged-step : (old records new : Records) (arch : List ℕ) (listing : ArchiveListing) (counts : MergeCounts) (names : List (List ℕ)) (at : ℕ) (name : List ℕ)
     → at < length names → name ≡ get_or names at name
     → IsHalfMerged old records arch listing counts (drop at names)
-    → IsSetAt records (arch, name) (after_named listing name (finite.get records (arch, name))) new
-    → (made : Change) → made ≡ change_of (record_at records (arch, name)) (after_named listing name (finite.get records (arch, name)))
+    → IsSetAt records (arch, name) (record_after_named listing name (finite.get records (arch, name))) new
+    → (made : Change) → made ≡ change_of (record_at records (arch, name)) (record_after_named listing name (finite.get records (arch, name)))
     → IsHalfMerged old new arch listing (counted counts made) (drop (at + 1) names)
 half_merged-step old records new arch listing counts names at name lt is h step made e =
     let left : drop at names ≡ name ∷ drop (at + 1) names =

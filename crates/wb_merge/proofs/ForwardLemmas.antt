@@ -18,7 +18,7 @@ use Rattle.wb_merge.specs.declared.listing.Listed.{Listed}
 use Rattle.wb_merge.specs.declared.listing.Built.{Built}
 use Rattle.wb_merge.specs.Listing.{ArchiveListing}
 use Rattle.wb_merge.specs.Merge.{record_after, covers, built_number, are_waits_met, relisted, newer_record, same_record, same_state, newer_state, listed_record, ends_hold, HasSameHold}
-use Rattle.wb_merge.specs.Merged.{Records, after_at, BecomesAt}
+use Rattle.wb_merge.specs.Merged.{Records, record_after_at, BecomesAt}
 use Rattle.wb_merge.specs.Steps.{Key}
 use Rattle.wb_merge.proofs.MergeLemmas.{merged-get}
 
@@ -42,7 +42,7 @@ module _ (old : Records) (arch : List ℕ) (listing : ArchiveListing) (key : Key
 
   pub at-becomes : (P : Record → Type 0) → P current
       → ((listed : Listed) → finite.get listing.listed key.1 ≡ Some listed → P (listed_record listed built_there listing.available current)) → P new
-  unfolding after_at
+  unfolding record_after_at
   at-becomes P stays merges =
       by_case P stays merges (bytes_eq key.0 arch) (finite.get listing.listed key.1) refl
       (ap (λ (o : Option Record). cond (bytes_eq key.0 arch) (record_after o (finite.get listing.listed key.1) built_there listing.available) o) (sym h.was)
@@ -60,7 +60,7 @@ module _ (old : Records) (arch : List ℕ) (listing : ArchiveListing) (key : Key
   -- at a key of the architecture no record stays unlooked at
   pub at-listed : (P : Record → Type 0) → key.0 ≡ arch
       → ((listed : Listed) → finite.get listing.listed key.1 ≡ Some listed → P (listed_record listed built_there listing.available current)) → P new
-  unfolding after_at
+  unfolding record_after_at
   at-listed P here merges =
       let same : bytes_eq key.0 arch ≡ true = ap (bytes_eq key.0) (sym here) ∙ nat_list_eq_equiv.refl key.0 in
       by_listed P merges (finite.get listing.listed key.1) refl

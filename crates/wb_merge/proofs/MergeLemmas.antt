@@ -16,7 +16,7 @@ use Rattle.wb_merge.specs.declared.listing.Listed.{Listed}
 use Rattle.wb_merge.specs.declared.listing.Built.{Built}
 use Rattle.wb_merge.specs.Listing.{ArchiveListing}
 use Rattle.wb_merge.specs.Merge.{record_after}
-use Rattle.wb_merge.specs.Merged.{Records, after_at, merge_keys, merged, names_of, recorded_names, after_named}
+use Rattle.wb_merge.specs.Merged.{Records, record_after_at, merge_keys, merged, names_of, recorded_names, record_after_named}
 use Rattle.wb_merge.specs.Steps.{Key, IsSetAt}
 use Rattle.wb_merge.proofs.ListingLemmas.{map_at-get}
 use Rattle.wb_merge.proofs.NameLemmas.{none-is, bytes_eq-is, pair-eq, pair-is, IsApart, keys-apart, text_keys-apart, append-apart, filter-apart, filter-any}
@@ -96,7 +96,7 @@ unnamed old arch listing name e =
 -- the record at a key while names are left: those that are left have what they had
 abbrev pub half_merged : Records → List ℕ → ArchiveListing → List (List ℕ) → Key → Option Record
 half_merged old arch listing names key =
-    cond (bytes_eq key.0 arch && list_any (bytes_eq key.1) names) (finite.get old key) (after_at old arch listing key)
+    cond (bytes_eq key.0 arch && list_any (bytes_eq key.1) names) (finite.get old key) (record_after_at old arch listing key)
 
 none-after : (old : Option Record) (listing : ArchiveListing) (name : List ℕ) → old ≡ None → finite.get listing.listed name ≡ None
     → record_after old (finite.get listing.listed name) (finite.get listing.built name) listing.available ≡ old
@@ -105,8 +105,8 @@ none-after old listing name e f =
 
 -- at a key of the architecture that is not named nothing changes
 pub kept-unnamed : (old : Records) (arch : List ℕ) (listing : ArchiveListing) (key : Key) → bytes_eq key.0 arch ≡ true
-    → list_any (bytes_eq key.1) (names_of old arch listing) ≡ false → after_at old arch listing key ≡ finite.get old key
-unfolding after_at
+    → list_any (bytes_eq key.1) (names_of old arch listing) ≡ false → record_after_at old arch listing key ≡ finite.get old key
+unfolding record_after_at
 kept-unnamed old arch listing key e f =
     let nothing = unnamed old arch listing key.1 f in
     let same : key ≡ (arch, key.1) = λ i. (bytes_eq-is key.0 arch e i, key.1) in
@@ -114,8 +114,8 @@ kept-unnamed old arch listing key e f =
     ∙ none-after (finite.get old key) listing key.1 (ap (finite.get old) same ∙ nothing.0) nothing.1
 
 -- at a key of another architecture nothing changes
-kept-elsewhere : (old : Records) (arch : List ℕ) (listing : ArchiveListing) (key : Key) → bytes_eq key.0 arch ≡ false → after_at old arch listing key ≡ finite.get old key
-unfolding after_at
+kept-elsewhere : (old : Records) (arch : List ℕ) (listing : ArchiveListing) (key : Key) → bytes_eq key.0 arch ≡ false → record_after_at old arch listing key ≡ finite.get old key
+unfolding record_after_at
 kept-elsewhere old arch listing key e =
     ap (λ b. cond b (record_after (finite.get old key) (finite.get listing.listed key.1) (finite.get listing.built key.1) listing.available) (finite.get old key)) e
 
@@ -123,8 +123,8 @@ kept-elsewhere old arch listing key e =
 pub half-start : (old : Records) (arch : List ℕ) (listing : ArchiveListing) (key : Key) → finite.get old key ≡ half_merged old arch listing (names_of old arch listing) key
 half-start old arch listing key =
     let is_named = list_any (bytes_eq key.1) (names_of old arch listing) in
-    elim (bytes_eq key.0 arch) as (λ b. bytes_eq key.0 arch ≡ b → finite.get old key ≡ cond (b && is_named) (finite.get old key) (after_at old arch listing key)) [
-      | true ↦ λ e. elim is_named as (λ b. is_named ≡ b → finite.get old key ≡ cond b (finite.get old key) (after_at old arch listing key)) [
+    elim (bytes_eq key.0 arch) as (λ b. bytes_eq key.0 arch ≡ b → finite.get old key ≡ cond (b && is_named) (finite.get old key) (record_after_at old arch listing key)) [
+      | true ↦ λ e. elim is_named as (λ b. is_named ≡ b → finite.get old key ≡ cond b (finite.get old key) (record_after_at old arch listing key)) [
         | true ↦ λ _. refl
         | false ↦ λ f. sym (kept-unnamed old arch listing key e f)
       ] refl
@@ -136,16 +136,16 @@ pub half-here : (old records : Records) (arch : List ℕ) (listing : ArchiveList
     → ((key : Key) → finite.get records key ≡ half_merged old arch listing (name ∷ names) key) → finite.get records (arch, name) ≡ finite.get old (arch, name)
 half-here old records arch listing name names half =
     half (arch, name)
-    ∙ (λ i. cond (nat_list_eq_equiv.refl arch i && (nat_list_eq_equiv.refl name i || list_any (bytes_eq name) names)) (finite.get old (arch, name)) (after_at old arch listing (arch, name)))
+    ∙ (λ i. cond (nat_list_eq_equiv.refl arch i && (nat_list_eq_equiv.refl name i || list_any (bytes_eq name) names)) (finite.get old (arch, name)) (record_after_at old arch listing (arch, name)))
 
-after-here : (old : Records) (arch : List ℕ) (listing : ArchiveListing) (name : List ℕ) → after_at old arch listing (arch, name) ≡ after_named listing name (finite.get old (arch, name))
-unfolding after_at
+after-here : (old : Records) (arch : List ℕ) (listing : ArchiveListing) (name : List ℕ) → record_after_at old arch listing (arch, name) ≡ record_after_named listing name (finite.get old (arch, name))
+unfolding record_after_at
 after-here old arch listing name =
-    ap (λ b. cond b (after_named listing name (finite.get old (arch, name))) (finite.get old (arch, name))) (nat_list_eq_equiv.refl arch)
+    ap (λ b. cond b (record_after_named listing name (finite.get old (arch, name))) (finite.get old (arch, name))) (nat_list_eq_equiv.refl arch)
 
 -- after a name no more name is left of it
 pub named-here : (old records : Records) (arch : List ℕ) (listing : ArchiveListing) (name : List ℕ) (names : List (List ℕ))
-    → ((key : Key) → finite.get records key ≡ half_merged old arch listing (name ∷ names) key) → after_named listing name (finite.get records (arch, name)) ≡ after_at old arch listing (arch, name)
+    → ((key : Key) → finite.get records key ≡ half_merged old arch listing (name ∷ names) key) → record_after_named listing name (finite.get records (arch, name)) ≡ record_after_at old arch listing (arch, name)
 named-here old records arch listing name names half =
     ap (λ current. record_after current (finite.get listing.listed name) (finite.get listing.built name) listing.available) (half-here old records arch listing name names half)
     ∙ sym (after-here old arch listing name)
@@ -155,25 +155,25 @@ half-other : (old : Records) (arch : List ℕ) (listing : ArchiveListing) (name 
     → (bytes_eq arch key.0 && bytes_eq name key.1) ≡ false → half_merged old arch listing (name ∷ names) key ≡ half_merged old arch listing names key
 half-other old arch listing name names key =
     elim (bytes_eq arch key.0) as (λ b. bytes_eq arch key.0 ≡ b → (b && bytes_eq name key.1) ≡ false → half_merged old arch listing (name ∷ names) key ≡ half_merged old arch listing names key) [
-      | true ↦ λ e f. λ i. cond (bytes_eq key.0 arch && ((nat_list_eq_equiv.symm key.1 name ∙ f) i || list_any (bytes_eq key.1) names)) (finite.get old key) (after_at old arch listing key)
+      | true ↦ λ e f. λ i. cond (bytes_eq key.0 arch && ((nat_list_eq_equiv.symm key.1 name ∙ f) i || list_any (bytes_eq key.1) names)) (finite.get old key) (record_after_at old arch listing key)
       | false ↦ λ e f. let there : bytes_eq key.0 arch ≡ false = nat_list_eq_equiv.symm key.0 arch ∙ e in
-          (λ i. cond (there i && (bytes_eq key.1 name || list_any (bytes_eq key.1) names)) (finite.get old key) (after_at old arch listing key))
-          ∙ (λ i. cond (sym there i && list_any (bytes_eq key.1) names) (finite.get old key) (after_at old arch listing key))
+          (λ i. cond (there i && (bytes_eq key.1 name || list_any (bytes_eq key.1) names)) (finite.get old key) (record_after_at old arch listing key))
+          ∙ (λ i. cond (sym there i && list_any (bytes_eq key.1) names) (finite.get old key) (record_after_at old arch listing key))
     ] refl
 
 pub half-next : (old records new : Records) (arch : List ℕ) (listing : ArchiveListing) (name : List ℕ) (names : List (List ℕ))
     → list_any (bytes_eq name) names ≡ false
     → ((key : Key) → finite.get records key ≡ half_merged old arch listing (name ∷ names) key)
-    → IsSetAt records (arch, name) (after_named listing name (finite.get records (arch, name))) new
+    → IsSetAt records (arch, name) (record_after_named listing name (finite.get records (arch, name))) new
     → (key : Key) → finite.get new key ≡ half_merged old arch listing names key
 unfolding IsSetAt
 half-next old records new arch listing name names apart half step key =
     step key
-    ∙ elim (eq_by_cmp pair_cmp (arch, name) key) as (λ b. eq_by_cmp pair_cmp (arch, name) key ≡ b → cond b (after_named listing name (finite.get records (arch, name))) (finite.get records key) ≡ half_merged old arch listing names key) [
+    ∙ elim (eq_by_cmp pair_cmp (arch, name) key) as (λ b. eq_by_cmp pair_cmp (arch, name) key ≡ b → cond b (record_after_named listing name (finite.get records (arch, name))) (finite.get records key) ≡ half_merged old arch listing names key) [
       | true ↦ λ e. let same : (arch, name) ≡ key = pair-is (arch, name) key e in
           named-here old records arch listing name names half
-          ∙ (λ i. cond (sym (and_right (bytes_eq arch arch) false refl) i) (finite.get old (arch, name)) (after_at old arch listing (arch, name)))
-          ∙ (λ i. cond (bytes_eq arch arch && sym apart i) (finite.get old (arch, name)) (after_at old arch listing (arch, name)))
+          ∙ (λ i. cond (sym (and_right (bytes_eq arch arch) false refl) i) (finite.get old (arch, name)) (record_after_at old arch listing (arch, name)))
+          ∙ (λ i. cond (bytes_eq arch arch && sym apart i) (finite.get old (arch, name)) (record_after_at old arch listing (arch, name)))
           ∙ ap (half_merged old arch listing names) same
       | false ↦ λ e. half key ∙ half-other old arch listing name names key (sym (pair-eq (arch, name) key) ∙ e)
     ] refl
@@ -195,8 +195,8 @@ listed-key-any arch (name ∷ names) key e =
     let here : eq_by_cmp pair_cmp key (arch, name) ≡ bytes_eq key.1 name = pair-eq key (arch, name) ∙ ap (λ b. b && bytes_eq key.1 name) e in
     λ i. here i || rest i
 
-nowhere : (old : Records) (arch : List ℕ) (listing : ArchiveListing) (key : Key) → list_any (eq_by_cmp pair_cmp key) (merge_keys old arch listing) ≡ false → after_at old arch listing key ≡ None
-unfolding after_at
+nowhere : (old : Records) (arch : List ℕ) (listing : ArchiveListing) (key : Key) → list_any (eq_by_cmp pair_cmp key) (merge_keys old arch listing) ≡ false → record_after_at old arch listing key ≡ None
+unfolding record_after_at
 nowhere old arch listing key e =
     let parts = keys-any old arch listing key e in
     elim (bytes_eq key.0 arch) as (λ b. bytes_eq key.0 arch ≡ b
@@ -207,12 +207,12 @@ nowhere old arch listing key e =
     ] refl
 
 -- the record at each key after the merge
-pub merged-get : (old : Records) (arch : List ℕ) (listing : ArchiveListing) (key : Key) → finite.get (merged old arch listing) key ≡ after_at old arch listing key
+pub merged-get : (old : Records) (arch : List ℕ) (listing : ArchiveListing) (key : Key) → finite.get (merged old arch listing) key ≡ record_after_at old arch listing key
 unfolding merged
 merged-get old arch listing key =
     let is_there = list_any (eq_by_cmp pair_cmp key) (merge_keys old arch listing) in
-    map_at-get pair_cmp_total pair_cmp-same (after_at old arch listing) (merge_keys old arch listing) key
-    ∙ elim is_there as (λ b. is_there ≡ b → cond b (after_at old arch listing key) None ≡ after_at old arch listing key) [
+    map_at-get pair_cmp_total pair_cmp-same (record_after_at old arch listing) (merge_keys old arch listing) key
+    ∙ elim is_there as (λ b. is_there ≡ b → cond b (record_after_at old arch listing key) None ≡ record_after_at old arch listing key) [
       | true ↦ λ _. refl
       | false ↦ λ e. sym (nowhere old arch listing key e)
     ] refl
@@ -238,4 +238,4 @@ pub half-end : (old records : Records) (arch : List ℕ) (listing : ArchiveListi
     → records ≡ merged old arch listing
 half-end old records arch listing half =
     finite.same_map pair_cmp_total pair_cmp-same _ _ (λ key.
-    half key ∙ (λ i. cond (and_right (bytes_eq key.0 arch) false refl i) (finite.get old key) (after_at old arch listing key)) ∙ sym (merged-get old arch listing key))
+    half key ∙ (λ i. cond (and_right (bytes_eq key.0 arch) false refl i) (finite.get old key) (record_after_at old arch listing key)) ∙ sym (merged-get old arch listing key))

@@ -9,12 +9,12 @@ use Rattle.wb_states.specs.declared.record.Record.{Record}
 use Rattle.wb_merge.specs.Listing.{ArchiveListing}
 use Rattle.wb_merge.specs.declared.merge.Change.{Change}
 use Rattle.wb_merge.specs.declared.merge.Change.TheVariants.{Changed, Kept}
-use Rattle.wb_merge.specs.Merged.{Records, after_at, merged, names_of, is_added, is_changed, is_kept, is_removed, change_of, is_same_record, number_where, counts_over, merge_counts, all_kept, recorded_names}
+use Rattle.wb_merge.specs.Merged.{Records, record_after_at, merged, names_of, is_added, is_changed, is_kept, is_removed, change_of, is_same_record, number_where, counts_over, merge_counts, all_kept, recorded_names}
 use Rattle.wb_merge.specs.Steps.{Key}
 use Rattle.wb_merge.proofs.NameLemmas.{IsApart, filter-any, filter-apart, keys-apart}
 use Rattle.wb_merge.proofs.MergeLemmas.{merged-get, names-any, names-apart, recorded-apart, recorded-names-any, kept-unnamed, unnamed}
 use Rattle.wb_merge.proofs.RecordLemmas.{same-record-is}
-use Rattle.wb_merge.proofs.TwiceLemmas.{after_at-twice}
+use Rattle.wb_merge.proofs.TwiceLemmas.{record_after_at-twice}
 
 -- ---- lists of the same texts, each once, are of one length
 
@@ -93,21 +93,21 @@ module _ (old : Records) (arch : List ℕ) (listing : ArchiveListing) where
       ≡ length (recorded_names old arch)
   unfolding merge_counts counts_over
   counts-before =
-      parts-add (λ name. is_removed (change_of (finite.get old (arch, name)) (after_at old arch listing (arch, name))))
-      (λ name. is_changed (change_of (finite.get old (arch, name)) (after_at old arch listing (arch, name))))
-      (λ name. is_kept (change_of (finite.get old (arch, name)) (after_at old arch listing (arch, name))))
+      parts-add (λ name. is_removed (change_of (finite.get old (arch, name)) (record_after_at old arch listing (arch, name))))
+      (λ name. is_changed (change_of (finite.get old (arch, name)) (record_after_at old arch listing (arch, name))))
+      (λ name. is_kept (change_of (finite.get old (arch, name)) (record_after_at old arch listing (arch, name))))
       (λ name. is_some (finite.get old (arch, name)))
-      (λ name. part-before (finite.get old (arch, name)) (after_at old arch listing (arch, name))) names
+      (λ name. part-before (finite.get old (arch, name)) (record_after_at old arch listing (arch, name))) names
       ∙ length-before
 
   -- a source package that has a record after the merge is named
-  named-after : (name : List ℕ) → (is_some (after_at old arch listing (arch, name)) && list_any (bytes_eq name) names) ≡ is_some (after_at old arch listing (arch, name))
+  named-after : (name : List ℕ) → (is_some (record_after_at old arch listing (arch, name)) && list_any (bytes_eq name) names) ≡ is_some (record_after_at old arch listing (arch, name))
   named-after name =
       elim (list_any (bytes_eq name) names) as (λ b. list_any (bytes_eq name) names ≡ b
-      → (is_some (after_at old arch listing (arch, name)) && b) ≡ is_some (after_at old arch listing (arch, name))) [
-        | true ↦ λ _. and-true (is_some (after_at old arch listing (arch, name)))
+      → (is_some (record_after_at old arch listing (arch, name)) && b) ≡ is_some (record_after_at old arch listing (arch, name))) [
+        | true ↦ λ _. and-true (is_some (record_after_at old arch listing (arch, name)))
         | false ↦ λ e.
-            let nothing : after_at old arch listing (arch, name) ≡ None =
+            let nothing : record_after_at old arch listing (arch, name) ≡ None =
             kept-unnamed old arch listing (arch, name) (nat_list_eq_equiv.refl arch) e ∙ (unnamed old arch listing name e).0 in
             ap (λ (o : Option Record). is_some o && false) nothing ∙ ap is_some (sym nothing)
       ] refl
@@ -116,12 +116,12 @@ module _ (old : Records) (arch : List ℕ) (listing : ArchiveListing) where
       and-true true = refl
       and-true false = refl
 
-  length-after : length (filter (λ name. is_some (after_at old arch listing (arch, name))) names) ≡ length (recorded_names (merged old arch listing) arch)
+  length-after : length (filter (λ name. is_some (record_after_at old arch listing (arch, name))) names) ≡ length (recorded_names (merged old arch listing) arch)
   length-after =
-      same-length (filter (λ name. is_some (after_at old arch listing (arch, name))) names) (recorded_names (merged old arch listing) arch)
-      (filter-apart (λ name. is_some (after_at old arch listing (arch, name))) names (names-apart old arch listing))
+      same-length (filter (λ name. is_some (record_after_at old arch listing (arch, name))) names) (recorded_names (merged old arch listing) arch)
+      (filter-apart (λ name. is_some (record_after_at old arch listing (arch, name))) names (names-apart old arch listing))
       (recorded-apart arch (finite.keys (merged old arch listing)) (keys-apart (merged old arch listing)))
-      (λ name. filter-any (λ name. is_some (after_at old arch listing (arch, name))) name names
+      (λ name. filter-any (λ name. is_some (record_after_at old arch listing (arch, name))) name names
       ∙ named-after name
       ∙ ap is_some (sym (merged-get old arch listing (arch, name)))
       ∙ sym (recorded-names-any (merged old arch listing) arch name))
@@ -130,11 +130,11 @@ module _ (old : Records) (arch : List ℕ) (listing : ArchiveListing) where
       ≡ length (recorded_names (merged old arch listing) arch)
   unfolding merge_counts counts_over
   counts-after =
-      parts-add (λ name. is_added (change_of (finite.get old (arch, name)) (after_at old arch listing (arch, name))))
-      (λ name. is_changed (change_of (finite.get old (arch, name)) (after_at old arch listing (arch, name))))
-      (λ name. is_kept (change_of (finite.get old (arch, name)) (after_at old arch listing (arch, name))))
-      (λ name. is_some (after_at old arch listing (arch, name)))
-      (λ name. part-after (finite.get old (arch, name)) (after_at old arch listing (arch, name))) names
+      parts-add (λ name. is_added (change_of (finite.get old (arch, name)) (record_after_at old arch listing (arch, name))))
+      (λ name. is_changed (change_of (finite.get old (arch, name)) (record_after_at old arch listing (arch, name))))
+      (λ name. is_kept (change_of (finite.get old (arch, name)) (record_after_at old arch listing (arch, name))))
+      (λ name. is_some (record_after_at old arch listing (arch, name)))
+      (λ name. part-after (finite.get old (arch, name)) (record_after_at old arch listing (arch, name))) names
       ∙ length-after
 
 -- ---- a second merge
@@ -159,13 +159,13 @@ module _ (old : Records) (arch : List ℕ) (listing : ArchiveListing) where
   abbrev once : Records
   once = merged old arch listing
 
-  same-again : (key : Key) → after_at once arch listing key ≡ finite.get once key
-  same-again key = after_at-twice old arch listing key ∙ sym (merged-get old arch listing key)
+  same-again : (key : Key) → record_after_at once arch listing key ≡ finite.get once key
+  same-again key = record_after_at-twice old arch listing key ∙ sym (merged-get old arch listing key)
 
   none-where : (test : Change → Bool) → ((current : Option Record) → test (change_of current current) ≡ false) → (names : List (List ℕ))
       → number_where test once arch listing names ≡ 0
   none-where test none names =
-      filter-none (λ name. test (change_of (finite.get once (arch, name)) (after_at once arch listing (arch, name))))
+      filter-none (λ name. test (change_of (finite.get once (arch, name)) (record_after_at once arch listing (arch, name))))
       (λ name. ap (λ new. test (change_of (finite.get once (arch, name)) new)) (same-again (arch, name)) ∙ none (finite.get once (arch, name))) names
 
   pub counts-twice : merge_counts once arch listing ≡ all_kept (length (recorded_names once arch))

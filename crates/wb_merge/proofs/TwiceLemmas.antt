@@ -17,7 +17,7 @@ use Rattle.wb_merge.specs.declared.listing.Listed.{Listed}
 use Rattle.wb_merge.specs.declared.listing.Built.{Built}
 use Rattle.wb_merge.specs.Listing.{ArchiveListing}
 use Rattle.wb_merge.specs.Merge.{record_after, covers, built_number, are_waits_met, relisted, blank_record, new_record, newer_record, same_record, listed_record}
-use Rattle.wb_merge.specs.Merged.{Records, after_at, merged}
+use Rattle.wb_merge.specs.Merged.{Records, record_after_at, merged}
 use Rattle.wb_merge.specs.Steps.{Key}
 use Rattle.wb_merge.proofs.MergeLemmas.{merged-get}
 
@@ -241,13 +241,13 @@ at_key-twice : (is_of : Bool) (listing : ArchiveListing) (name : List ℕ) (curr
 at_key-twice true listing name current = after-twice current (finite.get listing.listed name) (finite.get listing.built name) listing.available
 at_key-twice false listing name current = refl
 
-pub after_at-twice : (old : Records) (arch : List ℕ) (listing : ArchiveListing) (key : Key) → after_at (merged old arch listing) arch listing key ≡ after_at old arch listing key
-unfolding after_at
-after_at-twice old arch listing key =
+pub record_after_at-twice : (old : Records) (arch : List ℕ) (listing : ArchiveListing) (key : Key) → record_after_at (merged old arch listing) arch listing key ≡ record_after_at old arch listing key
+unfolding record_after_at
+record_after_at-twice old arch listing key =
     ap (at_key (bytes_eq key.0 arch) listing key.1) (merged-get old arch listing key)
     ∙ at_key-twice (bytes_eq key.0 arch) listing key.1 (finite.get old key)
 
 pub merged-twice : (old : Records) (arch : List ℕ) (listing : ArchiveListing) → merged (merged old arch listing) arch listing ≡ merged old arch listing
 merged-twice old arch listing =
     finite.same_map pair_cmp_total pair_cmp-same _ _ (λ key.
-    merged-get (merged old arch listing) arch listing key ∙ after_at-twice old arch listing key ∙ sym (merged-get old arch listing key))
+    merged-get (merged old arch listing) arch listing key ∙ record_after_at-twice old arch listing key ∙ sym (merged-get old arch listing key))

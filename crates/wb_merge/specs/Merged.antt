@@ -18,13 +18,13 @@ abbrev pub Records : Type 0
 Records = finite.FinMap pair_cmp Record
 
 -- the record of a source package after a merge of a listing, from the one that it had
-abbrev pub after_named : ArchiveListing → List ℕ → Option Record → Option Record
-after_named listing name current = record_after current (finite.get listing.listed name) (finite.get listing.built name) listing.available
+abbrev pub record_after_named : ArchiveListing → List ℕ → Option Record → Option Record
+record_after_named listing name current = record_after current (finite.get listing.listed name) (finite.get listing.built name) listing.available
 
 -- the record at a key after the merge of an architecture: other architectures keep theirs
-unfoldable pub after_at : Records → List ℕ → ArchiveListing → List ℕ × List ℕ → Option Record
-after_at old arch listing key =
-    if bytes_eq key.0 arch then after_named listing key.1 (finite.get old key) else finite.get old key
+unfoldable pub record_after_at : Records → List ℕ → ArchiveListing → List ℕ × List ℕ → Option Record
+record_after_at old arch listing key =
+    if bytes_eq key.0 arch then record_after_named listing key.1 (finite.get old key) else finite.get old key
 
 -- the keys at which there may be a record after the merge
 abbrev pub merge_keys : Records → List ℕ → ArchiveListing → List (List ℕ × List ℕ)
@@ -32,7 +32,7 @@ merge_keys old arch listing = finite.keys old ++ map (λ name. (arch, name)) (fi
 
 -- the records after the merge
 unfoldable pub merged : Records → List ℕ → ArchiveListing → Records
-merged old arch listing = map_at (after_at old arch listing) (merge_keys old arch listing)
+merged old arch listing = map_at (record_after_at old arch listing) (merge_keys old arch listing)
 
 -- the record at a key before a merge of an architecture, and the one after it
 pub record BecomesAt (old : Records) (arch : List ℕ) (listing : ArchiveListing) (key : List ℕ × List ℕ) (current new : Record) : Type 0 where
@@ -102,7 +102,7 @@ names_of old arch listing =
 -- how many source packages pass a test of what became of their records
 abbrev pub number_where : (Change → Bool) → Records → List ℕ → ArchiveListing → List (List ℕ) → ℕ
 number_where test old arch listing names =
-    length (filter (λ name. test (change_of (finite.get old (arch, name)) (after_at old arch listing (arch, name)))) names)
+    length (filter (λ name. test (change_of (finite.get old (arch, name)) (record_after_at old arch listing (arch, name)))) names)
 
 -- what a merge did, counted over these names
 unfoldable pub counts_over : Records → List ℕ → ArchiveListing → List (List ℕ) → MergeCounts

@@ -22,7 +22,7 @@ ghost use Rattle.wb_states.specs.Moves.{build_text_of};
 ghost use Rattle.deb_relations.specs.Names.{is_package_name};
 ghost use Rattle.wb_states.specs.State.{is_held};
 ghost use Rattle.wb_merge.specs.Merge.{ends_hold, HasSameHold};
-ghost use Rattle.wb_merge.specs.Merged.{Records, BecomesAt, after_at, all_kept, is_same_record, merge_counts, merged, recorded_names};
+ghost use Rattle.wb_merge.specs.Merged.{Records, BecomesAt, record_after_at, all_kept, is_same_record, merge_counts, merged, recorded_names};
 ghost use Rattle.wb_merge.specs.Steps.{Key};
 
 /// A list is read as the rows of its paragraphs, one of each, or else refused for the first paragraph
@@ -76,7 +76,7 @@ pub fn available_is_each_pair()
 /// of other architectures stay, and a source package that is not listed has none.
 pub fn merge_is_pointwise()
     ensures at { (old : Records) (arch : List ℕ) (listing : ArchiveListing) (key : Key)
-        → map.get (merged old arch listing) key ≡ after_at old arch listing key }
+        → map.get (merged old arch listing) key ≡ record_after_at old arch listing key }
     ensures others { (old : Records) (arch : List ℕ) (listing : ArchiveListing) (key : Key)
         → key.0 ≢ arch → map.get (merged old arch listing) key ≡ map.get old key }
     ensures unlisted { (old : Records) (arch : List ℕ) (listing : ArchiveListing) (name : List ℕ)

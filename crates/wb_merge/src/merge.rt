@@ -4,7 +4,7 @@ ghost use Rattle.std.specs.Option.{option_map, option_eq};
 ghost use Rattle.std.specs.Map.Iter.{deref};
 ghost use Rattle.std.specs.FinMap as map;
 ghost use Rattle.wb_states.specs.declared.refusal.Refusal.TheVariants.{Memory};
-ghost use Rattle.wb_merge.specs.Merged.{merged, merge_counts, names_of, has_same_source, has_same_place, has_same_texts, is_same_record, recorded_names, after_named, change_of};
+ghost use Rattle.wb_merge.specs.Merged.{merged, merge_counts, names_of, has_same_source, has_same_place, has_same_texts, is_same_record, recorded_names, record_after_named, change_of};
 ghost use Rattle.wb_merge.specs.Steps.{record_at, IsSetAt, AreWithin, counted};
 
 use crate::Listing;
@@ -194,12 +194,12 @@ fn merge_one(
     listing: &Listing,
 ) -> Result<Change, Refusal>
     ensures value { OnOk result (IsSetAt (map.from_entries records.old.entries) (arch.now, name.now)
-        (after_named listing.now name.now
+        (record_after_named listing.now name.now
         (record_at (map.from_entries records.old.entries) (arch.now, name.now)))
         (map.from_entries records.new.entries)) }
     ensures ok { IfOk result (λ change. change
         ≡ change_of (record_at (map.from_entries records.old.entries) (arch.now, name.now))
-        (after_named listing.now name.now
+        (record_after_named listing.now name.now
         (record_at (map.from_entries records.old.entries) (arch.now, name.now)))) }
     ensures refused { IfErr result (λ refusal. refusal ≡ Memory) }
 {

@@ -11,7 +11,7 @@ use Rattle.wb_states.specs.declared.refusal.Refusal.{Refusal}
 use Rattle.wb_states.specs.Machine.{Machine}
 use Rattle.wb_merge.specs.Listing.{ArchiveListing}
 use Rattle.wb_merge.specs.Merge.{record_after}
-use Rattle.wb_merge.specs.Merged.{Records, after_at}
+use Rattle.wb_merge.specs.Merged.{Records, record_after_at}
 use Rattle.wb_merge.proofs.MergeLemmas.{merged-get}
 use Rattle.wb_office.specs.Checks.{first_refusal, has_repeated_arch}
 use Rattle.wb_office.specs.Moving.{again_of}
@@ -23,7 +23,7 @@ use Rattle.wb_office.proofs.PassLemmas.{passes}
 -- what a part makes of the record at a key depends on that record alone
 with-same : (records other : Records) (arch : List ℕ) (read : Result ArchiveListing Refusal) (key : List ℕ × List ℕ) → map.get records key ≡ map.get other key
     → map.get (records_with records arch read) key ≡ map.get (records_with other arch read) key
-unfolding after_at
+unfolding record_after_at
 with-same records other arch (Err refusal) key same = same
 with-same records other arch (Ok listing) key same =
     merged-get records arch listing key

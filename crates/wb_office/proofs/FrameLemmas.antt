@@ -14,7 +14,7 @@ use Rattle.wb_states.specs.Queue.{Entry}
 use Rattle.wb_states.proofs.KeyLemmas.{pair_cmp_total, pair_cmp-same, eq_by_cmp-same}
 use Rattle.wb_merge.specs.Listing.{ArchiveListing}
 use Rattle.wb_merge.specs.Merge.{record_after}
-use Rattle.wb_merge.specs.Merged.{Records, after_at}
+use Rattle.wb_merge.specs.Merged.{Records, record_after_at}
 use Rattle.wb_merge.proofs.MergeLemmas.{merged-get}
 use Rattle.wb_office.specs.Checks.{refused_move}
 use Rattle.wb_office.specs.Moving.{MayChange, moving, target_of}
@@ -36,7 +36,7 @@ insert-other records key other current apart =
 -- a part changes no record of another architecture
 pub part-others : (records : Records) (arch : List ℕ) (read : Result ArchiveListing Refusal) (key : List ℕ × List ℕ) → bytes_eq key.0 arch ≡ false
     → map.get (records_with records arch read) key ≡ map.get records key
-unfolding after_at
+unfolding record_after_at
 part-others records arch (Err refusal) key other = refl
 part-others records arch (Ok listing) key other =
     merged-get records arch listing key

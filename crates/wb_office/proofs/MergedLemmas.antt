@@ -11,7 +11,7 @@ use Rattle.wb_states.specs.Machine.{Machine, pair_cmp}
 use Rattle.wb_states.proofs.KeyLemmas.{pair_cmp_total, pair_cmp-same}
 use Rattle.wb_merge.specs.Listing.{ArchiveListing}
 use Rattle.wb_merge.specs.Merge.{record_after}
-use Rattle.wb_merge.specs.Merged.{Records, after_at, merge_keys, merged}
+use Rattle.wb_merge.specs.Merged.{Records, record_after_at, merge_keys, merged}
 use Rattle.wb_merge.proofs.ListingLemmas.{map_at-get}
 use Rattle.wb_office.specs.Parts.{part_listing, records_with, records_after}
 
@@ -28,10 +28,10 @@ abbrev pub IsKeptBy : OfKeys → List ℕ → ArchiveListing → Type 0
 IsKeptBy P arch listing = (source : List ℕ) (found : Option Record) → IfSome found (P (arch, source))
     → IfSome (record_after found (map.get listing.listed source) (map.get listing.built source) listing.available) (P (arch, source))
 
-after_at-keeps : (P : OfKeys) (old : Records) (arch : List ℕ) (listing : ArchiveListing) → IsKeptBy P arch listing → OfAll P old
-    → (key : List ℕ × List ℕ) → IfSome (after_at old arch listing key) (P key)
-unfolding after_at
-after_at-keeps P old arch listing kept all key =
+record_after_at-keeps : (P : OfKeys) (old : Records) (arch : List ℕ) (listing : ArchiveListing) → IsKeptBy P arch listing → OfAll P old
+    → (key : List ℕ × List ℕ) → IfSome (record_after_at old arch listing key) (P key)
+unfolding record_after_at
+record_after_at-keeps P old arch listing kept all key =
     elim (bytes_eq key.0 arch) as (λ b. bytes_eq key.0 arch ≡ b
     → IfSome (cond b (record_after (map.get old key) (map.get listing.listed key.1) (map.get listing.built key.1) listing.available) (map.get old key)) (P key)) [
       | true ↦ λ is.
@@ -46,8 +46,8 @@ after_at-keeps P old arch listing kept all key =
 pub merged-keeps : (P : OfKeys) (old : Records) (arch : List ℕ) (listing : ArchiveListing) → IsKeptBy P arch listing → OfAll P old → OfAll P (merged old arch listing)
 unfolding merged
 merged-keeps P old arch listing kept all key =
-    rw (map_at-get pair_cmp_total pair_cmp-same (after_at old arch listing) (merge_keys old arch listing) key)
-    (at (list_any (eq_by_cmp pair_cmp key) (merge_keys old arch listing)) (after_at old arch listing key) (after_at-keeps P old arch listing kept all key))
+    rw (map_at-get pair_cmp_total pair_cmp-same (record_after_at old arch listing) (merge_keys old arch listing) key)
+    (at (list_any (eq_by_cmp pair_cmp key) (merge_keys old arch listing)) (record_after_at old arch listing key) (record_after_at-keeps P old arch listing kept all key))
   where
     at : (b : Bool) (found : Option Record) → IfSome found (P key) → IfSome (cond b found None) (P key)
     at true found is = is
