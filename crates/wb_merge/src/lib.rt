@@ -13,4 +13,4 @@ mod source;
 
 pub use listing::{Built, Listed, Listing};
 pub use merge::merge_records;
-pub use record::after;
+pub use record::{after, blank_record};

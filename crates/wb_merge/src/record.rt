@@ -92,9 +92,10 @@ fn copied(current: &Record) -> Result<Record, Refusal>
     Ok(current.clone()?)
 }
 
-/// A record of which nothing is known yet but its version.
-fn blank_record(alloc: Global, version: Version) -> Record
-    ensures { result ≡ blank_record version }
+/// A record of which nothing is known yet but its version: it waits for its first build. Takes no memory; the
+/// allocator is kept for its texts (this project's own).
+pub fn blank_record(alloc: Global, version: Version) -> Record
+    ensures value { result ≡ blank_record version }
 {
     Record {
         state: State::NeedsBuild,

@@ -13,7 +13,8 @@ use crate::texts::read_version;
 use deb_relations::Text;
 use deb_version::Version;
 use std::alloc::Global;
-use wb_states::{Counts, OsCpu, Record, Refusal, Reply, State};
+use wb_merge::blank_record;
+use wb_states::{Counts, OsCpu, Record, Refusal, Reply};
 use wb_store::Store;
 
 /// Counts one more accepted command.
@@ -192,18 +193,9 @@ fn entered_record(
     ensures value { IfOk result (λ made. made ≡ entered version priority.now section.now) }
     ensures refused { IfErr result (λ refusal. refusal ≡ Memory) }
 {
-    Ok(Record {
-        state: State::NeedsBuild,
-        version,
-        priority: priority.clone()?,
-        section: section.clone()?,
-        earlier: false,
-        number: 0,
-        holder: None,
-        take: None,
-        waits: Text::new(alloc),
-        depends: Some(Text::new(alloc)),
-        note: Text::new(alloc),
-        message: Text::new(alloc),
-    })
+    let mut waiting = blank_record(alloc, version);
+    waiting.priority = priority.clone()?;
+    waiting.section = section.clone()?;
+    waiting.depends = Some(Text::new(alloc));
+    Ok(waiting)
 }
