@@ -172,8 +172,8 @@ source_row fields = record {
 }
 
 -- the row of a binary package that names no source: its source has its own name and version (Debian Policy 5.6.1)
-abbrev pub own_source : List ℕ → List ℕ → List ℕ → BinaryRow
-own_source name version arch = record {
+abbrev pub without_source : List ℕ → List ℕ → List ℕ → BinaryRow
+without_source name version arch = record {
   name = name;
   version = version;
   arch = arch;
@@ -184,8 +184,8 @@ own_source name version arch = record {
 
 -- the row of a binary package and the source that it names, if any (Debian Policy 5.6.1)
 abbrev pub with_source : List ℕ → List ℕ → List ℕ → Option (List ℕ) → BinaryRow
-with_source name version arch None = own_source name version arch
-with_source name version arch (Some text) = record (own_source name version arch) {
+with_source name version arch None = without_source name version arch
+with_source name version arch (Some text) = record (without_source name version arch) {
   source = source_name text;
   source_version = if has_source_version text then unwrap_or (source_version text) version else version;
   number = if has_source_version text then rebuild_number version else 0;

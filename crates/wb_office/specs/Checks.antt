@@ -83,7 +83,7 @@ relations_named _ = None
 abbrev pub relation_fault : Command → Option RelationFault
 relation_fault command = option_and_then (λ relations. result_err (reading_of relations)) (relations_named command)
 
--- the refusal of the command's relations, which cannot be read
+-- the refusal of the command's relations, where they cannot be read
 abbrev pub relations_refusal : Command → Option Refusal
 relations_refusal command = option_map (λ fault. BadRelations (Some fault)) (relation_fault command)
 
