@@ -1,16 +1,15 @@
 -- The program's own command line is one of which clap says what it reads.
-use Rattle.std.proofs.Common.{◌≡◌, ◌∙◌, true, refl, List, ap, subst, inl, inr}
+use Rattle.std.proofs.Common.{◌≡◌, ◌∙◌, true, refl, List, [], ap, subst, inl, inr}
 use Rattle.clap.specs.Words.{App, HasKind, IsAmong, Text, fault_of, is_simple_and_free, kind_of}
 use Rattle.clap.specs.declared.error.Error.{Error}
-use Rattle.clap.specs.declared.error.kind.ErrorKind.TheVariants.{OutOfMemory}
+use Rattle.clap.specs.declared.error.kind.ErrorKind.{ErrorKind}
+use Rattle.clap.specs.declared.error.kind.ErrorKind.TheVariants.{DisplayHelp, OutOfMemory}
 use Rattle.clap.proofs.OnLiterals.{clap_on_literals}
 use Rattle.wb_words.specs.Start.{start_app, start_faults}
 
-pub start_app-free : is_simple_and_free start_app ≡ true
+start_app-free : is_simple_and_free start_app ≡ true
 unfolding start_app clap_on_literals
 start_app-free = refl
-
-pub ruleset start_laws = (start_app-free)
 
 -- an error that is no want of memory is one of the faults
 pub start_faults-failed : (app : App) (words : List Text) (error : Error) → app ≡ start_app
@@ -21,3 +20,17 @@ start_faults-failed app words error e h other =
     let fails : HasKind (fault_of start_app words) error =
     subst (λ (a : App). HasKind (fault_of a words) error) e (h (ap is_simple_and_free e ∙ start_app-free)) in
     elim fails [ inl memory ↦ absurd (other memory) | inr among ↦ among ]
+
+-- words that are read have no fault
+pub start_faults-none : (app : App) (words : List Text) → app ≡ start_app
+    → (is_simple_and_free app ≡ true → fault_of app words ≡ []) → start_faults words ≡ []
+unfolding start_faults
+start_faults-none app words e free =
+    subst (λ (a : App). fault_of a words ≡ []) e (free (ap is_simple_and_free e ∙ start_app-free))
+
+-- an error that asks for help is a wish for it among the faults
+pub start_faults-help : (app : App) (words : List Text) (error : Error) → app ≡ start_app
+    → (is_simple_and_free app ≡ true → HasKind (fault_of app words) error)
+    → kind_of error ≡ DisplayHelp → IsAmong DisplayHelp (start_faults words)
+start_faults-help app words error e h help =
+    subst (λ (kind : ErrorKind). IsAmong kind (start_faults words)) help (start_faults-failed app words error e h (λ memory. cc))

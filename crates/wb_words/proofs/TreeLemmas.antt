@@ -1,22 +1,20 @@
 -- The command line is one of which clap says what it reads.
-use Rattle.std.proofs.Common.{◌≡◌, true, refl, List, [], ◌∷◌, Option, None, inl, inr, ap, ◌∙◌, subst}
-use Rattle.clap.specs.Words.{App, HasKind, Kinds, Text, fault_of, is_simple, is_simple_and_free, kind_of}
+use Rattle.std.proofs.Common.{◌≡◌, true, refl, List, [], ◌∷◌, Option, None, Some, option_and_then, option_map, inl, inr, ap, sym, ◌∙◌, subst}
+use Rattle.clap.specs.Words.{App, HasKind, Kinds, Row, Text, fault_of, is_simple, is_simple_and_free, kind_of, subcommand_of}
 use Rattle.clap.specs.declared.error.Error.{Error}
 use Rattle.clap.specs.declared.error.kind.ErrorKind.TheVariants.{OutOfMemory}
 use Rattle.clap.proofs.OnLiterals.{clap_on_literals}
 use Rattle.wb_words.specs.declared.words.Asked.{Asked}
 use Rattle.wb_words.specs.Usages.{wb_app}
-use Rattle.wb_words.specs.Words.{asked_in, unless_faulty}
+use Rattle.wb_words.specs.Words.{asked_in, asked_named, unless_faulty}
 
-pub wb_app-simple : is_simple wb_app ≡ true
+wb_app-simple : is_simple wb_app ≡ true
 unfolding wb_app clap_on_literals
 wb_app-simple = refl
 
-pub wb_app-free : is_simple_and_free wb_app ≡ true
+wb_app-free : is_simple_and_free wb_app ≡ true
 unfolding wb_app clap_on_literals
 wb_app-free = refl
-
-pub ruleset tree_laws = (wb_app-simple, wb_app-free)
 
 -- an error that is no want of memory has a kind, and then there is no command
 unless_faulty-failed : (kinds : Kinds) (error : Error) (asked : Option Asked) → HasKind kinds error
@@ -33,3 +31,42 @@ asked_in-failed app words error e h other =
     let fails : HasKind (fault_of wb_app words) error =
     subst (λ (a : App). HasKind (fault_of a words) error) e (h (ap is_simple_and_free e ∙ wb_app-free)) in
     unless_faulty-failed (fault_of wb_app words) error _ fails other
+
+-- what words ask for in which there is no fault is what the subcommand that was met asks for
+asked_in-met : (app : App) (words : List Text) (met : Option (Text × List Row)) → app ≡ wb_app
+    → (is_simple_and_free app ≡ true → fault_of app words ≡ [])
+    → (is_simple app ≡ true → met ≡ subcommand_of app words)
+    → asked_in words ≡ option_and_then asked_named met
+unfolding asked_in
+asked_in-met app words met e free read =
+    let none : fault_of wb_app words ≡ [] = subst (λ (a : App). fault_of a words ≡ []) e (free (ap is_simple_and_free e ∙ wb_app-free)) in
+    let same : met ≡ subcommand_of wb_app words = subst (λ (a : App). met ≡ subcommand_of a words) e (read (ap is_simple e ∙ wb_app-simple)) in
+    ap (λ (kinds : Kinds). unless_faulty kinds (option_and_then asked_named (subcommand_of wb_app words))) none
+    ∙ ap (λ (named : Option (Text × List Row)). option_and_then asked_named named) (sym same)
+
+-- no subcommand was met
+pub asked_in-none : (app : App) (words : List Text) (met : Option (Text × List Row)) → app ≡ wb_app
+    → (is_simple_and_free app ≡ true → fault_of app words ≡ [])
+    → (is_simple app ≡ true → met ≡ subcommand_of app words)
+    → None ≡ option_map (λ (named : Text × List Row). named.1) met → asked_in words ≡ None
+asked_in-none app words None e free read none = asked_in-met app words None e free read
+asked_in-none app words (Some named) e free read none = cc
+
+met-named : {X : Type 0} (name_of : X → Text) (rows_of : X → List Row) (met : Option X) (name : Text) (rows : List Row)
+    → Some name ≡ option_map name_of met
+    → Some rows ≡ option_map (λ (named : Text × List Row). named.1) (option_map {U = Text × List Row} (λ x. (name_of x, rows_of x)) met)
+    → option_map {U = Text × List Row} (λ x. (name_of x, rows_of x)) met ≡ Some (name, rows)
+met-named name_of rows_of None name rows p q = cc
+met-named name_of rows_of (Some x) name rows p q = cc
+
+-- a subcommand of this name was met, with these arguments
+pub asked_in-named : {X : Type 0} (app : App) (words : List Text) (name_of : X → Text) (rows_of : X → List Row) (met : Option X) (name : Text) (rows : List Row)
+    → app ≡ wb_app
+    → (is_simple_and_free app ≡ true → fault_of app words ≡ [])
+    → (is_simple app ≡ true → option_map {U = Text × List Row} (λ x. (name_of x, rows_of x)) met ≡ subcommand_of app words)
+    → Some name ≡ option_map name_of met
+    → Some rows ≡ option_map (λ (named : Text × List Row). named.1) (option_map {U = Text × List Row} (λ x. (name_of x, rows_of x)) met)
+    → asked_in words ≡ asked_named (name, rows)
+asked_in-named app words name_of rows_of met name rows e free read p q =
+    asked_in-met app words (option_map {U = Text × List Row} (λ x. (name_of x, rows_of x)) met) e free read
+    ∙ ap (λ (named : Option (Text × List Row)). option_and_then asked_named named) (met-named name_of rows_of met name rows p q)

@@ -92,7 +92,6 @@ fn start_app<'a>(alloc: Global) -> Result<Command<'a>, AllocError>
 /// before them is at fault or is `--`. The error is that of `clap`, with a text for the terminal:
 /// the words ask for nothing that there is, or there is no memory to read them, which may come at
 /// any words. The grammar is this project's own.
-#[tactic(auto, using(crate::proofs::StartLemmas::start_laws), unfolding(crate::specs::Start::start_faults))]
 pub fn start_of<'a>(alloc: Global, words: &'a [&'a str]) -> Result<Start, Error>
     ensures value { IfOk result (Starts (map (λ word. word.now) words.entry.now)) }
     ensures refused { IfErr result (λ error. kind_of error ≢ OutOfMemory

@@ -78,7 +78,6 @@ fn asked_named(
 /// `--after` of `next`. Numbers are whole, from 0 to 2^64 - 1, in decimal digits; one plus sign may
 /// stand before them. The errors are `NoCommand` where the words are no command, and `Memory`, which
 /// may come at any words. The grammar is this project's own.
-#[tactic(auto, using(crate::proofs::TreeLemmas::tree_laws), unfolding(crate::specs::Words::asked_in))]
 pub fn asked_of<'a>(alloc: Global, words: &'a [&'a str]) -> Result<Asked, WordsFault>
     ensures value { IfOk result (λ asked.
         asked_in (map (λ word. word.now) words.entry.now) ≡ Some asked) }

@@ -1,7 +1,22 @@
-use Rattle.std.proofs.Common.{◌∙◌, sym}
+use Rattle.std.proofs.Common.{◌∙◌, sym, inr}
 use Rattle.clap.specs.Words.{kind_of}
-use Rattle.wb_words.proofs.StartLemmas.{start_faults-failed}
+use Rattle.wb_words.proofs.StartLemmas.{start_faults-failed, start_faults-help, start_faults-none}
 use Rattle.wb_words.proofs.start.start_of.Goals as goal
+
+pub returns-in-Ok : goal.returns-in-Ok
+returns-in-Ok c = record {
+  value = (
+    sym c.begins_with_help.ensures.value ∙ c.if-begins_with_help.false,
+    start_faults-none _ _ c.in_ok-start_app.ensures.value c.in-Ok.ensures.kinds,
+  );
+  refused = tt;
+}
+
+pub returns-in-DisplayHelp : goal.returns-in-DisplayHelp
+returns-in-DisplayHelp c = record {
+  value = inr (start_faults-help _ _ c.in-Err.error c.in_ok-start_app.ensures.value c.in-Err.ensures.kinds (sym c.kind.ensures ∙ c.in-DisplayHelp.is));
+  refused = tt;
+}
 
 pub returns : goal.returns
 returns c = record {
