@@ -99,10 +99,10 @@ fn take_turn<R: Read, W: Write, L: Lists>(
     room: &mut [u8],
 ) -> Turn
     requires { length room.old ≡ line_limit }
-    ensures kept { GivesNoMore (L.gives lists.old) (L.gives lists.new) }
     ensures value { Turns (L.gives lists.old) result office.old office.new
         (R.remaining reader.old) (R.remaining reader.new)
         (W.contents writer.old) (W.contents writer.new) }
+    ensures kept { GivesNoMore (L.gives lists.old) (L.gives lists.new) }
     ensures consistent { IsConsistent office.old → IsConsistent office.new }
 {
     match read_line(reader, room) {
