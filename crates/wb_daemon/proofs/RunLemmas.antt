@@ -13,7 +13,7 @@ use Rattle.deb_control.proofs.RunLemmas.{slice_split-run, slice_split-end}
 use Rattle.deb_control.specs.Lines.{is_feed, IsOneLine}
 use Rattle.wb_daemon.specs.Line.{ended_in, is_long, input_lines, line_limit, lines_limit, through_long, with_feed, with_feeds, AreWithinLimit}
 use Rattle.wb_daemon.specs.Lists.{Gives, IsAllOf}
-use Rattle.wb_daemon.specs.Run.{Said, Says, Runs, EndsInput, StopsBeforeReply, StopsBetween, StopsForCause, StopsWithin, WereActedOn, followed, nothing_said}
+use Rattle.wb_daemon.specs.Run.{Said, Says, Runs, EndsInput, RunStops, StopsBeforeReply, StopsBetween, StopsForCause, StopsWithin, WereActedOn, followed, nothing_said}
 use Rattle.wb_daemon.specs.Turn.{Answers, AnswersInPart, TookEndedLine, TookLastLine, LacksAnswer, LacksReply, StopsTurn}
 use Rattle.wb_daemon.specs.declared.run.Cause.{Cause}
 use Rattle.wb_daemon.specs.declared.run.Cause.TheVariants.{Read, Write, Reply, Lines, Room}
@@ -345,6 +345,15 @@ module _ {gives : Gives} {input now old new : Option (List ℕ)} {before after :
 -- a run that could not begin
 pub stops-at_once : (gives : Gives) (input old : Option (List ℕ)) (machine : Machine) → StopsForCause gives Room input input old old machine machine
 stops-at_once gives input old machine = ([], [], Consumes-same input, Appends-same old, (refl, refl, refl))
+
+-- a run that stopped, for whatever cause
+pub StopsForCause-stops : (gives : Gives) (cause : Cause) (input left old new : Option (List ℕ)) (before after : Machine)
+    → StopsForCause gives cause input left old new before after → RunStops gives input left old new before after
+StopsForCause-stops gives Read input left old new before after h = (h.0, h.1, h.2, h.3, inl (inl h.4))
+StopsForCause-stops gives Write input left old new before after h = (h.0, h.1, h.2, h.3, inr (inr (inl h.4)))
+StopsForCause-stops gives Reply input left old new before after h = (h.0, h.1, h.2, h.3, inr (inr (inr h.4)))
+StopsForCause-stops gives Lines input left old new before after h = (h.0, h.1, h.2, h.3, inl (inr h.4))
+StopsForCause-stops gives Room input left old new before after h = (h.0, h.1, h.2, h.3, inr (inl h.4))
 
 -- the run goes on, or ends, with the greater of two statuses
 pub so_far-next : {gives : Gives} {input now old new : Option (List ℕ)} {before after : Machine} {status count : ℕ} (far : SoFar gives input now old new before after status count)

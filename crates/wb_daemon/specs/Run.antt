@@ -206,7 +206,14 @@ StopsForCause gives cause old_input new_input old_text new_text before after =
     (seen text : List ℕ) × Consumes old_input new_input seen × Appends old_text new_text text
     × StopsFor gives cause seen new_input before text after
 
--- a run that stopped before its input ended, for one of the causes
+-- a run that stopped for one of the causes
+abbrev pub StopsForSomeCause : Gives → List ℕ → Option (List ℕ) → Machine → List ℕ → Machine → Type 0
+StopsForSomeCause gives seen left before text after =
+    (StopsFor gives why.Read seen left before text after ⊎ StopsFor gives why.Lines seen left before text after)
+    ⊎ (StopsFor gives why.Room seen left before text after ⊎ StopsInLine gives seen left before text after)
+
+-- a run that stopped before its input ended: what it had read, what it wrote, and why it stopped
 abbrev pub RunStops : Gives → Option (List ℕ) → Option (List ℕ) → Option (List ℕ) → Option (List ℕ) → Machine → Machine → Type 0
 RunStops gives old_input new_input old_text new_text before after =
-    (cause : Cause) × StopsForCause gives cause old_input new_input old_text new_text before after
+    (seen text : List ℕ) × Consumes old_input new_input seen × Appends old_text new_text text
+    × StopsForSomeCause gives seen new_input before text after
