@@ -12,7 +12,7 @@ use Rattle.wb_words.specs.declared.words.Asked.TheVariants.{Command as asked_Com
 use Rattle.wb_daemon.specs.Line.{ended_in, input_lines}
 use Rattle.wb_daemon.specs.Lists.{Gives}
 use Rattle.wb_daemon.specs.Replays.{IsReplay, IsReplayCut, LeavesReplay, SaysNoReply}
-use Rattle.wb_daemon.specs.Run.{Request, AsksFor, EndsInput, Fault, LineKind, LineAsks, Runs, Said, Says, SaysAsked, SaysOfKind, Blank, StopsForCause, StopsInLine, answer_said, command_said, followed, kind_of_line, nothing_said}
+use Rattle.wb_daemon.specs.Run.{Request, AsksFor, EndsInput, Fault, LineKind, LineAsks, Runs, Said, Says, SaysAsked, SaysOfKind, Blank, RunStopsFor, StopsInLine, answer_said, command_said, followed, kind_of_line, nothing_said}
 use Rattle.wb_daemon.specs.declared.run.Cause.{Cause}
 use Rattle.wb_daemon.specs.declared.run.Cause.TheVariants as why
 use Rattle.wb_daemon.proofs.RunLemmas.{Runs-snoc}
@@ -134,11 +134,11 @@ StopsInLine-leaves gives seen left before text after h =
     let cut = StopsInLine-replay gives seen left before text after h in (cut.0, cut.1, cut.4, cut.5)
 
 -- what a run leaves that stopped, for whatever cause
-pub StopsForCause-leaves : (gives : Gives) (cause : Cause) (input left old new : Option (List ℕ)) (before after : Machine)
-    → StopsForCause gives cause input left old new before after → LeavesReplay gives before after
-StopsForCause-leaves gives why.Read input left old new before after h = Runs-leaves gives before after (ended_in h.0) h.1 h.4.0 h.4.1
-StopsForCause-leaves gives why.Write input left old new before after h = StopsInLine-leaves gives h.0 left before h.1 after (inl h.4)
-StopsForCause-leaves gives why.Reply input left old new before after h = StopsInLine-leaves gives h.0 left before h.1 after (inr h.4)
-StopsForCause-leaves gives why.Lines input left old new before after h = Runs-leaves gives before after (ended_in h.4.0) h.1 h.4.4.0 h.4.4.1
-StopsForCause-leaves gives why.Room input left old new before after h =
+pub RunStopsFor-leaves : (gives : Gives) (cause : Cause) (input left old new : Option (List ℕ)) (before after : Machine)
+    → RunStopsFor gives cause input left old new before after → LeavesReplay gives before after
+RunStopsFor-leaves gives why.Read input left old new before after h = Runs-leaves gives before after (ended_in h.0) h.1 h.4.0 h.4.1
+RunStopsFor-leaves gives why.Write input left old new before after h = StopsInLine-leaves gives h.0 left before h.1 after (inl h.4)
+RunStopsFor-leaves gives why.Reply input left old new before after h = StopsInLine-leaves gives h.0 left before h.1 after (inr h.4)
+RunStopsFor-leaves gives why.Lines input left old new before after h = Runs-leaves gives before after (ended_in h.4.0) h.1 h.4.4.0 h.4.4.1
+RunStopsFor-leaves gives why.Room input left old new before after h =
     ([], nothing_said before, Runs-replay gives [] before (nothing_said before) refl, h.4.2)

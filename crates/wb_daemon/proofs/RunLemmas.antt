@@ -13,7 +13,7 @@ use Rattle.deb_control.proofs.RunLemmas.{slice_split-run, slice_split-end}
 use Rattle.deb_control.specs.Lines.{is_feed, IsOneLine}
 use Rattle.wb_daemon.specs.Line.{ended_in, is_long, input_lines, line_limit, lines_limit, through_long, with_feed, with_feeds, AreWithinLimit}
 use Rattle.wb_daemon.specs.Lists.{Gives, IsAllOf}
-use Rattle.wb_daemon.specs.Run.{Said, Says, Runs, EndsInput, RunStops, StopsBeforeReply, StopsBetween, StopsForCause, StopsWithin, WereActedOn, followed, nothing_said}
+use Rattle.wb_daemon.specs.Run.{Said, Says, Runs, EndsInput, RunStops, StopsBeforeReply, StopsBetween, RunStopsFor, StopsWithin, WereActedOn, followed, nothing_said}
 use Rattle.wb_daemon.specs.Turn.{Answers, AnswersInPart, TookEndedLine, TookLastLine, LacksAnswer, LacksReply, StopsTurn}
 use Rattle.wb_daemon.specs.declared.run.Cause.{Cause}
 use Rattle.wb_daemon.specs.declared.run.Cause.TheVariants.{Read, Write, Reply, Lines, Room}
@@ -249,12 +249,12 @@ module _ {gives : Gives} {input now old new : Option (List ℕ)} {before after :
       (status, subst (λ l. Runs gives before l (record { text = far.text; machine = after; status = status })) (sym (ended_in-with_feeds far.lines line far.are h)) far.runs)
 
   -- the reader failed within a line
-  pub stops-read : (line : List ℕ) (left : Option (List ℕ)) → IsOneLine line → Consumes now left line → StopsForCause gives Read input left old new before after
+  pub stops-read : (line : List ℕ) (left : Option (List ℕ)) → IsOneLine line → Consumes now left line → RunStopsFor gives Read input left old new before after
   stops-read line left h p =
       (with_feeds far.lines ++ line, far.text, Consumes-then input now left (with_feeds far.lines) line far.taken p, far.written, between line h)
 
   -- a byte follows the last line that a run may have
-  pub stops-limit : (byte : ℕ) (left : Option (List ℕ)) → count ≡ lines_limit → Consumes now left (byte ∷ []) → StopsForCause gives Lines input left old new before after
+  pub stops-limit : (byte : ℕ) (left : Option (List ℕ)) → count ≡ lines_limit → Consumes now left (byte ∷ []) → RunStopsFor gives Lines input left old new before after
   stops-limit byte left full p =
       let acted = with_feeds far.lines ++ [] in (
         with_feeds far.lines ++ byte ∷ [],
@@ -320,7 +320,7 @@ module _ {gives : Gives} {input now old new : Option (List ℕ)} {before after :
   )
 
   stops-unanswered : (cause : Cause) (line : List ℕ) (left written : Option (List ℕ)) (next : Machine)
-      → TookEndedLine line now left ⊎ TookLastLine line now left → LacksAnswer gives line after next new written cause → StopsForCause gives cause input left old written before next
+      → TookEndedLine line now left ⊎ TookLastLine line now left → LacksAnswer gives line after next new written cause → RunStopsFor gives cause input left old written before next
   stops-unanswered Read line left written next g a = absurd a
   stops-unanswered Write line left written next g a =
       let h = acted_on line left g in
@@ -333,27 +333,27 @@ module _ {gives : Gives} {input now old new : Option (List ℕ)} {before after :
 
   -- a turn stopped
   pub stops-turn : (cause : Cause) (left written : Option (List ℕ)) (next : Machine)
-      → StopsTurn gives cause after next now left new written → StopsForCause gives cause input left old written before next
+      → StopsTurn gives cause after next now left new written → RunStopsFor gives cause input left old written before next
   stops-turn Read left written next t =
-      subst (λ w. StopsForCause gives Read input left old w before next) (sym t.4)
-      (subst (λ m. StopsForCause gives Read input left old new before m) (sym t.3) (stops-read t.0 left t.1 t.2))
+      subst (λ w. RunStopsFor gives Read input left old w before next) (sym t.4)
+      (subst (λ m. RunStopsFor gives Read input left old new before m) (sym t.3) (stops-read t.0 left t.1 t.2))
   stops-turn Write left written next t = stops-unanswered Write t.0 left written next t.1 t.2
   stops-turn Reply left written next t = stops-unanswered Reply t.0 left written next t.1 t.2
   stops-turn Lines left written next t = absurd t.2
   stops-turn Room left written next t = absurd t.2
 
 -- a run that could not begin
-pub stops-at_once : (gives : Gives) (input old : Option (List ℕ)) (machine : Machine) → StopsForCause gives Room input input old old machine machine
+pub stops-at_once : (gives : Gives) (input old : Option (List ℕ)) (machine : Machine) → RunStopsFor gives Room input input old old machine machine
 stops-at_once gives input old machine = ([], [], Consumes-same input, Appends-same old, (refl, refl, refl))
 
 -- a run that stopped, for whatever cause
-pub StopsForCause-stops : (gives : Gives) (cause : Cause) (input left old new : Option (List ℕ)) (before after : Machine)
-    → StopsForCause gives cause input left old new before after → RunStops gives input left old new before after
-StopsForCause-stops gives Read input left old new before after h = (h.0, h.1, h.2, h.3, inl (inl h.4))
-StopsForCause-stops gives Write input left old new before after h = (h.0, h.1, h.2, h.3, inr (inr (inl h.4)))
-StopsForCause-stops gives Reply input left old new before after h = (h.0, h.1, h.2, h.3, inr (inr (inr h.4)))
-StopsForCause-stops gives Lines input left old new before after h = (h.0, h.1, h.2, h.3, inl (inr h.4))
-StopsForCause-stops gives Room input left old new before after h = (h.0, h.1, h.2, h.3, inr (inl h.4))
+pub RunStopsFor-stops : (gives : Gives) (cause : Cause) (input left old new : Option (List ℕ)) (before after : Machine)
+    → RunStopsFor gives cause input left old new before after → RunStops gives input left old new before after
+RunStopsFor-stops gives Read input left old new before after h = (h.0, h.1, h.2, h.3, inl (inl h.4))
+RunStopsFor-stops gives Write input left old new before after h = (h.0, h.1, h.2, h.3, inr (inr (inl h.4)))
+RunStopsFor-stops gives Reply input left old new before after h = (h.0, h.1, h.2, h.3, inr (inr (inr h.4)))
+RunStopsFor-stops gives Lines input left old new before after h = (h.0, h.1, h.2, h.3, inl (inr h.4))
+RunStopsFor-stops gives Room input left old new before after h = (h.0, h.1, h.2, h.3, inr (inl h.4))
 
 -- the run goes on, or ends, with the greater of two statuses
 pub so_far-next : {gives : Gives} {input now old new : Option (List ℕ)} {before after : Machine} {status count : ℕ} (far : SoFar gives input now old new before after status count)

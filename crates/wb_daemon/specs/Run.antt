@@ -201,8 +201,8 @@ StopsInLine gives seen left before text after =
     StopsFor gives why.Write seen left before text after ⊎ StopsFor gives why.Reply seen left before text after
 
 -- a run that stopped for this cause before its input ended: what it had read, and what it wrote
-abbrev pub StopsForCause : Gives → Cause → Option (List ℕ) → Option (List ℕ) → Option (List ℕ) → Option (List ℕ) → Machine → Machine → Type 0
-StopsForCause gives cause old_input new_input old_text new_text before after =
+abbrev pub RunStopsFor : Gives → Cause → Option (List ℕ) → Option (List ℕ) → Option (List ℕ) → Option (List ℕ) → Machine → Machine → Type 0
+RunStopsFor gives cause old_input new_input old_text new_text before after =
     (seen text : List ℕ) × Consumes old_input new_input seen × Appends old_text new_text text
     × StopsFor gives cause seen new_input before text after
 

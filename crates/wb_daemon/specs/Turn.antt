@@ -8,7 +8,7 @@ use Rattle.wb_words.specs.declared.words.Asked.{Asked}
 use Rattle.deb_control.specs.Lines.{IsOneLine}
 use Rattle.wb_daemon.specs.Line.{is_long, with_feed}
 use Rattle.wb_daemon.specs.Lists.{Gives}
-use Rattle.wb_daemon.specs.Run.{Said, Says, SaysAsked, command_said, memory_said, Accepts, EndsInput, LineAsks, StopsForCause}
+use Rattle.wb_daemon.specs.Run.{Said, Says, SaysAsked, command_said, memory_said, Accepts, EndsInput, LineAsks, RunStopsFor}
 use Rattle.wb_daemon.specs.declared.answer.Answer.{Answer}
 use Rattle.wb_daemon.specs.declared.run.Cause.{Cause}
 use Rattle.wb_daemon.specs.declared.run.Cause.TheVariants.{Read, Write, Reply}
@@ -85,4 +85,4 @@ abbrev pub Ran : Gives → RunEnd → Machine → Machine → Option (List ℕ) 
 Ran gives (Ended status) before after old_input new_input old new =
     (status ≤ 3) × EndsInput gives old_input old new before after status
 Ran gives (Stopped cause) before after old_input new_input old new =
-    StopsForCause gives cause old_input new_input old new before after
+    RunStopsFor gives cause old_input new_input old new before after
