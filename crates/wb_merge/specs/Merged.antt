@@ -11,7 +11,6 @@ use Rattle.wb_merge.specs.declared.merge.Change.{Change}
 use Rattle.wb_merge.specs.declared.merge.Change.TheVariants.{Absent, Added, Changed, Kept, Removed}
 use Rattle.wb_merge.specs.Listing.{ArchiveListing, map_at}
 use Rattle.wb_merge.specs.Merge.{record_after}
-use Rattle.std.specs.Bool.{beq}
 
 -- the records of the office, by architecture and source package
 abbrev pub Records : Type 0

@@ -1,11 +1,11 @@
 -- The rows that a merge reads from the archive's lists, and their faults (Debian Policy 5.3 and 5.6; this project's own where a line says so).
 use Rattle.std.specs.Prelude.{◌≡◌, IsOk, IsTrue, ℕ, ◌+◌, Bool, not, ◌&&◌, ◌||◌, ◌==◌, nat_le, List, [], ◌∷◌, ◌++◌, length, reverse, codes, bytes_eq, Option, Some, None, Result, Ok, Err, if◌then◌else◌, nat_eq}
 use Rattle.std.specs.Option.{option_map, option_or, unwrap_or}
+use Rattle.std.specs.Result.{result_map_both}
 use Rattle.std.specs.List.{AllByRecursion, AllZip, list_any, before_first, after_first, take_while, ends_with}
 use Rattle.std.specs.Char.{is_ascii_digit}
 use Rattle.deb_version.specs.Syntax.{is_version_text, value_of, ok_unless}
 use Rattle.deb_control.specs.declared.fault.ControlFaultKind.{ControlFaultKind}
-use Rattle.std.specs.Result.{result_map_both}
 use Rattle.deb_control.specs.Lines.{lines_of, paragraphs_in, words_in}
 use Rattle.deb_control.specs.Fields.{Entry, field_named, folded_of, reading_of}
 use Rattle.wb_states.specs.declared.refusal.Refusal.{Refusal}
