@@ -1,4 +1,5 @@
-use crate::{Outcome, cell, unescaped, without_first, without_last};
+use crate::outcome::Outcome;
+use crate::rows::{cell, unescaped, without_first, without_last};
 use std::test::Fail;
 
 #[test]
@@ -20,7 +21,7 @@ fn a_cell_stands_for_a_text(rt: HostRuntime) -> Result<(), Fail> {
 }
 
 #[test]
-fn a_case_that_differs_is_told(rt: HostRuntime) -> Result<(), Fail> {
+fn a_case_that_differs_has_a_line(rt: HostRuntime) -> Result<(), Fail> {
     let mut outcome = Outcome::new(rt.alloc());
     outcome.add(rt.alloc(), 2, "1", "1")?;
     outcome.add(rt.alloc(), 3, "-1", "0")?;

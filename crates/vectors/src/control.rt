@@ -1,14 +1,10 @@
-//! Tries the reading of control data on the texts of other programs: for each text a line goes to standard output that
-//! says how many cases it has and how many differ, and a line for each that does. A case is a paragraph, or the end of the
-//! text with its fault.
-#![tactic(auto)]
+//! The reading of control data, on texts. A case is a paragraph, or the end of the text with its fault.
 
+use crate::outcome::Outcome;
 use anyhow::Result;
 use deb_control::{ControlFault, Field, Paragraph, Paragraphs};
 use serde::Deserialize;
 use std::alloc::{AllocError, Global};
-use std::{env, fs};
-use vectors::Outcome;
 
 /// A field, as the answer to a text writes it.
 #[derive(Debug, Drop, Deserialize)]
@@ -62,7 +58,7 @@ fn paragraph_read(alloc: Global, paragraph: &Paragraph) -> Result<ParagraphText,
     Ok(ParagraphText { fields })
 }
 
-/// A fault as it was told.
+/// A fault as it was answered.
 fn fault_read(alloc: Global, fault: ControlFault) -> Result<FaultText, AllocError> {
     Ok(FaultText {
         paragraph: fault.paragraph,
@@ -79,8 +75,8 @@ fn answer_of(alloc: Global, bytes: &[u8]) -> Result<Answer, AllocError> {
         match reader.next(alloc) {
             Ok(Some(paragraph)) => paragraphs.push(paragraph_read(alloc, &paragraph)?)?,
             Ok(None) => break,
-            Err(told) => {
-                fault = Some(fault_read(alloc, told)?);
+            Err(found) => {
+                fault = Some(fault_read(alloc, found)?);
                 break;
             }
         }
@@ -104,15 +100,9 @@ fn compared(alloc: Global, wanted: &Answer, found: &Answer) -> Result<Outcome, A
     Ok(outcome)
 }
 
-fn main(rt: HostRuntime) -> Result<()> {
-    let alloc = rt.alloc();
-    for name in env::args(&rt)?.skip(1) {
-        let bytes = fs::read(&rt, format!(in alloc; "{name}.txt")?.as_str())?;
-        let text = fs::read_to_string(&rt, format!(in alloc; "{name}.json")?.as_str())?;
-        let wanted: Answer = serde_json::from_str(alloc, text.as_str())?;
-        let found = answer_of(alloc, &bytes)?;
-        let outcome = compared(alloc, &wanted, &found)?;
-        println!(rt; "{name}: {outcome}")?;
-    }
-    Ok(())
+/// Tries the bytes of a text against its answer, which is JSON.
+pub(crate) fn tried(alloc: Global, bytes: &[u8], answer: &str) -> Result<Outcome> {
+    let wanted: Answer = serde_json::from_str(alloc, answer)?;
+    let found = answer_of(alloc, bytes)?;
+    Ok(compared(alloc, &wanted, &found)?)
 }

@@ -1,12 +1,9 @@
-//! Tries relations on the cases of other programs: for each file of rows a line goes to standard output that says how
-//! many cases it has and how many differ, and a line for each that does.
-#![tactic(auto)]
+//! Relations, on rows of cases.
 
-use anyhow::Result;
+use crate::outcome::Outcome;
+use crate::rows::{cell, unescaped, without_first, without_last};
 use deb_relations::{ArchWords, RelationFault, Relations};
 use std::alloc::{AllocError, Global};
-use std::{env, fs};
-use vectors::{Outcome, cell, unescaped, without_first, without_last};
 
 /// The words of the operating system and of the processor that an architecture's name stands for.
 fn words(name: &str) -> (&str, &str) {
@@ -17,7 +14,7 @@ fn words(name: &str) -> (&str, &str) {
     }
 }
 
-/// The architectures that the first line of a file names behind its first two cells, up to the source.
+/// The architectures that the first line of a file names after its first two cells, up to the source.
 fn architectures(alloc: Global, header: &str) -> Result<Vec<ArchWords>, AllocError> {
     let mut architectures = Vec::new(alloc);
     for name in header.split('\t').skip(2) {
@@ -30,7 +27,7 @@ fn architectures(alloc: Global, header: &str) -> Result<Vec<ArchWords>, AllocErr
     Ok(architectures)
 }
 
-/// The printed form of relations and then, behind a tab each, of what is left of them for each architecture.
+/// The printed form of relations and then, after a tab each, of what is left of them for each architecture.
 fn forms(
     alloc: Global,
     architectures: &[ArchWords],
@@ -45,7 +42,7 @@ fn forms(
     Ok(forms)
 }
 
-/// A fault behind an exclamation mark and then a tab for each architecture.
+/// A fault after an exclamation mark, and then a tab for each architecture.
 fn refusal(
     alloc: Global,
     architectures: &[ArchWords],
@@ -67,8 +64,8 @@ fn found_of(alloc: Global, architectures: &[ArchWords], cell: &str) -> Result<St
     }
 }
 
-/// Tries each row of a file behind its first line.
-fn tried(alloc: Global, text: &str) -> Result<Outcome, AllocError> {
+/// Tries each row of a file after its first line.
+pub(crate) fn tried(alloc: Global, text: &str) -> Result<Outcome, AllocError> {
     let header = text.lines().next().unwrap_or("");
     let has_source = header.ends_with("\tsource");
     let architectures = architectures(alloc, header)?;
@@ -79,13 +76,4 @@ fn tried(alloc: Global, text: &str) -> Result<Outcome, AllocError> {
         outcome.add(alloc, line, without_first(row), found.as_str())?;
     }
     Ok(outcome)
-}
-
-fn main(rt: HostRuntime) -> Result<()> {
-    for path in env::args(&rt)?.skip(1) {
-        let text = fs::read_to_string(&rt, path.as_str())?;
-        let outcome = tried(rt.alloc(), text.as_str())?;
-        println!(rt; "{path}: {outcome}")?;
-    }
-    Ok(())
 }

@@ -1,13 +1,10 @@
-//! Tries versions on the cases of other programs: for each file of rows a line goes to standard output that says how many
-//! cases it has and how many differ, and a line for each that does.
-#![tactic(auto)]
+//! Versions, on rows of cases.
 
-use anyhow::Result;
+use crate::outcome::Outcome;
+use crate::rows::{cell, unescaped, without_first, without_last};
 use deb_version::{Op, Version, VersionFault, compare, meets};
 use std::alloc::{AllocError, Global};
 use std::cmp::Ordering;
-use std::{env, fs};
-use vectors::{Outcome, cell, unescaped, without_first, without_last};
 
 /// The version that a cell stands for, or the first fault of its text.
 fn version(alloc: Global, cell: &str) -> Result<Version, VersionFault> {
@@ -79,31 +76,22 @@ fn parts_in(alloc: Global, row: &str) -> Result<String, AllocError> {
 }
 
 /// What is wanted of a row of this file, and what comes out.
-fn answers<'a>(alloc: Global, path: &str, row: &'a str) -> Result<(&'a str, String), AllocError> {
-    if path.ends_with("version_ops.tsv") {
+fn answers<'a>(alloc: Global, name: &str, row: &'a str) -> Result<(&'a str, String), AllocError> {
+    if name == "version_ops.tsv" {
         Ok((cell(row, 3), answer_in(alloc, row)?))
-    } else if path.ends_with("version_parse.tsv") {
+    } else if name == "version_parse.tsv" {
         Ok((without_last(without_first(row)), parts_in(alloc, row)?))
     } else {
         Ok((cell(row, 1), order_in(alloc, row)?))
     }
 }
 
-/// Tries each row of a file behind its first line.
-fn tried(alloc: Global, path: &str, text: &str) -> Result<Outcome, AllocError> {
+/// Tries each row of the file of this name after its first line.
+pub(crate) fn tried(alloc: Global, name: &str, text: &str) -> Result<Outcome, AllocError> {
     let mut outcome = Outcome::new(alloc);
     for (line, row) in (1..u64::MAX).zip(text.lines()).skip(1) {
-        let (wanted, found) = answers(alloc, path, row)?;
+        let (wanted, found) = answers(alloc, name, row)?;
         outcome.add(alloc, line, wanted, found.as_str())?;
     }
     Ok(outcome)
-}
-
-fn main(rt: HostRuntime) -> Result<()> {
-    for path in env::args(&rt)?.skip(1) {
-        let text = fs::read_to_string(&rt, path.as_str())?;
-        let outcome = tried(rt.alloc(), path.as_str(), text.as_str())?;
-        println!(rt; "{path}: {outcome}")?;
-    }
-    Ok(())
 }
