@@ -2,12 +2,12 @@
 //! and the time that it took to standard error. A file whose name ends in `versions` has versions, one a line; each other has control data.
 #![tactic(auto)]
 
+mod control;
+mod versions;
+
 use anyhow::Result;
 use std::time::Instant;
 use std::{env, fs};
-
-mod control;
-mod versions;
 
 fn main(rt: HostRuntime) -> Result<()> {
     for path in env::args(&rt)?.skip(1) {

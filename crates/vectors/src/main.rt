@@ -2,14 +2,14 @@
 //! line goes to standard output that says how many cases there are and how many differ, and a line for each that does.
 #![tactic(auto)]
 
-use anyhow::Result;
-use std::{env, fs};
-
 mod control;
 mod outcome;
 mod relations;
 mod rows;
 mod versions;
+
+use anyhow::Result;
+use std::{env, fs};
 
 #[cfg(test)]
 mod tests;
