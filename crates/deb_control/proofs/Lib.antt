@@ -13,4 +13,3 @@ pub mod BadLineLemmas
 pub mod RoomLemmas
 pub mod TextLineLemmas
 pub mod FoundLemmas
-pub mod WordLemmas

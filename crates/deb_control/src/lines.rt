@@ -33,8 +33,8 @@ pub(crate) fn split_text(text: &str) -> (&str, &str)
 }
 
 /// Whether each byte of a line, its line feed not counted, is a space or a tab: such a line, an empty one
-/// too, parts paragraphs (Debian Policy 5.1). Takes no memory.
-pub fn is_blank_line(line: &[u8]) -> bool
+/// too, parts paragraphs (Debian Policy 5.1).
+fn is_blank_line(line: &[u8]) -> bool
     ensures { result ≡ list_all is_blank line.now }
 {
     line.iter().all(|b| *b == b' ' || *b == b'\t')

@@ -6,10 +6,10 @@ use Rattle.deb_relations.specs.declared.fault.RelationFault.{RelationFault}
 use Rattle.deb_relations.specs.declared.fault.RelationFault.TheVariants.{Memory}
 use Rattle.deb_relations.specs.declared.relations.Alternative.{Alternative}
 use Rattle.deb_relations.specs.Grammar.{is_not_blank}
-use Rattle.deb_relations.specs.Reduction.{is_filled}
-use Rattle.deb_relations.specs.Reader.{cut, both, all_some, push_group, with_group, read_name, read_alternative, with_name, read_group}
+use Rattle.deb_text.specs.Lists.{is_filled, begins}
+use Rattle.deb_relations.specs.Reader.{cut, push_group, with_group, read_name, read_alternative, with_name, read_group}
+use Rattle.deb_text.specs.Options.{both, all_some}
 use Rattle.deb_relations.specs.Reading.{begins_with_name, is_group_begun, takes_memory}
-use Rattle.deb_relations.specs.Text.{begins}
 use Rattle.deb_relations.proofs.CutLemmas.{Halves, cut-is, split-last}
 use Rattle.deb_relations.proofs.TurnLemmas.{split-has}
 

@@ -13,7 +13,7 @@ use Rattle.deb_relations.specs.declared.relations.Restriction.{Restriction}
 use Rattle.deb_relations.specs.declared.relations.Alternative.{Alternative}
 use Rattle.deb_relations.specs.Names.{is_arch_char, is_arch_word, is_package_name}
 use Rattle.deb_relations.specs.Printing.{term_text}
-use Rattle.deb_relations.specs.Reduction.{is_filled}
+use Rattle.deb_text.specs.Lists.{is_filled}
 
 -- a space, a tab, a line feed or a carriage return (Policy 7.1)
 unfoldable pub is_white : ℕ → Bool

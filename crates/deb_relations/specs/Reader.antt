@@ -10,9 +10,10 @@ use Rattle.deb_relations.specs.declared.relations.Kind.TheVariants.{Arch, Profil
 use Rattle.deb_relations.specs.declared.relations.Term.{Term}
 use Rattle.deb_relations.specs.declared.relations.Restriction.{Restriction}
 use Rattle.deb_relations.specs.declared.relations.Alternative.{Alternative}
-use Rattle.deb_relations.specs.Reduction.{is_filled}
+use Rattle.deb_text.specs.Lists.{is_filled}
 use Rattle.deb_relations.specs.Grammar.{is_white, is_blank_text, is_comma, is_bar, is_right_angle, is_op_char, is_word, is_not_blank, op_of, words, are_alike}
 use Rattle.deb_relations.specs.Names.{is_package_char, is_arch_char, is_package_name}
+use Rattle.deb_text.specs.Options.{both, all_some}
 
 -- what stands behind the longest front of a text whose characters all pass a test (this project's own)
 abbrev pub skip : (ℕ → Bool) → List ℕ → List ℕ
@@ -35,17 +36,6 @@ onto_front c = option_map (λ halves. (c ∷ halves.0, halves.1))
 abbrev pub cut : ℕ → List ℕ → Option (List ℕ × List ℕ)
 cut c [] = None
 cut c (x ∷ xs) = if x == c then Some ([], xs) else onto_front x (cut c xs)
-
--- both of two values (this project's own)
-abbrev pub both : {X : Type 0} → Option X → Option (List X) → Option (List X)
-both None more = None
-both (Some x) None = None
-both (Some x) (Some xs) = Some (x ∷ xs)
-
--- the readings of all items, where each has one (this project's own)
-abbrev pub all_some : {X Y : Type 0} → (X → Option Y) → List X → Option (List Y)
-all_some f [] = Some []
-all_some f (x ∷ xs) = both (f x) (all_some f xs)
 
 -- what was read and what is left, where something was (this project's own)
 abbrev pub with_rest : {X : Type 0} → List ℕ → Option X → Option (X × List ℕ)

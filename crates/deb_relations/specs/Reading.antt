@@ -10,10 +10,9 @@ use Rattle.deb_relations.specs.declared.fault.RelationFault.{RelationFault}
 use Rattle.deb_relations.specs.declared.fault.RelationFault.TheVariants.{BadName, BadOperator, BadVersion, Mixed, Unclosed, EmptyAlternative, Stray, TooLong}
 use Rattle.deb_relations.specs.declared.relations.Kind.TheVariants.{Arch}
 use Rattle.deb_relations.specs.declared.relations.Alternative.{Alternative}
-use Rattle.deb_relations.specs.Reduction.{is_filled}
+use Rattle.deb_text.specs.Lists.{is_filled, begins}
 use Rattle.deb_relations.specs.Grammar.{is_white, is_blank_text, is_comma, is_bar, is_right_angle, is_not_blank, is_op_char, op_of, relations_limit, TakesOperator}
 use Rattle.deb_relations.specs.Reader.{skip, strip, is_solid, between, read_name, read_qualifier, read_restriction, terms_of, read_archs, profile_of, read_alternative, read_group, read_groups}
-use Rattle.deb_relations.specs.Text.{begins}
 
 -- where a text begins that ends at the place end of the whole text (this project's own)
 abbrev pub place_of : ℕ → List ℕ → ℕ

@@ -1,15 +1,11 @@
 -- What is left of relations for an architecture, where no build profile is active (Debian Policy 7.1).
-use Rattle.std.specs.Prelude.{Bool, true, false, not, ◌&&◌, List, [], ◌∷◌, map, filter, if◌then◌else◌}
+use Rattle.std.specs.Prelude.{Bool, true, not, ◌&&◌, List, [], ◌∷◌, map, filter, if◌then◌else◌}
 use Rattle.std.specs.List.{list_any, list_all}
 use Rattle.deb_relations.specs.declared.arch.ArchWords.{ArchWords}
 use Rattle.deb_relations.specs.declared.relations.Term.{Term}
 use Rattle.deb_relations.specs.declared.relations.Alternative.{Alternative}
 use Rattle.deb_relations.specs.Arch.{arch_matches}
-
--- whether a list has an item (this project's own)
-abbrev pub is_filled : {X : Type 0} → List X → Bool
-is_filled [] = false
-is_filled (x ∷ xs) = true
+use Rattle.deb_text.specs.Lists.{is_filled}
 
 -- whether a word of the list matches the architecture (Policy 7.1)
 unfoldable pub has_match : ArchWords → List Term → Bool

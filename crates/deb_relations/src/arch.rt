@@ -3,7 +3,7 @@
 ghost use Rattle.std.specs.Prelude.{◌≡◌, ◌++◌, bytes_eq, IfOk};
 ghost use Rattle.deb_relations.specs.Arch.{arch_matches};
 
-use crate::text::Text;
+use deb_text::Text;
 use std::alloc::{AllocError, Global};
 
 /// An architecture: its name, and the words of its operating system and of its processor in a wildcard.

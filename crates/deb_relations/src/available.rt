@@ -4,9 +4,8 @@ ghost use Rattle.std.specs.Prelude.{◌≡◌, OnOk, OnErr};
 ghost use Rattle.std.specs.List.{list_any};
 ghost use Rattle.deb_relations.specs.Satisfaction.{no_pairs, with_pair, versions_of, meets_restriction, is_alternative_met, is_group_met, satisfied};
 
-use crate::items::Items;
 use crate::relations::{Alternative, Relations, Restriction};
-use crate::text::Text;
+use deb_text::{Items, Text};
 use deb_version::{Version, meets};
 use std::alloc::{AllocError, Global};
 use std::collections::BTreeMap;

@@ -5,7 +5,8 @@ ghost use Rattle.std.specs.Option.{option_map};
 ghost use Rattle.std.specs.List.{list_all};
 ghost use Rattle.deb_version.specs.Syntax.{fault_of, is_version_text};
 ghost use Rattle.deb_relations.specs.Grammar.{is_blank_text, is_word, op_of, words, are_alike, is_not_blank, Reads, relations_limit};
-ghost use Rattle.deb_relations.specs.Reader.{between, read_name, read_qualifier, restriction_of, read_restriction, signed, term_of, all_some, terms_of, with_group, archs_of, read_archs, profile_of, read_profiles, read_alternative, read_group, read_groups};
+ghost use Rattle.deb_relations.specs.Reader.{between, read_name, read_qualifier, restriction_of, read_restriction, signed, term_of, terms_of, with_group, archs_of, read_archs, profile_of, read_profiles, read_alternative, read_group, read_groups};
+ghost use Rattle.deb_text.specs.Options.{all_some};
 ghost use Rattle.deb_relations.specs.Scanner.{halves_of};
 ghost use Rattle.deb_relations.specs.Faults.{fault_from_version};
 ghost use Rattle.deb_relations.specs.Reading.{place_of, end_before, name_fault, version_fault, asked_fault, restriction_fault, words_fault, archs_fault, list_fault, profiles_fault, alternative_fault, group_fault, groups_fault, reading_of, begins_with_name, is_group_begun, takes_memory};
@@ -13,11 +14,10 @@ ghost use Rattle.deb_relations.specs.declared.relations.Alternative.{Alternative
 ghost use Rattle.deb_relations.specs.declared.fault.RelationFault.TheVariants.{BadName, Unclosed, TooLong, Memory};
 
 use crate::fault::RelationFault;
-use crate::items::Items;
 use crate::names::{is_arch_word, is_package_name};
 use crate::relations::{Alternative, Kind, RELATIONS_LIMIT, Relations, Restriction, Term};
 use crate::scanner::{Class, cut_at, is_all, skip_white, split_leading, strip};
-use crate::text::Text;
+use deb_text::{Items, Text};
 use deb_version::{Op, Version, VersionFault};
 use std::alloc::Global;
 

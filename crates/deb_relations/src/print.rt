@@ -5,9 +5,8 @@ ghost use Rattle.std.specs.String.{string_bytes};
 ghost use Rattle.std.specs.List.{flat_map};
 ghost use Rattle.deb_relations.specs.Printing.{term_text, terms_text, op_text, qualifier_text, restriction_text, archs_text, profile_text, profiles_text, alternative_text, group_text, printed};
 
-use crate::items::Items;
 use crate::relations::{Alternative, Relations, Restriction, Term};
-use crate::text::Text;
+use deb_text::{Items, Text};
 use deb_version::Op;
 use std::alloc::{AllocError, Global};
 

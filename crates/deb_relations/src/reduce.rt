@@ -5,9 +5,8 @@ ghost use Rattle.std.specs.List.{list_any, list_all};
 ghost use Rattle.deb_relations.specs.Reduction.{has_match, is_for_arch, holds_without_profiles, is_for_no_profile, is_kept, without_lists, reduced_group, reduced};
 
 use crate::arch::{ArchWords, arch_matches};
-use crate::items::Items;
 use crate::relations::{Alternative, Relations, Restriction, Term};
-use crate::text::Text;
+use deb_text::{Items, Text};
 use std::alloc::{AllocError, Global};
 
 #[tactic(auto, unfolding(crate::specs::Reduction::has_match))]

@@ -1,7 +1,6 @@
 //! Relations between packages, as they are kept.
 
-use crate::items::Items;
-use crate::text::Text;
+use deb_text::{Items, Text};
 use deb_version::{Op, Version};
 use std::marker::Model;
 

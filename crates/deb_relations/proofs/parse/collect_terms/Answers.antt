@@ -1,7 +1,8 @@
 use Rattle.std.proofs.Common.{◌≡◌, ◌<◌, ◌∙◌, ap, sym, subst, rules, ℕ, false, true, List, [], ◌∷◌, ◌++◌, length, None}
-use Rattle.deb_relations.specs.Reduction.{is_filled}
+use Rattle.deb_text.specs.Lists.{is_filled}
 use Rattle.deb_relations.specs.Grammar.{is_white, words}
-use Rattle.deb_relations.specs.Reader.{skip, all_some, term_of}
+use Rattle.deb_relations.specs.Reader.{skip, term_of}
+use Rattle.deb_text.specs.Options.{all_some}
 use Rattle.deb_relations.proofs.FrontLemmas.{stops, skip-stops}
 use Rattle.deb_relations.proofs.TurnLemmas.{onto, onto-start, words-skip, filled-from, not-filled, term-turn, term-refused, terms-end, turn-shorter}
 use Rattle.deb_relations.proofs.parse.collect_terms.Goals as goal

@@ -2,7 +2,8 @@ use Rattle.std.proofs.Common.{◌≡◌, length}
 use denote.Text.{Utf8}
 use denote.Shadow.{shadow}
 use Rattle.deb_relations.specs.Grammar.{is_white, words}
-use Rattle.deb_relations.specs.Reader.{all_some, term_of}
+use Rattle.deb_relations.specs.Reader.{term_of}
+use Rattle.deb_text.specs.Options.{all_some}
 use Rattle.deb_relations.proofs.FrontLemmas.{stops}
 use Rattle.deb_relations.proofs.TurnLemmas.{onto}
 use Rattle.deb_relations.proofs.parse.collect_terms.Given as goal

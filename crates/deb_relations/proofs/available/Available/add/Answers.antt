@@ -2,7 +2,7 @@ use Rattle.std.proofs.Common.{◌∙◌, ap, sym, rules, Some, None, [], ◌∷�
 use Rattle.std.specs.FinMap as finite
 use Rattle.std.proofs.lemmas.Map.Steps.{set_value_same}
 use Rattle.std.specs.BTreeMap.{is_at}
-use Rattle.deb_relations.specs.Text.{text_cmp}
+use Rattle.deb_text.specs.Text.{text_cmp}
 use Rattle.deb_relations.specs.Satisfaction.{with_pair}
 use Rattle.deb_relations.proofs.MapLemmas.{pair-added, on-ok, on-err}
 use Rattle.deb_relations.proofs.available.Available.add.Goals as goal

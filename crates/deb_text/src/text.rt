@@ -5,7 +5,7 @@ ghost use Rattle.std.specs.Ordering.{as_partial_cmp};
 ghost use Rattle.std.specs.Cmp.{partial_order_from_own_ties};
 ghost use Rattle.std.specs.Cmp.Rules.{comparing};
 ghost use Rattle.std.proofs.Common.{rules, refl};
-ghost use Rattle.deb_relations.specs.Text.{text_cmp};
+ghost use Rattle.deb_text.specs.Text.{text_cmp};
 
 use std::alloc::{AllocError, Global};
 use std::cmp::Ordering;
