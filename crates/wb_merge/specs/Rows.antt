@@ -1,4 +1,4 @@
--- The rows that a merge reads from the archive's lists, and their faults (Debian Policy 5.3 and 5.6; this project's own where a line says so).
+-- The rows that a merge reads from the archive's lists, and their faults (Debian Policy 5.3, 5.4 and 5.6; this project's own where a line says so).
 use Rattle.std.specs.Prelude.{◌≡◌, IsOk, IsTrue, ℕ, ◌+◌, Bool, not, ◌&&◌, ◌||◌, ◌==◌, nat_le, List, [], ◌∷◌, ◌++◌, length, reverse, codes, bytes_eq, Option, Some, None, Result, Ok, Err, if◌then◌else◌, nat_eq}
 use Rattle.std.specs.Option.{option_map, unwrap_or}
 use Rattle.std.specs.Result.{result_map_both}
@@ -113,7 +113,7 @@ form_fault field has_form (Some text) = spare_form_fault field has_form (Some te
 unfoldable pub wanted_fault : ListField → (List ℕ → Bool) → List Entry → Option ListingFault
 wanted_fault field has_form fields = form_fault field has_form (value_named (name_of_field field) fields)
 
--- what is wrong with a paragraph of a Sources list: its fields in their order (Debian Policy 5.3)
+-- what is wrong with a paragraph of a Sources list: its fields in their order (Debian Policy 5.4)
 unfoldable pub source_fault : List Entry → Option ListingFault
 source_fault fields = first_some (
     wanted_fault Package is_package_name fields

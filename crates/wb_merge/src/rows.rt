@@ -37,7 +37,7 @@ fn has_match(words: &str, arch: &ArchWords) -> bool
         .any(|part| is_match(part, arch))
 }
 
-/// What a merge reads from a paragraph of a Sources list (Debian Policy 5.3).
+/// What a merge reads from a paragraph of a Sources list (Debian Policy 5.4).
 #[derive(Drop)]
 pub(crate) struct SourceRow {
     pub(crate) name: Text,
