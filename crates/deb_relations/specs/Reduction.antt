@@ -16,11 +16,11 @@ abbrev pub is_for_arch : ArchWords → List Term → Bool
 is_for_arch arch [] = true
 is_for_arch arch (term ∷ terms) = if term.negated then not (has_match arch (term ∷ terms)) else has_match arch (term ∷ terms)
 
--- whether a list of build profiles holds where none is active: all its words are negated (Policy 7.1)
+-- whether a list of build profiles holds where none is active: all its words are negated (deb-src-control(5))
 unfoldable pub holds_without_profiles : List Term → Bool
 holds_without_profiles terms = list_all (λ term. term.negated) terms
 
--- whether lists of build profiles are for builds under none: there are no lists, or one of them holds (Policy 7.1)
+-- whether lists of build profiles are for builds under none: there are no lists, or one of them holds (deb-src-control(5))
 abbrev pub is_for_no_profile : List (List Term) → Bool
 is_for_no_profile [] = true
 is_for_no_profile (terms ∷ more) = list_any holds_without_profiles (terms ∷ more)

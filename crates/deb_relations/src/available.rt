@@ -44,7 +44,7 @@ impl Available {
     }
 
     /// Adds a package of a name in a version, which may be there already; no form is asked of the
-    /// name. The only error is that there is no memory for it; what is available then stays as it was.
+    /// name. The only error is that memory ran out; what is available then stays as it was.
     /// Source: this project's own.
     pub fn add(&mut self, name: &str, version: Version) -> Result<(), AllocError>
         ensures value { OnOk result (self.new ≡ with_pair self.old name.now version) }
