@@ -1,5 +1,5 @@
 -- Fields from the front of a text on: continuation lines, and the folded value.
-use Rattle.std.proofs.Common.{◌≡◌, ◌∙◌, ap, refl, ℕ, Bool, cond, true, false, map, List, [], ◌∷◌, ◌++◌, append_assoc}
+use Rattle.std.proofs.Common.{◌≡◌, ◌∙◌, ap, sym, refl, ℕ, Bool, cond, true, false, map, List, [], ◌∷◌, ◌++◌, append_assoc, Result, Ok, Err, OnErr}
 use Rattle.std.specs.Prelude.{filter, fold}
 use Rattle.std.specs.List.{before_first, after_first, join_with_byte, take_while}
 use Rattle.std.proofs.lemmas.List.Sums.{take_while-cons}
@@ -52,3 +52,24 @@ fold-folded_onto (c ∷ cs) ((d ∷ ds) ∷ pieces) =
 pub folded_of-fold : (field : Entry) → fold folded_onto (trim field.first) (map trim field.lines) ≡ folded_of field
 unfolding folded_of
 folded_of-fold field = fold-folded_onto (trim field.first) (map trim field.lines)
+
+-- a text that has a character keeps it
+fold-filled : (text : List ℕ) (pieces : List (List ℕ)) → is_filled text ≡ true → is_filled (fold folded_onto text pieces) ≡ true
+fold-filled text [] h = h
+fold-filled text ([] ∷ pieces) h = fold-filled text pieces h
+fold-filled [] ((d ∷ ds) ∷ pieces) h = cc
+fold-filled (c ∷ cs) ((d ∷ ds) ∷ pieces) h = fold-filled ((c ∷ cs) ++ (32 ∷ d ∷ ds)) pieces refl
+
+-- and gets one with a piece that has one
+pub piece-filled : (text piece : List ℕ) (pieces : List (List ℕ)) → is_filled piece ≡ true → is_filled (fold folded_onto text (piece ∷ pieces)) ≡ true
+piece-filled text [] pieces h = cc
+piece-filled [] (d ∷ ds) pieces h = fold-filled (d ∷ ds) pieces refl
+piece-filled (c ∷ cs) (d ∷ ds) pieces h = fold-filled ((c ∷ cs) ++ (32 ∷ d ∷ ds)) pieces refl
+
+-- the folded value has a character where the first value has one
+pub first-filled : (field : Entry) → is_filled (trim field.first) ≡ true → is_filled (folded_of field) ≡ true
+first-filled field h = ap is_filled (sym (folded_of-fold field)) ∙ fold-filled (trim field.first) (map trim field.lines) h
+
+pub where-err : {T E : Type 0} {Q : Type 0} (r : Result T E) → Q → OnErr r Q
+where-err (Ok x) q = tt
+where-err (Err e) q = q

@@ -1,6 +1,7 @@
 pub mod BlankLemmas
 pub mod LineLemmas
 pub mod RunLemmas
+pub mod FeedLemmas
 pub mod FieldLemmas
 pub mod NameLemmas
 pub mod ReadLemmas
@@ -13,4 +14,3 @@ pub mod BadLineLemmas
 pub mod RoomLemmas
 pub mod TextLineLemmas
 pub mod FoundLemmas
-pub mod WordLemmas

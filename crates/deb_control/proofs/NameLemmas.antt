@@ -1,6 +1,6 @@
 -- The names that were read: the first few one by one, the later ones by a test.
-use Rattle.std.proofs.Common.{◌≡◌, ◌∙◌, sym, ap, refl, ℕ, ◌<◌, ◌≤◌, Bool, true, false, cond, length, take, drop, List, [], ◌∷◌, ◌++◌, arith}
-use Rattle.std.specs.Prelude.{◌||◌}
+use Rattle.std.proofs.Common.{◌≡◌, ◌∙◌, sym, ap, refl, ℕ, ◌<◌, ◌≤◌, Bool, true, false, cond, length, take, drop, List, [], ◌∷◌, ◌++◌, arith, Result, Ok, Err}
+use Rattle.std.specs.Prelude.{◌||◌, not, IfErr}
 use Rattle.std.specs.List.{list_any}
 use Rattle.std.specs.Str.{bytes_eq}
 use Rattle.std.proofs.lemmas.Bool.{or_left}
@@ -22,6 +22,22 @@ is_among-split few name fields =
     ∙ list_any-append (λ (other : List ℕ). bytes_eq other (str_to_ascii_lowercase name)) (take few (names_in fields)) (drop few (names_in fields))
     ∙ ap (λ (v : List (List ℕ)). is_among (str_to_ascii_lowercase name) v || is_among (str_to_ascii_lowercase name) (drop few (names_in fields))) (take-map (λ (field : Entry). str_to_ascii_lowercase field.name) few fields)
     ∙ ap (λ (b : Bool). b || is_among (str_to_ascii_lowercase name) (drop few (names_in fields))) (is_among-names_in name (take few fields))
+
+-- a name is among the first few names where one of the first few fields has it
+pub is_among-take : (few : ℕ) (name : List ℕ) (fields : List Entry) → is_among (str_to_ascii_lowercase name) (take few (names_in fields)) ≡ list_any (has_name name) (take few fields)
+is_among-take few name fields =
+    ap (is_among (str_to_ascii_lowercase name)) (take-map (λ (field : Entry). str_to_ascii_lowercase field.name) few fields) ∙ is_among-names_in name (take few fields)
+
+-- a name that is none of all is none of the first few
+pub is_among-few : (few : ℕ) (name : List ℕ) (names : List (List ℕ)) → is_among name names ≡ false → is_among name (take few names) ≡ false
+is_among-few few name names none =
+    neither _ _
+    (sym (list_any-append (λ (other : List ℕ). bytes_eq other name) (take few names) (drop few names))
+    ∙ ap (is_among name) (take-append-drop few names) ∙ none)
+  where
+    neither : (a b : Bool) → (a || b) ≡ false → a ≡ false
+    neither true b e = e
+    neither false b e = refl
 
 pub is_among-first : (few : ℕ) (name : List ℕ) (fields : List Entry) → list_any (has_name name) (take few fields) ≡ true → is_among (str_to_ascii_lowercase name) (names_in fields) ≡ true
 is_among-first few name fields first = is_among-split few name fields ∙ or_left _ _ first
@@ -57,3 +73,18 @@ Knows-later few old new names name text more is knows learned other =
     ∙ ap (λ (v : List ℕ). cond (bytes_eq v other) true (old other)) is
     ∙ ap (λ (b : Bool). cond (bytes_eq name other) true b) (knows other)
     ∙ sym (ap (is_among other) (drop-append-le few names (name ∷ []) more) ∙ last_name other name (drop few names))
+
+-- what holds holds where memory ran out
+pub where-any : {T E : Type 0} {Q : Type 0} (r : Result T E) → Q → IfErr r (λ _. Q)
+where-any (Ok x) q = tt
+where-any (Err e) q = q
+
+-- what holds holds where memory ran out, whatever a fault is asked
+pub where-fault : {T E : Type 0} {Q : Type 0} (P : E → Type 0) (r : Result T E) → Q → IfErr r (λ fault. P fault → Q)
+where-fault P (Ok x) q = tt
+where-fault P (Err e) q = λ _. q
+
+-- a name that was added was none of those before
+pub was-new : (new among : Bool) → new ≡ not among → new ≡ true → among ≡ false
+was-new new true is added = sym added ∙ is
+was-new new false is added = refl

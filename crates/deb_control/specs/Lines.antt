@@ -47,10 +47,6 @@ front_line text = take (position_or_len is_feed text + 1) text
 unfoldable pub is_separator : List ℕ → Bool
 is_separator line = list_all is_blank (body_of line)
 
--- a text without a line feed (Policy 5.1)
-abbrev pub IsOneLine : List ℕ → Type 0
-IsOneLine text = list_any is_feed text ≡ false
-
 -- whether a list has an item, or a text a character (this project's own)
 abbrev pub is_filled : {X : Type 0} → List X → Bool
 is_filled [] = false
@@ -59,10 +55,6 @@ is_filled (_ ∷ _) = true
 -- the paragraphs, which are the longest runs of lines that are no separators (Policy 5.1)
 unfoldable pub paragraphs_in : List (List ℕ) → List (List (List ℕ))
 paragraphs_in lines = filter is_filled (slice_split is_separator lines)
-
--- the words of a text, parted by spaces and tabs (Policy 5.6.8)
-unfoldable pub words_in : List ℕ → List (List ℕ)
-words_in text = filter is_filled (slice_split is_blank text)
 
 -- whether a text begins with a separator (Policy 5.1)
 unfoldable pub begins_separator : List ℕ → Bool

@@ -1,7 +1,8 @@
 //! A field of a paragraph, with its continuation lines.
-ghost use Rattle.std.specs.Prelude.{◌≡◌, ◌∷◌, [], true, false, OnOk, IfOk, IfNone, IfSome, OnSome, string_bytes};
+ghost use Rattle.std.specs.Prelude.{◌≡◌, ◌∷◌, [], true, false, OnOk, OnErr, IfOk, IfNone, IfSome, OnSome, string_bytes};
 ghost use Rattle.std.specs.Iterator.{YieldsFirstRef, item_count};
 ghost use Rattle.std.specs.List.{list_all};
+ghost use Rattle.deb_control.specs.Lines.{is_filled};
 ghost use Rattle.deb_control.specs.Fields.{continuations, has_colon, name_of, first_of, is_name_char, is_name, entry, folded_onto, folded_of};
 
 use crate::lines::{after_blank, split_text, without_blank_end, without_blanks};
@@ -52,10 +53,23 @@ fn next_continuation(text: &str) -> Option<(&str, &str)>
     Some((without_blank_end(added), rest))
 }
 
-/// Puts a line behind a folded text, with a space between where both are not
-/// empty.
+/// A text as a string of its own; the empty one takes no memory.
+fn copied(alloc: Global, text: &str) -> Result<String, AllocError>
+    ensures value { IfOk result (λ copy. string_bytes copy ≡ text.now) }
+    ensures memory { OnErr result (is_filled text.now ≡ true) }
+{
+    if text.is_empty() {
+        return Ok(String::new(alloc));
+    }
+    String::from_str(alloc, text)
+}
+
+/// Puts a line after a folded text, with a space between if neither is empty.
+/// An empty line takes no memory.
 fn fold_line(text: &mut String, line: &str) -> Result<(), AllocError>
-    ensures { OnOk result (string_bytes text.new ≡ folded_onto (string_bytes text.old) line.now) }
+    ensures value { OnOk result (
+        string_bytes text.new ≡ folded_onto (string_bytes text.old) line.now) }
+    ensures memory { OnErr result (is_filled line.now ≡ true) }
 {
     if line.is_empty() {
         return Ok(());
@@ -117,11 +131,12 @@ impl<'a> Field<'a> {
 
     /// The first value and the continuation lines as one line: each trimmed,
     /// the empty ones left out, joined by one space (Debian Policy 5.1).
-    /// An error says that memory ran out.
+    /// An error says that memory ran out; an empty value takes none.
     pub fn folded(&self, alloc: Global) -> Result<String, AllocError>
-        ensures { IfOk result (λ text. string_bytes text ≡ folded_of self.now) }
+        ensures value { IfOk result (λ text. string_bytes text ≡ folded_of self.now) }
+        ensures memory { OnErr result (is_filled (folded_of self.now) ≡ true) }
     {
-        let mut text = String::from_str(alloc, without_blanks(self.first()))?;
+        let mut text = copied(alloc, without_blanks(self.first()))?;
         for line in self.lines() {
             fold_line(&mut text, without_blanks(line))?;
         }

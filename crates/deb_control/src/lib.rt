@@ -14,6 +14,5 @@ mod tests;
 
 pub use fault::{ControlFault, ControlFaultKind};
 pub use field::{Field, Lines};
-pub use lines::is_blank_line;
 pub use paragraph::Paragraph;
 pub use paragraphs::Paragraphs;

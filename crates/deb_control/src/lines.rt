@@ -3,11 +3,13 @@ ghost use Rattle.std.specs.Prelude.{◌≡◌, ◌≤◌, ◌<◌, [], true, fal
 ghost use Rattle.std.specs.List.{before_first, after_first, list_all};
 ghost use Rattle.deb_control.specs.Lines.{is_feed, is_blank, is_continuation, lines_of, paragraphs_in, begins_separator, begins_paragraph, IsFirstParagraph, trim_start, trim_end, trim};
 
+use memchr::memchr;
+
 /// The place of the first line feed.
 fn feed_place(bytes: &[u8]) -> Option<usize>
     ensures { result ≡ position is_feed bytes.now }
 {
-    bytes.iter().position(|b| *b == b'\n')
+    memchr(b'\n', bytes)
 }
 
 /// The first line, without its line feed, and what stands behind that.
@@ -33,8 +35,8 @@ pub(crate) fn split_text(text: &str) -> (&str, &str)
 }
 
 /// Whether each byte of a line, its line feed not counted, is a space or a tab: such a line, an empty one
-/// too, parts paragraphs (Debian Policy 5.1). Takes no memory.
-pub fn is_blank_line(line: &[u8]) -> bool
+/// too, parts paragraphs (Debian Policy 5.1).
+fn is_blank_line(line: &[u8]) -> bool
     ensures { result ≡ list_all is_blank line.now }
 {
     line.iter().all(|b| *b == b' ' || *b == b'\t')

@@ -1,12 +1,12 @@
 //! A paragraph: its fields, and how they are read.
-ghost use Rattle.std.specs.Prelude.{◌≡◌, ◌≢◌, ◌++◌, ◌∷◌, [], Some, None, Ok, Err, true, not, drop, IfOk, IfErr, OnOk, option_copied, string_bytes};
+ghost use Rattle.std.specs.Prelude.{◌≡◌, ◌≢◌, ◌++◌, ◌∷◌, [], Some, None, Ok, Err, true, false, not, drop, take, IfOk, IfErr, OnOk, option_copied, string_bytes};
 ghost use Rattle.std.specs.Bool.{OnTrue};
 ghost use Rattle.std.specs.List.{list_any};
 ghost use Rattle.std.specs.BTreeSet.{contains_text};
 ghost use Rattle.deb_control.specs.declared.fault.ControlFaultKind.TheVariants.{Memory};
 ghost use Rattle.deb_control.specs.Lines.{is_continuation, lines_of, lines_in};
 ghost use Rattle.std.specs.Str.{str_eq_ignore_ascii_case, str_to_ascii_lowercase};
-ghost use Rattle.deb_control.specs.Fields.{has_name, is_among, names_in, Knows, fields_at, line_fault, first_fault, fields_of, field_named, reading_of, begin_with_field, takes_memory};
+ghost use Rattle.deb_control.specs.Fields.{has_name, is_among, names_in, Knows, fields_at, line_fault, name_of, first_fault, fields_of, field_named, reading_of, begin_with_field, takes_memory};
 
 use crate::ControlFaultKind;
 use crate::field::{Field, colon_parts, is_name};
@@ -56,6 +56,8 @@ fn add_name(
         new ≡ not (is_among (str_to_ascii_lowercase name.now) (names_in fields.now))) }
     ensures known { IfOk result (λ new. OnTrue new (Knows (contains_text later.new)
         (drop FEW (names_in fields.now ++ str_to_ascii_lowercase name.now ∷ [])))) }
+    ensures memory { IfErr result (λ _.
+        is_among (str_to_ascii_lowercase name.now) (take FEW (names_in fields.now)) ≡ false) }
 {
     if fields.len() < FEW {
         return Ok(!is_name_of_any(fields, name));
@@ -82,6 +84,8 @@ fn read_line<'a>(
     ensures refused { IfErr result (λ kind. kind ≢ Memory →
         line_fault (names_in fields.old.items) line.now ≡ Some kind) }
     ensures memory { IfErr result (λ kind. kind ≡ Memory → line_fault [] line.now ≡ None) }
+    ensures new { IfErr result (λ kind. kind ≡ Memory → is_among
+        (str_to_ascii_lowercase (name_of line.now)) (take FEW (names_in fields.old.items)) ≡ false) }
     // of the fields and their names
     ensures fields { OnOk result (
         fields.new.items ≡ fields.old.items ++ fields_at line.now rest.now) }

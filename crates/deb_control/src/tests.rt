@@ -381,3 +381,78 @@ fn gets_fields_and_ends(rt: HostRuntime) -> Result<(), Fail> {
     }
     Ok(())
 }
+
+#[test]
+fn each_fault_is_printed(rt: HostRuntime) -> Result<(), Fail> {
+    let cases = [
+        (ControlFaultKind::TooLarge, "TooLarge"),
+        (ControlFaultKind::NotUtf8, "NotUtf8"),
+        (ControlFaultKind::Orphan, "Orphan"),
+        (ControlFaultKind::NoColon, "NoColon"),
+        (ControlFaultKind::BadName, "BadName"),
+        (ControlFaultKind::Duplicate, "Duplicate"),
+        (ControlFaultKind::Memory, "Memory"),
+        (ControlFaultKind::Ended, "Ended"),
+    ];
+    for (kind, want) in cases {
+        let text = format!(in rt.alloc(); "{kind}")?;
+        assert_eq!(rt; text.as_str(), want);
+        let fault = ControlFault { paragraph: 7, kind };
+        let text = format!(in rt.alloc(); "{fault}")?;
+        let both = format!(in rt.alloc(); "{want} in paragraph 7")?;
+        assert_eq!(rt; text.as_str(), both.as_str());
+    }
+    Ok(())
+}
+
+#[test]
+fn reads_a_long_list(rt: HostRuntime) -> Result<(), Fail> {
+    let alloc = rt.alloc();
+    let mut text = String::new(alloc);
+    for number in 0..12000 {
+        writeln!(text, "Package: lib{number}\nVersion: 1.{number}-1")?;
+        writeln!(text, "Build-Depends: debhelper-compat (= 13),")?;
+        writeln!(
+            text,
+            " libx{number}-dev (>= 1.{number}),\n libfoo-dev [linux-any],"
+        )?;
+        writeln!(
+            text,
+            " a-package-with-a-long-name-{number} (>= 2:1.2.3~rc1-4) <!nocheck>"
+        )?;
+        writeln!(text)?;
+    }
+    assert!(rt; text.len() > 2000000);
+    let mut reader = Paragraphs::of(text.as_bytes());
+    for number in 0..12000 {
+        let paragraph = reader.next(alloc).ok().flatten().ok_or("no paragraph")?;
+        let name = format!(in alloc; "lib{number}")?;
+        let package = paragraph.get("package").ok_or("no package")?;
+        assert_eq!(rt; package.first(), name.as_str());
+        let depends = paragraph.get("Build-Depends").ok_or("no relations")?;
+        let folded = format!(in alloc;
+            "debhelper-compat (= 13), libx{number}-dev (>= 1.{number}), libfoo-dev [linux-any], a-package-with-a-long-name-{number} (>= 2:1.2.3~rc1-4) <!nocheck>"
+        )?;
+        assert_eq!(rt; depends.folded(alloc)?.as_str(), folded.as_str());
+    }
+    assert!(rt; matches!(reader.next(alloc), Ok(None)));
+    Ok(())
+}
+
+#[test]
+fn reads_a_paragraph_of_many_fields(rt: HostRuntime) -> Result<(), Fail> {
+    let mut text = String::new(rt.alloc());
+    for number in 0..5000 {
+        writeln!(text, "Field-{number}: {number}")?;
+    }
+    let mut reader = Paragraphs::of(text.as_bytes());
+    let paragraph = reader
+        .next(rt.alloc())
+        .ok()
+        .flatten()
+        .ok_or("no paragraph")?;
+    assert_eq!(rt; paragraph.fields().len(), 5000);
+    let last = paragraph.get("field-4999").ok_or("no field")?;
+    assert_eq!(rt; last.first(), "4999");
+    Ok(())
+}

@@ -1,17 +1,24 @@
 -- Where memory is wanted: the first group that is not blank begins with a package name.
 use Rattle.std.proofs.Common.{◌≡◌, ℕ, Bool, true, false, cond, eqb, List, [], ◌∷◌, filter, refl, sym, ap, ◌∙◌, ◌⊎◌, inl, inr, Option, None, Some, Result, Ok, Err}
 use Rattle.std.specs.Prelude.{is_some, IfErr}
-use Rattle.std.specs.List.{slice_split}
+use Rattle.std.specs.List.{slice_split, take_while}
+use Rattle.std.specs.Option.{option_map_or}
+use Rattle.std.proofs.lemmas.Bool.{and_from}
+use Rattle.deb_version.specs.Syntax.{is_version_text}
 use Rattle.deb_relations.specs.declared.fault.RelationFault.{RelationFault}
-use Rattle.deb_relations.specs.declared.fault.RelationFault.TheVariants.{Memory}
+use Rattle.deb_relations.specs.declared.fault.RelationFault.TheVariants.{Memory, Stray, Unclosed}
 use Rattle.deb_relations.specs.declared.relations.Alternative.{Alternative}
-use Rattle.deb_relations.specs.Grammar.{is_not_blank}
-use Rattle.deb_relations.specs.Reduction.{is_filled}
-use Rattle.deb_relations.specs.Reader.{cut, both, all_some, push_group, with_group, read_name, read_alternative, with_name, read_group}
-use Rattle.deb_relations.specs.Reading.{begins_with_name, is_group_begun, takes_memory}
-use Rattle.deb_relations.specs.Text.{begins}
+use Rattle.deb_relations.specs.declared.relations.Kind.{Kind}
+use Rattle.deb_relations.specs.declared.relations.Kind.TheVariants.{Profile}
+use Rattle.deb_relations.specs.declared.relations.Term.{Term}
+use Rattle.deb_relations.specs.Grammar.{is_not_blank, is_white, is_op_char, op_of, words}
+use Rattle.deb_text.specs.Lists.{is_filled, begins}
+use Rattle.deb_relations.specs.Reader.{cut, skip, strip, is_solid, filled_only, term_of, terms_of, profile_behind, profile_of, push_group, with_group, read_name, read_alternative, with_name, read_group}
+use Rattle.deb_text.specs.Options.{both, all_some}
+use Rattle.deb_relations.specs.Reading.{place_of, list_fault, begins_with_name, is_group_begun, takes_memory, begins_asked, begins_with_term, begins_profile}
 use Rattle.deb_relations.proofs.CutLemmas.{Halves, cut-is, split-last}
-use Rattle.deb_relations.proofs.TurnLemmas.{split-has}
+use Rattle.deb_relations.proofs.FrontLemmas.{stops}
+use Rattle.deb_relations.proofs.TurnLemmas.{split-has, words-first, word-filled}
 
 name-by : (o : Option (List ℕ × List ℕ)) (a : Alternative) → with_name o ≡ Some a → is_some o ≡ true
 name-by None a e = cc
@@ -96,7 +103,81 @@ pub groups-behind : (made next : List (List Alternative)) (rest text : List ℕ)
 unfolding with_group
 groups-behind made next rest text p begun e h = behind-by (is_not_blank p.0) made next rest text p begun e refl h
 
+-- no word of a list was read yet, or the first is a good one
+abbrev pub HasTerm : Kind → List ℕ → List ℕ → Type 0
+HasTerm kind rest inside = (words rest ≡ words inside) ⊎ (begins_with_term kind inside ≡ true)
+
+pub term-begun : (kind : Kind) (rest inside : List ℕ) → HasTerm kind rest inside → is_filled rest ≡ true → stops is_white rest
+    → is_some (term_of kind (take_while is_solid rest)) ≡ true → begins_with_term kind inside ≡ true
+unfolding begins_with_term
+term-begun kind rest inside (inl same) filled starts good =
+    ap (begins (λ word. is_some (term_of kind word))) (sym same ∙ words-first rest (word-filled rest filled starts)) ∙ good
+term-begun kind rest inside (inr begun) filled starts good = begun
+
+first-term : (o : Option Term) (more : Option (List Term)) (terms : List Term) → filled_only (both o more) ≡ Some terms → is_some o ≡ true
+first-term None more terms e = cc
+first-term (Some term) more terms e = refl
+
+words-begun : (kind : Kind) (ws : List (List ℕ)) (terms : List Term) → filled_only (all_some (term_of kind) ws) ≡ Some terms → begins (λ word. is_some (term_of kind word)) ws ≡ true
+words-begun kind [] terms e = cc
+words-begun kind (w ∷ ws) terms e = first-term (term_of kind w) (all_some (term_of kind) ws) terms e
+
+-- a list that has a reading begins with a good word
+pub terms-begun : (kind : Kind) (inside : List ℕ) (terms : List Term) → terms_of kind inside ≡ Some terms → begins_with_term kind inside ≡ true
+unfolding terms_of begins_with_term
+terms-begun kind inside terms e = words-begun kind (words inside) terms e
+
+behind-angle : (o : Option (List ℕ)) (terms : List Term) → profile_behind o ≡ Some terms → option_map_or (begins_with_term Profile) o false ≡ true
+behind-angle None terms e = cc
+behind-angle (Some inside) terms e = terms-begun Profile inside terms e
+
+-- a list of build profiles that has a reading begins with a good word
+pub profile-good : (piece : List ℕ) (terms : List Term) → profile_of piece ≡ Some terms → begins_profile piece ≡ true
+unfolding profile_of begins_profile
+profile-good piece terms e = behind-angle (strip 60 (skip is_white piece)) terms e
+
+-- no list of build profiles was read yet, or the first begins with a good word
+abbrev pub HasProfile : List ℕ → List ℕ → Type 0
+HasProfile rest text = (rest ≡ text) ⊎ (begins begins_profile (slice_split (λ c. eqb c 62) text) ≡ true)
+
+pub profile-begun : (rest text : List ℕ) (p : Halves) → HasProfile rest text → cut 62 rest ≡ Some p → begins_profile p.0 ≡ true
+    → begins begins_profile (slice_split (λ c. eqb c 62) text) ≡ true
+profile-begun rest text p (inl same) e good =
+    ap (λ xs. begins begins_profile (slice_split (λ c. eqb c 62) xs)) (sym same)
+    ∙ ap (begins begins_profile) (cut-is 62 rest p e).step ∙ good
+profile-begun rest text p (inr begun) e good = begun
+
 -- what holds holds where memory was wanted
 pub where-wanted : {T : Type 0} {Q : Type 0} (r : Result T RelationFault) → Q → IfErr r (λ fault. fault ≡ Memory → Q)
 where-wanted (Ok x) q = tt
 where-wanted (Err fault) q = λ memory. q
+
+pub memory-to : {T : Type 0} {P Q : Type 0} (r : Result T RelationFault) → (P → Q) → IfErr r (λ fault. fault ≡ Memory → P) → IfErr r (λ fault. fault ≡ Memory → Q)
+memory-to (Ok x) f h = tt
+memory-to (Err fault) f h = λ memory. f (h memory)
+
+-- an operator and a version that were read
+pub asked-begun : (inside front word behind start version : List ℕ) → front ≡ skip is_white inside → word ≡ take_while is_op_char front
+    → behind ≡ skip is_op_char front → start ≡ skip is_white behind → version ≡ take_while is_solid start
+    → is_some (op_of word) ≡ true → is_version_text version ≡ true → begins_asked inside ≡ true
+unfolding begins_asked
+asked-begun inside front word behind start version f w b s v op good =
+    and_from _ _
+    (ap (λ x. is_some (op_of (take_while is_op_char x))) (sym f) ∙ ap (λ x. is_some (op_of x)) (sym w) ∙ op)
+    (ap (λ x. is_version_text (take_while is_solid (skip is_white (skip is_op_char x)))) (sym f)
+    ∙ ap (λ x. is_version_text (take_while is_solid (skip is_white x))) (sym b)
+    ∙ ap (λ x. is_version_text (take_while is_solid x)) (sym s) ∙ ap is_version_text (sym v) ∙ good)
+
+-- a list of build profiles, behind its opening bracket
+pub profile-inside : (piece inside : List ℕ) → strip 60 (skip is_white piece) ≡ Some inside → begins_with_term Profile inside ≡ true → begins_profile piece ≡ true
+unfolding begins_profile
+profile-inside piece inside e good = ap (λ o. option_map_or (begins_with_term Profile) o false) e ∙ good
+
+end-by : (b : Bool) (place : ℕ) → cond b Unclosed (Stray place) ≡ Memory → ⊥
+end-by true place e = cc
+end-by false place e = cc
+
+-- what stands behind the last list takes no memory
+pub end-told : (end : ℕ) (rest : List ℕ) → list_fault Unclosed end rest ≡ Memory → ⊥
+unfolding list_fault
+end-told end rest e = end-by (is_some (strip 60 (skip is_white rest))) (place_of end (skip is_white rest)) e

@@ -11,11 +11,12 @@ use Rattle.deb_relations.specs.declared.fault.RelationFault.TheVariants.{BadName
 use Rattle.deb_relations.specs.declared.relations.Restriction.{Restriction}
 use Rattle.deb_relations.specs.declared.relations.Kind.TheVariants.{Arch}
 use Rattle.deb_relations.specs.declared.relations.Term.{Term}
-use Rattle.deb_relations.specs.Reduction.{is_filled}
+use Rattle.deb_text.specs.Lists.{is_filled}
 use Rattle.deb_relations.specs.Grammar.{is_white, is_op_char, op_of, TakesName, TakesQualifier, InBrackets}
 use Rattle.deb_relations.specs.Reader.{skip, strip, cut, is_solid, between_opened, between, read_name, read_qualifier, read_restriction, terms_of, read_archs, profile_of}
 use Rattle.deb_relations.specs.Reading.{place_of, end_before, span, name_fault, version_fault, fault_behind_operator, operator_fault, asked_fault, bracket_fault, restriction_fault, words_fault, archs_fault, list_fault, lists_fault, profiles_fault, or_behind, fault_behind_restriction, fault_behind_qualifier, fault_behind_name, alternative_fault, first_fault, is_alternative, group_fault, is_group_or_blank, groups_fault, is_asked_char, ends_asked, HasBadVersion}
-use Rattle.deb_relations.proofs.FrontLemmas.{stops, take_while-skip, take_while-passes, skip-stops}
+use Rattle.deb_relations.proofs.FrontLemmas.{stops, take_while-skip, skip-stops}
+use Rattle.deb_text.proofs.ListLemmas.{take_while-passes}
 use Rattle.deb_relations.proofs.CutLemmas.{cut-clear}
 use Rattle.deb_relations.proofs.SoundLemmas.{between-sound, name-sound, qualifier-sound}
 use Rattle.std.specs.Option.{option_map}

@@ -5,7 +5,7 @@ use Rattle.deb_relations.specs.declared.fault.RelationFault.{RelationFault}
 use Rattle.deb_relations.specs.declared.fault.RelationFault.TheVariants.{BadName, Unclosed}
 use Rattle.deb_relations.specs.declared.relations.Term.{Term}
 use Rattle.deb_relations.specs.declared.relations.Alternative.{Alternative}
-use Rattle.deb_relations.specs.Reduction.{is_filled}
+use Rattle.deb_text.specs.Lists.{is_filled}
 use Rattle.deb_relations.specs.Grammar.{is_blank_text, is_not_blank}
 use Rattle.deb_relations.specs.Reader.{cut, profile_of, read_alternative, read_group, push_group, with_group}
 use Rattle.deb_relations.specs.Reading.{end_before, span, list_fault, lists_fault, first_fault, is_alternative, is_group_or_blank}

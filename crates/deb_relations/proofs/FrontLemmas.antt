@@ -25,16 +25,6 @@ skip-cons t c cs =
       | false ↦ refl
     ]
 
-take_while-passes-at : (t : ℕ → Bool) (c : ℕ) (cs : List ℕ) (b : Bool) → t c ≡ b
-    → list_all t (take_while t cs) ≡ true
-    → list_all t (cond b (c ∷ take_while t cs) []) ≡ true
-take_while-passes-at t c cs true e h = and_from (t c) (list_all t (take_while t cs)) e h
-take_while-passes-at t c cs false e h = refl
-
-pub take_while-passes : (t : ℕ → Bool) (cs : List ℕ) → list_all t (take_while t cs) ≡ true
-take_while-passes t [] = refl
-take_while-passes t (c ∷ cs) = ap (list_all t) (take_while-cons t c cs) ∙ take_while-passes-at t c cs (t c) refl (take_while-passes t cs)
-
 skip-stops-at : (t : ℕ → Bool) (c : ℕ) (cs : List ℕ) (b : Bool) → t c ≡ b → stops t (skip t cs) → stops t (cond b (skip t cs) (c ∷ cs))
 skip-stops-at t c cs true e h = h
 skip-stops-at t c cs false e h = e

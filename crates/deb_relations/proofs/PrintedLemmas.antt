@@ -17,7 +17,8 @@ use Rattle.deb_relations.specs.declared.relations.Term.{Term}
 use Rattle.deb_relations.specs.declared.relations.Restriction.{Restriction}
 use Rattle.deb_relations.specs.declared.relations.Alternative.{Alternative}
 use Rattle.deb_relations.specs.Printing.{term_text, op_text, qualifier_text, restriction_text, terms_text, archs_text, profile_text, profiles_text, alternative_text, group_text, printed}
-use Rattle.deb_relations.specs.Reduction.{is_filled, reduced}
+use Rattle.deb_relations.specs.Reduction.{reduced}
+use Rattle.deb_text.specs.Lists.{is_filled}
 use Rattle.deb_relations.specs.Grammar.{is_profile_char, is_qualifier, is_word, Reads}
 use Rattle.deb_relations.specs.Names.{is_lower_or_digit, is_package_char, is_arch_char, is_package_name, begins_with_lower_or_digit}
 use Rattle.deb_relations.specs.Reading.{reading_of}

@@ -14,7 +14,8 @@ use Rattle.deb_relations.specs.declared.relations.Term.{Term}
 use Rattle.deb_relations.specs.declared.relations.Restriction.{Restriction}
 use Rattle.deb_relations.specs.declared.relations.Alternative.{Alternative}
 use Rattle.deb_relations.specs.Printing.{term_text, op_text, qualifier_text, restriction_text, terms_text, archs_text, profile_text, profiles_text, alternative_text, group_text, printed}
-use Rattle.deb_relations.specs.Reduction.{is_filled, is_kept, without_lists, reduced_group, reduced}
+use Rattle.deb_relations.specs.Reduction.{is_kept, without_lists, reduced_group, reduced}
+use Rattle.deb_text.specs.Lists.{is_filled}
 use Rattle.deb_relations.specs.Grammar.{is_white, is_blank_text, is_profile_char, is_qualifier, is_word, is_not_blank, op_of, words, are_alike, TakesQualifier, TakesRestriction, ReadsTerms, TakesArchs, ReadsProfiles, ReadsAlternative, ReadsGroup, Reads, relations_limit}
 use Rattle.deb_relations.specs.Names.{is_lower_or_digit, is_package_char, is_arch_char, begins_with_lower_or_digit, is_package_name, is_arch_word}
 use Rattle.deb_relations.specs.Reader.{skip, is_solid}

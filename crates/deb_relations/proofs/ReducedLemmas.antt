@@ -3,7 +3,8 @@ use Rattle.std.proofs.Common.{◌≡◌, Bool, true, false, cond, List, [], ◌�
 use Rattle.std.specs.List.{list_all}
 use Rattle.deb_relations.specs.declared.arch.ArchWords.{ArchWords}
 use Rattle.deb_relations.specs.declared.relations.Alternative.{Alternative}
-use Rattle.deb_relations.specs.Reduction.{is_filled, is_kept, without_lists, has_no_lists, reduced_group, reduced}
+use Rattle.deb_relations.specs.Reduction.{is_kept, without_lists, has_no_lists, reduced_group, reduced}
+use Rattle.deb_text.specs.Lists.{is_filled}
 
 all-bare : (group : List Alternative) → list_all has_no_lists (map without_lists group) ≡ true
 all-bare [] = refl

@@ -107,6 +107,15 @@ fault_from_version-memory fault h e = h (ap fault_from_version e)
 pub version-refused : (t : List ℕ) (fault : VersionFault) (r : RelationFault) → r ≡ fault_from_version fault → (fault ≢ version.Memory → reading_of t ≡ Err fault) → r ≢ relation.Memory → is_version_text t ≡ false
 version-refused t fault r e h n = not-version t fault (fault_of-Err t fault (h (fault_from_version-memory fault (λ k. n (e ∙ k)))))
 
+fault_from_version-wanted : (fault : VersionFault) → fault_from_version fault ≡ relation.Memory → fault ≡ version.Memory
+fault_from_version-wanted version.Memory e = refl
+fault_from_version-wanted _ e = cc
+
+-- memory is wanted for a version alone
+pub version-wanted : (t : List ℕ) (fault : VersionFault) (r : RelationFault) → r ≡ fault_from_version fault → (fault ≡ version.Memory → IsOk (reading_of t))
+    → r ≡ relation.Memory → is_version_text t ≡ true
+version-wanted t fault r e h memory = version-read t (h (fault_from_version-wanted fault (sym e ∙ memory)))
+
 fault_from_version-bad : (fault : VersionFault) → fault ≢ version.Memory → fault_from_version fault ≡ relation.BadVersion fault
 fault_from_version-bad version.Memory h = absurd (h refl)
 fault_from_version-bad _ h = refl

@@ -14,9 +14,10 @@ use Rattle.deb_relations.specs.declared.relations.Restriction.{Restriction}
 use Rattle.deb_relations.specs.declared.relations.Kind.TheVariants.{Arch}
 use Rattle.deb_relations.specs.declared.relations.Term.{Term}
 use Rattle.deb_relations.specs.declared.relations.Alternative.{Alternative}
-use Rattle.deb_relations.specs.Reduction.{is_filled}
+use Rattle.deb_text.specs.Lists.{is_filled}
 use Rattle.deb_relations.specs.Grammar.{is_white, is_blank_text, is_op_char, op_of, TakesQualifier, TakesRestriction, TakesArchs, InBrackets, relations_limit}
-use Rattle.deb_relations.specs.Reader.{skip, strip, is_solid, asked_inside, with_rest, read_between, read_groups, restriction_of, asked_of, both, between, lists_of, with_qualifier, with_name, with_asked, with_archs, with_profiles, read_name, read_qualifier, read_restriction, terms_of, read_archs, read_profiles, profile_of, read_alternative}
+use Rattle.deb_relations.specs.Reader.{skip, strip, is_solid, asked_inside, with_rest, read_between, read_groups, restriction_of, asked_of, between, lists_of, with_qualifier, with_name, with_asked, with_archs, with_profiles, read_name, read_qualifier, read_restriction, terms_of, read_archs, read_profiles, profile_of, read_alternative}
+use Rattle.deb_text.specs.Options.{both}
 use Rattle.deb_relations.specs.Reading.{place_of, end_before, span, name_fault, version_fault, fault_behind_operator, operator_fault, asked_fault, bracket_fault, restriction_fault, words_fault, archs_fault, list_fault, lists_fault, profiles_fault, or_behind, fault_behind_restriction, fault_behind_qualifier, fault_behind_name, alternative_fault, first_fault, is_alternative, group_fault, is_group_or_blank, groups_fault, reading_of}
 use Rattle.deb_relations.proofs.FrontLemmas.{stops, take_while-skip, skip-stops, skip-cons}
 use Rattle.deb_relations.proofs.SoundLemmas.{between-sound, name-sound, qualifier-sound, restriction-sound, archs-sound}

@@ -5,9 +5,10 @@ use Rattle.std.proofs.lemmas.Bool.Decides.{nat_tests}
 use Rattle.deb_relations.specs.declared.relations.Kind.{Kind}
 use Rattle.deb_relations.specs.declared.relations.Term.{Term}
 use Rattle.deb_relations.specs.declared.relations.Alternative.{Alternative}
-use Rattle.deb_relations.specs.Reduction.{is_filled}
+use Rattle.deb_text.specs.Lists.{is_filled}
 use Rattle.deb_relations.specs.Grammar.{is_white, is_blank_text, is_not_blank, words}
-use Rattle.deb_relations.specs.Reader.{skip, cut, is_solid, both, all_some, term_of, profile_of, lists_of, read_group, push_group, with_group}
+use Rattle.deb_relations.specs.Reader.{skip, cut, is_solid, term_of, profile_of, lists_of, read_group, push_group, with_group}
+use Rattle.deb_text.specs.Options.{both, all_some}
 use Rattle.deb_relations.proofs.FrontLemmas.{stops, skip-stops, skip-cons}
 use Rattle.deb_relations.proofs.CutLemmas.{cut-is, split-last}
 use Rattle.std.proofs.lemmas.List.Sums.{take_while-cons}

@@ -9,7 +9,7 @@ use Rattle.deb_version.specs.declared.fault.VersionFault.{VersionFault}
 use Rattle.deb_version.specs.declared.fault.VersionFault.TheVariants.{EpochEmpty, EpochNotNumber, UpstreamEmpty, UpstreamBad, RevisionEmpty, RevisionBad}
 use Rattle.deb_version.specs.Syntax.{is_revision_char, is_upstream_char, has_epoch, epoch_text, has_revision, upstream_text, revision_text, upstream_start, upstream_end, fault_of, length_fault, number_fault, epoch_fault, upstream_fault, revision_fault, upstream_part_fault, revision_part_fault, rest_fault}
 use Rattle.deb_version.proofs.LawLemmas.{text_parts}
-use Rattle.deb_relations.specs.Reduction.{is_filled}
+use Rattle.deb_text.specs.Lists.{is_filled}
 use Rattle.deb_relations.proofs.FrontLemmas.{all-both, all-weaker}
 
 abbrev pub Fault : Type 0

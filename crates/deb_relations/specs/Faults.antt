@@ -33,4 +33,4 @@ fault_text Unclosed = codes "a bracket is not closed"
 fault_text EmptyAlternative = codes "an alternative is empty"
 fault_text (Stray place) = codes "byte " ++ (decimal place ++ codes " belongs to no alternative")
 fault_text TooLong = codes "the relations have more than 65536 bytes"
-fault_text Memory = codes "there is no memory for it now"
+fault_text Memory = codes "out of memory"

@@ -1,4 +1,4 @@
--- The grammar of relations between packages (Debian Policy 7.1).
+-- The grammar of relations between packages (Debian Policy 7.1; of qualifiers and build profiles dpkg's deb-src-control(5)).
 use Rattle.std.specs.Prelude.{◌≡◌, ℕ, ◌≤◌, ◌==◌, Bool, true, not, ◌&&◌, ◌||◌, List, [], ◌∷◌, ◌++◌, map, filter, length, if◌then◌else◌, bytes_eq, codes}
 use Rattle.std.specs.Prelude.{Option, None, Some}
 use Rattle.std.specs.Char.{is_ascii_alphanumeric}
@@ -13,7 +13,7 @@ use Rattle.deb_relations.specs.declared.relations.Restriction.{Restriction}
 use Rattle.deb_relations.specs.declared.relations.Alternative.{Alternative}
 use Rattle.deb_relations.specs.Names.{is_arch_char, is_arch_word, is_package_name}
 use Rattle.deb_relations.specs.Printing.{term_text}
-use Rattle.deb_relations.specs.Reduction.{is_filled}
+use Rattle.deb_text.specs.Lists.{is_filled}
 
 -- a space, a tab, a line feed or a carriage return (Policy 7.1)
 unfoldable pub is_white : ℕ → Bool
@@ -31,7 +31,7 @@ is_comma c = c == 44
 abbrev pub is_bar : ℕ → Bool
 is_bar c = c == 124
 
--- the angle bracket that closes a list of build profiles (Policy 7.1)
+-- the angle bracket that closes a list of build profiles (deb-src-control(5))
 abbrev pub is_right_angle : ℕ → Bool
 is_right_angle c = c == 62
 
@@ -43,7 +43,7 @@ is_profile_char c = is_ascii_alphanumeric c || (c == 46 || (c == 43 || (c == 45 
 unfoldable pub is_op_char : ℕ → Bool
 is_op_char c = c == 60 || (c == 61 || c == 62)
 
--- a qualifier (Policy 7.1)
+-- a qualifier (deb-src-control(5))
 unfoldable pub is_qualifier : List ℕ → Bool
 is_qualifier word = is_filled word && list_all is_arch_char word
 
@@ -52,7 +52,7 @@ unfoldable pub is_word : Kind → List ℕ → Bool
 is_word Arch word = is_arch_word word
 is_word Profile word = is_filled word && list_all is_profile_char word
 
--- the operator that a text writes, where `<` and `>` are the old forms of `<=` and `>=` (Policy 7.1)
+-- the operator that a text writes, where `<` and `>` are read as `<=` and `>=` (Policy 7.1, the reading of `<` and `>` this project's own, as dpkg's)
 unfoldable pub op_of : List ℕ → Option Op
 op_of text =
     if bytes_eq text (codes "<<") then Some Earlier
@@ -70,7 +70,7 @@ pub record TakesName (text name rest : List ℕ) : Type 0 where
   pub blank : is_blank_text gap ≡ true
   pub form : is_package_name name ≡ true
 
--- nothing, or directly a colon and a qualifier, and what is left (Policy 7.1)
+-- nothing, or directly a colon and a qualifier, and what is left (deb-src-control(5))
 abbrev pub TakesQualifier : List ℕ → Option (List ℕ) → List ℕ → Type 0
 TakesQualifier text None rest = text ≡ rest
 TakesQualifier text (Some word) rest = (text ≡ 58 ∷ (word ++ rest)) × (is_qualifier word ≡ true)
@@ -124,7 +124,7 @@ TakesArchs text [] rest = text ≡ rest
 TakesArchs text (term ∷ terms) rest =
     (inside : List ℕ) × (InBrackets 91 93 text inside rest × (ReadsTerms Arch inside (term ∷ terms) × (are_alike (term ∷ terms) ≡ true)))
 
--- each list of build profiles in angle brackets, and at the end white space alone (Policy 7.1)
+-- each list of build profiles in angle brackets, and at the end white space alone (deb-src-control(5))
 abbrev pub ReadsProfiles : List ℕ → List (List Term) → Type 0
 ReadsProfiles text [] = is_blank_text text ≡ true
 ReadsProfiles text (terms ∷ more) =

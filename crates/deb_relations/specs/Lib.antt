@@ -8,4 +8,3 @@ pub mod Reading
 pub mod Reduction
 pub mod Satisfaction
 pub mod Scanner
-pub mod Text

@@ -2,7 +2,7 @@
 use Rattle.std.specs.Prelude.{ℕ, ◌==◌, Bool, ◌&&◌, ◌||◌, List, length, nat_lt}
 use Rattle.std.specs.Char.{is_ascii_lowercase, is_ascii_digit}
 use Rattle.std.specs.List.{list_all}
-use Rattle.deb_relations.specs.Text.{begins}
+use Rattle.deb_text.specs.Lists.{begins}
 
 -- a lower-case letter or a digit (Policy 5.6.1)
 unfoldable pub is_lower_or_digit : ℕ → Bool

@@ -19,7 +19,7 @@ op_text Equal = codes "="
 op_text LaterOrEqual = codes ">="
 op_text Later = codes ">>"
 
--- a qualifier after its colon, directly behind the name (Policy 7.1)
+-- a qualifier after its colon, directly behind the name (deb-src-control(5))
 abbrev pub qualifier_text : Option (List ℕ) → List ℕ
 qualifier_text None = []
 qualifier_text (Some word) = 58 ∷ word
@@ -38,11 +38,11 @@ abbrev pub archs_text : List Term → List ℕ
 archs_text [] = []
 archs_text (term ∷ terms) = codes " [" ++ (terms_text (term ∷ terms) ++ codes "]")
 
--- a list of build profiles in angle brackets (Policy 7.1)
+-- a list of build profiles in angle brackets (deb-src-control(5))
 abbrev pub profile_text : List Term → List ℕ
 profile_text terms = codes " <" ++ (terms_text terms ++ codes ">")
 
--- each list of build profiles (Policy 7.1)
+-- each list of build profiles (deb-src-control(5))
 abbrev pub profiles_text : List (List Term) → List ℕ
 profiles_text = flat_map profile_text
 

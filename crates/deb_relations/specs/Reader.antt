@@ -10,9 +10,10 @@ use Rattle.deb_relations.specs.declared.relations.Kind.TheVariants.{Arch, Profil
 use Rattle.deb_relations.specs.declared.relations.Term.{Term}
 use Rattle.deb_relations.specs.declared.relations.Restriction.{Restriction}
 use Rattle.deb_relations.specs.declared.relations.Alternative.{Alternative}
-use Rattle.deb_relations.specs.Reduction.{is_filled}
+use Rattle.deb_text.specs.Lists.{is_filled}
 use Rattle.deb_relations.specs.Grammar.{is_white, is_blank_text, is_comma, is_bar, is_right_angle, is_op_char, is_word, is_not_blank, op_of, words, are_alike}
 use Rattle.deb_relations.specs.Names.{is_package_char, is_arch_char, is_package_name}
+use Rattle.deb_text.specs.Options.{both, all_some}
 
 -- what stands behind the longest front of a text whose characters all pass a test (this project's own)
 abbrev pub skip : (ℕ → Bool) → List ℕ → List ℕ
@@ -35,17 +36,6 @@ onto_front c = option_map (λ halves. (c ∷ halves.0, halves.1))
 abbrev pub cut : ℕ → List ℕ → Option (List ℕ × List ℕ)
 cut c [] = None
 cut c (x ∷ xs) = if x == c then Some ([], xs) else onto_front x (cut c xs)
-
--- both of two values (this project's own)
-abbrev pub both : {X : Type 0} → Option X → Option (List X) → Option (List X)
-both None more = None
-both (Some x) None = None
-both (Some x) (Some xs) = Some (x ∷ xs)
-
--- the readings of all items, where each has one (this project's own)
-abbrev pub all_some : {X Y : Type 0} → (X → Option Y) → List X → Option (List Y)
-all_some f [] = Some []
-all_some f (x ∷ xs) = both (f x) (all_some f xs)
 
 -- what was read and what is left, where something was (this project's own)
 abbrev pub with_rest : {X : Type 0} → List ℕ → Option X → Option (X × List ℕ)
@@ -72,13 +62,13 @@ read_name text =
     let front = skip is_white text in
     if is_package_name (take_while is_package_char front) then Some (take_while is_package_char front, skip is_package_char front) else None
 
--- a qualifier and what is left, of the text behind a colon, where one stands first (Policy 7.1)
+-- a qualifier and what is left, of the text behind a colon, where one stands first (deb-src-control(5))
 abbrev pub read_behind_colon : List ℕ → Option (List ℕ) → Option (Option (List ℕ) × List ℕ)
 read_behind_colon text None = Some (None, text)
 read_behind_colon text (Some behind) =
     if is_filled (take_while is_arch_char behind) then Some (Some (take_while is_arch_char behind), skip is_arch_char behind) else None
 
--- a qualifier, where a colon stands first, and what is left (Policy 7.1)
+-- a qualifier, where a colon stands first, and what is left (deb-src-control(5))
 unfoldable pub read_qualifier : List ℕ → Option (Option (List ℕ) × List ℕ)
 read_qualifier text = read_behind_colon text (strip 58 text)
 
@@ -143,21 +133,21 @@ archs_of inside = alike_only (terms_of Arch inside)
 unfoldable pub read_archs : List ℕ → Option (List Term × List ℕ)
 read_archs text = read_between archs_of [] text (between 91 93 text)
 
--- a list of build profiles, of the text behind its opening bracket, where that stands (Policy 7.1)
+-- a list of build profiles, of the text behind its opening bracket, where that stands (deb-src-control(5))
 abbrev pub profile_behind : Option (List ℕ) → Option (List Term)
 profile_behind = option_and_then (terms_of Profile)
 
--- a list of build profiles, before its closing bracket (Policy 7.1)
+-- a list of build profiles, before its closing bracket (deb-src-control(5))
 unfoldable pub profile_of : List ℕ → Option (List Term)
 profile_of piece = profile_behind (strip 60 (skip is_white piece))
 
--- the lists of build profiles, each before a closing bracket, and white space at the end (Policy 7.1)
+-- the lists of build profiles, each before a closing bracket, and white space at the end (deb-src-control(5))
 abbrev pub lists_of : List (List ℕ) → Option (List (List Term))
 lists_of [] = None
 lists_of (last ∷ []) = if is_blank_text last then Some [] else None
 lists_of (piece ∷ (next ∷ more)) = both (profile_of piece) (lists_of (next ∷ more))
 
--- the lists of build profiles of a text, each in angle brackets (Policy 7.1)
+-- the lists of build profiles of a text, each in angle brackets (deb-src-control(5))
 unfoldable pub read_profiles : List ℕ → Option (List (List Term))
 read_profiles text = lists_of (slice_split is_right_angle text)
 

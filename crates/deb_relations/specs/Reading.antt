@@ -1,19 +1,19 @@
 -- What a text of relations is read as: its groups, else the first fault from the left, piece by piece (Debian Policy 7.1).
-use Rattle.std.specs.Prelude.{◌≡◌, ℕ, ◌-◌, ◌+◌, ◌==◌, Bool, true, not, ◌&&◌, ◌||◌, List, [], ◌∷◌, ◌++◌, length, if◌then◌else◌, nat_lt, is_some, filter}
+use Rattle.std.specs.Prelude.{◌≡◌, ℕ, ◌-◌, ◌+◌, ◌==◌, Bool, true, false, not, ◌&&◌, ◌||◌, List, [], ◌∷◌, ◌++◌, length, if◌then◌else◌, nat_lt, is_some, filter}
 use Rattle.std.specs.Prelude.{Option, None, Some, Result, Err}
 use Rattle.std.specs.List.{list_all, slice_split, take_while}
 use Rattle.std.specs.Option.{ok_or, option_map_or}
 use Rattle.deb_version.specs.declared.fault.VersionFault.{VersionFault}
 use Rattle.deb_version.specs.declared.operator.Op.{Op}
-use Rattle.deb_version.specs.Syntax.{fault_of}
+use Rattle.deb_version.specs.Syntax.{fault_of, is_version_text}
 use Rattle.deb_relations.specs.declared.fault.RelationFault.{RelationFault}
 use Rattle.deb_relations.specs.declared.fault.RelationFault.TheVariants.{BadName, BadOperator, BadVersion, Mixed, Unclosed, EmptyAlternative, Stray, TooLong}
-use Rattle.deb_relations.specs.declared.relations.Kind.TheVariants.{Arch}
+use Rattle.deb_relations.specs.declared.relations.Kind.{Kind}
+use Rattle.deb_relations.specs.declared.relations.Kind.TheVariants.{Arch, Profile}
 use Rattle.deb_relations.specs.declared.relations.Alternative.{Alternative}
-use Rattle.deb_relations.specs.Reduction.{is_filled}
-use Rattle.deb_relations.specs.Grammar.{is_white, is_blank_text, is_comma, is_bar, is_right_angle, is_not_blank, is_op_char, op_of, relations_limit, TakesOperator}
-use Rattle.deb_relations.specs.Reader.{skip, strip, is_solid, between, read_name, read_qualifier, read_restriction, terms_of, read_archs, profile_of, read_alternative, read_group, read_groups}
-use Rattle.deb_relations.specs.Text.{begins}
+use Rattle.deb_text.specs.Lists.{is_filled, begins}
+use Rattle.deb_relations.specs.Grammar.{is_white, is_blank_text, is_comma, is_bar, is_right_angle, is_not_blank, is_op_char, op_of, words, relations_limit, TakesOperator}
+use Rattle.deb_relations.specs.Reader.{skip, strip, is_solid, between, read_name, read_qualifier, read_restriction, term_of, terms_of, read_archs, profile_of, read_alternative, read_group, read_groups}
 
 -- where a text begins that ends at the place end of the whole text (this project's own)
 abbrev pub place_of : ℕ → List ℕ → ℕ
@@ -70,13 +70,13 @@ words_fault inside = if is_some (terms_of Arch inside) then Mixed else BadName
 unfoldable pub archs_fault : List ℕ → RelationFault
 archs_fault text = bracket_fault (λ inside behind. words_fault inside) (between 91 93 text)
 
--- this fault where a list of build profiles begins, else that of a character that belongs to nothing (Policy 7.1)
+-- this fault where a list of build profiles begins, else that of a character that belongs to nothing (deb-src-control(5))
 unfoldable pub list_fault : RelationFault → ℕ → List ℕ → RelationFault
 list_fault fault end piece =
     let front = skip is_white piece in
     if is_some (strip 60 front) then fault else Stray (place_of end front)
 
--- the fault of lists of build profiles, each before a closing bracket: a word is missing or bad, or the last list is not closed (Policy 7.1)
+-- the fault of lists of build profiles, each before a closing bracket: a word is missing or bad, or the last list is not closed (deb-src-control(5))
 abbrev pub lists_fault : ℕ → List (List ℕ) → RelationFault
 lists_fault end [] = Unclosed
 lists_fault end (last ∷ []) = list_fault Unclosed end last
@@ -99,7 +99,7 @@ fault_behind_restriction end text = or_behind (archs_fault text) (profiles_fault
 abbrev pub fault_behind_qualifier : ℕ → List ℕ → RelationFault
 fault_behind_qualifier end text = or_behind (restriction_fault end text) (fault_behind_restriction end) (read_restriction text)
 
--- the fault of a qualifier, which is a bad name, else of what is behind it (Policy 7.1)
+-- the fault of a qualifier, which is a bad name, else of what is behind it (deb-src-control(5))
 abbrev pub fault_behind_name : ℕ → List ℕ → RelationFault
 fault_behind_name end text = or_behind BadName (fault_behind_qualifier end) (read_qualifier text)
 
@@ -144,6 +144,26 @@ is_group_begun text = begins begins_with_name (slice_split is_bar text)
 -- whether the first group that is not blank begins with a package name, the first thing for which memory is taken (this project's own)
 unfoldable pub takes_memory : List ℕ → Bool
 takes_memory text = begins is_group_begun (filter is_not_blank (slice_split is_comma text))
+
+-- whether the text inside parentheses begins with an operator and a version, the first thing for which memory is taken (this project's own)
+unfoldable pub begins_asked : List ℕ → Bool
+begins_asked inside =
+    let front = skip is_white inside in
+    is_some (op_of (take_while is_op_char front)) && is_version_text (take_while is_solid (skip is_white (skip is_op_char front)))
+
+-- whether what stands between two brackets passes a test (this project's own)
+abbrev pub begins_inside : (List ℕ → Bool) → Option (Option (List ℕ × List ℕ)) → Bool
+begins_inside test None = false
+begins_inside test (Some None) = false
+begins_inside test (Some (Some halves)) = test halves.0
+
+-- whether the first word of a list is a good one, the first thing for which memory is taken (this project's own)
+unfoldable pub begins_with_term : Kind → List ℕ → Bool
+begins_with_term kind inside = begins (λ word. is_some (term_of kind word)) (words inside)
+
+-- whether a list of build profiles begins, and its first word is a good one (this project's own)
+unfoldable pub begins_profile : List ℕ → Bool
+begins_profile piece = option_map_or (begins_with_term Profile) (strip 60 (skip is_white piece)) false
 
 -- of which the text of a version is made: neither white space nor a closing parenthesis (Policy 7.1)
 unfoldable pub is_asked_char : ℕ → Bool

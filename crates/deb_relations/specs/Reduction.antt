@@ -1,15 +1,11 @@
 -- What is left of relations for an architecture, where no build profile is active (Debian Policy 7.1).
-use Rattle.std.specs.Prelude.{Bool, true, false, not, ◌&&◌, List, [], ◌∷◌, map, filter, if◌then◌else◌}
+use Rattle.std.specs.Prelude.{Bool, true, not, ◌&&◌, List, [], ◌∷◌, map, filter, if◌then◌else◌}
 use Rattle.std.specs.List.{list_any, list_all}
 use Rattle.deb_relations.specs.declared.arch.ArchWords.{ArchWords}
 use Rattle.deb_relations.specs.declared.relations.Term.{Term}
 use Rattle.deb_relations.specs.declared.relations.Alternative.{Alternative}
 use Rattle.deb_relations.specs.Arch.{arch_matches}
-
--- whether a list has an item (this project's own)
-abbrev pub is_filled : {X : Type 0} → List X → Bool
-is_filled [] = false
-is_filled (x ∷ xs) = true
+use Rattle.deb_text.specs.Lists.{is_filled}
 
 -- whether a word of the list matches the architecture (Policy 7.1)
 unfoldable pub has_match : ArchWords → List Term → Bool
@@ -20,11 +16,11 @@ abbrev pub is_for_arch : ArchWords → List Term → Bool
 is_for_arch arch [] = true
 is_for_arch arch (term ∷ terms) = if term.negated then not (has_match arch (term ∷ terms)) else has_match arch (term ∷ terms)
 
--- whether a list of build profiles holds where none is active: all its words are negated (Policy 7.1)
+-- whether a list of build profiles holds where none is active: all its words are negated (deb-src-control(5))
 unfoldable pub holds_without_profiles : List Term → Bool
 holds_without_profiles terms = list_all (λ term. term.negated) terms
 
--- whether lists of build profiles are for builds under none: there are no lists, or one of them holds (Policy 7.1)
+-- whether lists of build profiles are for builds under none: there are no lists, or one of them holds (deb-src-control(5))
 abbrev pub is_for_no_profile : List (List Term) → Bool
 is_for_no_profile [] = true
 is_for_no_profile (terms ∷ more) = list_any holds_without_profiles (terms ∷ more)

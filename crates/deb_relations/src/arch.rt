@@ -1,9 +1,10 @@
 //! The words of an architecture, and which architecture words match it.
 
-ghost use Rattle.std.specs.Prelude.{◌≡◌, ◌++◌, bytes_eq, IfOk};
+ghost use Rattle.std.specs.Prelude.{◌≡◌, ◌++◌, ◌||◌, true, bytes_eq, IfOk, OnErr};
+ghost use Rattle.deb_text.specs.Lists.{is_filled};
 ghost use Rattle.deb_relations.specs.Arch.{arch_matches};
 
-use crate::text::Text;
+use deb_text::Text;
 use std::alloc::{AllocError, Global};
 
 /// An architecture: its name, and the words of its operating system and of its processor in a wildcard.
@@ -19,12 +20,14 @@ pub struct ArchWords {
 }
 
 impl ArchWords {
-    /// Keeps copies of the three words, of which no form is asked. The only error is that there is
-    /// no memory for them.
+    /// Keeps copies of the three words, of which no form is asked. The only error is that
+    /// memory ran out; empty words take none.
     /// Source: Debian Policy 11.1.1.
     pub fn new(alloc: Global, name: &str, os: &str, cpu: &str) -> Result<ArchWords, AllocError>
         ensures value { IfOk result (λ a.
             a ≡ record { name = name.now; os = os.now; cpu = cpu.now }) }
+        ensures memory { OnErr result
+            ((is_filled name.now || (is_filled os.now || is_filled cpu.now)) ≡ true) }
     {
         Ok(ArchWords {
             name: Text::copied(alloc, name)?,

@@ -4,9 +4,8 @@ ghost use Rattle.std.specs.Prelude.{◌≡◌, OnOk, OnErr};
 ghost use Rattle.std.specs.List.{list_any};
 ghost use Rattle.deb_relations.specs.Satisfaction.{no_pairs, with_pair, versions_of, meets_restriction, is_alternative_met, is_group_met, satisfied};
 
-use crate::items::Items;
 use crate::relations::{Alternative, Relations, Restriction};
-use crate::text::Text;
+use deb_text::{Items, Text};
 use deb_version::{Version, meets};
 use std::alloc::{AllocError, Global};
 use std::collections::BTreeMap;
@@ -45,7 +44,7 @@ impl Available {
     }
 
     /// Adds a package of a name in a version, which may be there already; no form is asked of the
-    /// name. The only error is that there is no memory for it; what is available then stays as it was.
+    /// name. The only error is that memory ran out; what is available then stays as it was.
     /// Source: this project's own.
     pub fn add(&mut self, name: &str, version: Version) -> Result<(), AllocError>
         ensures value { OnOk result (self.new ≡ with_pair self.old name.now version) }

@@ -71,7 +71,7 @@ impl fmt::Display for RelationFault {
             RelationFault::EmptyAlternative => write!(f, "an alternative is empty"),
             RelationFault::Stray(place) => write!(f, "byte {place} belongs to no alternative"),
             RelationFault::TooLong => write!(f, "the relations have more than 65536 bytes"),
-            RelationFault::Memory => write!(f, "there is no memory for it now"),
+            RelationFault::Memory => write!(f, "out of memory"),
         }
     }
 }

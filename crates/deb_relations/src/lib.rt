@@ -5,7 +5,6 @@
 mod arch;
 mod available;
 mod fault;
-mod items;
 pub mod laws;
 mod names;
 mod parse;
@@ -13,15 +12,12 @@ mod print;
 mod reduce;
 mod relations;
 mod scanner;
-mod text;
 
 pub use arch::{ArchWords, arch_matches};
 pub use available::Available;
 pub use fault::RelationFault;
-pub use items::Items;
 pub use names::{is_arch_word, is_package_name};
 pub use relations::{RELATIONS_LIMIT, Relations};
-pub use text::Text;
 
 #[cfg(test)]
 mod tests;

@@ -1,23 +1,25 @@
 //! The reading of relations, part by part.
 
-ghost use Rattle.std.specs.Prelude.{◌≡◌, ◌≢◌, ◌<◌, ◌==◌, true, false, not, List, ℕ, Some, None, length, filter, IfOk, IfErr, if◌then◌else◌};
+ghost use Rattle.std.specs.Prelude.{◌≡◌, ◌≢◌, ◌<◌, ◌==◌, true, false, not, List, ℕ, Some, None, is_some, length, filter, IfOk, IfErr, if◌then◌else◌};
 ghost use Rattle.std.specs.Option.{option_map};
-ghost use Rattle.std.specs.List.{list_all};
+ghost use Rattle.std.specs.List.{list_all, slice_split};
 ghost use Rattle.deb_version.specs.Syntax.{fault_of, is_version_text};
-ghost use Rattle.deb_relations.specs.Grammar.{is_blank_text, is_word, op_of, words, are_alike, is_not_blank, Reads, relations_limit};
-ghost use Rattle.deb_relations.specs.Reader.{between, read_name, read_qualifier, restriction_of, read_restriction, signed, term_of, all_some, terms_of, with_group, archs_of, read_archs, profile_of, read_profiles, read_alternative, read_group, read_groups};
+ghost use Rattle.deb_relations.specs.Grammar.{is_blank_text, is_word, op_of, words, are_alike, is_not_blank, is_right_angle, Reads, relations_limit};
+ghost use Rattle.deb_relations.specs.Reader.{between, read_name, read_qualifier, restriction_of, read_restriction, signed, term_of, terms_of, with_group, archs_of, read_archs, profile_of, read_profiles, read_alternative, read_group, read_groups};
+ghost use Rattle.deb_text.specs.Options.{all_some};
 ghost use Rattle.deb_relations.specs.Scanner.{halves_of};
 ghost use Rattle.deb_relations.specs.Faults.{fault_from_version};
-ghost use Rattle.deb_relations.specs.Reading.{place_of, end_before, name_fault, version_fault, asked_fault, restriction_fault, words_fault, archs_fault, list_fault, profiles_fault, alternative_fault, group_fault, groups_fault, reading_of, begins_with_name, is_group_begun, takes_memory};
+ghost use Rattle.deb_relations.specs.Reading.{place_of, end_before, name_fault, version_fault, asked_fault, restriction_fault, words_fault, archs_fault, list_fault, profiles_fault, alternative_fault, group_fault, groups_fault, reading_of, begins_with_name, is_group_begun, takes_memory, begins_asked, begins_inside, begins_with_term, begins_profile};
+ghost use Rattle.deb_relations.specs.declared.relations.Kind.TheVariants.{Arch};
+ghost use Rattle.deb_text.specs.Lists.{begins};
 ghost use Rattle.deb_relations.specs.declared.relations.Alternative.{Alternative};
 ghost use Rattle.deb_relations.specs.declared.fault.RelationFault.TheVariants.{BadName, Unclosed, TooLong, Memory};
 
 use crate::fault::RelationFault;
-use crate::items::Items;
 use crate::names::{is_arch_word, is_package_name};
 use crate::relations::{Alternative, Kind, RELATIONS_LIMIT, Relations, Restriction, Term};
 use crate::scanner::{Class, cut_at, is_all, skip_white, split_leading, strip};
-use crate::text::Text;
+use deb_text::{Items, Text};
 use deb_version::{Op, Version, VersionFault};
 use std::alloc::Global;
 
@@ -69,6 +71,8 @@ fn read_qualifier(alloc: Global, text: &str) -> Result<(Option<Text>, &str), Rel
     ensures ok { IfOk result (λ found. read_qualifier text.now ≡ Some (found.0, found.1.now)) }
     ensures none { IfErr result (λ fault. fault ≢ Memory → read_qualifier text.now ≡ None) }
     ensures refused { IfErr result (λ fault. fault ≢ Memory → fault ≡ BadName) }
+    ensures memory { IfErr result (λ fault. fault ≡ Memory
+        → is_some (read_qualifier text.now) ≡ true) }
 {
     let Some(behind) = strip(':', text) else {
         return Ok((None, text));
@@ -128,6 +132,7 @@ fn read_version(alloc: Global, text: &str) -> Result<Version, RelationFault>
     ensures none { IfErr result (λ fault. fault ≢ Memory → is_version_text text.now ≡ false) }
     ensures refused { IfErr result (λ fault. fault ≢ Memory
         → (place : ℕ) → fault ≡ version_fault (fault_of text.now) place) }
+    ensures memory { IfErr result (λ fault. fault ≡ Memory → is_version_text text.now ≡ true) }
 {
     match Version::parse(alloc, text) {
         Ok(version) => Ok(version),
@@ -140,6 +145,7 @@ fn restriction_of(alloc: Global, inside: &str, end: usize) -> Result<Restriction
     ensures ok { IfOk result (λ asked. restriction_of inside.now ≡ Some asked) }
     ensures none { IfErr result (λ fault. fault ≢ Memory → restriction_of inside.now ≡ None) }
     ensures refused { IfErr result (λ fault. fault ≢ Memory → fault ≡ asked_fault end inside.now) }
+    ensures memory { IfErr result (λ fault. fault ≡ Memory → begins_asked inside.now ≡ true) }
 {
     let (word, behind) = split_leading(Class::Op, skip_white(inside));
     let Some(op) = op_of(word) else {
@@ -163,6 +169,8 @@ fn read_restriction(
     ensures none { IfErr result (λ fault. fault ≢ Memory → read_restriction text.now ≡ None) }
     ensures refused { IfErr result (λ fault. fault ≢ Memory
         → fault ≡ restriction_fault end text.now) }
+    ensures memory { IfErr result (λ fault. fault ≡ Memory
+        → begins_inside begins_asked (between 40 41 text.now) ≡ true) }
 {
     let Some((inside, rest)) = between('(', ')', text)? else {
         return Ok((None, text));
@@ -175,6 +183,8 @@ fn signed(alloc: Global, kind: Kind, negated: bool, word: &str) -> Result<Term, 
     ensures ok { IfOk result (λ term. signed kind negated word.now ≡ Some term) }
     ensures none { IfErr result (λ fault. fault ≢ Memory → signed kind negated word.now ≡ None) }
     ensures refused { IfErr result (λ fault. fault ≢ Memory → fault ≡ BadName) }
+    ensures memory { IfErr result (λ fault. fault ≡ Memory
+        → is_some (signed kind negated word.now) ≡ true) }
 {
     if !is_word(kind, word) {
         return Err(RelationFault::BadName);
@@ -190,6 +200,8 @@ fn term_of(alloc: Global, kind: Kind, word: &str) -> Result<Term, RelationFault>
     ensures ok { IfOk result (λ term. term_of kind word.now ≡ Some term) }
     ensures none { IfErr result (λ fault. fault ≢ Memory → term_of kind word.now ≡ None) }
     ensures refused { IfErr result (λ fault. fault ≢ Memory → fault ≡ BadName) }
+    ensures memory { IfErr result (λ fault. fault ≡ Memory
+        → is_some (term_of kind word.now) ≡ true) }
 {
     match strip('!', word) {
         None => signed(alloc, kind, false, word),
@@ -203,6 +215,8 @@ fn collect_terms(alloc: Global, kind: Kind, inside: &str) -> Result<Items<Term>,
     ensures none { IfErr result (λ fault. fault ≢ Memory
         → all_some (term_of kind) (words inside.now) ≡ None) }
     ensures refused { IfErr result (λ fault. fault ≢ Memory → fault ≡ BadName) }
+    ensures memory { IfErr result (λ fault. fault ≡ Memory
+        → begins_with_term kind inside.now ≡ true) }
 {
     let mut made = Items::new(alloc);
     let mut rest = skip_white(inside);
@@ -219,6 +233,8 @@ fn terms_of(alloc: Global, kind: Kind, inside: &str) -> Result<Items<Term>, Rela
     ensures ok { IfOk result (λ terms. terms_of kind inside.now ≡ Some terms) }
     ensures none { IfErr result (λ fault. fault ≢ Memory → terms_of kind inside.now ≡ None) }
     ensures refused { IfErr result (λ fault. fault ≢ Memory → fault ≡ BadName) }
+    ensures memory { IfErr result (λ fault. fault ≡ Memory
+        → begins_with_term kind inside.now ≡ true) }
 {
     let terms = collect_terms(alloc, kind, inside)?;
     if terms.as_slice().is_empty() {
@@ -254,6 +270,8 @@ fn archs_of(alloc: Global, inside: &str) -> Result<Items<Term>, RelationFault>
     ensures ok { IfOk result (λ terms. archs_of inside.now ≡ Some terms) }
     ensures none { IfErr result (λ fault. fault ≢ Memory → archs_of inside.now ≡ None) }
     ensures refused { IfErr result (λ fault. fault ≢ Memory → fault ≡ words_fault inside.now) }
+    ensures memory { IfErr result (λ fault. fault ≡ Memory
+        → begins_with_term Arch inside.now ≡ true) }
 {
     let terms = terms_of(alloc, Kind::Arch, inside)?;
     if !are_alike(terms.as_slice()) {
@@ -267,6 +285,8 @@ fn read_archs(alloc: Global, text: &str) -> Result<(Items<Term>, &str), Relation
     ensures ok { IfOk result (λ found. read_archs text.now ≡ Some (found.0, found.1.now)) }
     ensures none { IfErr result (λ fault. fault ≢ Memory → read_archs text.now ≡ None) }
     ensures refused { IfErr result (λ fault. fault ≢ Memory → fault ≡ archs_fault text.now) }
+    ensures memory { IfErr result (λ fault. fault ≡ Memory
+        → begins_inside (begins_with_term Arch) (between 91 93 text.now) ≡ true) }
 {
     let Some((inside, rest)) = between('[', ']', text)? else {
         return Ok((Items::new(alloc), text));
@@ -281,6 +301,7 @@ fn profile_of(alloc: Global, piece: &str, end: usize) -> Result<Items<Term>, Rel
     ensures none { IfErr result (λ fault. fault ≢ Memory → profile_of piece.now ≡ None) }
     ensures refused { IfErr result (λ fault. fault ≢ Memory
         → fault ≡ list_fault BadName end piece.now) }
+    ensures memory { IfErr result (λ fault. fault ≡ Memory → begins_profile piece.now ≡ true) }
 {
     let front = skip_white(piece);
     match strip('<', front) {
@@ -306,6 +327,8 @@ fn read_profiles(alloc: Global, text: &str, end: usize) -> Result<Items<Items<Te
     ensures ok { IfOk result (λ lists. read_profiles text.now ≡ Some lists) }
     ensures none { IfErr result (λ fault. fault ≢ Memory → read_profiles text.now ≡ None) }
     ensures refused { IfErr result (λ fault. fault ≢ Memory → fault ≡ profiles_fault end text.now) }
+    ensures memory { IfErr result (λ fault. fault ≡ Memory
+        → begins begins_profile (slice_split is_right_angle text.now) ≡ true) }
 {
     let mut made = Items::new(alloc);
     let mut rest = text;
@@ -402,14 +425,15 @@ impl Relations {
     /// profiles in angle brackets. White space parts them and says nothing else; none stands inside
     /// a word or behind `!`. The old operators `<` and `>` are read as `<=` and `>=`.
     ///
-    /// Errors: `TooLong` above 65536 bytes, and before all else; `Memory` where the growth of a text
-    /// or of a list was refused, which comes behind a first package name at the earliest; else, where
-    /// the text has no reading, the first fault from the left: that of the first piece between commas,
-    /// and in it between bars, that has none. A bracket is closed in its own piece or not at all, and
-    /// where it is not, only that is told. `BadVersion` has the fault of the text up to white space or
-    /// `)`, and `Stray` the byte offset in the whole text.
-    /// Source: Debian Policy 7.1; the limit, the skipping of blank groups and the order of the faults
-    /// are this project's own.
+    /// Errors: `TooLong` above 65536 bytes, and before all else; `Memory` if the growth of a text or of
+    /// a list was refused, which comes after a first package name at the earliest; else, if the text
+    /// has no reading, the first fault from the left: that of the first piece between commas, and in it
+    /// between bars, that has none. A bracket is closed in its own piece or not at all, and if it is
+    /// not, only that is reported. `BadVersion` has the fault of the text up to white space or `)`, and
+    /// `Stray` the byte offset in the whole text.
+    /// Source: Debian Policy 7.1, and of qualifiers and build profiles dpkg's deb-src-control(5); the
+    /// limit, the skipping of blank groups, the order of the faults and the reading of `<` and `>` are
+    /// this project's own.
     pub fn parse(alloc: Global, text: &str) -> Result<Relations, RelationFault>
         ensures value { IfOk result (λ relations. Reads text.now relations) }
         ensures ok { IfOk result (λ relations. reading_of text.now ≡ Ok relations) }

@@ -1,13 +1,13 @@
 //! The printed form of relations.
 
-ghost use Rattle.std.specs.Prelude.{◌≡◌, ◌++◌, ◌∷◌, IfOk, OnOk, codes};
+ghost use Rattle.std.specs.Prelude.{◌≡◌, ◌++◌, ◌∷◌, true, IfOk, OnOk, OnErr, codes};
 ghost use Rattle.std.specs.String.{string_bytes};
 ghost use Rattle.std.specs.List.{flat_map};
+ghost use Rattle.deb_text.specs.Lists.{is_filled};
 ghost use Rattle.deb_relations.specs.Printing.{term_text, terms_text, op_text, qualifier_text, restriction_text, archs_text, profile_text, profiles_text, alternative_text, group_text, printed};
 
-use crate::items::Items;
 use crate::relations::{Alternative, Relations, Restriction, Term};
-use crate::text::Text;
+use deb_text::{Items, Text};
 use deb_version::Op;
 use std::alloc::{AllocError, Global};
 
@@ -126,7 +126,8 @@ fn write_group(out: &mut String, group: &[Alternative]) -> Result<(), AllocError
 
 #[tactic(auto, unfolding(crate::specs::Printing::printed))]
 fn write_groups(out: &mut String, groups: &[Items<Alternative>]) -> Result<(), AllocError>
-    ensures { OnOk result (string_bytes out.new ≡ string_bytes out.old ++ printed groups.now) }
+    ensures value { OnOk result (string_bytes out.new ≡ string_bytes out.old ++ printed groups.now) }
+    ensures memory { OnErr result (is_filled groups.now ≡ true) }
 {
     if let [first, others @ ..] = groups {
         write_group(out, first.as_slice())?;
@@ -141,10 +142,11 @@ fn write_groups(out: &mut String, groups: &[Items<Alternative>]) -> Result<(), A
 impl Relations {
     /// The text of the relations: groups are joined by `, ` and alternatives by ` | `; a qualifier
     /// stands as `:any`, an operator and a version as ` (>= 2)`, lists as ` [a b]` and ` <x !y>`.
-    /// No relations print as the empty text. The only error is that there is no memory for the text.
-    /// Source: Debian Policy 7.1.
+    /// No relations print as the empty text, which takes no memory. The only error is that memory ran out.
+    /// Source: Debian Policy 7.1, and of qualifiers and build profiles dpkg's deb-src-control(5).
     pub fn print(&self, alloc: Global) -> Result<String, AllocError>
         ensures value { IfOk result (λ text. string_bytes text ≡ printed self.now) }
+        ensures memory { OnErr result (is_filled self.now ≡ true) }
     {
         let mut out = String::new(alloc);
         write_groups(&mut out, self.groups.as_slice())?;

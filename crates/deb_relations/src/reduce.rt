@@ -1,13 +1,13 @@
 //! What is left of relations for an architecture.
 
-ghost use Rattle.std.specs.Prelude.{◌≡◌, ◌++◌, [], map, filter, IfOk};
+ghost use Rattle.std.specs.Prelude.{◌≡◌, ◌++◌, [], true, map, filter, IfOk, OnErr};
 ghost use Rattle.std.specs.List.{list_any, list_all};
+ghost use Rattle.deb_text.specs.Lists.{is_filled};
 ghost use Rattle.deb_relations.specs.Reduction.{has_match, is_for_arch, holds_without_profiles, is_for_no_profile, is_kept, without_lists, reduced_group, reduced};
 
 use crate::arch::{ArchWords, arch_matches};
-use crate::items::Items;
 use crate::relations::{Alternative, Relations, Restriction, Term};
-use crate::text::Text;
+use deb_text::{Items, Text};
 use std::alloc::{AllocError, Global};
 
 #[tactic(auto, unfolding(crate::specs::Reduction::has_match))]
@@ -106,7 +106,8 @@ fn reduce_group(
     group: &[Alternative],
     arch: &ArchWords,
 ) -> Result<Items<Alternative>, AllocError>
-    ensures { IfOk result (λ made. made ≡ reduced_group arch.now group.now) }
+    ensures value { IfOk result (λ made. made ≡ reduced_group arch.now group.now) }
+    ensures memory { OnErr result (is_filled (reduced_group arch.now group.now) ≡ true) }
 {
     let mut made = Items::new(alloc);
     for a in group {
@@ -122,11 +123,12 @@ impl Relations {
     /// alternative is dropped whose plain architecture words have no match, whose negated ones have
     /// one, or none of whose lists of build profiles holds; what remains has no lists, and a group
     /// of which nothing remains is dropped. A list of build profiles holds where all its words are
-    /// negated. Qualifiers are kept. The only error is that there is no memory for the copy.
-    /// Source: Debian Policy 7.1; that no build profile is active is this project's own.
+    /// negated. Qualifiers are kept. The only error is that memory ran out; it takes none if nothing is left.
+    /// Source: Debian Policy 7.1, and of build profiles dpkg's deb-src-control(5); that no build profile is active is this project's own.
     #[tactic(auto, unfolding(crate::specs::Reduction::reduced))]
     pub fn reduce(&self, alloc: Global, arch: &ArchWords) -> Result<Relations, AllocError>
         ensures value { IfOk result (λ left. left ≡ reduced arch.now self.now) }
+        ensures memory { OnErr result (is_filled (reduced arch.now self.now) ≡ true) }
     {
         let mut made = Items::new(alloc);
         for group in self.groups.as_slice() {

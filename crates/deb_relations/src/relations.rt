@@ -1,7 +1,6 @@
 //! Relations between packages, as they are kept.
 
-use crate::items::Items;
-use crate::text::Text;
+use deb_text::{Items, Text};
 use deb_version::{Op, Version};
 use std::marker::Model;
 
@@ -10,7 +9,7 @@ use std::marker::Model;
 pub const RELATIONS_LIMIT: usize = 65536;
 
 /// Which words a list has: those of architectures, or build profiles.
-/// Source: Debian Policy 7.1.
+/// Source: Debian Policy 7.1, and of build profiles dpkg's deb-src-control(5).
 #[derive(Clone, Copy, Debug)]
 pub enum Kind {
     /// Architecture words, in square brackets.
@@ -20,7 +19,7 @@ pub enum Kind {
 }
 
 /// A word of a list, plain or negated by `!`: an architecture word or a build profile.
-/// Source: Debian Policy 7.1.
+/// Source: Debian Policy 7.1, and of build profiles dpkg's deb-src-control(5).
 #[derive(Debug, Drop)]
 pub struct Term {
     pub(crate) negated: bool,
@@ -37,7 +36,7 @@ pub struct Restriction {
 
 /// One package of a group: its name, the qualifier of its architecture, the version asked for, the architectures
 /// and the lists of build profiles for which it is asked. An empty list is one that is not written.
-/// Source: Debian Policy 7.1.
+/// Source: Debian Policy 7.1, and of qualifiers and build profiles dpkg's deb-src-control(5).
 #[derive(Debug, Drop)]
 pub struct Alternative {
     pub(crate) name: Text,

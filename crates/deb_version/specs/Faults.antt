@@ -27,4 +27,4 @@ fault_text (UpstreamBad place) = codes "byte " ++ (decimal place ++ codes " may 
 fault_text RevisionEmpty = codes "the revision after the hyphen is empty"
 fault_text (RevisionBad place) = codes "byte " ++ (decimal place ++ codes " may not stand in a revision")
 fault_text TooLong = codes "the version has more than 1000 bytes"
-fault_text Memory = codes "there is no memory for it now"
+fault_text Memory = codes "out of memory"

@@ -1,5 +1,5 @@
 -- The laws of the order of versions: it is total, and it is by runs of characters (Debian Policy 5.6.12).
-use Rattle.std.specs.Prelude.{◌≡◌, ◌≢◌, ℕ, zero, suc, ◌+◌, ◌<◌, ◌≤◌, true, false, not, ℤ, pos, List, [], ◌∷◌, ◌++◌, map, length}
+use Rattle.std.specs.Prelude.{◌≡◌, ◌≢◌, ℕ, zero, suc, ◌+◌, ◌<◌, ◌≤◌, true, false, not, ℤ, pos, List, [], ◌∷◌, ◌++◌, map, length, codes}
 use Rattle.std.specs.Char.{is_ascii_alphabetic, is_ascii_alphanumeric, is_ascii_digit}
 use Rattle.std.specs.List.{list_all}
 use Rattle.std.specs.Cmp.{IsTotalOrder, then_total, on_total, int_cmp_total, nat_cmp_total}
@@ -97,7 +97,7 @@ ZerosSayNothing = (digits : List ℕ) → value_of (48 ∷ digits) ≡ value_of 
 
 -- a part with `~` and anything more after its end is earlier than the part (Policy 5.6.12)
 abbrev pub TildeIsEarlier : Type 0
-TildeIsEarlier = (part more : List ℕ) → part_cmp (part ++ (126 ∷ more)) part ≡ Less
+TildeIsEarlier = (part more : List ℕ) → part_cmp (part ++ (codes "~" ++ more)) part ≡ Less
 
 -- runs of non-digits compare by the weights of their characters, where the end of a run weighs 0 (Policy 5.6.12)
 abbrev pub run_cmp : List ℕ → List ℕ → Ordering
@@ -120,3 +120,9 @@ LettersAreEarlier = (part more other_more : List ℕ) (letter other : ℕ)
 abbrev pub ZerosKeepTheOrder : Type 0
 ZerosKeepTheOrder = (run digits rest : List ℕ) → IsFirstPair run digits rest
     → part_cmp (run ++ (48 ∷ (digits ++ rest))) (run ++ (digits ++ rest)) ≡ Equal
+
+-- each of these is earlier than the next (this project's own)
+abbrev pub Ascend : (List ℕ → List ℕ → Ordering) → List (List ℕ) → Type 0
+Ascend cmp [] = Unit {0}
+Ascend cmp (one ∷ []) = Unit {0}
+Ascend cmp (one ∷ (other ∷ more)) = (cmp one other ≡ Less) × Ascend cmp (other ∷ more)

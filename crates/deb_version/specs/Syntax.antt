@@ -25,7 +25,7 @@ is_hyphen c = c == 45
 unfoldable pub is_revision_char : ℕ → Bool
 is_revision_char c = is_ascii_alphanumeric c || (c == 46 || (c == 43 || c == 126))
 
--- letters, digits and `.` `+` `~` `-` `:`, of which an upstream version is made (Policy 5.6.12)
+-- letters, digits and `.` `+` `~` `-` `:`, of which an upstream version is made (Policy 5.6.12, the colon this project's own)
 unfoldable pub is_upstream_char : ℕ → Bool
 is_upstream_char c = is_revision_char c || (is_hyphen c || is_colon c)
 

@@ -78,7 +78,7 @@ impl fmt::Display for VersionFault {
                 write!(f, "byte {place} may not stand in a revision")
             }
             VersionFault::TooLong => write!(f, "the version has more than 1000 bytes"),
-            VersionFault::Memory => write!(f, "there is no memory for it now"),
+            VersionFault::Memory => write!(f, "out of memory"),
         }
     }
 }

@@ -1,10 +1,12 @@
 //! Laws of the definitions, each on a function with nothing to run.
 
-ghost use Rattle.std.specs.Prelude.{◌≡◌, ◌<◌, Err, List, Ok, false, length, slice_index, ℕ};
+ghost use Rattle.std.specs.Prelude.{◌≡◌, ◌<◌, [], ◌∷◌, Err, List, Ok, codes, false, length, slice_index, ℕ};
+ghost use Rattle.std.specs.declared.cmp.Ordering.TheVariants.{Equal};
 ghost use Rattle.deb_version.specs.declared.fault.VersionFault.TheVariants.{RevisionBad, UpstreamBad};
 ghost use Rattle.deb_version.specs.Grammar.{IsVersion};
 ghost use Rattle.deb_version.specs.Syntax.{Parts, TextIsItsParts, is_revision_char, is_upstream_char, reading_of};
-ghost use Rattle.deb_version.specs.OrderLaws.{KeyIsByRuns, LettersAreEarlier, PartsCompareByRuns, TildeIsEarlier, ZerosKeepTheOrder, ZerosSayNothing};
+ghost use Rattle.deb_version.specs.Order.{part_cmp, version_cmp};
+ghost use Rattle.deb_version.specs.OrderLaws.{Ascend, KeyIsByRuns, LettersAreEarlier, PartsCompareByRuns, TildeIsEarlier, ZerosKeepTheOrder, ZerosSayNothing};
 
 /// A text is its parts, joined by the colon and the hyphen that cut them: `[epoch:]upstream[-revision]`.
 /// Source: Debian Policy 5.6.12.
@@ -63,4 +65,24 @@ pub fn letters_are_earlier()
 pub fn parts_compare_by_runs()
     ensures runs { PartsCompareByRuns }
     ensures zeros { ZerosKeepTheOrder }
+{}
+
+/// Examples of the order of versions, each earlier than the next; the first two lists are those of Debian Policy.
+/// Source: Debian Policy 5.6.12.
+pub fn examples_of_the_order()
+    // of Policy: a tilde is before the end of a part, and the end before a letter
+    ensures parts { Ascend part_cmp (codes "~~" ∷ codes "~~a" ∷ codes "~" ∷ [] ∷ codes "a" ∷ []) }
+    ensures tildes { Ascend version_cmp
+        (codes "1.0~beta1~svn1245" ∷ codes "1.0~beta1" ∷ codes "1.0" ∷ []) }
+    // of each part of a version
+    ensures versions { Ascend version_cmp
+        (codes "1.0~rc1" ∷ codes "1.0" ∷ codes "1.0-1" ∷ codes "1:0" ∷ []) }
+    ensures letters { Ascend version_cmp
+        (codes "1.0" ∷ codes "1.0a" ∷ codes "1.0b" ∷ codes "1.0+a" ∷ codes "1.0.a" ∷ []) }
+    ensures numbers { Ascend version_cmp
+        (codes "1.2" ∷ codes "1.10" ∷ codes "1.10+b1" ∷ codes "1.10+b10" ∷ []) }
+    // of the same order: zeros before a number, and a revision and an epoch of zero
+    ensures equal { (version_cmp (codes "1.02") (codes "1.2") ≡ Equal)
+        × (version_cmp (codes "1.0-0") (codes "1.0") ≡ Equal)
+        × (version_cmp (codes "0:1.0") (codes "1.0") ≡ Equal) }
 {}

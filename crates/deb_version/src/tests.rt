@@ -1,7 +1,8 @@
 mod order;
 mod reading;
 
-use crate::{Version, VersionFault};
+use crate::{Version, VersionFault, compare};
+use std::cmp::Ordering;
 use std::str;
 use std::test::Fail;
 
@@ -28,13 +29,57 @@ fn a_clone_has_the_same_text(rt: HostRuntime) -> Result<(), Fail> {
 }
 
 #[test]
-fn a_fault_says_where(rt: HostRuntime) -> Result<(), Fail> {
-    let fault = VersionFault::UpstreamBad(3);
-    assert_eq!(rt; fault.name(), "UpstreamBad");
-    let text = format!(in rt.alloc(); "{fault}")?;
+fn a_version_of_1000_bytes_is_kept(rt: HostRuntime) -> Result<(), Fail> {
+    let mut text = String::from_str(rt.alloc(), "1:2.")?;
+    for _ in 0..994 {
+        text.push('0')?;
+    }
+    text.push_str("-1")?;
+    let version = Version::parse(rt.alloc(), text.as_str())?;
+    assert_eq!(rt; version.text(), text.as_str());
+    assert_eq!(rt; version.clone()?.text(), text.as_str());
     assert_eq!(rt;
-        text.as_str(),
-        "byte 3 may not stand in an upstream version"
+        (version.upstream().len(), version.revision()),
+        (996, Some("1"))
     );
+    let short = Version::parse(rt.alloc(), "1:2.0-1")?;
+    assert_eq!(rt; compare(&version, &short), Ordering::Equal);
+    Ok(())
+}
+
+#[test]
+fn each_fault_is_printed(rt: HostRuntime) -> Result<(), Fail> {
+    let cases = [
+        (VersionFault::Empty, "the version is empty"),
+        (
+            VersionFault::EpochEmpty,
+            "the epoch before the colon is empty",
+        ),
+        (VersionFault::EpochNotNumber, "the epoch is no number"),
+        (VersionFault::EpochTooLarge, "the epoch is above 2147483647"),
+        (VersionFault::UpstreamEmpty, "the upstream version is empty"),
+        (
+            VersionFault::UpstreamBad(3),
+            "byte 3 may not stand in an upstream version",
+        ),
+        (
+            VersionFault::RevisionEmpty,
+            "the revision after the hyphen is empty",
+        ),
+        (
+            VersionFault::RevisionBad(999),
+            "byte 999 may not stand in a revision",
+        ),
+        (
+            VersionFault::TooLong,
+            "the version has more than 1000 bytes",
+        ),
+        (VersionFault::Memory, "out of memory"),
+    ];
+    for (fault, want) in cases {
+        let text = format!(in rt.alloc(); "{fault}")?;
+        assert_eq!(rt; text.as_str(), want);
+    }
+    assert_eq!(rt; VersionFault::UpstreamBad(3).name(), "UpstreamBad");
     Ok(())
 }

@@ -41,10 +41,11 @@ impl Version {
     /// The epoch ends at the first colon, the revision begins after the last hyphen.
     /// The epoch is one or more digits with a value of at most 2147483647. The upstream
     /// version holds ASCII letters, digits and `.` `+` `-` `~` `:`, and need not begin with
-    /// a digit; the revision holds letters, digits and `+` `.` `~`.
+    /// a digit; the revision holds letters, digits and `+` `.` `~`. That a colon may stand in an
+    /// upstream version after an epoch, and a letter at its start, is this project's own.
     ///
-    /// Errors: the first fault of the text in the order of [`VersionFault`], and `Memory`
-    /// where no room was had for the text of a version; the text is not changed.
+    /// Errors: the first fault of the text in the order of [`VersionFault`], and `Memory` if
+    /// the text is a version and its growth was refused; the text is not changed.
     /// Source: Debian Policy 5.6.12; the limits are this project's own.
     pub fn parse(alloc: Global, text: &str) -> Result<Version, VersionFault>
         ensures value { IfOk result (λ version. version ≡ text.now) }

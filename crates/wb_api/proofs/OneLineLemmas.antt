@@ -6,7 +6,7 @@ use Rattle.std.specs.List.{list_any}
 use Rattle.std.specs.Fmt.{digits, digits_onto, digit_glyph}
 use Rattle.json.specs.Print.{quoted, escape, escape_byte}
 use Rattle.deb_control.specs.Faults.{fault_name}
-use Rattle.deb_control.specs.Lines.{is_feed, IsOneLine}
+use Rattle.deb_text.specs.Lines.{is_feed, IsOneLine}
 use Rattle.deb_version.specs.Faults.{fault_name as name_of_fault}
 use Rattle.wb_states.specs.Refusals.{name_of_list, name_of_field}
 use Rattle.wb_states.specs.State.{name_of}
@@ -20,10 +20,7 @@ use Rattle.wb_states.specs.declared.reply.Reply.{Reply}
 use Rattle.wb_states.specs.declared.reply.Reply.TheVariants.{Done, Job, Again, Merged}
 use Rattle.wb_states.specs.declared.reply.Assignment.{Assignment}
 use Rattle.wb_api.specs.Encoding.{name_of_relations_fault, reply_text, assignment_text, refusal_members, refusal_text, end_text, part_text, parts_text}
-
--- a text behind another
-pub IsOneLine-append : (xs ys : List ℕ) → IsOneLine xs → IsOneLine ys → IsOneLine (xs ++ ys)
-IsOneLine-append xs ys h k = list_any-append is_feed xs ys ∙ ap₂ (λ a b. a || b) h k
+use Rattle.deb_text.proofs.ListLemmas.{IsOneLine-append}
 
 -- what stands behind a text of one line
 behind : (xs ys : List ℕ) → IsOneLine xs → list_any is_feed (xs ++ ys) ≡ list_any is_feed ys

@@ -1,6 +1,6 @@
 //! Laws of the definitions, each on a function with nothing to run.
 ghost use Rattle.std.specs.Prelude.{ℕ, List};
-ghost use Rattle.deb_control.specs.Lines.{IsOneLine};
+ghost use Rattle.deb_text.specs.Lines.{IsOneLine};
 ghost use Rattle.wb_states.specs.declared.refusal.Refusal.{Refusal as AnyRefusal};
 ghost use Rattle.wb_states.specs.declared.reply.Reply.{Reply as AnyReply};
 ghost use Rattle.wb_api.specs.Encoding.{reply_text, refusal_text, memory_text, line_fault_text, file_fault_text};

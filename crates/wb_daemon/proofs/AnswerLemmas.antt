@@ -12,8 +12,8 @@ use Rattle.wb_words.specs.declared.words.Asked.{Asked}
 use Rattle.wb_words.specs.declared.words.Asked.TheVariants.{Command as asked_Command, Merge as asked_Merge}
 use Rattle.wb_words.specs.declared.words.PartNames.{PartNames}
 use Rattle.wb_api.specs.Encoding.{line_fault_text}
-use Rattle.deb_control.specs.Lines.{words_in}
-use Rattle.wb_daemon.specs.Line.{is_blank_line, is_long, with_feed}
+use Rattle.deb_text.specs.Lines.{words_in, is_blank_line}
+use Rattle.wb_daemon.specs.Line.{is_long, with_feed}
 use Rattle.wb_daemon.specs.Lists.{Gives, GivesMerge, GivesNoMore}
 use Rattle.wb_daemon.specs.Run.{Said, Says, Accepts, AsksFor, LineAsks, SaysOfKind, LineKind, Blank, Fault, Request, kind_of_line, kind_of_asked, asked_of_line, fault_said, memory_said, needs_memory}
 use Rattle.wb_daemon.specs.Turn.{Answers, SaysAskedOrMemory, AnswersInPart, AppendsFront, TookEndedLine, TookLastLine, LacksAnswer, StopsTurn, Turns}

@@ -1,7 +1,7 @@
 -- Each line that is answered is answered with one line.
 use Rattle.std.proofs.Common.{◌≡◌, ℕ, suc, Bool, true, false, not, ◌&&◌, ◌||◌, cond, List, [], ◌∷◌, ◌++◌, filter, length, Option, Some, None, Result, Ok, Err, inl, inr, refl, sym, ap, subst, ◌∙◌}
 use Rattle.std.specs.Str.{is_utf8}
-use Rattle.deb_control.specs.Lines.{IsOneLine}
+use Rattle.deb_text.specs.Lines.{IsOneLine, is_blank_line}
 use Rattle.wb_states.specs.Commands.{name_of_command}
 use Rattle.wb_states.specs.Machine.{Machine}
 use Rattle.wb_states.specs.declared.command.Command.{Command}
@@ -13,7 +13,7 @@ use Rattle.wb_words.specs.declared.words.Asked.TheVariants.{Command as asked_Com
 use Rattle.wb_api.specs.Encoding.{reply_text, refusal_text, memory_text, line_fault_text, file_fault_text}
 use Rattle.wb_api.proofs.OneLineLemmas.{reply_text-one, refusal_text-one}
 use Rattle.wb_daemon.specs.Answered.{HasLines, is_answered}
-use Rattle.wb_daemon.specs.Line.{is_blank_line, is_long, with_feed}
+use Rattle.wb_daemon.specs.Line.{is_long, with_feed}
 use Rattle.wb_daemon.specs.Lists.{Gives}
 use Rattle.wb_daemon.specs.Run.{Fault, Runs, Said, Says, SaysAsked, SaysOfKind, Blank, answer_said, asked_of_line, command_said, kind_of_line, kind_of_asked}
 

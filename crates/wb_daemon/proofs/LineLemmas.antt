@@ -5,8 +5,8 @@ use Rattle.std.specs.Str.{IsUtf8, is_utf8}
 use Rattle.std.proofs.lemmas.Str.{IsUtf8-from_is_utf8}
 use Rattle.std.proofs.lemmas.Bool.{false_from_ne_true}
 use Rattle.std.proofs.lemmas.Bool.Decides.{nat_tests}
-use Rattle.deb_control.specs.Lines.{IsOneLine}
-use Rattle.wb_api.proofs.OneLineLemmas.{IsOneLine-append}
+use Rattle.deb_text.specs.Lines.{IsOneLine}
+use Rattle.deb_text.proofs.ListLemmas.{IsOneLine-append}
 use Rattle.wb_daemon.specs.Line.{is_long, line_limit}
 
 pub Consumes-then : (a b c : Option (List ℕ)) (xs ys : List ℕ) → Consumes a b xs → Consumes b c ys → Consumes a c (xs ++ ys)

@@ -9,8 +9,8 @@ use Rattle.std.proofs.lemmas.List.Splits.{length-slice_split, slice_split-cons_n
 use Rattle.std.specs.Io.KnownBytes.{Appends, Consumes, IsAtEnd}
 use Rattle.std.specs.List.{list_any, onto_first, slice_split}
 use Rattle.wb_states.specs.Machine.{Machine}
-use Rattle.deb_control.proofs.RunLemmas.{slice_split-run, slice_split-end}
-use Rattle.deb_control.specs.Lines.{is_feed, IsOneLine}
+use Rattle.deb_text.proofs.ListLemmas.{slice_split-run, slice_split-end}
+use Rattle.deb_text.specs.Lines.{is_feed, IsOneLine}
 use Rattle.wb_daemon.specs.Line.{ended_in, is_long, input_lines, line_limit, lines_limit, through_long, with_feed, with_feeds, AreWithinLimit}
 use Rattle.wb_daemon.specs.Lists.{Gives, IsAllOf}
 use Rattle.wb_daemon.specs.Run.{Said, Says, Runs, EndsInput, RunStops, StopsBeforeReply, StopsBetween, RunStopsFor, StopsWithin, WereActedOn, followed, nothing_said}

@@ -1,8 +1,8 @@
 -- Which lines of an input are answered, and how many lines an output has (this project's own).
 use Rattle.std.specs.Prelude.{◌≡◌, ℕ, Bool, not, ◌||◌, List, length}
 use Rattle.std.specs.List.{AllByRecursion}
-use Rattle.deb_control.specs.Lines.{IsOneLine}
-use Rattle.wb_daemon.specs.Line.{is_blank_line, is_long, with_feeds}
+use Rattle.deb_text.specs.Lines.{IsOneLine, is_blank_line}
+use Rattle.wb_daemon.specs.Line.{is_long, with_feeds}
 
 -- a line that is answered: each but those of spaces and tabs alone, of which one that is too long is none
 abbrev pub is_answered : List ℕ → Bool

@@ -1,8 +1,8 @@
 -- The lines that a run reads (this project's own).
 use Rattle.std.specs.Prelude.{◌≡◌, ◌⊎◌, ℕ, ◌-◌, ◌≤◌, Bool, true, nat_lt, if◌then◌else◌, List, [], ◌∷◌, ◌++◌, length, take, Option}
-use Rattle.std.specs.List.{flat_map, list_all, slice_split}
+use Rattle.std.specs.List.{flat_map, slice_split}
 use Rattle.std.specs.Io.KnownBytes.{Consumes, IsAtEnd}
-use Rattle.deb_control.specs.Lines.{is_blank, is_feed, IsOneLine}
+use Rattle.deb_text.specs.Lines.{is_feed, IsOneLine}
 use Rattle.wb_daemon.specs.declared.line.LineRead.{LineRead}
 use Rattle.wb_daemon.specs.declared.line.LineRead.TheVariants.{Ended, Last, TooLong, Failed}
 use Rattle.wb_daemon.specs.declared.line.ByteRead.{ByteRead}
@@ -27,10 +27,6 @@ with_feeds texts = flat_map with_feed texts
 -- a line that is too long
 abbrev pub is_long : List ℕ → Bool
 is_long line = nat_lt line_limit (length line)
-
--- a line of spaces and tabs alone
-abbrev pub is_blank_line : List ℕ → Bool
-is_blank_line line = list_all is_blank line
 
 -- the lines up to the first that is too long, and with that one
 abbrev pub through_long : List (List ℕ) → List (List ℕ)

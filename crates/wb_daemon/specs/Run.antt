@@ -14,8 +14,8 @@ use Rattle.wb_words.specs.declared.words.Asked.{Asked}
 use Rattle.wb_words.specs.declared.words.Asked.TheVariants.{Command as asked_Command, Merge as asked_Merge}
 use Rattle.wb_words.specs.declared.words.PartNames.{PartNames}
 use Rattle.wb_api.specs.Encoding.{reply_text, refusal_text, memory_text, line_fault_text, file_fault_text}
-use Rattle.deb_control.specs.Lines.{words_in}
-use Rattle.wb_daemon.specs.Line.{is_blank_line, is_long, input_lines, ended_in, lines_limit, with_feed, AreWithinLimit}
+use Rattle.deb_text.specs.Lines.{words_in, is_blank_line}
+use Rattle.wb_daemon.specs.Line.{is_long, input_lines, ended_in, lines_limit, with_feed, AreWithinLimit}
 use Rattle.wb_daemon.specs.Lists.{Gives, GivesMerge, IsAllOf}
 use Rattle.wb_daemon.specs.declared.run.Cause.{Cause}
 use Rattle.wb_daemon.specs.declared.run.Cause.TheVariants as why

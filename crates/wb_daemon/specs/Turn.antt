@@ -5,7 +5,7 @@ use Rattle.std.specs.Io.KnownBytes.{Appends, Consumes, IsAtEnd}
 use Rattle.wb_states.specs.Machine.{Machine}
 use Rattle.wb_states.specs.declared.command.Command.{Command}
 use Rattle.wb_words.specs.declared.words.Asked.{Asked}
-use Rattle.deb_control.specs.Lines.{IsOneLine}
+use Rattle.deb_text.specs.Lines.{IsOneLine}
 use Rattle.wb_daemon.specs.Line.{is_long, with_feed}
 use Rattle.wb_daemon.specs.Lists.{Gives}
 use Rattle.wb_daemon.specs.Run.{Said, Says, SaysAsked, command_said, memory_said, Accepts, EndsInput, LineAsks, RunStopsFor}

@@ -2,7 +2,8 @@
 ghost use Rattle.std.specs.Prelude.{◌≡◌, ◌≢◌, ◌≤◌, IfOk, IfErr, IfSome, IsTrue, Some, None, Err, false};
 ghost use Rattle.std.specs.Str.{is_utf8};
 ghost use Rattle.wb_words.specs.declared.fault.WordsFault.TheVariants.{Memory};
-ghost use Rattle.wb_daemon.specs.Line.{is_blank_line, is_long};
+ghost use Rattle.wb_daemon.specs.Line.{is_long};
+ghost use Rattle.deb_text.specs.Lines.{is_blank_line};
 ghost use Rattle.wb_daemon.specs.Lists.{GivesNoMore};
 ghost use Rattle.wb_daemon.specs.Run.{asked_of_line, file_said, memory_said, Accepts, AsksFor, LineAsks, Says};
 ghost use Rattle.wb_states.specs.Machine.{IsConsistent, Machine};

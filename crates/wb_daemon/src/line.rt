@@ -3,7 +3,7 @@ ghost use Rattle.std.specs.Prelude.{◌≡◌, IfOk, IfSome, None, map, length, 
 ghost use Rattle.std.specs.Str.{is_utf8};
 ghost use Rattle.std.specs.Io.KnownBytes.{Consumes, IsAtEnd};
 ghost use Rattle.wb_daemon.specs.declared.line.ByteRead.TheVariants.{End};
-ghost use Rattle.deb_control.specs.Lines.{words_in};
+ghost use Rattle.deb_text.specs.Lines.{words_in};
 ghost use Rattle.wb_daemon.specs.Line.{bytes_of, line_limit, TookLine};
 
 use std::alloc::{AllocError, Global};

@@ -3,7 +3,7 @@ ghost use Rattle.std.specs.Prelude.{◌≡◌, ℕ, List, Option, IfOk, IfSome};
 ghost use Rattle.wb_daemon.specs.Lists.{GivesList, GivesMerge, GivesNoMore, GivesPart, GivesParts};
 ghost use Rattle.wb_daemon.specs.Lists.{OpensList, ReadsList};
 
-use deb_relations::{Items, Text};
+use deb_text::{Items, Text};
 use std::alloc::{AllocError, Global};
 use std::io::Read;
 use wb_states::{Command, Part};

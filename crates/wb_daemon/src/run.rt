@@ -11,7 +11,7 @@ use crate::answer::{ACCEPTED, Answer, LINE_FAULT, answer_of};
 use crate::line::{ByteRead, LINE_LIMIT, LineRead, read_byte, read_line};
 use crate::lists::Lists;
 use crate::write::write_line;
-use deb_control::is_blank_line;
+use deb_text::is_blank_line;
 use std::alloc::Global;
 use std::io::{Read, Write};
 use wb_api::line_fault_json;

@@ -4,9 +4,9 @@ use Rattle.std.specs.List.{fold}
 use Rattle.std.proofs.lemmas.Map.Text.{is_eq-slice_cmp}
 use Rattle.std.specs.FinMap as finite
 use Rattle.deb_relations.specs.declared.arch.ArchWords.{ArchWords}
-use Rattle.deb_relations.specs.Text.{text_cmp}
+use Rattle.deb_text.specs.Text.{text_cmp}
 use Rattle.deb_relations.specs.Satisfaction.{Pairs, no_pairs, versions_of, with_pair}
-use Rattle.wb_states.proofs.KeyLemmas.{text_cmp_total}
+use Rattle.deb_text.proofs.KeyLemmas.{text_cmp_total}
 use Rattle.wb_merge.specs.Rows.{BinaryRow}
 use Rattle.wb_merge.specs.Listing.{available_of, installable_versions, is_installable_on}
 use Rattle.wb_merge.proofs.NameLemmas.{bytes_eq-is}

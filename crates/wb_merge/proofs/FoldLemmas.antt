@@ -6,8 +6,8 @@ use Rattle.std.specs.Ordering.{eq_by_cmp, is_gt}
 use Rattle.std.specs.FinMap as finite
 use Rattle.std.proofs.lemmas.Map.Text.{is_eq-slice_cmp}
 use Rattle.std.proofs.lemmas.Bool.{or_parts}
-use Rattle.deb_relations.specs.Text.{text_cmp}
-use Rattle.wb_states.proofs.KeyLemmas.{text_cmp_total, text_cmp-same}
+use Rattle.deb_text.specs.Text.{text_cmp}
+use Rattle.deb_text.proofs.KeyLemmas.{text_cmp_total, text_cmp-same}
 use Rattle.wb_merge.specs.Listing.{better, best_from, map_at, is_better}
 use Rattle.wb_merge.specs.Offers.{offered}
 use Rattle.wb_merge.proofs.ListingLemmas.{map_at-get}

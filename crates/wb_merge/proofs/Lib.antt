@@ -1,5 +1,4 @@
 pub mod AvailableLemmas
-pub mod CheckLemmas
 pub mod ChosenLemmas
 pub mod CountLemmas
 pub mod FirstFaultLemmas

@@ -17,15 +17,14 @@ use Rattle.deb_relations.specs.declared.arch.ArchWords.{ArchWords}
 use Rattle.deb_relations.specs.declared.fault.RelationFault.{RelationFault}
 use Rattle.deb_relations.specs.declared.relations.Alternative.{Alternative}
 use Rattle.deb_relations.specs.Reading as relations
-use Rattle.deb_relations.specs.Text.{text_cmp}
+use Rattle.deb_text.specs.Text.{text_cmp, IsTextWithin, is_empty_text}
 use Rattle.deb_relations.proofs.PrintedLemmas.{reduced-utf8, reading_of-reads}
 use Rattle.wb_states.specs.declared.refusal.Refusal.{Refusal}
 use Rattle.wb_states.specs.Limits.{rebuild_limit, relations_limit}
 use Rattle.wb_states.specs.Moves.{waits_for}
 use Rattle.deb_relations.specs.Names.{is_package_name}
 use Rattle.wb_states.specs.Names.{is_label_text}
-use Rattle.wb_states.specs.Record.{IsTextWithin, is_empty_text}
-use Rattle.wb_states.proofs.KeyLemmas.{text_cmp_total, text_cmp-same}
+use Rattle.deb_text.proofs.KeyLemmas.{text_cmp_total, text_cmp-same}
 use Rattle.wb_merge.specs.declared.listing.Listed.{Listed}
 use Rattle.wb_merge.specs.declared.listing.Built.{Built}
 use Rattle.wb_merge.specs.Rows.{SourceRow, BinaryRow, source_rows, binary_rows}

@@ -6,7 +6,7 @@ use Rattle.std.specs.declared.cmp.Ordering.{Ordering}
 use Rattle.std.specs.Ordering.{eq_by_cmp}
 use Rattle.std.specs.Cmp.{IsTotalOrder}
 use Rattle.std.specs.FinMap as finite
-use Rattle.wb_states.proofs.KeyLemmas.{eq_by_cmp-same}
+use Rattle.deb_text.proofs.KeyLemmas.{eq_by_cmp-same}
 use Rattle.wb_merge.specs.Listing.{map_at, with_value}
 
 -- an entry before others, where there is a value

@@ -7,10 +7,9 @@ use Rattle.std.proofs.lemmas.Cmp.{nat_list_eq_equiv}
 use Rattle.std.proofs.lemmas.Map.Text.{is_eq-slice_cmp}
 use Rattle.std.specs.FinMap as finite
 use Rattle.std.proofs.lemmas.Bool.{and_right, false_from_ne_true, or_parts}
-use Rattle.deb_relations.specs.Text.{text_cmp}
-use Rattle.wb_states.specs.Machine.{pair_cmp}
+use Rattle.deb_text.specs.Text.{text_cmp, pair_cmp}
 use Rattle.wb_states.specs.declared.record.Record.{Record}
-use Rattle.wb_states.proofs.KeyLemmas.{pair_cmp_total, pair_cmp-same}
+use Rattle.deb_text.proofs.KeyLemmas.{pair_cmp_total, pair_cmp-same}
 use Rattle.deb_relations.specs.Satisfaction.{Pairs}
 use Rattle.wb_merge.specs.declared.listing.Listed.{Listed}
 use Rattle.wb_merge.specs.declared.listing.Built.{Built}

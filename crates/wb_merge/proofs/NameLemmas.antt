@@ -11,9 +11,8 @@ use Rattle.std.proofs.lemmas.Slice.Eq.{bytes_eq-Decides}
 use Rattle.std.specs.FinMap as finite
 use Rattle.std.specs.FinMap.Entries.{below_all, is_sorted}
 use Rattle.std.proofs.lemmas.Bool.{and_right, false_from_ne_true, or_right}
-use Rattle.deb_relations.specs.Text.{text_cmp}
-use Rattle.wb_states.specs.Machine.{pair_cmp}
-use Rattle.wb_states.proofs.KeyLemmas.{pair_cmp-same, eq_by_cmp-same}
+use Rattle.deb_text.specs.Text.{text_cmp, pair_cmp}
+use Rattle.deb_text.proofs.KeyLemmas.{pair_cmp-same, eq_by_cmp-same}
 use Rattle.wb_merge.specs.Steps.{Key}
 
 pub none-is : {X : Type 0} (o : Option X) → is_some o ≡ false → o ≡ None

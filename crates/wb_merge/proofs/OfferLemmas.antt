@@ -6,9 +6,9 @@ use Rattle.std.specs.Map.{lookup}
 use Rattle.std.specs.BTreeMap.{is_at}
 use Rattle.std.specs.FinMap as finite
 use Rattle.deb_relations.specs.declared.arch.ArchWords.{ArchWords}
-use Rattle.deb_relations.specs.Text.{text_cmp}
-use Rattle.wb_states.proofs.KeyLemmas.{text_cmp_total}
-use Rattle.wb_states.proofs.MapLemmas.{get-lookup}
+use Rattle.deb_text.specs.Text.{text_cmp}
+use Rattle.deb_text.proofs.KeyLemmas.{text_cmp_total}
+use Rattle.deb_text.proofs.MapLemmas.{get-lookup}
 use Rattle.wb_merge.specs.declared.listing.Listed.{Listed}
 use Rattle.wb_merge.specs.declared.listing.Built.{Built}
 use Rattle.wb_merge.specs.Rows.{SourceRow, BinaryRow}

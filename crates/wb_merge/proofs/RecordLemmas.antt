@@ -11,10 +11,10 @@ use Rattle.std.specs.FinMap as finite
 use Rattle.wb_states.specs.declared.record.Record.{Record}
 use Rattle.wb_states.specs.declared.state.State.{State}
 use Rattle.wb_states.specs.State.{code_of}
-use Rattle.wb_states.specs.Machine.{pair_cmp}
+use Rattle.deb_text.specs.Text.{pair_cmp}
 use Rattle.wb_states.proofs.CodeLemmas.{code_of-differ}
-use Rattle.wb_states.proofs.MapLemmas.{get-lookup}
-use Rattle.wb_states.proofs.KeyLemmas.{pair_cmp_total}
+use Rattle.deb_text.proofs.MapLemmas.{get-lookup}
+use Rattle.deb_text.proofs.KeyLemmas.{pair_cmp_total}
 use Rattle.wb_merge.specs.Merged.{Records, has_same_source, has_same_place, has_same_texts, is_same_record, change_of}
 use Rattle.wb_merge.specs.declared.merge.Change.TheVariants.{Kept, Changed}
 use Rattle.wb_merge.specs.Steps.{Key, IsSetAt}

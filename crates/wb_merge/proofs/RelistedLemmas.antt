@@ -10,7 +10,8 @@ use Rattle.wb_states.specs.declared.state.State.{State}
 use Rattle.wb_states.specs.declared.state.State.TheVariants.{NeedsBuild, Installed, NotForUs}
 use Rattle.wb_states.specs.Limits.{rebuild_limit, note_limit, relations_limit}
 use Rattle.wb_states.specs.Moves.{note_after}
-use Rattle.wb_states.specs.Record.{IsWellFormed, IsTextWithin}
+use Rattle.wb_states.specs.Record.{IsWellFormed}
+use Rattle.deb_text.specs.Text.{IsTextWithin}
 use Rattle.wb_states.specs.State.{is_held, is_dep_wait, is_not_for_us}
 use Rattle.wb_merge.specs.declared.listing.Listed.{Listed}
 use Rattle.wb_merge.specs.declared.listing.Built.{Built}

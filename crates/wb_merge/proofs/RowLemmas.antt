@@ -18,12 +18,11 @@ use Rattle.wb_states.specs.declared.refusal.ListingFault.TheVariants.{BadValue}
 use Rattle.wb_states.specs.declared.refusal.Refusal.{Refusal}
 use Rattle.deb_relations.specs.Names.{is_package_name}
 use Rattle.wb_states.specs.Names.{is_label_text}
-use Rattle.wb_states.specs.Record.{is_empty_text}
+use Rattle.deb_text.specs.Text.{is_empty_text}
 use Rattle.wb_states.specs.Refusals.{name_of_field}
 use Rattle.wb_merge.specs.Rows.{SourceRow, BinaryRow, value_named, text_named, is_label_or_empty, has_source_version, last_digits, rebuild_number, wanted_fault, spare_fault, form_fault, spare_form_fault, source_fault, source_row, with_source, binary_row, source_row_of, binary_row_of, of_fields, refused_at, onto_rows, rows_behind, source_rows, binary_rows}
-use Rattle.wb_merge.proofs.CheckLemmas.{first_some-None}
-use Rattle.deb_relations.proofs.FrontLemmas.{take_while-passes}
-use Rattle.deb_version.proofs.ReadingLemmas.{ok_unless-Ok}
+use Rattle.deb_text.proofs.OptionLemmas.{first_some-None, ok_unless-Ok}
+use Rattle.deb_text.proofs.ListLemmas.{take_while-passes}
 
 -- ---- rows that were read are those of paragraphs without a fault
 

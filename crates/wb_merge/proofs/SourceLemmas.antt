@@ -10,7 +10,7 @@ use Rattle.deb_version.proofs.CutLemmas.{list_any-first}
 use Rattle.wb_merge.specs.Rows.{is_space, in_brackets, last_digits, rebuild_number}
 use Rattle.wb_merge.specs.Backwards.{begins_plus_b}
 use Rattle.std.proofs.lemmas.List.Sums.{take_while-cons}
-use Rattle.deb_relations.specs.Text.{begins}
+use Rattle.deb_text.specs.Lists.{begins}
 use Rattle.std.proofs.lemmas.Slice.Eq.{starts_is, ends_is}
 
 -- ---- the space and the brackets

@@ -8,7 +8,7 @@ use Rattle.std.proofs.lemmas.List.Folds.{list_any-append}
 use Rattle.std.proofs.Math.Seq.{take-append_seam, drop-append-add}
 use Rattle.std.proofs.lemmas.Option.{cond_some}
 use Rattle.deb_version.specs.Syntax.{is_version_text}
-use Rattle.wb_states.specs.Holds.{has_value}
+use Rattle.deb_text.specs.Options.{has_value}
 use Rattle.deb_relations.specs.Names.{is_package_name, is_package_char, is_lower_or_digit}
 use Rattle.wb_merge.specs.Rows.{is_space, in_brackets, source_name, has_source_version, source_version, is_source_text, with_version, NamesSource}
 use Rattle.wb_merge.proofs.NameLemmas.{bytes_eq-is}

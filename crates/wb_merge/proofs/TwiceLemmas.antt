@@ -12,7 +12,7 @@ use Rattle.wb_states.specs.declared.record.Record.{Record}
 use Rattle.wb_states.specs.declared.state.State.{State}
 use Rattle.wb_states.specs.declared.state.State.TheVariants.{NeedsBuild, Building, Built as IsBuilt, Uploaded, Installed, DepWait, BdUninstallable, Failed, NotForUs}
 use Rattle.wb_states.specs.State.{is_dep_wait, is_installed, is_not_for_us}
-use Rattle.wb_states.proofs.KeyLemmas.{pair_cmp_total, pair_cmp-same}
+use Rattle.deb_text.proofs.KeyLemmas.{pair_cmp_total, pair_cmp-same}
 use Rattle.wb_merge.specs.declared.listing.Listed.{Listed}
 use Rattle.wb_merge.specs.declared.listing.Built.{Built}
 use Rattle.wb_merge.specs.Listing.{ArchiveListing}

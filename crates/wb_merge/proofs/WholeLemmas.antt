@@ -3,7 +3,7 @@ use Rattle.std.proofs.Common.{◌≡◌, ℕ, Bool, true, false, cond, None, byt
 use Rattle.std.specs.List.{fold}
 use Rattle.std.specs.FinMap as finite
 use Rattle.deb_relations.specs.declared.arch.ArchWords.{ArchWords}
-use Rattle.deb_relations.specs.Text.{text_cmp}
+use Rattle.deb_text.specs.Text.{text_cmp}
 use Rattle.deb_relations.specs.Satisfaction.{Pairs, no_pairs, with_pair}
 use Rattle.wb_states.specs.declared.refusal.Refusal.{Refusal}
 use Rattle.wb_merge.specs.declared.listing.Listed.{Listed}

@@ -1,9 +1,10 @@
 -- The words of a text, which spaces and tabs part.
 use Rattle.std.proofs.Common.{◌≡◌, ℕ, Bool, not, ◌&&◌, ◌||◌, List, [], ◌∷◌, filter, refl, ap, ◌∙◌}
 use Rattle.std.specs.List.{slice_split, flat_map, list_any}
-use Rattle.deb_control.specs.Lines.{is_filled, is_blank, words_in}
-use Rattle.deb_control.proofs.WordLemmas.{spaces, tabs, tabs-spaces}
-use Rattle.wb_states.specs.Record.{is_empty_text}
+use Rattle.deb_text.specs.Lists.{is_filled}
+use Rattle.deb_text.specs.Lines.{is_blank, words_in}
+use Rattle.deb_text.proofs.WordLemmas.{spaces, tabs, tabs-spaces}
+use Rattle.deb_text.specs.Text.{is_empty_text}
 
 -- a part that is no word passes no test
 abbrev pub passes_as_word : (List ℕ → Bool) → List ℕ → Bool

@@ -3,7 +3,7 @@ use Rattle.std.specs.Prelude.{refl}
 use Rattle.std.specs.Coded.{Coded, code_by, coded×}
 use Rattle.std.specs.FinMap as map
 use Rattle.deb_relations.specs.Satisfaction.{Pairs, coded_pairs}
-use Rattle.deb_relations.specs.Text.{text_cmp, coded_text}
+use Rattle.deb_text.specs.Text.{text_cmp, coded_text}
 use Rattle.wb_merge.specs.declared.listing.Listed.{Listed}
 use Rattle.wb_merge.specs.declared.listing.Built.{Built}
 use Rattle.wb_merge.specs.contracts.listing.Listed as listed

@@ -10,14 +10,13 @@ use Rattle.deb_version.specs.Order.{version_cmp}
 use Rattle.deb_relations.specs.declared.arch.ArchWords.{ArchWords}
 use Rattle.deb_relations.specs.declared.fault.RelationFault.{RelationFault}
 use Rattle.deb_relations.specs.declared.relations.Alternative.{Alternative}
-use Rattle.deb_relations.specs.Text.{text_cmp}
+use Rattle.deb_text.specs.Text.{text_cmp, is_empty_text}
 use Rattle.deb_relations.specs.Arch.{arch_matches}
 use Rattle.deb_relations.specs.Reading.{reading_of}
 use Rattle.deb_relations.specs.Satisfaction.{Pairs, no_pairs, with_pair}
 use Rattle.wb_states.specs.declared.refusal.Refusal.{Refusal}
 use Rattle.wb_states.specs.Limits.{relations_limit}
 use Rattle.wb_states.specs.Moves.{waits_for}
-use Rattle.wb_states.specs.Record.{is_empty_text}
 use Rattle.wb_merge.specs.declared.listing.Listed.{Listed}
 use Rattle.wb_merge.specs.declared.listing.Built.{Built}
 use Rattle.wb_merge.specs.Rows.{SourceRow, BinaryRow, source_rows, binary_rows}

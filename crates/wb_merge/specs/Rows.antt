@@ -1,12 +1,14 @@
--- The rows that a merge reads from the archive's lists, and their faults (Debian Policy 5.3 and 5.6; this project's own where a line says so).
+-- The rows that a merge reads from the archive's lists, and their faults (Debian Policy 5.3, 5.4 and 5.6; this project's own where a line says so).
 use Rattle.std.specs.Prelude.{◌≡◌, IsOk, IsTrue, ℕ, ◌+◌, Bool, not, ◌&&◌, ◌||◌, ◌==◌, nat_le, List, [], ◌∷◌, ◌++◌, length, reverse, codes, bytes_eq, Option, Some, None, Result, Ok, Err, if◌then◌else◌, nat_eq}
-use Rattle.std.specs.Option.{option_map, option_or, unwrap_or}
+use Rattle.std.specs.Option.{option_map, unwrap_or}
 use Rattle.std.specs.Result.{result_map_both}
 use Rattle.std.specs.List.{AllByRecursion, AllZip, list_any, before_first, after_first, take_while, ends_with}
 use Rattle.std.specs.Char.{is_ascii_digit}
-use Rattle.deb_version.specs.Syntax.{is_version_text, value_of, ok_unless}
+use Rattle.deb_version.specs.Syntax.{is_version_text, value_of}
+use Rattle.deb_text.specs.Options.{ok_unless, has_value, first_some}
 use Rattle.deb_control.specs.declared.fault.ControlFaultKind.{ControlFaultKind}
-use Rattle.deb_control.specs.Lines.{lines_of, paragraphs_in, words_in}
+use Rattle.deb_control.specs.Lines.{lines_of, paragraphs_in}
+use Rattle.deb_text.specs.Lines.{words_in}
 use Rattle.deb_control.specs.Fields.{Entry, field_named, folded_of, reading_of}
 use Rattle.wb_states.specs.declared.refusal.Refusal.{Refusal}
 use Rattle.wb_states.specs.declared.refusal.Refusal.TheVariants.{BadListing}
@@ -16,10 +18,9 @@ use Rattle.wb_states.specs.declared.refusal.ListField.{ListField}
 use Rattle.wb_states.specs.declared.refusal.ListField.TheVariants.{Package, Version, Architecture, Priority, Section, Source}
 use Rattle.wb_states.specs.declared.refusal.ListingFault.{ListingFault}
 use Rattle.wb_states.specs.declared.refusal.ListingFault.TheVariants.{Control, Missing, BadValue}
-use Rattle.wb_states.specs.Holds.{has_value}
 use Rattle.deb_relations.specs.Names.{is_package_name}
 use Rattle.wb_states.specs.Names.{is_label_text}
-use Rattle.wb_states.specs.Record.{is_empty_text}
+use Rattle.deb_text.specs.Text.{is_empty_text}
 use Rattle.wb_states.specs.Refusals.{name_of_field}
 
 -- ---- the values of a paragraph
@@ -112,12 +113,7 @@ form_fault field has_form (Some text) = spare_form_fault field has_form (Some te
 unfoldable pub wanted_fault : ListField → (List ℕ → Bool) → List Entry → Option ListingFault
 wanted_fault field has_form fields = form_fault field has_form (value_named (name_of_field field) fields)
 
--- the first of some that is there
-abbrev pub first_some : {X : Type 0} → List (Option X) → Option X
-first_some [] = None
-first_some (one ∷ later) = option_or one (first_some later)
-
--- what is wrong with a paragraph of a Sources list: its fields in their order (Debian Policy 5.3)
+-- what is wrong with a paragraph of a Sources list: its fields in their order (Debian Policy 5.4)
 unfoldable pub source_fault : List Entry → Option ListingFault
 source_fault fields = first_some (
     wanted_fault Package is_package_name fields

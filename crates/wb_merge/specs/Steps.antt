@@ -3,7 +3,7 @@ use Rattle.std.specs.Prelude.{◌≡◌, ℕ, ◌+◌, ◌≤◌, Option, if◌t
 use Rattle.std.specs.Ordering.{eq_by_cmp}
 use Rattle.std.specs.FinMap as finite
 pub use Rattle.wb_states.specs.Machine.{Key}
-use Rattle.wb_states.specs.Machine.{pair_cmp}
+use Rattle.deb_text.specs.Text.{pair_cmp}
 use Rattle.wb_states.specs.declared.record.Record.{Record}
 use Rattle.wb_states.specs.declared.reply.MergeCounts.{MergeCounts}
 use Rattle.wb_merge.specs.declared.merge.Change.{Change}

@@ -5,12 +5,12 @@ ghost use Rattle.deb_version.specs.Syntax.{is_version_text};
 ghost use Rattle.wb_states.specs.declared.refusal.ListingFault.TheVariants.{Control, Missing, BadValue};
 ghost use Rattle.wb_states.specs.declared.refusal.ListField.TheVariants.{Package, Version as VersionField, Architecture};
 ghost use Rattle.deb_relations.specs.Names.{is_package_name};
-ghost use Rattle.wb_states.specs.Record.{is_empty_text};
+ghost use Rattle.deb_text.specs.Text.{is_empty_text};
 ghost use Rattle.wb_states.specs.Refusals.{name_of_field};
 ghost use Rattle.wb_merge.specs.Rows.{value_named, text_named, is_label_or_empty, wanted_fault, spare_fault};
 
 use deb_control::{ControlFaultKind, Paragraph};
-use deb_relations::Text;
+use deb_text::Text;
 use deb_version::{Version, VersionFault};
 use std::alloc::Global;
 use wb_states::{ListField, ListingFault, is_label, is_source};

@@ -9,7 +9,7 @@ ghost use Rattle.wb_merge.specs.Steps.{record_at, IsSetAt, AreWithin, counted};
 
 use crate::Listing;
 use crate::record::after;
-use deb_relations::Text;
+use deb_text::Text;
 use std::alloc::Global;
 use std::collections::BTreeMap;
 use wb_states::{MergeCounts, Record, Refusal};

@@ -2,14 +2,15 @@
 ghost use Rattle.std.specs.Prelude.{◌≡◌, IfOk, IfErr, OnOk};
 ghost use Rattle.std.specs.FinMap as map;
 ghost use Rattle.deb_relations.specs.declared.arch.ArchWords.{ArchWords as Arch};
-ghost use Rattle.deb_relations.specs.Text.{text_cmp};
+ghost use Rattle.deb_text.specs.Text.{text_cmp};
 ghost use Rattle.wb_states.specs.declared.refusal.Refusal.TheVariants.{Memory};
 ghost use Rattle.wb_merge.specs.Listing.{printed_for, joined, depends_of, listed_as, listed_cmp, built_as, built_cmp, is_better};
 ghost use Rattle.wb_merge.specs.Offers.{with_listed, with_build, with_package};
 
 use crate::rows::{BinaryRow, SourceRow};
 use crate::{Built, Listed};
-use deb_relations::{ArchWords, Available, RELATIONS_LIMIT, RelationFault, Relations, Text};
+use deb_relations::{ArchWords, Available, RELATIONS_LIMIT, RelationFault, Relations};
+use deb_text::Text;
 use deb_version::compare;
 use std::alloc::{AllocError, Global};
 use std::collections::BTreeMap;

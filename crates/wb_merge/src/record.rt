@@ -9,7 +9,8 @@ ghost use Rattle.wb_states.specs.State.{is_dep_wait};
 ghost use Rattle.wb_merge.specs.Merge.{record_after, covers, built_number, are_waits_met, relisted, blank_record, new_state, new_number, new_record, newer_state, newer_number, newer_record, same_state, same_number, same_record, listed_record};
 
 use crate::{Built, Listed, Listing};
-use deb_relations::{Available, RelationFault, Relations, Text};
+use deb_relations::{Available, RelationFault, Relations};
+use deb_text::Text;
 use deb_version::{Version, compare};
 use std::alloc::Global;
 use std::cmp::Ordering;

@@ -2,18 +2,19 @@
 ghost use Rattle.std.specs.Prelude.{◌≡◌, ◌≢◌, Ok, Err, Some, None, not, ◌&&◌, true, false, IfOk, IfErr, OnOk, codes};
 ghost use Rattle.std.specs.List.{list_any};
 ghost use Rattle.deb_control.specs.declared.fault.ControlFaultKind.TheVariants.{Memory};
-ghost use Rattle.deb_control.specs.Lines.{words_in};
+ghost use Rattle.deb_text.specs.Lines.{words_in};
 ghost use Rattle.deb_relations.specs.Arch.{arch_matches};
 ghost use Rattle.wb_states.specs.declared.refusal.ListingFault.TheVariants.{Control, BadValue};
 ghost use Rattle.wb_states.specs.declared.refusal.ListField.TheVariants.{Source};
-ghost use Rattle.wb_states.specs.Record.{is_empty_text};
+ghost use Rattle.deb_text.specs.Text.{is_empty_text};
 ghost use Rattle.wb_merge.specs.Rows.{value_named, is_source_text, spare_fault, source_row_of, binary_row_of, with_source};
 ghost use Rattle.wb_merge.specs.Listing.{is_listed};
 
 use crate::fields::{architectures, label, package_name, package_version, text, value};
 use crate::source::{parse_source, rebuild_number};
 use deb_control::Paragraph;
-use deb_relations::{ArchWords, Text, arch_matches};
+use deb_relations::{ArchWords, arch_matches};
+use deb_text::Text;
 use deb_version::Version;
 use std::alloc::Global;
 use std::marker::Model;
@@ -36,7 +37,7 @@ fn has_match(words: &str, arch: &ArchWords) -> bool
         .any(|part| is_match(part, arch))
 }
 
-/// What a merge reads from a paragraph of a Sources list (Debian Policy 5.3).
+/// What a merge reads from a paragraph of a Sources list (Debian Policy 5.4).
 #[derive(Drop)]
 pub(crate) struct SourceRow {
     pub(crate) name: Text,
@@ -50,7 +51,7 @@ pub(crate) struct SourceRow {
 }
 
 impl Model for SourceRow {
-    ghost use Rattle.deb_control.specs.Lines.{words_in};
+    ghost use Rattle.deb_text.specs.Lines.{words_in};
     ghost use Rattle.wb_merge.specs.Rows.{SourceRow};
 
     ghost Value = { SourceRow };

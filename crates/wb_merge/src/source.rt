@@ -7,13 +7,13 @@ ghost use Rattle.deb_control.specs.declared.fault.ControlFaultKind.TheVariants.{
 ghost use Rattle.deb_version.specs.Syntax.{is_version_text};
 ghost use Rattle.wb_states.specs.declared.refusal.ListingFault.TheVariants.{Control, BadValue};
 ghost use Rattle.wb_states.specs.declared.refusal.ListField.TheVariants.{Source};
-ghost use Rattle.wb_states.specs.Holds.{has_value};
+ghost use Rattle.deb_text.specs.Options.{has_value};
 ghost use Rattle.wb_merge.specs.Rows.{source_name, has_source_version, in_brackets, is_space, source_version, is_source_text, rebuild_number, NamesSource};
 ghost use Rattle.wb_merge.specs.Backwards.{begins_plus_b};
-ghost use Rattle.deb_relations.specs.Text.{begins};
+ghost use Rattle.deb_text.specs.Lists.{begins};
 
 use crate::fields::parse_version;
-use deb_relations::Text;
+use deb_text::Text;
 use deb_version::Version;
 use std::alloc::Global;
 use wb_states::{ListField, ListingFault, is_source};

@@ -19,7 +19,7 @@ use Rattle.wb_states.specs.Machine.{Machine, arch_words}
 use Rattle.deb_relations.specs.Names.{is_package_name}
 use Rattle.wb_states.specs.Names.{is_arch_name, is_builder_name}
 use Rattle.wb_states.specs.Queue.{Entry}
-use Rattle.wb_states.specs.Record.{IsTextWithin}
+use Rattle.deb_text.specs.Text.{IsTextWithin}
 use Rattle.wb_states.proofs.QueueLemmas.{head_of-waits}
 use Rattle.wb_office.specs.Moving.{target_of, move_asked}
 use Rattle.wb_office.specs.Utf8.{HasUtf8Texts}

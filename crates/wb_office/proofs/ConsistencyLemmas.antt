@@ -9,10 +9,10 @@ use Rattle.std.proofs.lemmas.Bool.{or_right}
 use Rattle.wb_states.specs.declared.arch.OsCpu.{OsCpu}
 use Rattle.wb_states.specs.declared.record.Record.{Record}
 use Rattle.wb_states.specs.Limits.{count_limit}
-use Rattle.wb_states.specs.Machine.{Machine, empty_office, pair_cmp, arch_words, with_words, AreWaits, IsArch, IsBuilder, IsRecord, HasDistinctTakes, IsConsistent}
+use Rattle.wb_states.specs.Machine.{Machine, empty_office, arch_words, with_words, AreWaits, IsArch, IsBuilder, IsRecord, HasDistinctTakes, IsConsistent}
+use Rattle.deb_text.specs.Text.{pair_cmp, text_cmp}
 use Rattle.deb_relations.specs.declared.arch.ArchWords.{ArchWords}
-use Rattle.deb_relations.specs.Text.{text_cmp}
-use Rattle.wb_states.proofs.KeyLemmas.{text_cmp_total, text_cmp-same, pair_cmp_total, pair_cmp-same, eq_by_cmp-same, insert_all}
+use Rattle.deb_text.proofs.KeyLemmas.{text_cmp_total, text_cmp-same, pair_cmp_total, pair_cmp-same, eq_by_cmp-same, insert_all}
 
 pub IsConsistent-empty_office : IsConsistent empty_office
 unfolding empty_office

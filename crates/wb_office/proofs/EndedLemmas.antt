@@ -10,12 +10,14 @@ use Rattle.wb_states.specs.declared.moves.Move.{Move}
 use Rattle.wb_states.specs.declared.moves.Move.TheVariants as to
 use Rattle.wb_states.specs.declared.record.Record.{Record}
 use Rattle.wb_states.specs.declared.refusal.Refusal.TheVariants.{NotHeld}
-use Rattle.wb_states.specs.Holds.{has_value, is_taken_as, taken_as}
+use Rattle.wb_states.specs.Holds.{is_taken_as, taken_as}
+use Rattle.deb_text.specs.Options.{has_value}
 use Rattle.wb_states.specs.Machine.{Machine}
 use Rattle.wb_states.specs.Moves.{moved}
-use Rattle.wb_states.specs.Queue.{Entry, first_of, IsIn}
-use Rattle.wb_states.proofs.KeyLemmas.{pair_cmp_total, pair_cmp-same, insert_all}
-use Rattle.wb_states.proofs.QueueLemmas.{IsIn-filter, IsIn-find}
+use Rattle.wb_states.specs.Queue.{Entry}
+use Rattle.deb_text.specs.Lists.{first_of, IsIn}
+use Rattle.deb_text.proofs.KeyLemmas.{pair_cmp_total, pair_cmp-same, insert_all}
+use Rattle.deb_text.proofs.SortedLemmas.{IsIn-filter, IsIn-find}
 use Rattle.wb_merge.specs.declared.listing.Listed.{Listed}
 use Rattle.wb_merge.specs.declared.listing.Built.{Built as WasBuilt}
 use Rattle.wb_merge.specs.Merge.{record_after}

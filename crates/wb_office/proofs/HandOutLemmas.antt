@@ -12,12 +12,12 @@ use Rattle.wb_states.specs.declared.moves.Move.TheVariants as to
 use Rattle.wb_states.specs.declared.record.Record.{Record}
 use Rattle.wb_states.specs.declared.state.State.{State}
 use Rattle.wb_states.specs.declared.state.State.TheVariants.{NeedsBuild}
-use Rattle.wb_states.specs.Holds.{has_value}
+use Rattle.deb_text.specs.Options.{has_value}
 use Rattle.wb_states.specs.Machine.{Machine}
 use Rattle.wb_states.specs.Moves.{moved, may_go}
 use Rattle.wb_states.specs.Queue.{Entry}
 use Rattle.wb_states.specs.State.{is_held}
-use Rattle.wb_states.proofs.KeyLemmas.{pair_cmp_total}
+use Rattle.deb_text.proofs.KeyLemmas.{pair_cmp_total}
 use Rattle.wb_office.specs.Checks.{first_refusal}
 use Rattle.wb_office.specs.HandOuts.{HandOut, IsBeingBuilt, HasTakeByState, HasTakesByState, Ends, Rise, given_by, hand_out, hand_outs, holds, is_held_as}
 use Rattle.wb_office.specs.Moving.{target_of, moving, with_move, again_of}

@@ -14,10 +14,12 @@ use Rattle.wb_states.specs.declared.record.Record.{Record}
 use Rattle.wb_states.specs.declared.reply.Assignment.{Assignment}
 use Rattle.wb_states.specs.declared.reply.Reply.TheVariants.{Job}
 use Rattle.wb_states.specs.declared.state.State.TheVariants.{Building, NeedsBuild}
-use Rattle.wb_states.specs.Machine.{Machine, pair_cmp}
+use Rattle.wb_states.specs.Machine.{Machine}
+use Rattle.deb_text.specs.Text.{pair_cmp}
 use Rattle.wb_states.specs.Moves.{moved}
-use Rattle.wb_states.specs.Queue.{Entry, IsIn, IsWaitingAt, entry_cmp, first_of, head_of, place_cmp_total, place_of, queue_of}
-use Rattle.wb_states.proofs.KeyLemmas.{pair_cmp_total, pair_cmp-same, eq_by_cmp-same}
+use Rattle.wb_states.specs.Queue.{Entry, IsWaitingAt, entry_cmp, head_of, place_cmp_total, place_of, queue_of}
+use Rattle.deb_text.specs.Lists.{IsIn, first_of}
+use Rattle.deb_text.proofs.KeyLemmas.{pair_cmp_total, pair_cmp-same, eq_by_cmp-same}
 use Rattle.wb_states.proofs.QueueLemmas.{IsIn-queue_of, head_of-waits, sorted-queue_of}
 use Rattle.wb_merge.specs.Merged.{Records}
 use Rattle.wb_office.specs.Step.{step}

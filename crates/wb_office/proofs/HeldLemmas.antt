@@ -16,7 +16,7 @@ use Rattle.wb_states.specs.Limits.{count_limit}
 use Rattle.wb_states.specs.Machine.{Machine, arch_words}
 use Rattle.wb_states.specs.Moves.{move_refusal}
 use Rattle.wb_states.specs.Queue.{Entry}
-use Rattle.wb_merge.specs.Rows.{first_some}
+use Rattle.deb_text.specs.Options.{first_some}
 use Rattle.wb_office.specs.Checks.{when, relations_refusal, text_refusal, state_refusal}
 use Rattle.wb_office.specs.Found.{outcome_unless, move_step, taken_at, taken_step}
 use Rattle.wb_office.specs.Moving.{moving}

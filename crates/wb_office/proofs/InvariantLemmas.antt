@@ -14,7 +14,8 @@ use Rattle.wb_states.specs.Moves.{moved, move_refusal}
 use Rattle.deb_relations.specs.Names.{is_package_name}
 use Rattle.wb_states.specs.Names.{is_arch_name, is_os_cpu_word, is_builder_name, is_label_text}
 use Rattle.wb_states.specs.Queue.{Entry}
-use Rattle.wb_states.specs.Record.{IsWellFormed, is_empty_text}
+use Rattle.wb_states.specs.Record.{IsWellFormed}
+use Rattle.deb_text.specs.Text.{is_empty_text}
 use Rattle.wb_office.specs.Moving.{again_of, moving}
 use Rattle.wb_office.specs.Replay.{replay}
 use Rattle.wb_office.specs.Step.{step, state_after, counted, entered, after_move, after_take}

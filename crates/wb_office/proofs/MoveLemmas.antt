@@ -2,7 +2,7 @@
 use Rattle.std.proofs.Common.{◌≡◌, ℕ, ◌+◌, true, false, List, Some, None, Ok, Err, sym, ◌∙◌, nat_le}
 use Rattle.std.specs.FinMap as map
 use Rattle.std.specs.Option.{option_or}
-use Rattle.deb_version.proofs.ReadingLemmas.{ok_unless-Ok, ok_unless-Err}
+use Rattle.deb_text.proofs.OptionLemmas.{ok_unless-Ok, ok_unless-Err}
 use Rattle.wb_states.specs.declared.moves.Move.{Move}
 use Rattle.wb_states.specs.declared.record.Record.{Record}
 use Rattle.wb_states.specs.declared.refusal.Refusal.{Refusal}

@@ -1,7 +1,7 @@
 -- A record that is moved keeps its form, and has a holder, a take number and waits that it may have.
 use Rattle.std.proofs.Common.{◌≡◌, ℕ, ◌+◌, ◌≤◌, List, None, IsTrue, IfSome, inl, inr, refl, sym, ap, subst}
 use Rattle.std.specs.FinSet as set
-use Rattle.deb_version.specs.Syntax.{ok_unless}
+use Rattle.deb_text.specs.Options.{ok_unless}
 use Rattle.deb_relations.specs.Grammar.{Reads}
 use Rattle.deb_relations.specs.Printing.{printed}
 use Rattle.deb_relations.specs.Reduction.{reduced}
@@ -12,7 +12,8 @@ use Rattle.wb_states.specs.Limits.{rebuild_limit, note_limit}
 use Rattle.wb_states.specs.Machine.{Machine, arch_words, AreWaits}
 use Rattle.wb_states.specs.Moves.{moved, move_of, move_refusal}
 use Rattle.wb_states.specs.Names.{is_builder_name}
-use Rattle.wb_states.specs.Record.{IsWellFormed, IsTextWithin}
+use Rattle.wb_states.specs.Record.{IsWellFormed}
+use Rattle.deb_text.specs.Text.{IsTextWithin}
 use Rattle.wb_states.specs.Table.{HasForm}
 use Rattle.wb_states.proofs.MoveFormLemmas.{move_of-well}
 

@@ -7,9 +7,11 @@ use Rattle.wb_states.specs.declared.moves.Move.{Move}
 use Rattle.wb_states.specs.Holds.{is_taken_as, taken_as}
 use Rattle.wb_states.specs.Machine.{Machine, arch_words}
 use Rattle.wb_states.specs.Moves.{move_refusal}
-use Rattle.wb_states.specs.Queue.{Entry, first_of, IsIn}
-use Rattle.wb_states.proofs.KeyLemmas.{pair_cmp_total, pair_cmp-same}
-use Rattle.wb_states.proofs.QueueLemmas.{head_of-waits, IsIn-filter, IsIn-find}
+use Rattle.wb_states.specs.Queue.{Entry}
+use Rattle.deb_text.specs.Lists.{first_of, IsIn}
+use Rattle.deb_text.proofs.KeyLemmas.{pair_cmp_total, pair_cmp-same}
+use Rattle.wb_states.proofs.QueueLemmas.{head_of-waits}
+use Rattle.deb_text.proofs.SortedLemmas.{IsIn-filter, IsIn-find}
 use Rattle.wb_office.specs.Checks.{refused_move}
 use Rattle.wb_office.specs.Moving.{record_named, target_of, move_asked, with_move, moving}
 

@@ -14,7 +14,7 @@ use Rattle.wb_states.specs.Machine.{Machine, arch_words}
 use Rattle.wb_states.specs.Moves.{move_refusal}
 use Rattle.wb_states.specs.Queue.{Entry}
 use Rattle.deb_relations.specs.Reading.{reading_of}
-use Rattle.wb_merge.specs.Rows.{first_some}
+use Rattle.deb_text.specs.Options.{first_some}
 use Rattle.wb_office.specs.Checks.{when, differing, text_refusal, state_refusal}
 use Rattle.wb_office.specs.Found.{outcome_unless, move_step, found_refusal, named_at, named_step}
 use Rattle.wb_office.specs.Moving.{moving, record_named, with_move}

@@ -15,7 +15,7 @@ use Rattle.wb_states.specs.Moves.{move_refusal, may_go}
 use Rattle.wb_states.specs.Queue.{Entry, head_of}
 use Rattle.wb_states.proofs.QueueLemmas.{head_of-waits}
 use Rattle.wb_store.specs.Lookups.{named}
-use Rattle.wb_merge.specs.Rows.{first_some}
+use Rattle.deb_text.specs.Options.{first_some}
 use Rattle.wb_office.specs.Checks.{when, has_bad_name, is_ahead, is_for_other_archs, lacks_arch, lacks_builder, text_refusal, state_refusal, first_refusal}
 use Rattle.wb_office.specs.Found.{outcome_unless, builder_refusal, head_at, head_step, assignment_step, take_move, held_assignment}
 use Rattle.wb_office.specs.Moving.{again_of, moving}

@@ -10,7 +10,7 @@ use Rattle.wb_states.specs.declared.refusal.Refusal.TheVariants.{BadName, BadNum
 use Rattle.wb_states.specs.Limits.{count_limit}
 use Rattle.wb_states.specs.Machine.{Machine}
 use Rattle.wb_states.specs.Names.{is_arch_name}
-use Rattle.wb_merge.specs.Rows.{first_some}
+use Rattle.deb_text.specs.Options.{first_some}
 use Rattle.wb_office.specs.Checks.{first_refusal, has_repeated_arch, state_refusal, text_refusal, when}
 use Rattle.wb_office.specs.Moving.{moving}
 use Rattle.wb_office.specs.Parts.{is_good, parts_refusal, part_listing}

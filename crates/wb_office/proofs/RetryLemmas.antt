@@ -16,10 +16,12 @@ use Rattle.wb_states.specs.declared.state.State.TheVariants.{Building}
 use Rattle.wb_states.specs.Holds.{building_after, held_of, is_building_after, is_held_by, take_cmp, take_of}
 use Rattle.wb_states.specs.Machine.{IsConsistent, IsRecord, Machine}
 use Rattle.wb_states.specs.Moves.{moved}
-use Rattle.wb_states.specs.Queue.{Entry, IsIn, head_of}
+use Rattle.wb_states.specs.Queue.{Entry, head_of}
+use Rattle.deb_text.specs.Lists.{IsIn}
 use Rattle.wb_states.specs.State.{code_of}
-use Rattle.wb_states.proofs.KeyLemmas.{pair_cmp_total, pair_cmp-same, insert_all}
-use Rattle.wb_states.proofs.QueueLemmas.{IsIn-filter, IsIn-find, IsIn-sorted_by, head_of-waits}
+use Rattle.deb_text.proofs.KeyLemmas.{pair_cmp_total, pair_cmp-same, insert_all}
+use Rattle.wb_states.proofs.QueueLemmas.{head_of-waits}
+use Rattle.deb_text.proofs.SortedLemmas.{IsIn-filter, IsIn-find, IsIn-sorted_by}
 use Rattle.wb_office.specs.Checks.{first_refusal}
 use Rattle.wb_office.specs.Found.{held_assignment}
 use Rattle.wb_office.specs.Moving.{again_of, moving, with_move}

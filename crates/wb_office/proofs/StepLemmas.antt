@@ -4,7 +4,7 @@ use Rattle.std.proofs.Common.{◌≡◌, [], ◌∷◌, Option, Some, None, Resu
 use Rattle.wb_states.specs.declared.command.Command.{Command}
 use Rattle.wb_states.specs.declared.refusal.Refusal.{Refusal}
 use Rattle.wb_states.specs.Machine.{Machine}
-use Rattle.wb_merge.specs.Rows.{first_some}
+use Rattle.deb_text.specs.Options.{first_some}
 use Rattle.wb_office.specs.Checks.{text_refusal, state_refusal, first_refusal}
 use Rattle.wb_office.specs.Found.{outcome_unless}
 use Rattle.wb_office.specs.Moving.{again_of}

@@ -12,7 +12,7 @@ use Rattle.wb_states.specs.Limits.{count_limit}
 use Rattle.wb_states.specs.Machine.{Machine}
 use Rattle.wb_states.specs.Moves.{move_refusal}
 use Rattle.wb_states.specs.Queue.{Entry}
-use Rattle.wb_merge.specs.Rows.{first_some}
+use Rattle.deb_text.specs.Options.{first_some}
 use Rattle.wb_office.specs.Checks.{when, differing, has_bad_name, lacks_arch, lacks_builder, is_for_other_archs, text_refusal, state_refusal}
 use Rattle.wb_office.specs.Found.{outcome_unless, builder_refusal, found_refusal, assignment_step, named_at, take_move, take_step}
 use Rattle.wb_office.specs.Moving.{moving, record_named}

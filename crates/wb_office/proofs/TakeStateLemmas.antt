@@ -14,10 +14,11 @@ use Rattle.wb_states.specs.declared.record.Record.{Record}
 use Rattle.wb_states.specs.declared.refusal.Refusal.TheVariants.{WrongState}
 use Rattle.wb_states.specs.declared.state.State.{State}
 use Rattle.wb_states.specs.declared.state.State.TheVariants.{NeedsBuild, Installed, NotForUs}
-use Rattle.wb_states.specs.Machine.{IsConsistent, IsRecord, Machine, empty_office, pair_cmp}
+use Rattle.wb_states.specs.Machine.{IsConsistent, IsRecord, Machine, empty_office}
+use Rattle.deb_text.specs.Text.{pair_cmp}
 use Rattle.wb_states.specs.Moves.{moved, settled_in, may_go, move_refusal, value_refusal}
 use Rattle.wb_states.specs.State.{is_held}
-use Rattle.wb_states.proofs.KeyLemmas.{pair_cmp_total, pair_cmp-same, insert_all}
+use Rattle.deb_text.proofs.KeyLemmas.{pair_cmp_total, pair_cmp-same, insert_all}
 use Rattle.wb_states.proofs.MoveFormLemmas.{held-before-built, held-before-uploaded}
 use Rattle.wb_merge.specs.declared.listing.Listed.{Listed}
 use Rattle.wb_merge.specs.declared.listing.Built.{Built as WasBuilt}

@@ -8,8 +8,8 @@ use Rattle.wb_states.specs.declared.refusal.Refusal.{Refusal}
 use Rattle.wb_states.specs.declared.refusal.Refusal.TheVariants.{Memory, BadName, BadVersion}
 use Rattle.wb_states.specs.Limits.{note_limit, rebuild_limit, relations_limit}
 use Rattle.wb_states.specs.Machine.{Machine}
-use Rattle.wb_merge.specs.Rows.{first_some}
-use Rattle.wb_merge.proofs.CheckLemmas.{first_some-None}
+use Rattle.deb_text.specs.Options.{first_some}
+use Rattle.deb_text.proofs.OptionLemmas.{first_some-None}
 use Rattle.wb_office.specs.Checks.{MayWantMemory, first_refusal, has_bad_key, when, text_refusal}
 use Rattle.wb_office.specs.Found.{key_refusal}
 use Rattle.wb_office.proofs.PassLemmas.{passes, when-None, option_map-None}

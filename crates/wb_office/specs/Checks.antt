@@ -12,21 +12,21 @@ use Rattle.deb_version.specs.Syntax.{fault_of}
 use Rattle.deb_version.specs.declared.fault.VersionFault.TheVariants.{Memory as NoMemory}
 use Rattle.deb_relations.specs.declared.fault.RelationFault.{RelationFault}
 use Rattle.deb_relations.specs.Reading.{reading_of}
-use Rattle.deb_relations.specs.Reduction.{is_filled}
+use Rattle.deb_text.specs.Lists.{is_filled}
 use Rattle.wb_states.specs.declared.command.Command.{Command}
 use Rattle.wb_states.specs.declared.command.Command.TheVariants.{AddArch, AddBuilder, Enter, Next, Take, Built, Uploaded, Waits, PutBack, GiveBack, DepWait, Fail, NotForUs, Rebuild, Merge}
 use Rattle.wb_states.specs.declared.command.Part.{Part}
 use Rattle.wb_states.specs.declared.record.Record.{Record}
 use Rattle.wb_states.specs.declared.refusal.Refusal.{Refusal}
 use Rattle.wb_states.specs.declared.refusal.Refusal.TheVariants.{UnknownArch, UnknownBuilder, WrongArch, UnknownSource, OtherVersion, QueueEmpty, NotHeld, AfterAhead, AlreadyThere, BadName, BadVersion, BadRelations, BadNumber, TextTooLong, Spent, RepeatedArch, Memory}
-use Rattle.wb_states.specs.Holds.{has_value, taken_as}
+use Rattle.wb_states.specs.Holds.{taken_as}
+use Rattle.deb_text.specs.Options.{has_value, first_some}
 use Rattle.wb_states.specs.Limits.{count_limit, note_limit, rebuild_limit, relations_limit}
 use Rattle.wb_states.specs.Machine.{Machine, archs_of}
 use Rattle.wb_states.specs.Moves.{move_refusal}
 use Rattle.deb_relations.specs.Names.{is_package_name}
 use Rattle.wb_states.specs.Names.{is_arch_name, is_os_cpu_word, is_builder_name, is_label_text}
 use Rattle.wb_states.specs.Queue.{head_of}
-use Rattle.wb_merge.specs.Rows.{first_some}
 use Rattle.wb_office.specs.Moving.{again_of, moving}
 use Rattle.wb_office.specs.Parts.{parts_refusal}
 

@@ -14,7 +14,7 @@ use Rattle.wb_states.specs.Limits.{count_limit}
 use Rattle.wb_states.specs.Machine.{Machine}
 use Rattle.wb_states.specs.Moves.{move_refusal}
 use Rattle.wb_states.specs.Queue.{Entry, head_of}
-use Rattle.wb_merge.specs.Rows.{first_some}
+use Rattle.deb_text.specs.Options.{first_some}
 use Rattle.wb_office.specs.Checks.{differing, is_for_other_archs, lacks_arch, lacks_builder, lacks_source, other_version, text_refusal, when}
 use Rattle.wb_office.specs.Step.{Outcome, assignment_of, counted, after_move, after_take, assignment_reply}
 

@@ -9,7 +9,7 @@ use Rattle.wb_states.specs.declared.reply.Reply.{Reply}
 use Rattle.wb_states.specs.declared.reply.Reply.TheVariants.{Job}
 use Rattle.wb_states.specs.declared.refusal.Refusal.{Refusal}
 use Rattle.wb_states.specs.declared.state.State.TheVariants.{Building}
-use Rattle.wb_states.specs.Holds.{has_value}
+use Rattle.deb_text.specs.Options.{has_value}
 use Rattle.wb_states.specs.Machine.{Machine}
 use Rattle.wb_states.specs.State.{is_held}
 use Rattle.wb_office.specs.Step.{step}

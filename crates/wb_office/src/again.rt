@@ -10,7 +10,7 @@ ghost use Rattle.wb_office.specs.Moving.{again_of};
 ghost use Rattle.wb_office.specs.Found.{held_assignment};
 
 use crate::builder::assignment;
-use deb_relations::Text;
+use deb_text::Text;
 use std::alloc::Global;
 use wb_states::{Assignment, Record, Refusal, State};
 use wb_store::Store;

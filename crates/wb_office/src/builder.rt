@@ -18,7 +18,7 @@ use crate::checks::{
 use crate::forms::{is_bad_asker, is_bad_taker};
 use crate::moved::{Moved, move_checked};
 use crate::texts::read_version;
-use deb_relations::Text;
+use deb_text::Text;
 use deb_version::Version;
 use std::alloc::Global;
 use wb_states::{Assignment, COUNT_LIMIT, Counts, Move, Record, Refusal, Reply, build_text};

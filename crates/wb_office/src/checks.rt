@@ -2,7 +2,7 @@
 ghost use Rattle.std.specs.Prelude.{◌≡◌, ◌≢◌, [], None, Some, not, nat_le, ◌||◌, IfOk, IfErr};
 ghost use Rattle.std.specs.FinMap as map;
 ghost use Rattle.std.specs.FinSet as set;
-ghost use Rattle.deb_relations.specs.Reduction.{is_filled};
+ghost use Rattle.deb_text.specs.Lists.{is_filled};
 ghost use Rattle.wb_states.specs.declared.command.Command.TheVariants.{Next};
 ghost use Rattle.wb_states.specs.Limits.{count_limit};
 ghost use Rattle.wb_states.specs.declared.refusal.Refusal.TheVariants.{Memory};
@@ -10,7 +10,8 @@ ghost use Rattle.wb_states.specs.Machine.{archs_of, arch_words};
 ghost use Rattle.wb_office.specs.Checks.{differing, is_ahead};
 ghost use Rattle.wb_office.specs.Found.{found_refusal};
 
-use deb_relations::{ArchWords, Text};
+use deb_relations::ArchWords;
+use deb_text::Text;
 use deb_version::{Version, compare};
 use std::alloc::{AllocError, Global};
 use wb_states::{COUNT_LIMIT, Record, Refusal};

@@ -3,7 +3,7 @@ ghost use Rattle.std.specs.Prelude.{◌≡◌, [], None};
 ghost use Rattle.wb_states.specs.declared.command.Command.TheVariants.{AddArch, AddBuilder, Enter, Next, Take};
 ghost use Rattle.wb_office.specs.Checks.{has_bad_key, has_bad_name};
 
-use deb_relations::Text;
+use deb_text::Text;
 use wb_states::{is_arch, is_builder, is_label, is_os_cpu, is_source};
 
 /// Whether a name in a command that adds an architecture has not its form.

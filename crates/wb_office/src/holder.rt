@@ -9,7 +9,7 @@ ghost use Rattle.wb_office.specs.Step.{step};
 use crate::checks::words_of;
 use crate::moved::{keep_move, prepare_move};
 use crate::texts::read_relations;
-use deb_relations::Text;
+use deb_text::Text;
 use std::alloc::Global;
 use wb_states::{Move, Refusal, Reply};
 use wb_store::Store;

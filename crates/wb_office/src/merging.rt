@@ -14,7 +14,8 @@ ghost use Rattle.wb_office.specs.Parts.{is_good, is_merged, part_listing, part_r
 ghost use Rattle.wb_office.specs.Step.{step};
 
 use crate::checks::is_spent;
-use deb_relations::{ArchWords, Items, Text};
+use deb_relations::ArchWords;
+use deb_text::{Items, Text};
 use std::alloc::Global;
 use std::collections::BTreeMap;
 use wb_merge::{Listing, merge_records};

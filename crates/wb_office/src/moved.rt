@@ -10,7 +10,7 @@ ghost use Rattle.wb_office.specs.Step.{counted};
 
 use crate::checks::is_spent;
 use crate::operator::count_done;
-use deb_relations::Text;
+use deb_text::Text;
 use std::alloc::Global;
 use wb_states::{Move, Record, Refusal, Reply, move_record};
 use wb_store::Store;

@@ -10,7 +10,7 @@ ghost use Rattle.wb_office.specs.Step.{step};
 use crate::checks::{find_source, lacks_arch, words_of};
 use crate::moved::{keep_move, prepare_move};
 use crate::texts::{is_long, read_key, read_refusal_or, read_relations, rebuild_number};
-use deb_relations::Text;
+use deb_text::Text;
 use deb_version::Version;
 use std::alloc::Global;
 use wb_states::{Move, Refusal, Reply};

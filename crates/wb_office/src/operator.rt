@@ -10,7 +10,7 @@ ghost use Rattle.wb_office.specs.Step.{step, counted, entered};
 use crate::checks::{has_arch, has_record, is_spent, lacks_arch};
 use crate::forms::{is_bad_arch, is_bad_builder, is_bad_entry};
 use crate::texts::read_version;
-use deb_relations::Text;
+use deb_text::Text;
 use deb_version::Version;
 use std::alloc::Global;
 use wb_merge::blank_record;

@@ -13,7 +13,8 @@ ghost use Rattle.wb_office.specs.Checks.{refusal_of_fault, relations_refusal};
 ghost use Rattle.wb_office.specs.Found.{key_refusal};
 
 use crate::forms::is_bad_key;
-use deb_relations::{RelationFault, Relations, Text};
+use deb_relations::{RelationFault, Relations};
+use deb_text::Text;
 use deb_version::{Version, VersionFault};
 use std::alloc::Global;
 use wb_states::Refusal;

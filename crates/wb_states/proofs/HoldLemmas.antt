@@ -15,10 +15,13 @@ use Rattle.wb_states.specs.declared.state.State.{State}
 use Rattle.wb_states.specs.declared.state.State.TheVariants.{NeedsBuild, Building, Built, Uploaded, Installed, DepWait, BdUninstallable, Failed, NotForUs}
 use Rattle.wb_states.specs.State.{code_of}
 use Rattle.wb_states.specs.Machine.{Machine, HasDistinctTakes, IsConsistent, IsRecord}
-use Rattle.wb_states.specs.Holds.{has_value, is_taken_as, taken_as, is_held_by, take_of, take_cmp, held_of, is_building_after, building_after, IsBuildingAfter}
-use Rattle.wb_states.specs.Queue.{Entry, IsIn, with_item, sorted_by}
-use Rattle.wb_states.proofs.KeyLemmas.{pair_cmp_total}
-use Rattle.wb_states.proofs.QueueLemmas.{Apart, apart-filter, first_of-is, first_of-some, IsIn-entries, IsIn-filter, IsIn-sorted_by, sorted-sorted_by}
+use Rattle.wb_states.specs.Holds.{is_taken_as, taken_as, is_held_by, take_of, take_cmp, held_of, is_building_after, building_after, IsBuildingAfter}
+use Rattle.deb_text.specs.Options.{has_value}
+use Rattle.wb_states.specs.Queue.{Entry}
+use Rattle.deb_text.specs.Lists.{IsIn, with_item, sorted_by}
+use Rattle.deb_text.proofs.KeyLemmas.{pair_cmp_total}
+use Rattle.wb_states.proofs.QueueLemmas.{IsIn-entries}
+use Rattle.deb_text.proofs.SortedLemmas.{Apart, apart-filter, first_of-is, first_of-some, IsIn-filter, IsIn-sorted_by, sorted-sorted_by}
 
 -- ---- what stands under a take number
 

@@ -1,7 +1,5 @@
 pub mod CodeLemmas
 pub mod HoldLemmas
-pub mod KeyLemmas
-pub mod MapLemmas
 pub mod MoveFormLemmas
 pub mod MoveRowLemmas
 pub mod QueueLemmas

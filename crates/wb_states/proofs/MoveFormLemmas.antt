@@ -16,7 +16,8 @@ use Rattle.wb_states.specs.declared.state.State.TheVariants.{NeedsBuild, Buildin
 use Rattle.wb_states.specs.Limits.{note_limit, relations_limit}
 use Rattle.wb_states.specs.Moves.{may_go, move_of, value_refusal, waits_for, waits_refusal}
 use Rattle.wb_states.specs.Names.{is_builder_name}
-use Rattle.wb_states.specs.Record.{IsWellFormed, IsTextWithin, is_empty_text}
+use Rattle.wb_states.specs.Record.{IsWellFormed}
+use Rattle.deb_text.specs.Text.{IsTextWithin, is_empty_text}
 use Rattle.wb_states.specs.State.{is_held, is_dep_wait}
 use Rattle.wb_states.specs.Table.{row_of, HasForm}
 use Rattle.wb_states.proofs.SettledLemmas.{empty_within}

@@ -1,6 +1,6 @@
 -- A move makes of a record what its row of the table says.
 use Rattle.std.proofs.Common.{◌≡◌, ℕ, Bool, true, false, cond, not, List, [], ◌∷◌, Option, Some, None, Ok, is_some, refl, sym, ap, ◌∙◌, nat_eq}
-use Rattle.deb_version.proofs.ReadingLemmas.{ok_unless-Ok}
+use Rattle.deb_text.proofs.OptionLemmas.{ok_unless-Ok}
 use Rattle.deb_relations.specs.declared.arch.ArchWords.{ArchWords}
 use Rattle.deb_relations.specs.declared.relations.Alternative.{Alternative}
 use Rattle.wb_states.specs.declared.moves.Move.{Move}
@@ -11,7 +11,8 @@ use Rattle.wb_states.specs.declared.refusal.Refusal.TheVariants.{WrongState}
 use Rattle.wb_states.specs.declared.state.State.{State}
 use Rattle.wb_states.specs.declared.state.State.TheVariants.{NeedsBuild, Building, Built, Uploaded, Installed, DepWait}
 use Rattle.wb_states.specs.State.{code_of, is_held, is_dep_wait}
-use Rattle.wb_states.specs.Record.{IsWellFormed, is_empty_text}
+use Rattle.wb_states.specs.Record.{IsWellFormed}
+use Rattle.deb_text.specs.Text.{is_empty_text}
 use Rattle.wb_states.specs.Moves.{may_go, note_after, move_refusal, value_refusal, moved, move_of}
 use Rattle.wb_states.specs.Table.{row_of}
 

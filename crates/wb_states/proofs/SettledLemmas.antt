@@ -7,7 +7,8 @@ use Rattle.wb_states.specs.declared.state.State.{State}
 use Rattle.wb_states.specs.Limits.{rebuild_limit, note_limit, relations_limit}
 use Rattle.wb_states.specs.Moves.{settled_in, note_after}
 use Rattle.wb_states.specs.Names.{is_builder_name, is_label_text}
-use Rattle.wb_states.specs.Record.{IsWellFormed, IsTextWithin, is_empty_text}
+use Rattle.wb_states.specs.Record.{IsWellFormed}
+use Rattle.deb_text.specs.Text.{IsTextWithin, is_empty_text}
 use Rattle.wb_states.specs.State.{is_held, is_dep_wait, code_of}
 
 pub empty_within : (limit : ℕ) → IsTextWithin limit []

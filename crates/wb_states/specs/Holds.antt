@@ -1,17 +1,14 @@
 -- Which records builders hold, and under which take numbers (this project's own).
-use Rattle.std.specs.Prelude.{◌≡◌, ◌<◌, ℕ, Bool, false, ◌&&◌, List, filter, nat_eq, nat_lt, bytes_eq, Option, Some, find, unwrap_or}
+use Rattle.std.specs.Prelude.{◌≡◌, ◌<◌, ℕ, Bool, ◌&&◌, List, filter, nat_eq, nat_lt, bytes_eq, Option, Some, find, unwrap_or}
 use Rattle.std.specs.declared.cmp.Ordering.{Ordering}
 use Rattle.std.specs.Ordering.{nat_cmp, on}
-use Rattle.std.specs.Option.{option_map_or}
 use Rattle.std.specs.FinMap as finite
 use Rattle.wb_states.specs.declared.state.State.TheVariants.{Building}
 use Rattle.wb_states.specs.State.{code_of}
 use Rattle.wb_states.specs.Machine.{Machine}
-use Rattle.wb_states.specs.Queue.{Entry, first_of, sorted_by}
-
--- whether a value is there and passes the test
-abbrev pub has_value : {X : Type 0} → (X → Bool) → Option X → Bool
-has_value test value = option_map_or test value false
+use Rattle.wb_states.specs.Queue.{Entry}
+use Rattle.deb_text.specs.Lists.{first_of, sorted_by}
+use Rattle.deb_text.specs.Options.{has_value}
 
 -- a record that is held under the take number
 abbrev pub is_taken_as : ℕ → Entry → Bool

@@ -1,7 +1,5 @@
 -- The state of the office, and its invariant (this project's own).
 use Rattle.std.specs.Prelude.{◌≡◌, ℕ, ◌≤◌, ◌⊎◌, IsTrue, List, [], filter, IfSome, Some, unwrap_or, Ok}
-use Rattle.std.specs.declared.cmp.Ordering.{Ordering}
-use Rattle.std.specs.Ordering.{on, then_cmp}
 use Rattle.std.specs.FinMap as map
 use Rattle.std.specs.FinSet as set
 use Rattle.wb_states.specs.declared.record.Record.{Record}
@@ -13,7 +11,7 @@ use Rattle.deb_relations.specs.Names.{is_package_name}
 use Rattle.deb_relations.specs.Printing.{printed}
 use Rattle.deb_relations.specs.Reading.{reading_of}
 use Rattle.deb_relations.specs.Reduction.{reduced}
-use Rattle.deb_relations.specs.Text.{text_cmp}
+use Rattle.deb_text.specs.Text.{text_cmp, pair_cmp}
 use Rattle.wb_states.specs.Names.{is_arch_name, is_os_cpu_word, is_builder_name}
 use Rattle.wb_states.specs.Limits.{count_limit}
 use Rattle.wb_states.specs.Record.{IsWellFormed}
@@ -21,10 +19,6 @@ use Rattle.wb_states.specs.Record.{IsWellFormed}
 -- the key of a record: its architecture and its source package
 abbrev pub Key : Type 0
 Key = List ℕ × List ℕ
-
--- the order of two pairs of texts: by the first, then by the second
-abbrev pub pair_cmp : List ℕ × List ℕ → List ℕ × List ℕ → Ordering
-pair_cmp = then_cmp (on (λ p. p.0) text_cmp) (on (λ p. p.1) text_cmp)
 
 -- the state of the office: records by architecture and source package, the words of architectures, who builds for which, and two counts
 pub record Machine : Type 0 where

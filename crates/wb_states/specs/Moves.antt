@@ -3,7 +3,7 @@
 use Rattle.std.specs.Prelude.{ℕ, Bool, true, not, nat_eq, nat_le, nat_lt, IsTrue, List, [], ◌∷◌, ◌++◌, length, codes, Option, Some, None, Result, if◌then◌else◌}
 use Rattle.std.specs.List.{list_any}
 use Rattle.std.specs.Fmt.{decimal}
-use Rattle.deb_version.specs.Syntax.{ok_unless}
+use Rattle.deb_text.specs.Options.{ok_unless}
 use Rattle.deb_relations.specs.declared.arch.ArchWords.{ArchWords}
 use Rattle.deb_relations.specs.declared.relations.Alternative.{Alternative}
 use Rattle.deb_relations.specs.declared.fault.RelationFault.TheVariants.{TooLong}
@@ -17,7 +17,7 @@ use Rattle.wb_states.specs.declared.state.State.TheVariants.{NeedsBuild, Buildin
 use Rattle.wb_states.specs.declared.moves.Move.{Move}
 use Rattle.wb_states.specs.declared.moves.Move.TheVariants.{Take, Built as ToBuilt, Uploaded as ToUploaded, Waits, PutBack, GiveBack, DepWait as ToDepWait, Fail, NotForUs as ToNotForUs, Rebuild}
 use Rattle.wb_states.specs.Limits.{relations_limit}
-use Rattle.wb_states.specs.Record.{is_empty_text}
+use Rattle.deb_text.specs.Text.{is_empty_text}
 use Rattle.wb_states.specs.State.{code_of, is_held, is_dep_wait}
 
 -- whether a state is one of these

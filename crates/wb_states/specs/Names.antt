@@ -3,7 +3,7 @@ use Rattle.std.specs.Prelude.{ℕ, Bool, not, ◌&&◌, ◌||◌, List, length, 
 use Rattle.std.specs.Char.{is_ascii_alphanumeric, is_ascii_graphic}
 use Rattle.std.specs.List.{list_all}
 use Rattle.deb_relations.specs.Names.{is_lower_or_digit, is_arch_word}
-use Rattle.deb_relations.specs.Text.{begins}
+use Rattle.deb_text.specs.Lists.{begins}
 
 -- a text of this many bytes, both ends included
 abbrev pub has_length : ℕ → ℕ → List ℕ → Bool

@@ -1,16 +1,17 @@
 -- The order in which the waiting source packages of an architecture are built (wanna-build's states page; the order of sections is this project's own).
-use Rattle.std.specs.Prelude.{◌≡◌, ℕ, Bool, not, nat_lt, nat_eq, List, [], ◌∷◌, length, codes, bytes_eq, if◌then◌else◌, ◌&&◌, filter, Option, Some, ◌⊎◌}
-use Rattle.std.specs.List.{position_or_len, after_first, slice_get}
+use Rattle.std.specs.Prelude.{◌≡◌, ℕ, Bool, not, nat_lt, nat_eq, List, [], ◌∷◌, length, codes, bytes_eq, if◌then◌else◌, ◌&&◌, filter, Option, Some}
+use Rattle.std.specs.List.{position_or_len, after_first}
 use Rattle.std.specs.declared.cmp.Ordering.{Ordering}
-use Rattle.std.specs.Ordering.{nat_cmp, bool_cmp, on, then_cmp, is_lt}
+use Rattle.std.specs.Ordering.{nat_cmp, bool_cmp, on, then_cmp}
 use Rattle.std.specs.Cmp.{IsTotalOrder, on_total, then_total, nat_cmp_total, bool_cmp_total}
 use Rattle.std.specs.Cmp.Lexicographic.{nat_list_cmp_total}
 use Rattle.wb_states.specs.declared.record.Record.{Record}
 use Rattle.std.specs.FinMap as map
 use Rattle.wb_states.specs.declared.state.State.TheVariants.{NeedsBuild}
 use Rattle.wb_states.specs.State.{is_needs_build}
-use Rattle.deb_relations.specs.Text.{text_cmp}
+use Rattle.deb_text.specs.Text.{text_cmp}
 use Rattle.wb_states.specs.Machine.{Key, Machine}
+use Rattle.deb_text.specs.Lists.{sorted_by, first_of}
 
 -- the priorities, the most urgent first (Debian Policy 2.5, and `extra` of its older versions)
 abbrev pub priorities : List (List ℕ)
@@ -73,32 +74,13 @@ entry_cmp = on (λ entry. place_of entry.1 entry.0.1) place_cmp
 abbrev pub is_waiting : List ℕ → Entry → Bool
 is_waiting arch entry = bytes_eq entry.0.0 arch && is_needs_build entry.1.state
 
--- a list with one more item, before the first item that is not below it
-abbrev pub with_item : {X : Type 0} → (X → X → Ordering) → X → List X → List X
-with_item cmp item [] = item ∷ []
-with_item cmp item (x ∷ xs) = if is_lt (cmp x item) then x ∷ with_item cmp item xs else item ∷ x ∷ xs
-
--- the items of a list in ascending order
-abbrev pub sorted_by : {X : Type 0} → (X → X → Ordering) → List X → List X
-sorted_by cmp [] = []
-sorted_by cmp (x ∷ xs) = with_item cmp x (sorted_by cmp xs)
-
 -- the queue of an architecture: its records that wait for a builder, each once, in ascending order of their places
 unfoldable pub queue_of : Machine → List ℕ → List Entry
 queue_of machine arch = sorted_by entry_cmp (filter (is_waiting arch) (map.entries machine.records))
 
--- the first of a list, or none
-abbrev pub first_of : {X : Type 0} → List X → Option X
-first_of xs = slice_get xs 0
-
 -- the head of the queue of an architecture
 unfoldable pub head_of : Machine → List ℕ → Option Entry
 head_of machine arch = first_of (queue_of machine arch)
-
--- an item stands in a list
-abbrev pub IsIn : {X : Type 0} → X → List X → Type 0
-IsIn item [] = ⊥
-IsIn item (x ∷ xs) = (item ≡ x) ⊎ IsIn item xs
 
 -- a record of the architecture that waits for a builder is kept at this key
 abbrev pub IsWaitingAt : Machine → List ℕ → Entry → Type 0

@@ -1,21 +1,11 @@
 -- The record of a source package on an architecture: when its fields have their forms and limits (this project's own).
-use Rattle.std.specs.Prelude.{◌≡◌, ℕ, ◌≤◌, Bool, ◌||◌, IsTrue, List, length, is_some, IfSome, IsOk, not}
-use Rattle.std.specs.Str.{IsUtf8}
+use Rattle.std.specs.Prelude.{◌≡◌, ◌≤◌, ◌||◌, IsTrue, is_some, IfSome, IsOk, not}
 use Rattle.deb_version.specs.Syntax.{reading_of}
-use Rattle.deb_relations.specs.Reduction.{is_filled}
 use Rattle.wb_states.specs.declared.record.Record.{Record}
 use Rattle.wb_states.specs.State.{is_held, is_dep_wait}
 use Rattle.wb_states.specs.Names.{is_builder_name, is_label_text}
 use Rattle.wb_states.specs.Limits.{rebuild_limit, note_limit, relations_limit}
-
--- whether a text is empty
-abbrev pub is_empty_text : List ℕ → Bool
-is_empty_text text = not (is_filled text)
-
--- a UTF-8 text of at most this many bytes
-pub record IsTextWithin (limit : ℕ) (text : List ℕ) : Type 0 where
-  pub utf8 : IsUtf8 text
-  pub within : length text ≤ limit
+use Rattle.deb_text.specs.Text.{is_empty_text, IsTextWithin}
 
 -- a record fits its state: exactly a held one has a holder and a take number, and exactly Dep-Wait has waits
 pub record FitsState (current : Record) : Type 0 where

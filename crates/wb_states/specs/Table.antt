@@ -8,7 +8,7 @@ use Rattle.wb_states.specs.declared.moves.Move.TheVariants.{Take, Built as ToBui
 use Rattle.wb_states.specs.Limits.{note_limit, rebuild_limit}
 use Rattle.wb_states.specs.Moves.{waits_for}
 use Rattle.wb_states.specs.Names.{is_builder_name}
-use Rattle.wb_states.specs.Record.{IsTextWithin}
+use Rattle.deb_text.specs.Text.{IsTextWithin}
 
 -- the record after a move, as the move's row of the table has it
 abbrev pub row_of : Move → Record → Record

@@ -2,7 +2,7 @@
 ghost use Rattle.std.specs.Prelude.{◌≡◌};
 ghost use Rattle.wb_states.specs.Commands.{name_of_command};
 
-use deb_relations::{Items, Text};
+use deb_text::{Items, Text};
 
 /// A part of a merge: what the archive has for one architecture.
 #[derive(Debug, Drop)]

@@ -4,7 +4,8 @@ ghost use Rattle.wb_states.specs.declared.refusal.Refusal.TheVariants.{Memory};
 ghost use Rattle.wb_states.specs.Moves.{may_go, goal_of, set_by, note_of, note_after, settled_in, waits_for, waits_refusal, value_refusal, has_higher_number, MayWantMemory, move_refusal, moved, move_of, build_text_of};
 
 use crate::{Record, Refusal, State};
-use deb_relations::{ArchWords, RELATIONS_LIMIT, RelationFault, Relations, Text};
+use deb_relations::{ArchWords, RELATIONS_LIMIT, RelationFault, Relations};
+use deb_text::Text;
 use std::alloc::{AllocError, Global};
 
 /// A move of a record, with what it brings. The names are those of the commands that ask for it.

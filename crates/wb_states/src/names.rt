@@ -3,7 +3,7 @@ ghost use Rattle.std.specs.Prelude.{◌≡◌};
 ghost use Rattle.std.specs.Char.{is_ascii_alphanumeric, is_ascii_graphic};
 ghost use Rattle.std.specs.List.{list_all};
 ghost use Rattle.deb_relations.specs.Names.{is_lower_or_digit, is_arch_word, is_package_name};
-ghost use Rattle.deb_relations.specs.Text.{begins};
+ghost use Rattle.deb_text.specs.Lists.{begins};
 ghost use Rattle.wb_states.specs.Names.{is_arch_name, is_os_cpu_word, is_builder_name, is_label_text, has_length, is_builder_char};
 
 use deb_relations::{is_arch_word, is_package_name};

@@ -2,7 +2,7 @@
 ghost use Rattle.std.specs.Prelude.{◌≡◌};
 
 use crate::State;
-use deb_relations::Text;
+use deb_text::Text;
 use deb_version::Version;
 
 /// The record of a source package on an architecture (this project's own).

@@ -4,7 +4,8 @@ ghost use Rattle.wb_states.specs.Refusals.{code_of_refusal, name_of_refusal, nam
 
 use crate::State;
 use deb_control::ControlFaultKind;
-use deb_relations::{RelationFault, Text};
+use deb_relations::RelationFault;
+use deb_text::Text;
 use deb_version::VersionFault;
 use std::alloc::{AllocError, AllocFailed};
 use std::error::Error;

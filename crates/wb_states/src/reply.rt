@@ -1,6 +1,6 @@
 //! What the office answers to a command that it accepts.
 use crate::Refusal;
-use deb_relations::{Items, Text};
+use deb_text::{Items, Text};
 
 /// What a builder is handed: one source package on one architecture, which it holds until the hold ends.
 #[derive(Debug, Drop)]

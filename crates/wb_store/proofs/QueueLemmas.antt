@@ -7,7 +7,8 @@ use Rattle.std.specs.Cmp.{IsTotalOrder}
 use Rattle.std.specs.FinMap as finite
 use Rattle.wb_states.specs.declared.state.State.TheVariants.{NeedsBuild}
 use Rattle.wb_states.specs.Machine.{Machine}
-use Rattle.wb_states.specs.Queue.{Entry, first_of, sorted_by, with_item, entry_cmp, is_waiting, queue_of, head_of}
+use Rattle.wb_states.specs.Queue.{Entry, entry_cmp, is_waiting, queue_of, head_of}
+use Rattle.deb_text.specs.Lists.{first_of, sorted_by, with_item}
 use Rattle.wb_states.proofs.QueueLemmas.{entry_cmp_total, head_of-waits}
 
 -- the sooner of a first and an item, where the first stays at a tie

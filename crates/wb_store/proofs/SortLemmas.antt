@@ -8,7 +8,7 @@ use Rattle.std.specs.Ordering.{on}
 use Rattle.std.specs.Option.{unwrap_or}
 use Rattle.std.specs.FinMap as finite
 use Rattle.wb_states.specs.Machine.{Machine}
-use Rattle.wb_states.specs.Queue.{with_item, sorted_by}
+use Rattle.deb_text.specs.Lists.{with_item, sorted_by}
 use Rattle.wb_states.specs.Holds.{is_held_by, held_of, take_cmp}
 use Rattle.wb_store.specs.Lookups.{Row, entry_of}
 

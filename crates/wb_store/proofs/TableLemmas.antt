@@ -11,12 +11,12 @@ use Rattle.std.specs.FinMap as finite
 use Rattle.std.specs.FinSet as set
 use Rattle.wb_store.specs.declared.store.Store.TheInside.{Inside}
 use Rattle.wb_store.specs.contracts.store.Store.{the_view}
-use Rattle.deb_relations.specs.Text.{text_cmp}
+use Rattle.deb_text.specs.Text.{text_cmp, pair_cmp}
 use Rattle.wb_states.specs.declared.record.Record.{Record}
 use Rattle.wb_states.specs.declared.arch.OsCpu.{OsCpu}
-use Rattle.wb_states.specs.Machine.{Machine, pair_cmp}
-use Rattle.wb_states.proofs.KeyLemmas.{pair_cmp_total, pair_cmp-same}
-use Rattle.wb_states.proofs.MapLemmas.{entries-kept}
+use Rattle.wb_states.specs.Machine.{Machine}
+use Rattle.deb_text.proofs.KeyLemmas.{pair_cmp_total, pair_cmp-same}
+use Rattle.deb_text.proofs.MapLemmas.{entries-kept}
 
 -- the state with other records
 abbrev pub with_records : Machine → finite.FinMap pair_cmp Record → Machine

@@ -7,8 +7,8 @@ use Rattle.wb_states.specs.declared.record.Record.{Record}
 use Rattle.wb_states.specs.declared.arch.OsCpu.{OsCpu}
 use Rattle.wb_states.specs.contracts.record.Record as row
 use Rattle.wb_states.specs.contracts.arch.OsCpu as words
-use Rattle.deb_relations.specs.Text.{text_cmp, coded_text}
-use Rattle.wb_states.specs.Machine.{Machine, pair_cmp}
+use Rattle.deb_text.specs.Text.{text_cmp, coded_text, pair_cmp}
+use Rattle.wb_states.specs.Machine.{Machine}
 
 -- the code of a pair of texts
 abbrev pub coded_pair : Coded (List ℕ × List ℕ)

@@ -4,7 +4,7 @@ ghost use Rattle.std.specs.FinMap as map;
 ghost use Rattle.std.specs.FinSet as set;
 
 use crate::Store;
-use deb_relations::Text;
+use deb_text::Text;
 use std::alloc::AllocError;
 use std::collections::BTreeMap;
 use wb_states::{OsCpu, Record};

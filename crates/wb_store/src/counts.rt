@@ -3,7 +3,7 @@ ghost use Rattle.std.specs.Prelude.{◌≡◌};
 ghost use Rattle.wb_store.specs.Lookups.{counts_of, number_in};
 
 use crate::Store;
-use deb_relations::Text;
+use deb_text::Text;
 use wb_states::State;
 
 /// How many records of an architecture are in each state (this project's own).

@@ -1,11 +1,12 @@
 //! The records that builders hold.
 ghost use Rattle.std.specs.Prelude.{◌≡◌, IfOk, bytes_eq, map as each};
 ghost use Rattle.std.specs.Option.{option_map};
-ghost use Rattle.wb_states.specs.Holds.{taken_as, held_of, has_value};
+ghost use Rattle.wb_states.specs.Holds.{taken_as, held_of};
+ghost use Rattle.deb_text.specs.Options.{has_value};
 ghost use Rattle.wb_store.specs.Lookups.{entry_of};
 
 use crate::Store;
-use deb_relations::Text;
+use deb_text::Text;
 use std::alloc::AllocError;
 use wb_states::Record;
 

@@ -8,7 +8,7 @@ ghost use Rattle.wb_states.specs.Machine.{archs_of};
 ghost use Rattle.wb_store.specs.Lookups.{rows_of};
 
 use crate::Store;
-use deb_relations::Text;
+use deb_text::Text;
 use std::alloc::AllocError;
 use wb_states::{OsCpu, Record};
 

@@ -8,7 +8,7 @@ ghost use Rattle.wb_states.specs.Queue.{head_of};
 ghost use Rattle.wb_store.specs.Lookups.{named};
 
 use crate::Store;
-use deb_relations::Text;
+use deb_text::Text;
 use wb_states::{QueueKey, Record, State};
 
 impl Store {

@@ -5,7 +5,7 @@ use Rattle.std.specs.List.{after_first, before_first, join_by, position_or_len}
 use Rattle.std.specs.Str.Parse.{digits_value, without_leading_plus}
 use Rattle.clap.specs.Words.{Row, Text, all_of, first_of}
 use Rattle.clap.specs.ValueTests.{is_unsigned_in}
-use Rattle.deb_relations.specs.Reader.{all_some}
+use Rattle.deb_text.specs.Options.{all_some}
 use Rattle.wb_words.specs.declared.argument.Subject.{Subject}
 use Rattle.wb_words.specs.declared.words.PartNames.{PartNames}
 

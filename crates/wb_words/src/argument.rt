@@ -5,7 +5,7 @@ ghost use Rattle.wb_words.specs.Arguments.{joined, number_in, number_of, optiona
 ghost use Rattle.wb_words.specs.Arguments.{word_of, words_of};
 
 use clap::ArgMatches;
-use deb_relations::Text;
+use deb_text::Text;
 use std::alloc::{AllocError, Global};
 
 /// The source package that a command is about.

@@ -8,7 +8,7 @@ use crate::argument::word;
 use crate::usage::ArgumentKind;
 use crate::words::{Asked, PartNames};
 use clap::ArgMatches;
-use deb_relations::{Items, Text};
+use deb_text::{Items, Text};
 use std::alloc::{AllocError, Global};
 
 /// The subcommands with their arguments.

@@ -7,7 +7,7 @@ ghost use Rattle.wb_words.specs.Words.{asked_in, asked_named, command_named};
 use crate::tree::wb_app;
 use crate::{WordsFault, builder, lists, operator};
 use clap::ArgMatches;
-use deb_relations::{Items, Text};
+use deb_text::{Items, Text};
 use std::alloc::{AllocError, Global};
 use wb_states::Command;
 

@@ -1,6 +1,6 @@
 //! What is kept of a source package after lines in a row: the fields that no answer shows, too.
 use super::lists::printed;
-use deb_relations::Text;
+use deb_text::Text;
 use std::process::Abort;
 use std::test::Fail;
 use wb_office::Office;

@@ -1,6 +1,7 @@
 //! Every pair of a state and a move.
 use super::stores::{held, waiting};
-use deb_relations::{ArchWords, Relations, Text};
+use deb_relations::{ArchWords, Relations};
+use deb_text::Text;
 use std::alloc::Global;
 use std::test::Fail;
 use wb_states::{Move, Record, Refusal, State, move_record};

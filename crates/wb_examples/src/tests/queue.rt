@@ -1,6 +1,6 @@
 //! The queue of records that are set by hand.
 use super::stores::waiting;
-use deb_relations::Text;
+use deb_text::Text;
 use std::alloc::Global;
 use std::test::Fail;
 use wb_states::{Move, Record, Refusal, State, build_text, move_record};

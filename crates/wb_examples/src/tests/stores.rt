@@ -1,5 +1,5 @@
 //! Stores that are filled by hand.
-use deb_relations::Text;
+use deb_text::Text;
 use deb_version::Version;
 use std::alloc::Global;
 use std::test::Fail;

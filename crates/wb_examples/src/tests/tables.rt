@@ -1,6 +1,6 @@
 //! The calls of the store, each once.
 use super::stores::{add, held, put};
-use deb_relations::Text;
+use deb_text::Text;
 use std::test::Fail;
 use wb_store::Store;
 

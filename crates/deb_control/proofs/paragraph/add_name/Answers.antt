@@ -7,7 +7,7 @@ use Rattle.std.proofs.lemmas.List.{length-map}
 use Rattle.std.proofs.lemmas.Map.Text.{btree_set_updates_text}
 use Rattle.std.specs.Str.{str_to_ascii_lowercase}
 use Rattle.deb_control.specs.Fields.{Entry, has_name, names_in}
-use Rattle.deb_control.proofs.NameLemmas.{is_among-names_in, is_among-first, is_among-later, Knows-few, Knows-later}
+use Rattle.deb_control.proofs.NameLemmas.{is_among-names_in, is_among-take, is_among-first, is_among-later, Knows-few, Knows-later, where-any}
 use Rattle.deb_control.proofs.paragraph.add_name.Goals as goal
 
 pub returns-then-fields-lt-FEW-clause-value : goal.returns-then-fields-lt-FEW-clause-value
@@ -37,3 +37,11 @@ returns-clause-known c =
     Knows-later 32 (contains_text c.args.later.now) (contains_text c.insert.new.self) (names_in c.args.fields.now) (str_to_ascii_lowercase c.args.name.now)
     (string_bytes c.in_ok-lower_name.field-0) more c.in_ok-lower_name.ensures c.requires
     (btree_set_updates_text (string_bytes c.in_ok-lower_name.field-0) c.args.later.now c.insert.new.self true c.in_ok-new.ensures.updates))
+
+pub returns-in_err-lower_name-clause-memory : goal.returns-in_err-lower_name-clause-memory
+returns-in_err-lower_name-clause-memory c =
+    where-any _ (is_among-take 32 c.args.name.now c.args.fields.now ∙ sym c.is_name_of_any-2.ensures ∙ c.if-is_name_of_any.false)
+
+pub returns-in_err-new-clause-memory : goal.returns-in_err-new-clause-memory
+returns-in_err-new-clause-memory c =
+    where-any _ (is_among-take 32 c.args.name.now c.args.fields.now ∙ sym c.is_name_of_any-2.ensures ∙ c.if-is_name_of_any.false)

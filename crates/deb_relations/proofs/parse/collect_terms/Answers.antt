@@ -1,9 +1,14 @@
 use Rattle.std.proofs.Common.{◌≡◌, ◌<◌, ◌∙◌, ap, sym, subst, rules, ℕ, false, true, List, [], ◌∷◌, ◌++◌, length, None}
-use Rattle.deb_relations.specs.Reduction.{is_filled}
+use Rattle.deb_text.specs.Lists.{is_filled}
 use Rattle.deb_relations.specs.Grammar.{is_white, words}
-use Rattle.deb_relations.specs.Reader.{skip, all_some, term_of}
+use Rattle.deb_relations.specs.Reader.{skip, term_of}
+use Rattle.deb_text.specs.Options.{all_some}
 use Rattle.deb_relations.proofs.FrontLemmas.{stops, skip-stops}
 use Rattle.deb_relations.proofs.TurnLemmas.{onto, onto-start, words-skip, filled-from, not-filled, term-turn, term-refused, terms-end, turn-shorter}
+use Rattle.std.proofs.Common.{inl, inr}
+use Rattle.std.specs.Prelude.{is_some}
+use Rattle.std.proofs.lemmas.Result.{err_from_is_err_and}
+use Rattle.deb_relations.proofs.BegunLemmas.{term-begun, where-wanted}
 use Rattle.deb_relations.proofs.parse.collect_terms.Goals as goal
 
 pub loop-rest-init : goal.loop-rest-init
@@ -14,6 +19,7 @@ loop-rest-init c = (
       ∙ onto-start (all_some (term_of c.args.kind) (words c.skip_white-rest.result.now))
       ∙ ap (λ x. all_some (term_of c.args.kind) (words x)) c.skip_white-rest.ensures
       ∙ ap (all_some (term_of c.args.kind)) (words-skip c.args.inside.now),
+  inl (ap words c.skip_white-rest.ensures ∙ words-skip c.args.inside.now),
 )
 
 pub returns-in_err-term_of-clause-none : goal.returns-in_err-term_of-clause-none
@@ -44,6 +50,8 @@ loop-rest-preserved c =
           ∙ ap (λ x. onto (c.loop-rest.made ++ term ∷ []) (all_some (term_of c.args.kind) (words x))) (c.skip_white-rest-in-loop-rest.ensures ∙ ap (skip is_white) c.split_leading.ensures.back)
           ∙ term-turn c.args.kind c.loop-rest.made t term filled c.loop-rest.invariant.1 (ap (term_of c.args.kind) (sym c.split_leading.ensures.front) ∙ c.in_ok-term_of.ensures.ok)
           ∙ c.loop-rest.invariant.2,
+      inr (term-begun c.args.kind t c.args.inside.now c.loop-rest.invariant.3 filled c.loop-rest.invariant.1
+          (ap (λ word. is_some (term_of c.args.kind word)) (sym c.split_leading.ensures.front) ∙ ap is_some c.in_ok-term_of.ensures.ok)),
     )
 
 pub returns-clause-ok : goal.returns-clause-ok
@@ -51,3 +59,22 @@ returns-clause-ok c =
     let t : List ℕ = c.loop-rest.rest.now in
     let empty : c.is_empty.result ≡ true = search rules in
     sym c.loop-rest.invariant.2 ∙ terms-end c.args.kind c.loop-rest.made t (not-filled t c.is_empty.result c.is_empty.ensures empty)
+
+pub returns-in_err-term_of-clause-memory : goal.returns-in_err-term_of-clause-memory
+returns-in_err-term_of-clause-memory c =
+    let t : List ℕ = c.loop-rest.rest.now in
+    let empty : c.is_empty.result ≡ false = search rules in
+    let filled : is_filled t ≡ true = filled-from t c.is_empty.result c.is_empty.ensures empty in
+    let p = err_from_is_err_and c.from_residual.result c.from_residual.ensures.1 in
+    rw (p.1, p.2) (λ memory.
+    term-begun c.args.kind t c.args.inside.now c.loop-rest.invariant.3 filled c.loop-rest.invariant.1
+    (ap (λ word. is_some (term_of c.args.kind word)) (sym c.split_leading.ensures.front) ∙ c.in_err-term_of.ensures.memory memory))
+
+pub returns-in_err-push-clause-memory : goal.returns-in_err-push-clause-memory
+returns-in_err-push-clause-memory c =
+    let t : List ℕ = c.loop-rest.rest.now in
+    let empty : c.is_empty.result ≡ false = search rules in
+    let filled : is_filled t ≡ true = filled-from t c.is_empty.result c.is_empty.ensures empty in
+    where-wanted _
+    (term-begun c.args.kind t c.args.inside.now c.loop-rest.invariant.3 filled c.loop-rest.invariant.1
+    (ap (λ word. is_some (term_of c.args.kind word)) (sym c.split_leading.ensures.front) ∙ ap is_some c.in_ok-term_of.ensures.ok))

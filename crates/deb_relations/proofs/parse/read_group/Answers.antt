@@ -1,7 +1,8 @@
 use Rattle.std.proofs.lemmas.Result.{err_from_is_err_and}
 use Rattle.std.proofs.Common.{◌≡◌, ◌∙◌, ap, sym, rules, eqb, None, Some}
 use Rattle.std.specs.List.{slice_split}
-use Rattle.deb_relations.specs.Reader.{cut, all_some, read_alternative, read_group}
+use Rattle.deb_relations.specs.Reader.{cut, read_alternative, read_group}
+use Rattle.deb_text.specs.Options.{all_some}
 use Rattle.deb_relations.proofs.CutLemmas.{cut-shorter}
 use Rattle.deb_relations.proofs.TurnLemmas.{onto, onto-start, some_pair, no_pair, piece-turn, piece-refused, piece-end, last-refused}
 use Rattle.std.proofs.Common.{refl}

@@ -3,7 +3,8 @@ use denote.Text.{Utf8}
 use denote.Shadow.{shadow}
 use Rattle.std.proofs.Common.{eqb}
 use Rattle.std.specs.List.{slice_split}
-use Rattle.deb_relations.specs.Reader.{all_some, read_alternative}
+use Rattle.deb_relations.specs.Reader.{read_alternative}
+use Rattle.deb_text.specs.Options.{all_some}
 use Rattle.deb_relations.proofs.TurnLemmas.{onto}
 use Rattle.deb_relations.specs.Reading.{first_fault, is_alternative, alternative_fault}
 use Rattle.deb_relations.proofs.BegunLemmas.{IsBegun}

@@ -6,7 +6,8 @@ use Rattle.deb_relations.proofs.CutLemmas.{cut-shorter}
 use Rattle.deb_relations.proofs.TurnLemmas.{some_pair, no_pair, group-turn, group-refused, group-end, last-group-refused}
 use Rattle.std.proofs.Common.{filter}
 use Rattle.deb_relations.specs.Grammar.{is_not_blank}
-use Rattle.deb_relations.specs.Reader.{all_some, read_group}
+use Rattle.deb_relations.specs.Reader.{read_group}
+use Rattle.deb_text.specs.Options.{all_some}
 use Rattle.deb_relations.proofs.TurnLemmas.{onto, onto-start}
 use Rattle.std.proofs.Common.{refl, length}
 use Rattle.deb_relations.specs.declared.fault.RelationFault.{RelationFault}

@@ -4,7 +4,8 @@ use denote.Shadow.{shadow}
 use Rattle.std.proofs.Common.{eqb, filter}
 use Rattle.std.specs.List.{slice_split}
 use Rattle.deb_relations.specs.Grammar.{is_not_blank}
-use Rattle.deb_relations.specs.Reader.{all_some, read_group}
+use Rattle.deb_relations.specs.Reader.{read_group}
+use Rattle.deb_text.specs.Options.{all_some}
 use Rattle.deb_relations.proofs.TurnLemmas.{groups_behind}
 use Rattle.deb_relations.specs.Reading.{first_fault, is_group_or_blank, group_fault}
 use Rattle.deb_relations.proofs.BegunLemmas.{HasBegun}

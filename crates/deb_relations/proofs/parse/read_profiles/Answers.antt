@@ -9,6 +9,8 @@ use Rattle.deb_relations.specs.declared.fault.RelationFault.{RelationFault}
 use Rattle.deb_relations.specs.declared.fault.RelationFault.TheVariants.{BadName}
 use Rattle.deb_relations.specs.Reading.{list_fault, profiles_fault}
 use Rattle.deb_relations.proofs.FaultTurnLemmas.{lists-passed, list-told, lists-end-told}
+use Rattle.std.proofs.Common.{inr}
+use Rattle.deb_relations.proofs.BegunLemmas.{profile-begun, profile-good, end-told, where-wanted}
 use Rattle.deb_relations.proofs.parse.read_profiles.Goals as goal
 
 pub returns-in_err-profile_of-clause-none : goal.returns-in_err-profile_of-clause-none
@@ -33,6 +35,8 @@ loop-piece-preserved c =
           ∙ c.loop-piece.invariant.1,
       lists-passed c.args.end c.loop-piece.rest.now (c.in-Some.piece.now, c.in-Some.after.now) c.in_ok-profile_of.field-0 h c.in_ok-profile_of.ensures.ok
           ∙ c.loop-piece.invariant.2,
+      inr (profile-begun c.loop-piece.rest.now c.args.text.now (c.in-Some.piece.now, c.in-Some.after.now) c.loop-piece.invariant.3 h
+          (profile-good c.in-Some.piece.now c.in_ok-profile_of.field-0 c.in_ok-profile_of.ensures.ok)),
     )
 
 pub returns-then-not-is_all-clause-none : goal.returns-then-not-is_all-clause-none
@@ -65,3 +69,20 @@ unfolding profiles_fault
 returns-then-not-is_all-clause-refused c =
     let h : cut 62 c.loop-piece.rest.now ≡ no_pair = search rules in
     λ _. c.end_fault.ensures ∙ sym (lists-end-told c.args.end c.loop-piece.rest.now h) ∙ c.loop-piece.invariant.2
+
+pub returns-in_err-profile_of-clause-memory : goal.returns-in_err-profile_of-clause-memory
+returns-in_err-profile_of-clause-memory c =
+    let h : cut 62 c.loop-piece.rest.now ≡ some_pair c.in-Some.piece.now c.in-Some.after.now = search rules in
+    let p = err_from_is_err_and c.from_residual.result c.from_residual.ensures.1 in
+    rw (p.1, p.2) (λ memory.
+    profile-begun c.loop-piece.rest.now c.args.text.now (c.in-Some.piece.now, c.in-Some.after.now) c.loop-piece.invariant.3 h (c.in_err-profile_of.ensures.memory memory))
+
+pub returns-in_err-push-clause-memory : goal.returns-in_err-push-clause-memory
+returns-in_err-push-clause-memory c =
+    let h : cut 62 c.loop-piece.rest.now ≡ some_pair c.in-Some.piece.now c.in-Some.after.now = search rules in
+    where-wanted _
+    (profile-begun c.loop-piece.rest.now c.args.text.now (c.in-Some.piece.now, c.in-Some.after.now) c.loop-piece.invariant.3 h
+    (profile-good c.in-Some.piece.now c.in_ok-profile_of.field-0 c.in_ok-profile_of.ensures.ok))
+
+pub returns-then-not-is_all-clause-memory : goal.returns-then-not-is_all-clause-memory
+returns-then-not-is_all-clause-memory c = λ memory. absurd (end-told c.args.end c.loop-piece.rest.now (sym c.end_fault.ensures ∙ memory))

@@ -1,7 +1,7 @@
 -- The bytes so far are those at the front of the room, and none is a line feed.
 use Rattle.std.proofs.Common.{take}
 use Rattle.std.specs.Io.KnownBytes.{Consumes}
-use Rattle.deb_control.specs.Lines.{IsOneLine}
+use Rattle.deb_text.specs.Lines.{IsOneLine}
 use Rattle.wb_daemon.proofs.line.read_line.Given as goal
 
 abbrev pub invariant-loop-len : goal.invariant-loop-len

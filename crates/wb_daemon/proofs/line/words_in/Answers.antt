@@ -5,8 +5,9 @@ use Rattle.std.proofs.lemmas.Iterator.Splits.{YieldsList-from_str_split}
 use Rattle.std.proofs.lemmas.Iterator.Adapters.{YieldsList-from_flat_map}
 use Rattle.std.proofs.lemmas.Iterator.Consumers.{YieldsList-at, YieldsList-from_filter, map_from_collect}
 use Rattle.std.proofs.lemmas.Result.{IfOk-weaker}
-use Rattle.deb_control.specs.Lines.{is_filled, words_in}
-use Rattle.deb_control.proofs.WordLemmas.{is_filled-length, tabs-spaces}
+use Rattle.deb_text.specs.Lists.{is_filled}
+use Rattle.deb_text.specs.Lines.{words_in}
+use Rattle.deb_text.proofs.WordLemmas.{is_filled-length, tabs-spaces}
 use Rattle.wb_daemon.proofs.line.words_in.Goals as goal
 
 pub returns : goal.returns

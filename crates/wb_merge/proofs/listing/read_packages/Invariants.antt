@@ -1,7 +1,7 @@
 use Rattle.std.proofs.Common.{◌≡◌}
 use Rattle.std.specs.FinMap as finite
 use Rattle.deb_relations.specs.Satisfaction.{no_pairs}
-use Rattle.deb_relations.specs.Text.{text_cmp}
+use Rattle.deb_text.specs.Text.{text_cmp}
 use Rattle.wb_states.specs.declared.refusal.ListKind.TheVariants.{Packages}
 use Rattle.wb_merge.specs.Rows.{binary_paragraph, binary_rows}
 use Rattle.wb_merge.specs.Offers.{after_rows, with_binary, rows_at, number_of, HasPassed}

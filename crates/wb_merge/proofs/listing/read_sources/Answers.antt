@@ -1,6 +1,6 @@
 use Rattle.std.proofs.Common.{ap, arith}
 use Rattle.std.specs.FinMap as finite
-use Rattle.deb_relations.specs.Text.{text_cmp}
+use Rattle.deb_text.specs.Text.{text_cmp}
 use Rattle.wb_merge.specs.Offers.{with_listed}
 use Rattle.wb_merge.proofs.ReadCountLemmas.{begins, all-sources}
 use Rattle.wb_merge.proofs.listing.read_sources.Goals as goal

@@ -1,6 +1,6 @@
 use Rattle.std.proofs.Common.{◌≡◌}
 use Rattle.std.specs.FinMap as finite
-use Rattle.deb_relations.specs.Text.{text_cmp}
+use Rattle.deb_text.specs.Text.{text_cmp}
 use Rattle.wb_states.specs.declared.refusal.ListKind.TheVariants.{Sources}
 use Rattle.wb_merge.specs.Rows.{source_paragraph, source_rows}
 use Rattle.wb_merge.specs.Offers.{after_rows, with_listed, rows_at, number_of, HasPassed}

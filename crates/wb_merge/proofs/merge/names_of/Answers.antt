@@ -1,7 +1,7 @@
 use Rattle.std.proofs.Common.{◌≡◌, ◌∙◌, ◌++◌, ℕ, List, sym, ap, filter, map, not, is_some}
 use Rattle.std.specs.FinMap as finite
-use Rattle.wb_states.proofs.MapLemmas.{entries-kept}
-use Rattle.wb_states.proofs.KeyLemmas.{text_cmp_total, text_cmp-same}
+use Rattle.deb_text.proofs.MapLemmas.{entries-kept}
+use Rattle.deb_text.proofs.KeyLemmas.{text_cmp_total, text_cmp-same}
 use Rattle.wb_merge.specs.declared.listing.Listed.{Listed}
 use Rattle.wb_merge.specs.Listing.{ArchiveListing}
 use Rattle.wb_merge.specs.Merged.{names_of}

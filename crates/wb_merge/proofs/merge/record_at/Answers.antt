@@ -1,6 +1,6 @@
 use Rattle.std.proofs.Common.{sym, ◌∙◌}
-use Rattle.wb_states.proofs.MapLemmas.{get-lookup}
-use Rattle.wb_states.proofs.KeyLemmas.{pair_cmp_total}
+use Rattle.deb_text.proofs.MapLemmas.{get-lookup}
+use Rattle.deb_text.proofs.KeyLemmas.{pair_cmp_total}
 use Rattle.wb_merge.proofs.merge.record_at.Goals as goal
 
 pub returns : goal.returns

@@ -1,8 +1,8 @@
 use Rattle.std.proofs.Common.{◌≡◌, ◌∙◌, ◌++◌, sym, ap, bytes_eq, filter, map}
 use Rattle.std.specs.FinMap as finite
 use Rattle.wb_states.specs.declared.record.Record.{Record}
-use Rattle.wb_states.proofs.MapLemmas.{entries-kept}
-use Rattle.wb_states.proofs.KeyLemmas.{pair_cmp_total, pair_cmp-same}
+use Rattle.deb_text.proofs.MapLemmas.{entries-kept}
+use Rattle.deb_text.proofs.KeyLemmas.{pair_cmp_total, pair_cmp-same}
 use Rattle.wb_merge.specs.Steps.{Key}
 use Rattle.wb_merge.proofs.merge.recorded_names.Goals as goal
 

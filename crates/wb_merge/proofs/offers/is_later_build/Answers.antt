@@ -2,7 +2,7 @@ use Rattle.std.proofs.Common.{◌≡◌, ◌∙◌, ap, List, ℕ}
 use Rattle.std.specs.Map.{lookup}
 use Rattle.std.specs.BTreeMap.{is_at}
 use Rattle.std.specs.Ordering.{is_gt, ordering_then, nat_cmp}
-use Rattle.deb_relations.specs.Text.{text_cmp}
+use Rattle.deb_text.specs.Text.{text_cmp}
 use Rattle.deb_version.specs.Order.{version_cmp}
 use Rattle.wb_merge.specs.Rows.{BinaryRow}
 use Rattle.wb_merge.specs.Listing.{built_cmp, built_as}

@@ -1,8 +1,8 @@
 use Rattle.std.proofs.Common.{◌≡◌, ◌∙◌, ap, bytes_eq, sym}
 use Rattle.std.specs.FinMap as finite
-use Rattle.deb_relations.specs.Text.{text_cmp}
-use Rattle.wb_states.proofs.KeyLemmas.{text_cmp_total, text_cmp-same}
-use Rattle.wb_states.proofs.MapLemmas.{one-inserted}
+use Rattle.deb_text.specs.Text.{text_cmp}
+use Rattle.deb_text.proofs.KeyLemmas.{text_cmp_total, text_cmp-same}
+use Rattle.deb_text.proofs.MapLemmas.{one-inserted}
 use Rattle.wb_merge.specs.declared.listing.Built.{Built}
 use Rattle.wb_merge.specs.Rows.{BinaryRow}
 use Rattle.wb_merge.specs.Listing.{built_as}

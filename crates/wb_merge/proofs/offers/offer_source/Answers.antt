@@ -1,8 +1,8 @@
 use Rattle.std.proofs.Common.{◌∙◌, ap, Option, List, ℕ, sym}
 use Rattle.std.specs.FinMap as finite
-use Rattle.deb_relations.specs.Text.{text_cmp}
-use Rattle.wb_states.proofs.KeyLemmas.{text_cmp_total, text_cmp-same}
-use Rattle.wb_states.proofs.MapLemmas.{one-inserted}
+use Rattle.deb_text.specs.Text.{text_cmp}
+use Rattle.deb_text.proofs.KeyLemmas.{text_cmp_total, text_cmp-same}
+use Rattle.deb_text.proofs.MapLemmas.{one-inserted}
 use Rattle.wb_merge.specs.declared.listing.Listed.{Listed}
 use Rattle.wb_merge.specs.Rows.{SourceRow}
 use Rattle.wb_merge.proofs.OfferLemmas.{source-other, source-kept, source-new}

@@ -1,5 +1,6 @@
 use Rattle.std.proofs.Common.{◌≡◌, ◌++◌, drop, map, filter}
-use Rattle.deb_relations.specs.Reduction.{is_filled, reduced_group}
+use Rattle.deb_relations.specs.Reduction.{reduced_group}
+use Rattle.deb_text.specs.Lists.{is_filled}
 use Rattle.deb_relations.proofs.relations.Relations.reduce.Given as goal
 
 abbrev pub invariant-loop-group : goal.invariant-loop-group

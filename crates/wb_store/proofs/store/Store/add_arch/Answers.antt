@@ -3,7 +3,7 @@ use Rattle.std.specs.FinMap as map
 use Rattle.std.specs.Cmp.Lexicographic.{nat_list_cmp_total}
 use Rattle.std.proofs.lemmas.Map.Lookups.{exact_bytes}
 use Rattle.wb_store.specs.contracts.store.Store.{the_view}
-use Rattle.wb_states.proofs.MapLemmas.{one-inserted}
+use Rattle.deb_text.proofs.MapLemmas.{one-inserted}
 use Rattle.wb_store.proofs.TableLemmas.{with_archs}
 use Rattle.wb_store.proofs.store.Store.add_arch.Goals as goal
 

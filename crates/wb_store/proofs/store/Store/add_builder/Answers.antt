@@ -2,7 +2,7 @@ use Rattle.std.proofs.Common.{ap, ◌∙◌}
 use Rattle.std.specs.FinSet as set
 use Rattle.wb_store.specs.contracts.store.Store.{the_view}
 use Rattle.wb_store.proofs.TableLemmas.{one-added, with_builders}
-use Rattle.wb_states.proofs.KeyLemmas.{pair_cmp_total, pair_cmp-same}
+use Rattle.deb_text.proofs.KeyLemmas.{pair_cmp_total, pair_cmp-same}
 use Rattle.wb_store.proofs.store.Store.add_builder.Goals as goal
 
 pub returns-clause-ok : goal.returns-clause-ok

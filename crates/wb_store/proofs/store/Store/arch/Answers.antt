@@ -1,7 +1,7 @@
 use Rattle.std.proofs.Common.{sym, ap, ◌∙◌}
 use Rattle.std.specs.FinMap as map
 use Rattle.std.specs.Cmp.Lexicographic.{nat_list_cmp_total}
-use Rattle.wb_states.proofs.MapLemmas.{get-lookup}
+use Rattle.deb_text.proofs.MapLemmas.{get-lookup}
 use Rattle.wb_store.proofs.store.Store.arch.Goals as goal
 
 pub returns : goal.returns

@@ -1,6 +1,6 @@
 use Rattle.std.proofs.Common.{◌≡◌, ◌∙◌, filter}
 use Rattle.std.specs.FinMap as finite
-use Rattle.wb_states.specs.Queue.{first_of}
+use Rattle.deb_text.specs.Lists.{first_of}
 use Rattle.wb_states.specs.Holds.{is_taken_as}
 use Rattle.wb_store.proofs.TableLemmas.{records-iterated}
 use Rattle.wb_store.proofs.store.Store.by_take.Goals as goal

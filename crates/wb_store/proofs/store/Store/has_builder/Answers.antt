@@ -1,6 +1,6 @@
 use Rattle.std.proofs.Common.{sym, ap, ◌∙◌}
 use Rattle.std.specs.FinSet as set
-use Rattle.wb_states.proofs.KeyLemmas.{pair_cmp_total}
+use Rattle.deb_text.proofs.KeyLemmas.{pair_cmp_total}
 use Rattle.wb_store.proofs.store.Store.has_builder.Goals as goal
 
 pub returns : goal.returns

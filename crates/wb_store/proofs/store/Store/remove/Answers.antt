@@ -1,9 +1,9 @@
 use Rattle.std.proofs.Common.{ap, ◌∙◌}
 use Rattle.std.specs.FinMap as map
 use Rattle.wb_store.specs.contracts.store.Store.{the_view}
-use Rattle.wb_states.proofs.MapLemmas.{one-removed}
+use Rattle.deb_text.proofs.MapLemmas.{one-removed}
 use Rattle.wb_store.proofs.TableLemmas.{with_records}
-use Rattle.wb_states.proofs.KeyLemmas.{pair_cmp_total, pair_cmp-same}
+use Rattle.deb_text.proofs.KeyLemmas.{pair_cmp_total, pair_cmp-same}
 use Rattle.wb_store.proofs.store.Store.remove.Goals as goal
 
 pub returns-clause-ok : goal.returns-clause-ok

@@ -1,11 +1,12 @@
 //! Text whose value is its bytes, whatever room it has.
-ghost use Rattle.std.specs.Prelude.{◌≡◌, ℕ, List, [], IfOk};
+ghost use Rattle.std.specs.Prelude.{◌≡◌, ℕ, List, [], true, IfOk, OnErr};
 ghost use Rattle.std.specs.String.{string_bytes};
 ghost use Rattle.std.specs.Ordering.{as_partial_cmp};
 ghost use Rattle.std.specs.Cmp.{partial_order_from_own_ties};
 ghost use Rattle.std.specs.Cmp.Rules.{comparing};
 ghost use Rattle.std.proofs.Common.{rules, refl};
-ghost use Rattle.deb_relations.specs.Text.{text_cmp};
+ghost use Rattle.deb_text.specs.Lists.{is_filled};
+ghost use Rattle.deb_text.specs.Text.{text_cmp};
 
 use std::alloc::{AllocError, Global};
 use std::cmp::Ordering;
@@ -36,11 +37,15 @@ impl Text {
         }
     }
 
-    /// A copy of a text. The only error is that there is no memory for it.
+    /// A copy of a text. The only error is that memory ran out; the empty text takes none.
     /// Source: this project's own.
     pub fn copied(alloc: Global, text: &str) -> Result<Text, AllocError>
-        ensures { IfOk result (λ made. made ≡ text.now) }
+        ensures value { IfOk result (λ made. made ≡ text.now) }
+        ensures memory { OnErr result (is_filled text.now ≡ true) }
     {
+        if text.is_empty() {
+            return Ok(Text::new(alloc));
+        }
         Ok(Text {
             string: String::from_str(alloc, text)?,
         })

@@ -2,7 +2,8 @@
 use Rattle.std.proofs.Common.{◌≡◌, ℕ, ◌<◌, Bool, true, false, not, eqb, ne_eqb, List, [], ◌∷◌, ◌++◌, length, refl, sym, ap, ◌∙◌, arith}
 use Rattle.std.specs.List.{slice_split, flat_map, onto_first}
 use Rattle.std.proofs.lemmas.List.Splits.{length-slice_split, slice_split-cons_yes, slice_split-cons_no}
-use Rattle.deb_control.specs.Lines.{is_filled, is_blank}
+use Rattle.deb_text.specs.Lines.{is_blank}
+use Rattle.deb_text.specs.Lists.{is_filled}
 
 -- the parts of a text between spaces
 abbrev pub spaces : List ℕ → List (List ℕ)

@@ -1,4 +1,4 @@
--- The orders of the keys of the office's maps are total, and only equal keys tie.
+-- The orders of texts and of pairs of texts are total, and only equal ones tie.
 use Rattle.std.proofs.Common.{◌≡◌, refl, true, false, cond, IfSome, Some}
 use Rattle.std.specs.declared.cmp.Ordering.{Ordering}
 use Rattle.std.specs.declared.cmp.Ordering.TheVariants.{Less, Equal, Greater}
@@ -7,8 +7,7 @@ use Rattle.std.specs.Cmp.{IsTotalOrder, then_total, on_total, Equal-is}
 use Rattle.std.specs.Cmp.Lexicographic.{nat_list_cmp_total}
 use Rattle.std.specs.FinMap as map
 use Rattle.std.specs.FinMap.{IsAntisymmetric, slice_cmp-IsAntisymmetric, nat_cmp-IsAntisymmetric}
-use Rattle.deb_relations.specs.Text.{text_cmp}
-use Rattle.wb_states.specs.Machine.{pair_cmp}
+use Rattle.deb_text.specs.Text.{text_cmp, pair_cmp}
 
 -- only a first and a second tie make a tie of two
 both_tied : (r s : Ordering) → ordering_then r s ≡ Equal → (r ≡ Equal) × (s ≡ Equal)

@@ -50,7 +50,7 @@ impl<T> From<Vec<T>> for Items<T> {
 }
 
 impl<T: Drop> Items<T> {
-    /// Adds an item at the end. The only error is that there is no memory for it; the list then stays as it was.
+    /// Adds an item at the end. The only error is that memory ran out; the list then stays as it was.
     /// Source: this project's own.
     pub fn push(&mut self, item: T) -> Result<(), AllocError>
         ensures value { OnOk result (self.new ≡ self.old ++ item ∷ []) }
