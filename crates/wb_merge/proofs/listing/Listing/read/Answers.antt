@@ -1,18 +1,23 @@
-use Rattle.std.proofs.lemmas.Result.{err_from_is_err_and}
-use Rattle.wb_merge.proofs.WholeLemmas.{listing-is, sources-refused, packages-refused}
+use Rattle.std.proofs.Common.{◌≡◌, ◌≢◌, List, Result, Ok, Err, IfOk, IfErr, subst}
+use Rattle.wb_states.specs.declared.refusal.Refusal.{Refusal}
+use Rattle.wb_states.specs.declared.refusal.Refusal.TheVariants.{Memory}
+use Rattle.wb_merge.specs.Rows.{SourceRow, binary_rows}
+use Rattle.wb_merge.specs.Listing.{listing_in, listing_of}
+use Rattle.wb_merge.proofs.SourcesLemmas.{lists-take-on}
 use Rattle.wb_merge.proofs.listing.Listing.read.Goals as goal
 
-pub returns-in_err-listed-clause-refused : goal.returns-in_err-listed-clause-refused
-returns-in_err-listed-clause-refused c =
-    let p = err_from_is_err_and c.from_residual.result c.from_residual.ensures.1 in
-    rw (p.1, p.2) (λ other. sources-refused c.args.arch.now c.args.sources.now c.args.packages.now _ (c.in_err-listed.ensures.refused other))
-
-pub returns-in_err-built-clause-refused : goal.returns-in_err-built-clause-refused
-returns-in_err-built-clause-refused c =
-    let p = err_from_is_err_and c.from_residual-in_err-built.result c.from_residual-in_err-built.ensures.1 in
-    rw (p.1, p.2) (λ other.
-    packages-refused c.args.arch.now c.args.sources.now c.args.packages.now _ _ c.in_ok-listed.ensures.value (c.in_err-built.ensures.refused other))
-
 pub returns-clause-value : goal.returns-clause-value
+unfolding listing_of
 returns-clause-value c =
-    listing-is c.args.arch.now c.args.sources.now c.args.packages.now _ _ _ c.in_ok-listed.ensures.value c.in_ok-built.ensures.value
+    subst (λ (rows : Result (List SourceRow) Refusal). IfOk c.from_sources.result (λ listing. listing_in c.args.arch.now rows (binary_rows c.args.packages.now) ≡ Ok listing))
+    c.in_ok-sources.ensures.value c.from_sources.ensures.value
+
+pub returns-clause-refused : goal.returns-clause-refused
+unfolding listing_of
+returns-clause-refused c =
+    subst (λ (rows : Result (List SourceRow) Refusal). IfErr c.from_sources.result (λ refusal. refusal ≢ Memory → listing_in c.args.arch.now rows (binary_rows c.args.packages.now) ≡ Err refusal))
+    c.in_ok-sources.ensures.value c.from_sources.ensures.refused
+
+pub returns-clause-memory : goal.returns-clause-memory
+returns-clause-memory c =
+    lists-take-on c.args.sources.now c.args.packages.now c.args.arch.now _ c.in_ok-sources.ensures.value c.from_sources.result c.from_sources.ensures.memory
