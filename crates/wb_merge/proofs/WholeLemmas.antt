@@ -8,8 +8,8 @@ use Rattle.deb_relations.specs.Satisfaction.{Pairs, no_pairs, with_pair}
 use Rattle.wb_states.specs.declared.refusal.Refusal.{Refusal}
 use Rattle.wb_merge.specs.declared.listing.Listed.{Listed}
 use Rattle.wb_merge.specs.declared.listing.Built.{Built}
-use Rattle.wb_merge.specs.Rows.{SourceRow, BinaryRow}
-use Rattle.wb_merge.specs.Listing.{map_at, listed_cmp, listed_as, is_candidate, candidates, listed_of, built_cmp, built_as, is_built_from, builds, built_of, is_installable_on, available_of, listing_of_rows, best_from, listing_in, is_listed}
+use Rattle.wb_merge.specs.Rows.{SourceRow, BinaryRow, source_rows, binary_rows}
+use Rattle.wb_merge.specs.Listing.{map_at, listed_cmp, listed_as, is_candidate, candidates, listed_of, built_cmp, built_as, is_built_from, builds, built_of, is_installable_on, available_of, listing_of_rows, best_from, listing_in, listing_of, is_listed}
 use Rattle.wb_merge.specs.Offers.{after_rows, with_listed, with_build, with_package, with_binary}
 use Rattle.wb_merge.proofs.FoldLemmas.{fold-map, map-get}
 
@@ -80,6 +80,16 @@ pub listing-is : (arch : ArchWords) (sources : Result (List SourceRow) Refusal) 
     → listing_in arch sources packages ≡ Ok (record { listed = listed; built = built; available = available })
 listing-is arch sources rows packages listed built available s l p =
     lists-are arch sources packages listed built available (ap (after_rows (with_listed arch) finite.empty) s ∙ ap Ok (sym l)) p
+
+-- the refusal of Sources, and then that of Packages
+pub sources-refused : (arch : ArchWords) (sources packages : List ℕ) (refusal : Refusal) → source_rows sources ≡ Err refusal → listing_of sources packages arch ≡ Err refusal
+unfolding listing_of
+sources-refused arch sources packages refusal s = rw s refl
+
+pub packages-refused : (arch : ArchWords) (sources packages : List ℕ) (rows : List SourceRow) (refusal : Refusal)
+    → source_rows sources ≡ Ok rows → binary_rows packages ≡ Err refusal → listing_of sources packages arch ≡ Err refusal
+unfolding listing_of
+packages-refused arch sources packages rows refusal s p = rw (s, p) refl
 
 -- ---- what a listing has at a name
 

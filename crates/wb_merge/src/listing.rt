@@ -6,8 +6,8 @@ ghost use Rattle.std.specs.FinMap as map;
 ghost use Rattle.wb_states.specs.declared.refusal.Refusal.TheVariants.{Memory};
 ghost use Rattle.deb_relations.specs.Text.{text_cmp};
 ghost use Rattle.deb_relations.specs.Satisfaction.{no_pairs};
-ghost use Rattle.wb_merge.specs.Rows.{binary_rows};
-ghost use Rattle.wb_merge.specs.Listing.{is_listed, listing_in, listing_of};
+ghost use Rattle.wb_merge.specs.Rows.{binary_rows, source_rows};
+ghost use Rattle.wb_merge.specs.Listing.{is_listed, listing_of};
 ghost use Rattle.wb_merge.specs.Offers.{after_rows, with_listed, with_binary};
 ghost use Rattle.wb_merge.specs.Growth.{list_takes_memory, listing_takes_memory, lists_take_memory};
 
@@ -18,7 +18,7 @@ use crate::rows::SourceRow;
 use deb_control::Paragraphs;
 use deb_relations::{ArchWords, Available, Text};
 use deb_version::Version;
-use std::alloc::Global;
+use std::alloc::{AllocError, Global};
 use std::collections::BTreeMap;
 use std::marker::Model;
 use wb_states::Refusal;
@@ -149,16 +149,16 @@ impl Listing {
     /// nothing is listed and Packages has no paragraph that begins with a field (this project's own).
     pub fn from_sources(
         alloc: Global,
-        sources: &Sources,
+        sources: &Sources<'_>,
         packages: &[u8],
         arch: &ArchWords,
     ) -> Result<Listing, Refusal>
         ensures value { IfOk result (λ listing.
-            listing_in arch.now sources.now (binary_rows packages.now) ≡ Ok listing) }
+            listing_of sources.now packages.now arch.now ≡ Ok listing) }
         ensures refused { IfErr result (λ refusal. refusal ≢ Memory
-            → listing_in arch.now sources.now (binary_rows packages.now) ≡ Err refusal) }
+            → listing_of sources.now packages.now arch.now ≡ Err refusal) }
         ensures memory { IfErr result (λ refusal. refusal ≡ Memory
-            → IsTrue (listing_takes_memory arch.now sources.now packages.now)) }
+            → IsTrue (listing_takes_memory arch.now (source_rows sources.now) packages.now)) }
     {
         let listed = list_sources(alloc, sources.rows()?, arch)?;
         let (built, available) = read_packages(alloc, packages, arch)?;
@@ -182,6 +182,18 @@ impl Listing {
         ensures value { option_copied result ≡ map.get self.now.built name.now }
     {
         self.built.get(name)
+    }
+
+    /// The names of the source packages that are listed, in their order. The only error is that there is no
+    /// memory for them (this project's own).
+    pub fn names(&self) -> Result<Vec<Text>, AllocError>
+        ensures value { IfOk result (λ names. names.items ≡ map.keys self.now.listed) }
+    {
+        let mut names = Vec::new(self.alloc);
+        for name in self.listed.keys() {
+            names.push(name.clone()?)?;
+        }
+        Ok(names)
     }
 
     /// The packages that can be installed on the architecture. Takes no memory.

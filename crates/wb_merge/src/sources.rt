@@ -15,24 +15,27 @@ use std::alloc::Global;
 use std::marker::Model;
 use wb_states::{ListKind, Refusal};
 
-/// What a Sources list says, whatever the architecture: a row of each of its paragraphs, or the fault of the
-/// first that has one. Clauses see it as the rows or the refusal.
+/// A Sources list that was read, whatever the architecture: a row of each of its paragraphs, or the fault of
+/// the first that has one. Clauses see it as the text of the list.
 #[derive(Drop)]
-pub struct Sources {
+pub struct Sources<'a> {
+    text: &'a [u8],
     rows: Result<Vec<SourceRow>, ListFault>,
 }
 
-impl Model for Sources {
-    ghost use Rattle.std.specs.Prelude.{List, Result};
+impl<'a> Model for Sources<'a> {
+    ghost use Rattle.std.specs.Prelude.{◌≡◌, List, ℕ};
     ghost use Rattle.std.specs.Result.{result_map_both};
-    ghost use Rattle.wb_states.specs.declared.refusal.Refusal.{Refusal};
     ghost use Rattle.wb_states.specs.declared.refusal.Refusal.TheVariants.{BadListing};
     ghost use Rattle.wb_states.specs.declared.refusal.ListKind.TheVariants.{Sources as InSources};
-    ghost use Rattle.wb_merge.specs.Rows.{SourceRow};
+    ghost use Rattle.wb_merge.specs.Rows.{source_rows};
 
-    ghost Value = { Result (List SourceRow) Refusal };
+    ghost Value = { List ℕ };
 
-    ghost view = { λ sources. result_map_both (λ rows. rows.items)
+    ghost view = { λ sources. sources.text.now };
+
+    ghost invariant = { λ sources. source_rows sources.text.now
+        ≡ result_map_both (λ rows. rows.items)
         (λ bad. BadListing InSources bad.paragraph bad.fault) sources.rows };
 }
 
@@ -58,25 +61,25 @@ fn read_rows(alloc: Global, sources: &[u8]) -> Result<Vec<SourceRow>, ListFault>
     Ok(rows)
 }
 
-impl Sources {
+impl<'a> Sources<'a> {
     /// Reads a Sources list, uncompressed. A fault of the list is kept, and refuses each listing that is made
     /// of it, so the only error is `Memory`; it does not come for a list without paragraphs, nor for one whose
     /// first line is no field (this project's own).
-    pub fn read(alloc: Global, sources: &[u8]) -> Result<Sources, Refusal>
-        ensures value { IfOk result (λ read. read ≡ source_rows sources.now) }
+    pub fn read(alloc: Global, text: &'a [u8]) -> Result<Sources<'a>, Refusal>
+        ensures value { IfOk result (λ read. read ≡ text.now) }
         ensures refused { IfErr result (λ refusal. refusal ≡ Memory) }
-        ensures memory { IfErr result (λ refusal. IsTrue (list_takes_memory sources.now)) }
+        ensures memory { IfErr result (λ refusal. IsTrue (list_takes_memory text.now)) }
     {
-        match read_rows(alloc, sources) {
+        match read_rows(alloc, text) {
             Err(bad) if is_memory(bad) => Err(Refusal::Memory),
-            rows => Ok(Sources { rows }),
+            rows => Ok(Sources { text, rows }),
         }
     }
 
     /// The rows, or the refusal for the first faulty paragraph.
     pub(crate) fn rows(&self) -> Result<&[SourceRow], Refusal>
-        ensures value { IfOk result (λ rows. self.now ≡ Ok rows.now) }
-        ensures refused { IfErr result (λ refusal. self.now ≡ Err refusal) }
+        ensures value { IfOk result (λ rows. source_rows self.now ≡ Ok rows.now) }
+        ensures refused { IfErr result (λ refusal. source_rows self.now ≡ Err refusal) }
         ensures bad { IfErr result (λ refusal. refusal ≢ Memory) }
     {
         match &self.rows {

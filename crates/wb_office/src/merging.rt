@@ -1,6 +1,5 @@
 //! The merge of what the archive lists into the records of the office.
 ghost use Rattle.std.specs.Prelude.{◌≡◌, ◌≢◌, ◌+◌, ℕ, List, not, None, Some, Ok, Err, false, nat_le, bytes_eq, OnOk, IfOk, IfErr, OnErr};
-ghost use Rattle.std.specs.FinMap as map;
 ghost use Rattle.std.specs.List.{list_any};
 ghost use Rattle.wb_states.specs.declared.command.Command.TheVariants.{Merge};
 ghost use Rattle.wb_states.specs.declared.command.Part.{Part};
@@ -14,17 +13,17 @@ ghost use Rattle.wb_office.specs.Parts.{is_good, is_merged, part_listing, part_r
 ghost use Rattle.wb_office.specs.Step.{step};
 
 use crate::checks::is_spent;
+use crate::part::merge_listing;
 use deb_relations::{ArchWords, Items, Text};
 use std::alloc::Global;
-use std::collections::BTreeMap;
-use wb_merge::{Listing, merge_records};
-use wb_states::{Counts, Part, PartEnd, PartReply, Record, Refusal, Reply, is_arch};
-use wb_store::Store;
+use wb_merge::{Listing, Sources};
+use wb_states::{Counts, Part, PartEnd, PartReply, Refusal, Reply, is_arch};
+use wb_store::{Records, Store};
 
 /// The records after the parts of a merge, and what became of each part.
 #[derive(Drop)]
 struct Parts {
-    records: BTreeMap<(Text, Text), Record>,
+    records: Records,
     replies: Vec<PartReply>,
     is_any_good: bool,
 }
@@ -57,7 +56,12 @@ fn repeats_arch(parts: &[Part]) -> bool
 
 /// The listing of a part, or why the part is refused.
 #[tactic(auto, unfolding(crate::specs::Parts::part_listing))]
-fn listing_of(alloc: Global, store: &Store, sources: &[u8], part: &Part) -> Result<Listing, Refusal>
+fn listing_of(
+    alloc: Global,
+    store: &Store,
+    sources: &Sources<'_>,
+    part: &Part,
+) -> Result<Listing, Refusal>
     ensures value { IfOk result (λ listing.
         part_listing store.now sources.now part.now ≡ Ok listing) }
     ensures refused { IfErr result (λ refusal. refusal ≢ Memory
@@ -68,7 +72,7 @@ fn listing_of(alloc: Global, store: &Store, sources: &[u8], part: &Part) -> Resu
     };
     let (name, os, cpu) = (part.arch.as_str(), words.os.as_str(), words.cpu.as_str());
     let arch = ArchWords::new(alloc, name, os, cpu)?;
-    Listing::read(alloc, sources, part.packages.as_slice(), &arch)
+    Listing::from_sources(alloc, sources, part.packages.as_slice(), &arch)
 }
 
 /// Merges a part into the records: a part that is refused leaves them. The error is `Memory`, after which
@@ -76,21 +80,21 @@ fn listing_of(alloc: Global, store: &Store, sources: &[u8], part: &Part) -> Resu
 fn merge_part(
     alloc: Global,
     store: &Store,
-    sources: &[u8],
+    sources: &Sources<'_>,
     part: &Part,
-    records: &mut BTreeMap<(Text, Text), Record>,
+    records: &mut Records,
 ) -> Result<PartEnd, Refusal>
     ensures value { IfOk result (λ end.
-        end ≡ end_with (map.from_entries records.old.entries) part.now.arch
+        end ≡ end_with records.old part.now.arch
         (part_listing store.now sources.now part.now)) }
-    ensures records { OnOk result (map.from_entries records.new.entries
-        ≡ records_with (map.from_entries records.old.entries) part.now.arch
+    ensures records { OnOk result (records.new
+        ≡ records_with records.old part.now.arch
         (part_listing store.now sources.now part.now)) }
     ensures refused { IfErr result (λ refusal. refusal ≡ Memory) }
 {
     match listing_of(alloc, store, sources, part) {
         Ok(listing) => {
-            let counts = merge_records(alloc, records, &part.arch, &listing)?;
+            let counts = merge_listing(alloc, records, &part.arch, &listing)?;
             Ok(PartEnd::Merged { counts })
         }
         Err(Refusal::Memory) => Err(Refusal::Memory),
@@ -104,14 +108,14 @@ fn is_merged(end: &PartEnd) -> bool
     matches!(end, PartEnd::Merged { .. })
 }
 
-/// Merges the parts in their order into a copy of the records.
+/// Merges the parts in their order into a copy of the records. Sources is read once for all of them.
 fn merge_parts(
     alloc: Global,
     store: &Store,
     sources: &[u8],
     parts: &[Part],
 ) -> Result<Parts, Refusal>
-    ensures records { IfOk result (λ made. map.from_entries made.records.entries
+    ensures records { IfOk result (λ made. made.records
         ≡ records_after store.now sources.now parts.now store.now.records) }
     ensures replies { IfOk result (λ made. made.replies.items
         ≡ part_replies store.now sources.now parts.now store.now.records) }
@@ -119,11 +123,12 @@ fn merge_parts(
         made.is_any_good ≡ list_any (is_good store.now sources.now) parts.now) }
     ensures refused { IfErr result (λ refusal. refusal ≡ Memory) }
 {
+    let sources = Sources::read(alloc, sources)?;
     let mut records = store.copy_records()?;
     let mut replies = Vec::new(alloc);
     let mut is_any_good = false;
     for part in parts {
-        let end = merge_part(alloc, store, sources, part, &mut records)?;
+        let end = merge_part(alloc, store, &sources, part, &mut records)?;
         is_any_good = is_any_good || is_merged(&end);
         let arch = part.arch.clone()?;
         replies.push(PartReply { arch, end })?;
@@ -161,7 +166,7 @@ fn prepare_merge(
     parts: &[Part],
 ) -> Result<Parts, Refusal>
     // what the parts make
-    ensures records { IfOk result (λ made. map.from_entries made.records.entries
+    ensures records { IfOk result (λ made. made.records
         ≡ records_after store.now sources.now parts.now store.now.records) }
     ensures replies { IfOk result (λ made. made.replies.items
         ≡ part_replies store.now sources.now parts.now store.now.records) }
