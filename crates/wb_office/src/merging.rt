@@ -1,5 +1,5 @@
 //! The merge of what the archive lists into the records of the office.
-ghost use Rattle.std.specs.Prelude.{◌≡◌, ◌≢◌, ◌+◌, ℕ, List, not, None, Some, Ok, Err, false, nat_le, bytes_eq, OnOk, IfOk, IfErr, OnErr};
+ghost use Rattle.std.specs.Prelude.{◌≡◌, ◌≢◌, ◌+◌, ℕ, List, not, None, Some, Ok, Err, true, false, nat_le, bytes_eq, OnOk, IfOk, IfErr, OnErr};
 ghost use Rattle.std.specs.List.{list_any};
 ghost use Rattle.wb_states.specs.declared.command.Command.TheVariants.{Merge};
 ghost use Rattle.wb_states.specs.declared.command.Part.{Part};
@@ -9,10 +9,10 @@ ghost use Rattle.wb_states.specs.Limits.{count_limit};
 ghost use Rattle.wb_states.specs.Machine.{Machine};
 ghost use Rattle.wb_states.specs.Names.{is_arch_name};
 ghost use Rattle.wb_office.specs.Checks.{MayWantMemory, first_refusal, has_repeated_arch};
-ghost use Rattle.wb_office.specs.Parts.{is_good, is_merged, part_listing, part_replies, parts_refusal, records_after, end_with, records_with};
+ghost use Rattle.wb_office.specs.Parts.{is_good, is_known, is_merged, part_listing, part_replies, parts_refusal, records_after, end_with, records_with};
 ghost use Rattle.wb_office.specs.Step.{step};
 
-use crate::checks::is_spent;
+use crate::checks::{has_arch, is_spent};
 use crate::part::merge_listing;
 use deb_relations::{ArchWords, Items, Text};
 use std::alloc::Global;
@@ -52,6 +52,13 @@ fn repeats_arch(parts: &[Part]) -> bool
         }
     }
     false
+}
+
+/// Whether one of the parts is for an architecture that was added. Takes no memory.
+fn is_any_known(store: &Store, parts: &[Part]) -> bool
+    ensures { result ≡ list_any (is_known store.now) parts.now }
+{
+    parts.iter().any(|part| has_arch(store, &part.arch))
 }
 
 /// The listing of a part, or why the part is refused.
@@ -175,6 +182,8 @@ fn prepare_merge(
     ensures room { OnOk result (nat_le count_limit store.now.accepted ≡ false) }
     ensures memory { IfErr result (λ refusal. refusal ≡ Memory
         → MayWantMemory (Merge sources.now parts.now)) }
+    ensures known { IfErr result (λ refusal. refusal ≡ Memory
+        → list_any (is_known store.now) parts.now ≡ true) }
     ensures refused { IfErr result (λ refusal. refusal ≢ Memory
         → first_refusal store.now (Merge sources.now parts.now) ≡ Some refusal) }
 {
@@ -183,6 +192,9 @@ fn prepare_merge(
     }
     if repeats_arch(parts) {
         return Err(Refusal::RepeatedArch);
+    }
+    if !is_any_known(store, parts) {
+        return Err(Refusal::UnknownArch);
     }
     let made = merge_parts(alloc, store, sources, parts)?;
     if !made.is_any_good {
@@ -194,7 +206,8 @@ fn prepare_merge(
     Ok(made)
 }
 
-/// Brings the records of each part's architecture in line with what the archive lists, all or none.
+/// Brings the records of each part's architecture in line with what the archive lists, all or none. `Memory`
+/// comes only if the architecture of a part was added.
 #[tactic(auto, unfolding(crate::specs::Step::step))]
 pub(crate) fn merge(
     alloc: Global,
@@ -208,6 +221,8 @@ pub(crate) fn merge(
         → step store.old (Merge sources.now parts.now) ≡ (Err refusal, store.old)) }
     ensures memory { IfErr result (λ refusal. refusal ≡ Memory
         → MayWantMemory (Merge sources.now parts.now)) }
+    ensures known { IfErr result (λ refusal. refusal ≡ Memory
+        → list_any (is_known store.old) parts.now ≡ true) }
     ensures unchanged { OnErr result (store.new ≡ store.old) }
 {
     let made = prepare_merge(alloc, store, sources.as_slice(), parts.as_slice())?;
