@@ -17,6 +17,7 @@ pub mod RelistedLemmas
 pub mod RowLemmas
 pub mod SourceLemmas
 pub mod SourceTextLemmas
+pub mod SourcesLemmas
 pub mod TotalLemmas
 pub mod TwiceLemmas
 pub mod WholeLemmas

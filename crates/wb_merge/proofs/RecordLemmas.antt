@@ -1,10 +1,8 @@
 -- Records that a test finds equal are equal, and one record more or less in a map.
-use Rattle.std.proofs.Common.{◌≡◌, ◌↔◌, ℕ, Bool, true, false, cond, ◌&&◌, List, refl, sym, ap, ◌∙◌, Option, Some, None, bytes_eq, nat_eq}
+use Rattle.std.proofs.Common.{◌≡◌, ◌↔◌, ℕ, Bool, true, false, cond, ◌&&◌, refl, sym, ap, ◌∙◌, Option, Some, None, bytes_eq, nat_eq}
 use Rattle.std.proofs.lemmas.Bool.{and_parts, eq-eqb, eqb-true}
-use Rattle.std.specs.Map.{lookup}
-use Rattle.std.specs.BTreeMap.{is_at}
 use Rattle.std.specs.Ordering.{eq_by_cmp}
-use Rattle.std.specs.Cmp.{booleans_Decides}
+use Rattle.std.specs.Cmp.{booleans_Decides, eq_by_cmp_equiv}
 use Rattle.std.specs.Option.{option_eq}
 use Rattle.std.proofs.lemmas.Cmp.{nat_list_eq_equiv}
 use Rattle.std.specs.FinMap as finite
@@ -13,7 +11,6 @@ use Rattle.wb_states.specs.declared.state.State.{State}
 use Rattle.wb_states.specs.State.{code_of}
 use Rattle.deb_text.specs.Text.{pair_cmp}
 use Rattle.wb_states.proofs.CodeLemmas.{code_of-differ}
-use Rattle.deb_text.proofs.MapLemmas.{get-lookup}
 use Rattle.deb_text.proofs.KeyLemmas.{pair_cmp_total}
 use Rattle.wb_merge.specs.Merged.{Records, has_same_source, has_same_place, has_same_texts, is_same_record, change_of}
 use Rattle.wb_merge.specs.declared.merge.Change.TheVariants.{Kept, Changed}
@@ -22,24 +19,19 @@ use Rattle.wb_merge.proofs.NameLemmas.{bytes_eq-is, pair-is}
 
 -- ---- one record more or less
 
--- entries that differ at one key alone make records that differ there alone
-set-at : (es fs : List (Key × Record)) (key : Key) (value : Option Record)
-    → ((q : Key) → lookup (is_at (pair_cmp q)) fs ≡ cond (is_at (pair_cmp key) q) value (lookup (is_at (pair_cmp q)) es))
-    → IsSetAt (finite.from_entries es) key value (finite.from_entries fs)
+-- records without the one of a key
+pub set-removed : (records : Records) (key : Key) → IsSetAt records key None (finite.remove records key)
 unfolding IsSetAt
-set-at es fs key value h other =
-    get-lookup pair_cmp_total fs other ∙ h other
-    ∙ ap (cond (is_at (pair_cmp key) other) value) (sym (get-lookup pair_cmp_total es other))
+set-removed records key other =
+    finite.get-remove pair_cmp_total records key other
+    ∙ ap (λ b. cond b None (finite.get records other)) ((eq_by_cmp_equiv pair_cmp_total).symm other key)
 
-pub set-removed : (es fs : List (Key × Record)) (key : Key)
-    → ((q : Key) → lookup (is_at (pair_cmp q)) fs ≡ cond (is_at (pair_cmp key) q) None (lookup (is_at (pair_cmp q)) es))
-    → IsSetAt (finite.from_entries es) key None (finite.from_entries fs)
-set-removed es fs key = set-at es fs key None
-
-pub set-inserted : (es fs : List (Key × Record)) (key : Key) (value : Record)
-    → ((q : Key) → lookup (is_at (pair_cmp q)) fs ≡ cond (is_at (pair_cmp key) q) (Some value) (lookup (is_at (pair_cmp q)) es))
-    → IsSetAt (finite.from_entries es) key (Some value) (finite.from_entries fs)
-set-inserted es fs key value = set-at es fs key (Some value)
+-- records with this one at a key
+pub set-inserted : (records : Records) (key : Key) (value : Record) → IsSetAt records key (Some value) (finite.insert records key value)
+unfolding IsSetAt
+set-inserted records key value other =
+    finite.get-insert pair_cmp_total records key value other
+    ∙ ap (λ b. cond b (Some value) (finite.get records other)) ((eq_by_cmp_equiv pair_cmp_total).symm other key)
 
 -- ---- records that are equal
 

@@ -79,14 +79,18 @@ both_joined (Some first) (Some second) = within_limit (joined first second)
 unfoldable pub depends_of : ArchWords → SourceRow → Option (List ℕ)
 depends_of arch row = both_joined (printed_for arch row.depends) (printed_for arch row.depends_arch)
 
--- what is listed of a source package
-abbrev pub listed_as : ArchWords → SourceRow → Listed
-listed_as arch row = record {
+-- what is listed of a source package by a row, where this is what it needs to be built
+abbrev pub listed_with : Option (List ℕ) → SourceRow → Listed
+listed_with depends row = record {
   version = row.version;
   priority = row.priority;
   section = row.section;
-  depends = depends_of arch row;
+  depends = depends;
 }
+
+-- what is listed of a source package
+abbrev pub listed_as : ArchWords → SourceRow → Listed
+listed_as arch row = listed_with (depends_of arch row) row
 
 -- whether a row lists its source package for the architecture (Debian Policy 5.6.8)
 unfoldable pub is_listed : ArchWords → SourceRow → Bool

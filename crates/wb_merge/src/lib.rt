@@ -10,7 +10,9 @@ mod reader;
 mod record;
 mod rows;
 mod source;
+mod sources;
 
 pub use listing::{Built, Listed, Listing};
-pub use merge::merge_records;
+pub use merge::{Change, counted};
 pub use record::{after, blank_record};
+pub use sources::Sources;

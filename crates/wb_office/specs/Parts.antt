@@ -23,6 +23,10 @@ listing_for sources part (Some words) = listing_of sources part.packages (with_w
 unfoldable pub part_listing : Machine → List ℕ → Part → Result ArchiveListing Refusal
 part_listing machine sources part = listing_for sources part (map.get machine.archs part.arch)
 
+-- whether the architecture of a part was added
+abbrev pub is_known : Machine → Part → Bool
+is_known machine part = map.contains_key machine.archs part.arch
+
 -- whether a part can be merged
 abbrev pub is_good : Machine → List ℕ → Part → Bool
 is_good machine sources part = is_ok (part_listing machine sources part)

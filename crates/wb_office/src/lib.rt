@@ -13,6 +13,7 @@ mod moved;
 mod named;
 mod office;
 mod operator;
+mod part;
 mod texts;
 
 pub use office::Office;

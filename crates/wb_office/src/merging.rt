@@ -1,6 +1,5 @@
 //! The merge of what the archive lists into the records of the office.
-ghost use Rattle.std.specs.Prelude.{◌≡◌, ◌≢◌, ◌+◌, ℕ, List, not, None, Some, Ok, Err, false, nat_le, bytes_eq, OnOk, IfOk, IfErr, OnErr};
-ghost use Rattle.std.specs.FinMap as map;
+ghost use Rattle.std.specs.Prelude.{◌≡◌, ◌≢◌, ◌+◌, ℕ, List, not, None, Some, Ok, Err, true, false, nat_le, bytes_eq, OnOk, IfOk, IfErr, OnErr};
 ghost use Rattle.std.specs.List.{list_any};
 ghost use Rattle.wb_states.specs.declared.command.Command.TheVariants.{Merge};
 ghost use Rattle.wb_states.specs.declared.command.Part.{Part};
@@ -10,22 +9,22 @@ ghost use Rattle.wb_states.specs.Limits.{count_limit};
 ghost use Rattle.wb_states.specs.Machine.{Machine};
 ghost use Rattle.wb_states.specs.Names.{is_arch_name};
 ghost use Rattle.wb_office.specs.Checks.{MayWantMemory, first_refusal, has_repeated_arch};
-ghost use Rattle.wb_office.specs.Parts.{is_good, is_merged, part_listing, part_replies, parts_refusal, records_after, end_with, records_with};
+ghost use Rattle.wb_office.specs.Parts.{is_good, is_known, is_merged, part_listing, part_replies, parts_refusal, records_after, end_with, records_with};
 ghost use Rattle.wb_office.specs.Step.{step};
 
-use crate::checks::is_spent;
+use crate::checks::{has_arch, is_spent};
+use crate::part::merge_listing;
 use deb_relations::ArchWords;
 use deb_text::{Items, Text};
 use std::alloc::Global;
-use std::collections::BTreeMap;
-use wb_merge::{Listing, merge_records};
-use wb_states::{Counts, Part, PartEnd, PartReply, Record, Refusal, Reply, is_arch};
-use wb_store::Store;
+use wb_merge::{Listing, Sources};
+use wb_states::{Counts, Part, PartEnd, PartReply, Refusal, Reply, is_arch};
+use wb_store::{Records, Store};
 
 /// The records after the parts of a merge, and what became of each part.
 #[derive(Drop)]
 struct Parts {
-    records: BTreeMap<(Text, Text), Record>,
+    records: Records,
     replies: Vec<PartReply>,
     is_any_good: bool,
 }
@@ -56,9 +55,21 @@ fn repeats_arch(parts: &[Part]) -> bool
     false
 }
 
+/// Whether one of the parts is for an architecture that was added. Takes no memory.
+fn is_any_known(store: &Store, parts: &[Part]) -> bool
+    ensures { result ≡ list_any (is_known store.now) parts.now }
+{
+    parts.iter().any(|part| has_arch(store, &part.arch))
+}
+
 /// The listing of a part, or why the part is refused.
 #[tactic(auto, unfolding(crate::specs::Parts::part_listing))]
-fn listing_of(alloc: Global, store: &Store, sources: &[u8], part: &Part) -> Result<Listing, Refusal>
+fn listing_of(
+    alloc: Global,
+    store: &Store,
+    sources: &Sources<'_>,
+    part: &Part,
+) -> Result<Listing, Refusal>
     ensures value { IfOk result (λ listing.
         part_listing store.now sources.now part.now ≡ Ok listing) }
     ensures refused { IfErr result (λ refusal. refusal ≢ Memory
@@ -69,7 +80,7 @@ fn listing_of(alloc: Global, store: &Store, sources: &[u8], part: &Part) -> Resu
     };
     let (name, os, cpu) = (part.arch.as_str(), words.os.as_str(), words.cpu.as_str());
     let arch = ArchWords::new(alloc, name, os, cpu)?;
-    Listing::read(alloc, sources, part.packages.as_slice(), &arch)
+    Listing::from_sources(alloc, sources, part.packages.as_slice(), &arch)
 }
 
 /// Merges a part into the records: a part that is refused leaves them. The error is `Memory`, after which
@@ -77,21 +88,21 @@ fn listing_of(alloc: Global, store: &Store, sources: &[u8], part: &Part) -> Resu
 fn merge_part(
     alloc: Global,
     store: &Store,
-    sources: &[u8],
+    sources: &Sources<'_>,
     part: &Part,
-    records: &mut BTreeMap<(Text, Text), Record>,
+    records: &mut Records,
 ) -> Result<PartEnd, Refusal>
     ensures value { IfOk result (λ end.
-        end ≡ end_with (map.from_entries records.old.entries) part.now.arch
+        end ≡ end_with records.old part.now.arch
         (part_listing store.now sources.now part.now)) }
-    ensures records { OnOk result (map.from_entries records.new.entries
-        ≡ records_with (map.from_entries records.old.entries) part.now.arch
+    ensures records { OnOk result (records.new
+        ≡ records_with records.old part.now.arch
         (part_listing store.now sources.now part.now)) }
     ensures refused { IfErr result (λ refusal. refusal ≡ Memory) }
 {
     match listing_of(alloc, store, sources, part) {
         Ok(listing) => {
-            let counts = merge_records(alloc, records, &part.arch, &listing)?;
+            let counts = merge_listing(alloc, records, &part.arch, &listing)?;
             Ok(PartEnd::Merged { counts })
         }
         Err(Refusal::Memory) => Err(Refusal::Memory),
@@ -105,14 +116,14 @@ fn is_merged(end: &PartEnd) -> bool
     matches!(end, PartEnd::Merged { .. })
 }
 
-/// Merges the parts in their order into a copy of the records.
+/// Merges the parts in their order into a copy of the records. Sources is read once for all of them.
 fn merge_parts(
     alloc: Global,
     store: &Store,
     sources: &[u8],
     parts: &[Part],
 ) -> Result<Parts, Refusal>
-    ensures records { IfOk result (λ made. map.from_entries made.records.entries
+    ensures records { IfOk result (λ made. made.records
         ≡ records_after store.now sources.now parts.now store.now.records) }
     ensures replies { IfOk result (λ made. made.replies.items
         ≡ part_replies store.now sources.now parts.now store.now.records) }
@@ -120,11 +131,12 @@ fn merge_parts(
         made.is_any_good ≡ list_any (is_good store.now sources.now) parts.now) }
     ensures refused { IfErr result (λ refusal. refusal ≡ Memory) }
 {
+    let sources = Sources::read(alloc, sources)?;
     let mut records = store.copy_records()?;
     let mut replies = Vec::new(alloc);
     let mut is_any_good = false;
     for part in parts {
-        let end = merge_part(alloc, store, sources, part, &mut records)?;
+        let end = merge_part(alloc, store, &sources, part, &mut records)?;
         is_any_good = is_any_good || is_merged(&end);
         let arch = part.arch.clone()?;
         replies.push(PartReply { arch, end })?;
@@ -162,7 +174,7 @@ fn prepare_merge(
     parts: &[Part],
 ) -> Result<Parts, Refusal>
     // what the parts make
-    ensures records { IfOk result (λ made. map.from_entries made.records.entries
+    ensures records { IfOk result (λ made. made.records
         ≡ records_after store.now sources.now parts.now store.now.records) }
     ensures replies { IfOk result (λ made. made.replies.items
         ≡ part_replies store.now sources.now parts.now store.now.records) }
@@ -171,6 +183,8 @@ fn prepare_merge(
     ensures room { OnOk result (nat_le count_limit store.now.accepted ≡ false) }
     ensures memory { IfErr result (λ refusal. refusal ≡ Memory
         → MayWantMemory (Merge sources.now parts.now)) }
+    ensures known { IfErr result (λ refusal. refusal ≡ Memory
+        → list_any (is_known store.now) parts.now ≡ true) }
     ensures refused { IfErr result (λ refusal. refusal ≢ Memory
         → first_refusal store.now (Merge sources.now parts.now) ≡ Some refusal) }
 {
@@ -179,6 +193,9 @@ fn prepare_merge(
     }
     if repeats_arch(parts) {
         return Err(Refusal::RepeatedArch);
+    }
+    if !is_any_known(store, parts) {
+        return Err(Refusal::UnknownArch);
     }
     let made = merge_parts(alloc, store, sources, parts)?;
     if !made.is_any_good {
@@ -190,7 +207,8 @@ fn prepare_merge(
     Ok(made)
 }
 
-/// Brings the records of each part's architecture in line with what the archive lists, all or none.
+/// Brings the records of each part's architecture in line with what the archive lists, all or none. `Memory`
+/// comes only if the architecture of a part was added.
 #[tactic(auto, unfolding(crate::specs::Step::step))]
 pub(crate) fn merge(
     alloc: Global,
@@ -204,6 +222,8 @@ pub(crate) fn merge(
         → step store.old (Merge sources.now parts.now) ≡ (Err refusal, store.old)) }
     ensures memory { IfErr result (λ refusal. refusal ≡ Memory
         → MayWantMemory (Merge sources.now parts.now)) }
+    ensures known { IfErr result (λ refusal. refusal ≡ Memory
+        → list_any (is_known store.old) parts.now ≡ true) }
     ensures unchanged { OnErr result (store.new ≡ store.old) }
 {
     let made = prepare_merge(alloc, store, sources.as_slice(), parts.as_slice())?;

@@ -14,6 +14,10 @@ use Rattle.wb_states.specs.Machine.{Machine}
 abbrev pub coded_pair : Coded (List ℕ × List ℕ)
 coded_pair = coded× coded_text coded_text
 
+-- the code of the records
+abbrev pub coded_records : Coded (map.FinMap pair_cmp Record)
+coded_records = map.code coded_pair row.the_row.coded
+
 -- the fields of the state, one after another
 abbrev pub MachineFields : Type 0
 MachineFields = map.FinMap pair_cmp Record × (map.FinMap text_cmp OsCpu × (set.FinSet pair_cmp × (ℕ × ℕ)))
@@ -21,7 +25,7 @@ MachineFields = map.FinMap pair_cmp Record × (map.FinMap text_cmp OsCpu × (set
 -- the code of the fields
 abbrev pub coded_fields : Coded MachineFields
 coded_fields =
-    coded× (map.code coded_pair row.the_row.coded)
+    coded× coded_records
     (coded× (map.code coded_text words.the_row.coded)
     (coded× (set.code coded_pair) (coded× coded_ℕ coded_ℕ)))
 

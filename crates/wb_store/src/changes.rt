@@ -3,10 +3,9 @@ ghost use Rattle.std.specs.Prelude.{◌≡◌, IfOk, OnOk, OnErr};
 ghost use Rattle.std.specs.FinMap as map;
 ghost use Rattle.std.specs.FinSet as set;
 
-use crate::Store;
+use crate::{Records, Store};
 use deb_text::Text;
 use std::alloc::AllocError;
-use std::collections::BTreeMap;
 use wb_states::{OsCpu, Record};
 
 impl Store {
@@ -60,18 +59,20 @@ impl Store {
 
     /// A copy of all records, for a change that is made whole or not at all. The only error is that there is
     /// no memory for it (this project's own).
-    pub fn copy_records(&self) -> Result<BTreeMap<(Text, Text), Record>, AllocError>
-        ensures value { IfOk result (λ records. map.from_entries records.entries
-            ≡ self.now.records) }
+    pub fn copy_records(&self) -> Result<Records, AllocError>
+        ensures value { IfOk result (λ records. records ≡ self.now.records) }
     {
-        self.records.clone()
+        Ok(Records {
+            alloc: self.alloc,
+            rows: self.records.clone()?,
+        })
     }
 
     /// Puts these records in the place of all that there were; all else stays. It cannot fail and takes no
     /// memory (this project's own).
-    pub fn replace_records(&mut self, records: BTreeMap<(Text, Text), Record>)
-        ensures ok { self.new ≡ record self.old { records = map.from_entries records.entries } }
+    pub fn replace_records(&mut self, records: Records)
+        ensures ok { self.new ≡ record self.old { records = records } }
     {
-        self.records = records;
+        self.records = records.rows;
     }
 }

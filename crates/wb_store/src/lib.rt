@@ -6,7 +6,9 @@ mod counts;
 mod holds;
 mod lookups;
 mod queue;
+mod records;
 mod store;
 
 pub use counts::StateCounts;
+pub use records::Records;
 pub use store::Store;

@@ -4,6 +4,7 @@ use Rattle.deb_relations.specs.Satisfaction.{no_pairs}
 use Rattle.deb_text.specs.Text.{text_cmp}
 use Rattle.wb_merge.specs.Offers.{with_binary}
 use Rattle.wb_merge.proofs.ReadCountLemmas.{begins, all-binaries}
+use Rattle.wb_merge.proofs.SourcesLemmas.{first-takes}
 use Rattle.wb_merge.proofs.listing.read_packages.Goals as goal
 
 pub loop-available-init : goal.loop-available-init
@@ -14,4 +15,5 @@ loop-available-init c =
       stands = begins c.args.packages.now c.of-paragraphs.result c.of-paragraphs.ensures (omega arith);
       goes = all-binaries (with_binary c.args.arch.now) _ (finite.empty, no_pairs) c.args.packages.now c.of-paragraphs.result c.of-paragraphs.ensures
           (λ i. (nothing i, none i));
+      grown = first-takes c.args.packages.now c.of-paragraphs.result c.of-paragraphs.ensures;
     }

@@ -1,8 +1,9 @@
 -- The refusal of a merge, check by check.
 use Rattle.std.proofs.Common.{◌≡◌, ◌∙◌, sym, refl, true, false, None, Some, rules}
 use Rattle.std.specs.List.{list_any}
+use Rattle.wb_states.specs.declared.refusal.Refusal.TheVariants.{UnknownArch}
 use Rattle.wb_office.specs.Parts.{is_good}
-use Rattle.wb_office.proofs.PartLemmas.{parts_refusal-none, first_refusal-Merge}
+use Rattle.wb_office.proofs.PartLemmas.{parts_refusal-none, parts_refusal-unknown, first_refusal-Merge}
 use Rattle.wb_office.proofs.merging.prepare_merge.Goals as goal
 
 pub returns-then-has_bad_arch-clause-refused : goal.returns-then-has_bad_arch-clause-refused
@@ -14,6 +15,12 @@ pub returns-then-repeats_arch-clause-refused : goal.returns-then-repeats_arch-cl
 returns-then-repeats_arch-clause-refused c = λ _.
     first_refusal-Merge c.args.store.now c.args.sources.now c.args.parts.now false true _ _
     (sym c.has_bad_arch.ensures ∙ c.if-has_bad_arch.false) (sym c.repeats_arch.ensures ∙ c.if-repeats_arch.true) refl refl
+
+pub returns-then-not-is_any_known-clause-refused : goal.returns-then-not-is_any_known-clause-refused
+returns-then-not-is_any_known-clause-refused c = λ _.
+    first_refusal-Merge c.args.store.now c.args.sources.now c.args.parts.now false false (Some UnknownArch) _
+    (sym c.has_bad_arch.ensures ∙ c.if-has_bad_arch.false) (sym c.repeats_arch.ensures ∙ c.if-repeats_arch.false)
+    (parts_refusal-unknown c.args.store.now c.args.sources.now c.args.parts.now (sym c.is_any_known.ensures ∙ c.if-not-is_any_known.true)) refl
 
 pub returns-then-not-made-clause-refused : goal.returns-then-not-made-clause-refused
 returns-then-not-made-clause-refused c = λ _.
