@@ -3,7 +3,7 @@ use Rattle.std.proofs.Common.{◌≡◌, ℕ, Bool, true, false, List, [], ◌�
 use Rattle.std.specs.Result.{result_err}
 use Rattle.std.specs.List.{list_any}
 use Rattle.std.specs.Option.{option_or}
-use Rattle.wb_states.specs.declared.command.Command.TheVariants.{Merge}
+use Rattle.wb_office.proofs.CommandForms.{Merge}
 use Rattle.wb_states.specs.declared.command.Part.{Part}
 use Rattle.wb_states.specs.declared.refusal.Refusal.{Refusal}
 use Rattle.wb_states.specs.declared.refusal.Refusal.TheVariants.{BadName, BadNumber, TextTooLong, RepeatedArch, UnknownArch, UnknownBuilder, WrongArch, AfterAhead, NotHeld, UnknownSource, QueueEmpty, AlreadyThere, Spent}

@@ -1,8 +1,9 @@
 //! The merge of what the archive lists into the records of the office.
-ghost use Rattle.std.specs.Prelude.{◌≡◌, ◌≢◌, ◌+◌, ℕ, List, not, None, Some, Ok, Err, false, nat_le, bytes_eq, OnOk, IfOk, IfErr, OnErr};
+ghost use Rattle.std.specs.Prelude.{◌≡◌, ◌+◌, ℕ, List, not, None, Some, Ok, Err, false, nat_le, bytes_eq, OnOk, IfOk, IfErr, OnErr};
 ghost use Rattle.std.specs.FinMap as map;
 ghost use Rattle.std.specs.List.{list_any};
-ghost use Rattle.wb_states.specs.declared.command.Command.TheVariants.{Merge};
+ghost use Rattle.wb_states.specs.declared.command.Command.TheVariants as of;
+ghost use Rattle.wb_states.specs.Refusals.{IsOfMachine};
 ghost use Rattle.wb_states.specs.declared.command.Part.{Part};
 ghost use Rattle.wb_states.specs.declared.refusal.Refusal.TheVariants.{Memory};
 ghost use Rattle.wb_states.specs.declared.reply.Reply.TheVariants.{Merged};
@@ -18,7 +19,8 @@ use deb_relations::{ArchWords, Items, Text};
 use std::alloc::Global;
 use std::collections::BTreeMap;
 use wb_merge::{Listing, merge_records};
-use wb_states::{Counts, Part, PartEnd, PartReply, Record, Refusal, Reply, is_arch};
+use wb_states::command::{self, Part};
+use wb_states::{Counts, PartEnd, PartReply, Record, Refusal, Reply, is_arch};
 use wb_store::Store;
 
 /// The records after the parts of a merge, and what became of each part.
@@ -60,10 +62,11 @@ fn repeats_arch(parts: &[Part]) -> bool
 fn listing_of(alloc: Global, store: &Store, sources: &[u8], part: &Part) -> Result<Listing, Refusal>
     ensures value { IfOk result (λ listing.
         part_listing store.now sources.now part.now ≡ Ok listing) }
-    ensures refused { IfErr result (λ refusal. refusal ≢ Memory
+    ensures refused { IfErr result (λ refusal. IsOfMachine refusal
         → part_listing store.now sources.now part.now ≡ Err refusal) }
 {
-    let Some(words) = store.arch(&part.arch) else {
+    let found = store.arch(&part.arch)?;
+    let Some(words) = found else {
         return Err(Refusal::UnknownArch);
     };
     let (name, os, cpu) = (part.arch.as_str(), words.os.as_str(), words.cpu.as_str());
@@ -157,22 +160,22 @@ fn first_part_refusal(replies: Vec<PartReply>) -> Refusal
 fn prepare_merge(
     alloc: Global,
     store: &Store,
-    sources: &[u8],
-    parts: &[Part],
+    command: &command::Merge,
 ) -> Result<Parts, Refusal>
     // what the parts make
     ensures records { IfOk result (λ made. map.from_entries made.records.entries
-        ≡ records_after store.now sources.now parts.now store.now.records) }
+        ≡ records_after store.now command.now.sources command.now.parts store.now.records) }
     ensures replies { IfOk result (λ made. made.replies.items
-        ≡ part_replies store.now sources.now parts.now store.now.records) }
+        ≡ part_replies store.now command.now.sources command.now.parts store.now.records) }
     // that nothing refuses it, or what does
-    ensures ok { OnOk result (first_refusal store.now (Merge sources.now parts.now) ≡ None) }
+    ensures ok { OnOk result (first_refusal store.now (of.Merge command.now) ≡ None) }
     ensures room { OnOk result (nat_le count_limit store.now.accepted ≡ false) }
     ensures memory { IfErr result (λ refusal. refusal ≡ Memory
-        → MayWantMemory (Merge sources.now parts.now)) }
-    ensures refused { IfErr result (λ refusal. refusal ≢ Memory
-        → first_refusal store.now (Merge sources.now parts.now) ≡ Some refusal) }
+        → MayWantMemory (of.Merge command.now)) }
+    ensures refused { IfErr result (λ refusal. IsOfMachine refusal
+        → first_refusal store.now (of.Merge command.now) ≡ Some refusal) }
 {
+    let (sources, parts) = (command.sources.as_slice(), command.parts.as_slice());
     if has_bad_arch(parts) {
         return Err(Refusal::BadName);
     }
@@ -183,7 +186,8 @@ fn prepare_merge(
     if !made.is_any_good {
         return Err(first_part_refusal(made.replies));
     }
-    if is_spent(store) {
+    let is_full = is_spent(store)?;
+    if is_full {
         return Err(Refusal::Spent);
     }
     Ok(made)
@@ -194,25 +198,24 @@ fn prepare_merge(
 pub(crate) fn merge(
     alloc: Global,
     store: &mut Store,
-    sources: &Items<u8>,
-    parts: &Items<Part>,
+    command: &command::Merge,
 ) -> Result<Reply, Refusal>
     ensures reply { IfOk result (λ reply.
-        step store.old (Merge sources.now parts.now) ≡ (Ok reply, store.new)) }
-    ensures refused { IfErr result (λ refusal. refusal ≢ Memory
-        → step store.old (Merge sources.now parts.now) ≡ (Err refusal, store.old)) }
+        step store.old (of.Merge command.now) ≡ (Ok reply, store.new)) }
+    ensures refused { IfErr result (λ refusal. IsOfMachine refusal
+        → step store.old (of.Merge command.now) ≡ (Err refusal, store.old)) }
     ensures memory { IfErr result (λ refusal. refusal ≡ Memory
-        → MayWantMemory (Merge sources.now parts.now)) }
+        → MayWantMemory (of.Merge command.now)) }
     ensures unchanged { OnErr result (store.new ≡ store.old) }
 {
-    let made = prepare_merge(alloc, store, sources.as_slice(), parts.as_slice())?;
-    let counts = store.office_row();
+    let made = prepare_merge(alloc, store, command)?;
+    let counts = store.office_row()?;
     let accepted = counts.accepted + 1;
     store.replace_records(made.records);
     store.set_counts(Counts {
         handed: counts.handed,
         accepted,
-    });
+    })?;
     Ok(Reply::Merged {
         accepted,
         parts: Items::from(made.replies),

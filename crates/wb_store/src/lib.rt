@@ -4,9 +4,11 @@
 mod changes;
 mod counts;
 mod holds;
+mod keyed;
 mod lookups;
 mod queue;
 mod store;
 
 pub use counts::StateCounts;
+pub use keyed::KeyedRecord;
 pub use store::Store;
