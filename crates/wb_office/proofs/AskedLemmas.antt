@@ -60,41 +60,41 @@ good-rebuild number is =
 
 -- a command that hands out gives the next take number
 abbrev pub HasHanded : Machine → ℕ → Command → Type 0
-HasHanded machine handed (of.Next arch builder after) = handed ≡ machine.handed + 1
-HasHanded machine handed (of.Take arch builder source version) = handed ≡ machine.handed + 1
+HasHanded machine handed (of.Next fields) = handed ≡ machine.handed + 1
+HasHanded machine handed (of.Take fields) = handed ≡ machine.handed + 1
 HasHanded machine handed _ = Unit {0}
 
 pub asked-good : (machine : Machine) (handed : ℕ) (command : Command) (entry : Entry) (move : Move) → HasUtf8Texts command → HasHanded machine handed command → Passes machine command
     → target_of machine command ≡ Some entry → move_asked machine command (arch_words machine entry.0.0) ≡ Some move → IsGoodMove machine handed entry.0.0 move
-asked-good machine handed (of.AddArch name os cpu) entry move utf8 given pass target is = none move is
-asked-good machine handed (of.AddBuilder name arch) entry move utf8 given pass target is = none move is
-asked-good machine handed (of.Enter arch source version priority section) entry move utf8 given pass target is = none move is
-asked-good machine handed (of.Merge sources parts) entry move utf8 given pass target is = none move is
-asked-good machine handed (of.Next arch builder after) entry move utf8 given pass target is =
-    let names = and_parts (is_arch_name arch) (is_builder_name builder) (not-false _ pass.names) in
-    let here : entry.0.0 ≡ arch = (head_of-waits machine arch entry target).1 in
-    let may : IsTrue (set.contains machine.builders (builder, entry.0.0)) = subst (λ a. IsTrue (set.contains machine.builders (builder, a))) (sym here) (not-false _ pass.others) in
-    same-move machine handed entry.0.0 (to.Take builder (machine.handed + 1)) move is (names.1, (may, (refl, given)))
-asked-good machine handed (of.Take arch builder source version) entry move utf8 given pass target is =
-    let names = and_parts (is_arch_name arch) (is_builder_name builder && is_package_name source) (not-false _ pass.names) in
-    let later = and_parts (is_builder_name builder) (is_package_name source) names.1 in
-    let here : entry.0.0 ≡ arch = ap (λ (key : List ℕ × List ℕ). key.0) (record_named-is machine arch source entry target).1 in
-    let may : IsTrue (set.contains machine.builders (builder, entry.0.0)) = subst (λ a. IsTrue (set.contains machine.builders (builder, a))) (sym here) (not-false _ pass.others) in
-    same-move machine handed entry.0.0 (to.Take builder (machine.handed + 1)) move is (later.0, (may, (refl, given)))
-asked-good machine handed (of.Built take_number) entry move utf8 given pass target is = same-move machine handed entry.0.0 to.Built move is tt
-asked-good machine handed (of.Uploaded take_number) entry move utf8 given pass target is = same-move machine handed entry.0.0 to.Uploaded move is tt
-asked-good machine handed (of.PutBack take_number) entry move utf8 given pass target is = same-move machine handed entry.0.0 to.PutBack move is tt
-asked-good machine handed (of.GiveBack arch source version) entry move utf8 given pass target is = same-move machine handed entry.0.0 to.GiveBack move is tt
-asked-good machine handed (of.Waits take_number relations) entry move utf8 given pass target is =
-    same-move machine handed entry.0.0 (to.Waits (result_unwrap_or (reading_of relations) []) (arch_words machine entry.0.0)) move is
-    (refl, (relations, groups-read relations pass.relations))
-asked-good machine handed (of.DepWait arch source version relations) entry move utf8 given pass target is =
-    same-move machine handed entry.0.0 (to.DepWait (result_unwrap_or (reading_of relations) []) (arch_words machine entry.0.0)) move is
-    (refl, (relations, groups-read relations pass.relations))
-asked-good machine handed (of.Fail arch source version note) entry move utf8 given pass target is =
-    same-move machine handed entry.0.0 (to.Fail note) move is (short-text note_limit note utf8 pass.short)
-asked-good machine handed (of.NotForUs arch source version note) entry move utf8 given pass target is =
-    same-move machine handed entry.0.0 (to.NotForUs note) move is (short-text note_limit note utf8 pass.short)
-asked-good machine handed (of.Rebuild arch source version number message) entry move utf8 given pass target is =
-    same-move machine handed entry.0.0 (to.Rebuild number message) move is
-    (good-rebuild number pass.number, short-text note_limit message utf8 pass.short)
+asked-good machine handed (of.AddArch fields) entry move utf8 given pass target is = none move is
+asked-good machine handed (of.AddBuilder fields) entry move utf8 given pass target is = none move is
+asked-good machine handed (of.Enter fields) entry move utf8 given pass target is = none move is
+asked-good machine handed (of.Merge fields) entry move utf8 given pass target is = none move is
+asked-good machine handed (of.Next fields) entry move utf8 given pass target is =
+    let names = and_parts (is_arch_name fields.arch) (is_builder_name fields.builder) (not-false _ pass.names) in
+    let here : entry.0.0 ≡ fields.arch = (head_of-waits machine fields.arch entry target).1 in
+    let may : IsTrue (set.contains machine.builders (fields.builder, entry.0.0)) = subst (λ a. IsTrue (set.contains machine.builders (fields.builder, a))) (sym here) (not-false _ pass.others) in
+    same-move machine handed entry.0.0 (to.Take fields.builder (machine.handed + 1)) move is (names.1, (may, (refl, given)))
+asked-good machine handed (of.Take fields) entry move utf8 given pass target is =
+    let names = and_parts (is_arch_name fields.arch) (is_builder_name fields.builder && is_package_name fields.source) (not-false _ pass.names) in
+    let later = and_parts (is_builder_name fields.builder) (is_package_name fields.source) names.1 in
+    let here : entry.0.0 ≡ fields.arch = ap (λ (key : List ℕ × List ℕ). key.0) (record_named-is machine fields.arch fields.source entry target).1 in
+    let may : IsTrue (set.contains machine.builders (fields.builder, entry.0.0)) = subst (λ a. IsTrue (set.contains machine.builders (fields.builder, a))) (sym here) (not-false _ pass.others) in
+    same-move machine handed entry.0.0 (to.Take fields.builder (machine.handed + 1)) move is (later.0, (may, (refl, given)))
+asked-good machine handed (of.Built fields) entry move utf8 given pass target is = same-move machine handed entry.0.0 to.Built move is tt
+asked-good machine handed (of.Uploaded fields) entry move utf8 given pass target is = same-move machine handed entry.0.0 to.Uploaded move is tt
+asked-good machine handed (of.PutBack fields) entry move utf8 given pass target is = same-move machine handed entry.0.0 to.PutBack move is tt
+asked-good machine handed (of.GiveBack fields) entry move utf8 given pass target is = same-move machine handed entry.0.0 to.GiveBack move is tt
+asked-good machine handed (of.Waits fields) entry move utf8 given pass target is =
+    same-move machine handed entry.0.0 (to.Waits (result_unwrap_or (reading_of fields.relations) []) (arch_words machine entry.0.0)) move is
+    (refl, (fields.relations, groups-read fields.relations pass.relations))
+asked-good machine handed (of.DepWait fields) entry move utf8 given pass target is =
+    same-move machine handed entry.0.0 (to.DepWait (result_unwrap_or (reading_of fields.relations) []) (arch_words machine entry.0.0)) move is
+    (refl, (fields.relations, groups-read fields.relations pass.relations))
+asked-good machine handed (of.Fail fields) entry move utf8 given pass target is =
+    same-move machine handed entry.0.0 (to.Fail fields.note) move is (short-text note_limit fields.note utf8 pass.short)
+asked-good machine handed (of.NotForUs fields) entry move utf8 given pass target is =
+    same-move machine handed entry.0.0 (to.NotForUs fields.note) move is (short-text note_limit fields.note utf8 pass.short)
+asked-good machine handed (of.Rebuild fields) entry move utf8 given pass target is =
+    same-move machine handed entry.0.0 (to.Rebuild fields.number fields.message) move is
+    (good-rebuild fields.number pass.number, short-text note_limit fields.message utf8 pass.short)

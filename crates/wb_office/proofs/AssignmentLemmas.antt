@@ -13,6 +13,8 @@ use Rattle.wb_states.specs.Limits.{count_limit}
 use Rattle.wb_states.specs.Machine.{Machine}
 use Rattle.wb_states.specs.Moves.{move_refusal, moved, may_go}
 use Rattle.wb_states.specs.Queue.{Entry}
+use Rattle.wb_store.specs.declared.keyed.KeyedRecord.{KeyedRecord}
+use Rattle.wb_store.specs.Lookups.{entry_of}
 use Rattle.wb_office.specs.Checks.{when}
 use Rattle.wb_office.specs.Found.{outcome_unless, assignment_step, take_move}
 use Rattle.wb_office.specs.Step.{assignment_of, counted, after_take, assignment_reply}
@@ -56,21 +58,21 @@ assignment_step-Ok machine new builder entry assignment reply is room given repl
     ∙ (λ i. (Ok (sym replied i), new))
 
 -- a record that was handed out is written, and both counts are raised
-pub assignment_step-kept : (machine new : Machine) (builder arch source own_arch own_source : List ℕ) (current after : Record) (assignment : Assignment) (reply : Reply)
-    → move_refusal (take_move machine builder) current ≡ None → (nat_le count_limit machine.accepted || nat_le count_limit machine.handed) ≡ false
-    → (own_arch ≡ arch) × (own_source ≡ source) → after ≡ moved (take_move machine builder) current
-    → assignment ≡ assignment_of ((arch, source), current) (machine.handed + 1)
+pub assignment_step-kept : (machine new : Machine) (builder : List ℕ) (entry : Entry) (made : KeyedRecord) (assignment : Assignment) (reply : Reply)
+    → move_refusal (take_move machine builder) entry.1 ≡ None → (nat_le count_limit machine.accepted || nat_le count_limit machine.handed) ≡ false
+    → entry_of made ≡ (entry.0, moved (take_move machine builder) entry.1)
+    → assignment ≡ assignment_of entry (machine.handed + 1)
     → reply ≡ Job (machine.accepted + 1) assignment
     → new ≡ record machine {
-      records = map.insert machine.records (own_arch, own_source) after;
+      records = map.insert machine.records (made.arch, made.source) made.current;
       handed = machine.handed + 1;
       accepted = machine.accepted + 1;
     }
-    → assignment_step machine builder ((arch, source), current) ≡ (Ok reply, new)
-assignment_step-kept machine new builder arch source own_arch own_source current after assignment reply is room key value given replied left =
-    assignment_step-Ok machine new builder ((arch, source), current) assignment reply is room given replied
+    → assignment_step machine builder entry ≡ (Ok reply, new)
+assignment_step-kept machine new builder entry made assignment reply is room value given replied left =
+    assignment_step-Ok machine new builder entry assignment reply is room given replied
     (left ∙ (λ i. record machine {
-      records = map.insert machine.records (key.0 i, key.1 i) (value i);
+      records = map.insert machine.records (value i).0 (value i).1;
       handed = machine.handed + 1;
       accepted = machine.accepted + 1;
     }))

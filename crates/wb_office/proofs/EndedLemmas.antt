@@ -6,6 +6,7 @@ use Rattle.deb_relations.specs.declared.arch.ArchWords.{ArchWords}
 use Rattle.deb_relations.specs.Satisfaction.{Pairs}
 use Rattle.wb_states.specs.declared.command.Command.{Command}
 use Rattle.wb_states.specs.declared.command.Command.TheVariants as of
+use Rattle.wb_office.proofs.CommandForms.{Built}
 use Rattle.wb_states.specs.declared.moves.Move.{Move}
 use Rattle.wb_states.specs.declared.moves.Move.TheVariants as to
 use Rattle.wb_states.specs.declared.record.Record.{Record}
@@ -69,21 +70,21 @@ asked-other take_number machine command words move below is = at command is wher
   next e = absurd (omega arith)
 
   at : (asks : Command) → move_asked machine asks words ≡ Some move → IsOther take_number move
-  at (of.AddArch name os cpu) e = cc
-  at (of.AddBuilder name arch) e = cc
-  at (of.Enter arch source version priority section) e = cc
-  at (of.Merge sources parts) e = cc
-  at (of.Next arch builder after) e = made (to.Take builder (machine.handed + 1)) next e
-  at (of.Take arch builder source version) e = made (to.Take builder (machine.handed + 1)) next e
-  at (of.Built number) e = made _ tt e
-  at (of.Uploaded number) e = made _ tt e
-  at (of.Waits number relations) e = made _ tt e
-  at (of.PutBack number) e = made _ tt e
-  at (of.GiveBack arch source version) e = made _ tt e
-  at (of.DepWait arch source version relations) e = made _ tt e
-  at (of.Fail arch source version note) e = made _ tt e
-  at (of.NotForUs arch source version note) e = made _ tt e
-  at (of.Rebuild arch source version number message) e = made _ tt e
+  at (of.AddArch fields) e = cc
+  at (of.AddBuilder fields) e = cc
+  at (of.Enter fields) e = cc
+  at (of.Merge fields) e = cc
+  at (of.Next fields) e = made (to.Take fields.builder (machine.handed + 1)) next e
+  at (of.Take fields) e = made (to.Take fields.builder (machine.handed + 1)) next e
+  at (of.Built fields) e = made _ tt e
+  at (of.Uploaded fields) e = made _ tt e
+  at (of.Waits fields) e = made _ tt e
+  at (of.PutBack fields) e = made _ tt e
+  at (of.GiveBack fields) e = made _ tt e
+  at (of.DepWait fields) e = made _ tt e
+  at (of.Fail fields) e = made _ tt e
+  at (of.NotForUs fields) e = made _ tt e
+  at (of.Rebuild fields) e = made _ tt e
 
 after-free : (take_number : ℕ) (found : Option Record) (listed : Option Listed) (built : Option WasBuilt) (available : Pairs)
     → IfSome found (IsNotTaken take_number) → IfSome (record_after found listed built available) (IsNotTaken take_number)
@@ -106,27 +107,27 @@ moving-free take_number machine command below old allowed =
 
 state_after-free : (take_number : ℕ) (machine : Machine) (command : Command) → take_number ≤ machine.handed → IsFree take_number machine → refused_move machine command ≡ None
     → IsFree take_number (state_after machine command)
-state_after-free take_number machine (of.AddArch name os cpu) below old allowed = old
-state_after-free take_number machine (of.AddBuilder name arch) below old allowed = old
-state_after-free take_number machine (of.Enter arch source version priority section) below old allowed =
-    insert_all pair_cmp_total pair_cmp-same (λ key. IsNotTaken take_number) machine.records (arch, source) (entered version priority section) tt old
-state_after-free take_number machine (of.Merge sources parts) below old allowed =
-    records_after-keeps (λ key. IsNotTaken take_number) machine sources parts
+state_after-free take_number machine (of.AddArch fields) below old allowed = old
+state_after-free take_number machine (of.AddBuilder fields) below old allowed = old
+state_after-free take_number machine (of.Enter fields) below old allowed =
+    insert_all pair_cmp_total pair_cmp-same (λ key. IsNotTaken take_number) machine.records (fields.arch, fields.source) (entered fields.version fields.priority fields.section) tt old
+state_after-free take_number machine (of.Merge fields) below old allowed =
+    records_after-keeps (λ key. IsNotTaken take_number) machine fields.sources fields.parts
     (λ part listing is source found had. after-free take_number found (map.get listing.listed source) (map.get listing.built source) listing.available had) machine.records old
-state_after-free take_number machine (of.Next arch builder after) below old allowed = moving-free take_number machine (of.Next arch builder after) below old allowed
-state_after-free take_number machine (of.Take arch builder source version) below old allowed = moving-free take_number machine (of.Take arch builder source version) below old allowed
-state_after-free take_number machine (of.Built number) below old allowed = moving-free take_number machine (of.Built number) below old allowed
-state_after-free take_number machine (of.Uploaded number) below old allowed = moving-free take_number machine (of.Uploaded number) below old allowed
-state_after-free take_number machine (of.Waits number relations) below old allowed = moving-free take_number machine (of.Waits number relations) below old allowed
-state_after-free take_number machine (of.PutBack number) below old allowed = moving-free take_number machine (of.PutBack number) below old allowed
-state_after-free take_number machine (of.GiveBack arch source version) below old allowed = moving-free take_number machine (of.GiveBack arch source version) below old allowed
-state_after-free take_number machine (of.DepWait arch source version relations) below old allowed =
-    moving-free take_number machine (of.DepWait arch source version relations) below old allowed
-state_after-free take_number machine (of.Fail arch source version note) below old allowed = moving-free take_number machine (of.Fail arch source version note) below old allowed
-state_after-free take_number machine (of.NotForUs arch source version note) below old allowed =
-    moving-free take_number machine (of.NotForUs arch source version note) below old allowed
-state_after-free take_number machine (of.Rebuild arch source version number message) below old allowed =
-    moving-free take_number machine (of.Rebuild arch source version number message) below old allowed
+state_after-free take_number machine (of.Next fields) below old allowed = moving-free take_number machine (of.Next fields) below old allowed
+state_after-free take_number machine (of.Take fields) below old allowed = moving-free take_number machine (of.Take fields) below old allowed
+state_after-free take_number machine (of.Built fields) below old allowed = moving-free take_number machine (of.Built fields) below old allowed
+state_after-free take_number machine (of.Uploaded fields) below old allowed = moving-free take_number machine (of.Uploaded fields) below old allowed
+state_after-free take_number machine (of.Waits fields) below old allowed = moving-free take_number machine (of.Waits fields) below old allowed
+state_after-free take_number machine (of.PutBack fields) below old allowed = moving-free take_number machine (of.PutBack fields) below old allowed
+state_after-free take_number machine (of.GiveBack fields) below old allowed = moving-free take_number machine (of.GiveBack fields) below old allowed
+state_after-free take_number machine (of.DepWait fields) below old allowed =
+    moving-free take_number machine (of.DepWait fields) below old allowed
+state_after-free take_number machine (of.Fail fields) below old allowed = moving-free take_number machine (of.Fail fields) below old allowed
+state_after-free take_number machine (of.NotForUs fields) below old allowed =
+    moving-free take_number machine (of.NotForUs fields) below old allowed
+state_after-free take_number machine (of.Rebuild fields) below old allowed =
+    moving-free take_number machine (of.Rebuild fields) below old allowed
 
 step-free : (take_number : ℕ) (machine : Machine) (command : Command) → take_number ≤ machine.handed → IsFree take_number machine → IsFree take_number (step machine command).1
 step-free take_number machine command below old =
@@ -199,7 +200,7 @@ ended machine commands take_number below none =
     free-taken_as (replay machine commands) take_number (replay-free take_number machine commands below (taken_as-free machine take_number none))
 
 pub ended-Built : (machine : Machine) (commands : List Command) (take_number : ℕ) → take_number ≤ machine.handed → taken_as machine take_number ≡ None
-    → (step (replay machine commands) (of.Built take_number)).0 ≡ Err NotHeld
+    → (step (replay machine commands) (Built take_number)).0 ≡ Err NotHeld
 ended-Built machine commands take_number below none =
     let last : Machine = replay machine commands in
     ap (λ outcome. outcome.0) (step-Built last take_number ∙ taken_step-NotHeld last take_number (λ _. to.Built) (ended machine commands take_number below none))

@@ -70,23 +70,23 @@ moving-others machine command key allowed apart =
 
 state_after-others : (machine : Machine) (command : Command) (key : List ℕ × List ℕ) → refused_move machine command ≡ None → (MayChange machine command key → ⊥)
     → map.get (state_after machine command).records key ≡ map.get machine.records key
-state_after-others machine (of.AddArch name os cpu) key allowed apart = refl
-state_after-others machine (of.AddBuilder name arch) key allowed apart = refl
-state_after-others machine (of.Enter arch source version priority section) key allowed apart =
-    insert-other machine.records (arch, source) key (entered version priority section) apart
-state_after-others machine (of.Merge sources parts) key allowed apart = parts-others machine sources parts machine.records key apart
-state_after-others machine (of.Next arch builder after) key allowed apart = moving-others machine (of.Next arch builder after) key allowed apart
-state_after-others machine (of.Take arch builder source version) key allowed apart = moving-others machine (of.Take arch builder source version) key allowed apart
-state_after-others machine (of.Built number) key allowed apart = moving-others machine (of.Built number) key allowed apart
-state_after-others machine (of.Uploaded number) key allowed apart = moving-others machine (of.Uploaded number) key allowed apart
-state_after-others machine (of.Waits number relations) key allowed apart = moving-others machine (of.Waits number relations) key allowed apart
-state_after-others machine (of.PutBack number) key allowed apart = moving-others machine (of.PutBack number) key allowed apart
-state_after-others machine (of.GiveBack arch source version) key allowed apart = moving-others machine (of.GiveBack arch source version) key allowed apart
-state_after-others machine (of.DepWait arch source version relations) key allowed apart = moving-others machine (of.DepWait arch source version relations) key allowed apart
-state_after-others machine (of.Fail arch source version note) key allowed apart = moving-others machine (of.Fail arch source version note) key allowed apart
-state_after-others machine (of.NotForUs arch source version note) key allowed apart = moving-others machine (of.NotForUs arch source version note) key allowed apart
-state_after-others machine (of.Rebuild arch source version number message) key allowed apart =
-    moving-others machine (of.Rebuild arch source version number message) key allowed apart
+state_after-others machine (of.AddArch fields) key allowed apart = refl
+state_after-others machine (of.AddBuilder fields) key allowed apart = refl
+state_after-others machine (of.Enter fields) key allowed apart =
+    insert-other machine.records (fields.arch, fields.source) key (entered fields.version fields.priority fields.section) apart
+state_after-others machine (of.Merge fields) key allowed apart = parts-others machine fields.sources fields.parts machine.records key apart
+state_after-others machine (of.Next fields) key allowed apart = moving-others machine (of.Next fields) key allowed apart
+state_after-others machine (of.Take fields) key allowed apart = moving-others machine (of.Take fields) key allowed apart
+state_after-others machine (of.Built fields) key allowed apart = moving-others machine (of.Built fields) key allowed apart
+state_after-others machine (of.Uploaded fields) key allowed apart = moving-others machine (of.Uploaded fields) key allowed apart
+state_after-others machine (of.Waits fields) key allowed apart = moving-others machine (of.Waits fields) key allowed apart
+state_after-others machine (of.PutBack fields) key allowed apart = moving-others machine (of.PutBack fields) key allowed apart
+state_after-others machine (of.GiveBack fields) key allowed apart = moving-others machine (of.GiveBack fields) key allowed apart
+state_after-others machine (of.DepWait fields) key allowed apart = moving-others machine (of.DepWait fields) key allowed apart
+state_after-others machine (of.Fail fields) key allowed apart = moving-others machine (of.Fail fields) key allowed apart
+state_after-others machine (of.NotForUs fields) key allowed apart = moving-others machine (of.NotForUs fields) key allowed apart
+state_after-others machine (of.Rebuild fields) key allowed apart =
+    moving-others machine (of.Rebuild fields) key allowed apart
 
 pub step-others : (machine : Machine) (command : Command) (key : List ℕ × List ℕ) → (MayChange machine command key → ⊥)
     → map.get (step machine command).1.records key ≡ map.get machine.records key

@@ -99,9 +99,9 @@ step-given machine command builder given asks is =
     nothing e = cc
 
 hand_out-is : (machine : Machine) (command : Command) (given : HandOut) → hand_out machine command ≡ Some given → IsHandedOut machine (step machine command).1 given
-hand_out-is machine (of.Next arch builder after) given is = step-given machine (of.Next arch builder after) builder given ((λ entry. refl), refl, refl) is
-hand_out-is machine (of.Take arch builder source version) given is =
-    step-given machine (of.Take arch builder source version) builder given ((λ entry. refl), refl, refl) is
+hand_out-is machine (of.Next fields) given is = step-given machine (of.Next fields) fields.builder given ((λ entry. refl), refl, refl) is
+hand_out-is machine (of.Take fields) given is =
+    step-given machine (of.Take fields) fields.builder given ((λ entry. refl), refl, refl) is
 hand_out-is machine _ given is = cc
 
 -- ---- take numbers rise
@@ -112,21 +112,21 @@ move-handed machine (Some asked) = omega arith
 
 -- no command takes a take number back
 state_after-handed : (machine : Machine) (command : Command) → machine.handed ≤ (state_after machine command).handed
-state_after-handed machine (of.AddArch name os cpu) = omega arith
-state_after-handed machine (of.AddBuilder name arch) = omega arith
-state_after-handed machine (of.Enter arch source version priority section) = omega arith
-state_after-handed machine (of.Next arch builder after) = omega arith
-state_after-handed machine (of.Take arch builder source version) = omega arith
-state_after-handed machine (of.Merge sources parts) = omega arith
-state_after-handed machine (of.Built take_number) = move-handed machine (moving machine (of.Built take_number))
-state_after-handed machine (of.Uploaded take_number) = move-handed machine (moving machine (of.Uploaded take_number))
-state_after-handed machine (of.Waits take_number relations) = move-handed machine (moving machine (of.Waits take_number relations))
-state_after-handed machine (of.PutBack take_number) = move-handed machine (moving machine (of.PutBack take_number))
-state_after-handed machine (of.GiveBack arch source version) = move-handed machine (moving machine (of.GiveBack arch source version))
-state_after-handed machine (of.DepWait arch source version relations) = move-handed machine (moving machine (of.DepWait arch source version relations))
-state_after-handed machine (of.Fail arch source version note) = move-handed machine (moving machine (of.Fail arch source version note))
-state_after-handed machine (of.NotForUs arch source version note) = move-handed machine (moving machine (of.NotForUs arch source version note))
-state_after-handed machine (of.Rebuild arch source version number message) = move-handed machine (moving machine (of.Rebuild arch source version number message))
+state_after-handed machine (of.AddArch fields) = omega arith
+state_after-handed machine (of.AddBuilder fields) = omega arith
+state_after-handed machine (of.Enter fields) = omega arith
+state_after-handed machine (of.Next fields) = omega arith
+state_after-handed machine (of.Take fields) = omega arith
+state_after-handed machine (of.Merge fields) = omega arith
+state_after-handed machine (of.Built fields) = move-handed machine (moving machine (of.Built fields))
+state_after-handed machine (of.Uploaded fields) = move-handed machine (moving machine (of.Uploaded fields))
+state_after-handed machine (of.Waits fields) = move-handed machine (moving machine (of.Waits fields))
+state_after-handed machine (of.PutBack fields) = move-handed machine (moving machine (of.PutBack fields))
+state_after-handed machine (of.GiveBack fields) = move-handed machine (moving machine (of.GiveBack fields))
+state_after-handed machine (of.DepWait fields) = move-handed machine (moving machine (of.DepWait fields))
+state_after-handed machine (of.Fail fields) = move-handed machine (moving machine (of.Fail fields))
+state_after-handed machine (of.NotForUs fields) = move-handed machine (moving machine (of.NotForUs fields))
+state_after-handed machine (of.Rebuild fields) = move-handed machine (moving machine (of.Rebuild fields))
 
 pub step-handed : (machine : Machine) (command : Command) → machine.handed ≤ (step machine command).1.handed
 step-handed machine command = step-either (λ after. machine.handed ≤ after.handed) machine command (omega arith) (λ _ _. state_after-handed machine command)

@@ -5,7 +5,7 @@ use Rattle.std.specs.Result.{result_err, result_unwrap_or}
 use Rattle.deb_relations.specs.declared.arch.ArchWords.{ArchWords}
 use Rattle.deb_relations.specs.declared.relations.Alternative.{Alternative}
 use Rattle.deb_relations.specs.Reading.{reading_of}
-use Rattle.wb_states.specs.declared.command.Command.TheVariants.{Built, Uploaded, Waits, PutBack}
+use Rattle.wb_office.proofs.CommandForms.{Built, Uploaded, Waits, PutBack}
 use Rattle.wb_states.specs.declared.moves.Move.{Move}
 use Rattle.wb_states.specs.declared.moves.Move.TheVariants as to
 use Rattle.wb_states.specs.declared.refusal.Refusal.{Refusal}
@@ -66,7 +66,7 @@ step-Waits machine take_number relations groups reads =
     step-state machine (Waits take_number relations) (waits-text take_number relations groups reads) refl
     ∙ taken-answer machine (λ entry. to.Waits (result_unwrap_or (reading_of relations) []) (arch_words machine entry.0.0)) (taken_as machine take_number)
 
-pub waits-BadRelations : (machine : Machine) (take_number : ℕ) (relations : List ℕ) (refusal : Refusal) → relations_refusal (Waits 0 relations) ≡ Some refusal
+pub waits-BadRelations : (machine : Machine) (take_number : ℕ) (relations : List ℕ) (refusal : Refusal) → relations_refusal relations ≡ Some refusal
     → step machine (Waits take_number relations) ≡ (Err refusal, machine)
 unfolding text_refusal
 waits-BadRelations machine take_number relations refusal is =

@@ -110,50 +110,50 @@ room-for machine is = leb-false count_limit machine.accepted is
 
 state_after-keeps : (machine : Machine) (command : Command) → IsConsistent machine → HasUtf8Texts command → Passes machine command → again_of machine command ≡ None
     → IsConsistent (counted machine (state_after machine command))
-state_after-keeps machine (of.AddArch name os cpu) old utf8 pass again =
-    let names = and_parts (is_arch_name name) (is_os_cpu_word os && is_os_cpu_word cpu) (not-false _ pass.names) in
-    let words = and_parts (is_os_cpu_word os) (is_os_cpu_word cpu) names.1 in
-    with_arch machine name (record { os = os; cpu = cpu }) old (record { name = names.0; os = words.0; cpu = words.1 }) pass.there (room-for machine pass.room)
-state_after-keeps machine (of.AddBuilder name arch) old utf8 pass again =
-    let names = and_parts (is_builder_name name) (is_arch_name arch) (not-false _ pass.names) in
-    with_builder machine name arch old (record { name = names.0; known = not-false _ pass.arch }) (room-for machine pass.room)
-state_after-keeps machine (of.Enter arch source version priority section) old utf8 pass again =
-    let names = and_parts (is_arch_name arch) (is_package_name source && (is_label_text priority && is_label_text section)) (not-false _ pass.names) in
-    let later = and_parts (is_package_name source) (is_label_text priority && is_label_text section) names.1 in
-    let labels = and_parts (is_label_text priority) (is_label_text section) later.1 in
-    let is : IsRecord (record machine { handed = machine.handed }) arch source (entered version priority section) = record {
+state_after-keeps machine (of.AddArch fields) old utf8 pass again =
+    let names = and_parts (is_arch_name fields.name) (is_os_cpu_word fields.os && is_os_cpu_word fields.cpu) (not-false _ pass.names) in
+    let words = and_parts (is_os_cpu_word fields.os) (is_os_cpu_word fields.cpu) names.1 in
+    with_arch machine fields.name (record { os = fields.os; cpu = fields.cpu }) old (record { name = names.0; os = words.0; cpu = words.1 }) pass.there (room-for machine pass.room)
+state_after-keeps machine (of.AddBuilder fields) old utf8 pass again =
+    let names = and_parts (is_builder_name fields.name) (is_arch_name fields.arch) (not-false _ pass.names) in
+    with_builder machine fields.name fields.arch old (record { name = names.0; known = not-false _ pass.arch }) (room-for machine pass.room)
+state_after-keeps machine (of.Enter fields) old utf8 pass again =
+    let names = and_parts (is_arch_name fields.arch) (is_package_name fields.source && (is_label_text fields.priority && is_label_text fields.section)) (not-false _ pass.names) in
+    let later = and_parts (is_package_name fields.source) (is_label_text fields.priority && is_label_text fields.section) names.1 in
+    let labels = and_parts (is_label_text fields.priority) (is_label_text fields.section) later.1 in
+    let is : IsRecord (record machine { handed = machine.handed }) fields.arch fields.source (entered fields.version fields.priority fields.section) = record {
       name = later.0;
       known = not-false _ pass.arch;
-      fields = entered-well version priority section pass.version labels.0 labels.1;
+      fields = entered-well fields.version fields.priority fields.section pass.version labels.0 labels.1;
       holder = tt;
       waits = inl refl;
       given = tt;
     } in
     let given = old.handed in
-    with_record machine (arch, source) (entered version priority section) machine.handed old is tt (omega arith) given (room-for machine pass.room)
-state_after-keeps machine (of.Next arch builder after) old utf8 pass again =
+    with_record machine (fields.arch, fields.source) (entered fields.version fields.priority fields.section) machine.handed old is tt (omega arith) given (room-for machine pass.room)
+state_after-keeps machine (of.Next fields) old utf8 pass again =
     let counts = nat_le count_limit machine.accepted || nat_le count_limit machine.handed in
     let spent = or_parts (nat_le count_limit machine.accepted) (nat_le count_limit machine.handed) (sym (ap (λ found. is_none found && counts) again) ∙ pass.room) in
-    taking-keeps machine (of.Next arch builder after) old utf8 refl pass (leb-false count_limit machine.handed spent.1) (room-for machine spent.0)
-state_after-keeps machine (of.Take arch builder source version) old utf8 pass again =
+    taking-keeps machine (of.Next fields) old utf8 refl pass (leb-false count_limit machine.handed spent.1) (room-for machine spent.0)
+state_after-keeps machine (of.Take fields) old utf8 pass again =
     let spent = or_parts (nat_le count_limit machine.accepted) (nat_le count_limit machine.handed) pass.room in
-    taking-keeps machine (of.Take arch builder source version) old utf8 refl pass (leb-false count_limit machine.handed spent.1) (room-for machine spent.0)
-state_after-keeps machine (of.Merge sources parts) old utf8 pass again = merging-keeps machine sources parts old (room-for machine pass.room)
-state_after-keeps machine (of.Built take_number) old utf8 pass again = moving-keeps machine (of.Built take_number) old utf8 tt pass (room-for machine pass.room)
-state_after-keeps machine (of.Uploaded take_number) old utf8 pass again = moving-keeps machine (of.Uploaded take_number) old utf8 tt pass (room-for machine pass.room)
-state_after-keeps machine (of.Waits take_number relations) old utf8 pass again =
-    moving-keeps machine (of.Waits take_number relations) old utf8 tt pass (room-for machine pass.room)
-state_after-keeps machine (of.PutBack take_number) old utf8 pass again = moving-keeps machine (of.PutBack take_number) old utf8 tt pass (room-for machine pass.room)
-state_after-keeps machine (of.GiveBack arch source version) old utf8 pass again =
-    moving-keeps machine (of.GiveBack arch source version) old utf8 tt pass (room-for machine pass.room)
-state_after-keeps machine (of.DepWait arch source version relations) old utf8 pass again =
-    moving-keeps machine (of.DepWait arch source version relations) old utf8 tt pass (room-for machine pass.room)
-state_after-keeps machine (of.Fail arch source version note) old utf8 pass again =
-    moving-keeps machine (of.Fail arch source version note) old utf8 tt pass (room-for machine pass.room)
-state_after-keeps machine (of.NotForUs arch source version note) old utf8 pass again =
-    moving-keeps machine (of.NotForUs arch source version note) old utf8 tt pass (room-for machine pass.room)
-state_after-keeps machine (of.Rebuild arch source version number message) old utf8 pass again =
-    moving-keeps machine (of.Rebuild arch source version number message) old utf8 tt pass (room-for machine pass.room)
+    taking-keeps machine (of.Take fields) old utf8 refl pass (leb-false count_limit machine.handed spent.1) (room-for machine spent.0)
+state_after-keeps machine (of.Merge fields) old utf8 pass again = merging-keeps machine fields.sources fields.parts old (room-for machine pass.room)
+state_after-keeps machine (of.Built fields) old utf8 pass again = moving-keeps machine (of.Built fields) old utf8 tt pass (room-for machine pass.room)
+state_after-keeps machine (of.Uploaded fields) old utf8 pass again = moving-keeps machine (of.Uploaded fields) old utf8 tt pass (room-for machine pass.room)
+state_after-keeps machine (of.Waits fields) old utf8 pass again =
+    moving-keeps machine (of.Waits fields) old utf8 tt pass (room-for machine pass.room)
+state_after-keeps machine (of.PutBack fields) old utf8 pass again = moving-keeps machine (of.PutBack fields) old utf8 tt pass (room-for machine pass.room)
+state_after-keeps machine (of.GiveBack fields) old utf8 pass again =
+    moving-keeps machine (of.GiveBack fields) old utf8 tt pass (room-for machine pass.room)
+state_after-keeps machine (of.DepWait fields) old utf8 pass again =
+    moving-keeps machine (of.DepWait fields) old utf8 tt pass (room-for machine pass.room)
+state_after-keeps machine (of.Fail fields) old utf8 pass again =
+    moving-keeps machine (of.Fail fields) old utf8 tt pass (room-for machine pass.room)
+state_after-keeps machine (of.NotForUs fields) old utf8 pass again =
+    moving-keeps machine (of.NotForUs fields) old utf8 tt pass (room-for machine pass.room)
+state_after-keeps machine (of.Rebuild fields) old utf8 pass again =
+    moving-keeps machine (of.Rebuild fields) old utf8 tt pass (room-for machine pass.room)
 
 pub step-keeps : (machine : Machine) (command : Command) → HasUtf8Texts command → IsConsistent machine → IsConsistent (step machine command).1
 step-keeps machine command utf8 old = step-either IsConsistent machine command old (state_after-keeps machine command old utf8)

@@ -6,14 +6,14 @@ use Rattle.deb_version.specs.Syntax.{fault_of}
 use Rattle.deb_relations.specs.declared.arch.ArchWords.{ArchWords}
 use Rattle.deb_relations.specs.declared.relations.Alternative.{Alternative}
 use Rattle.deb_relations.specs.Reading.{reading_of}
-use Rattle.wb_states.specs.declared.command.Command.TheVariants.{Waits, GiveBack, DepWait, Fail, NotForUs, Rebuild}
+use Rattle.wb_office.proofs.CommandForms.{Waits, GiveBack, DepWait, Fail, NotForUs, Rebuild}
 use Rattle.wb_states.specs.declared.moves.Move.TheVariants as to
 use Rattle.wb_states.specs.declared.refusal.Refusal.{Refusal}
 use Rattle.wb_states.specs.declared.refusal.Refusal.TheVariants.{BadName, BadVersion, BadRelations, BadNumber, TextTooLong, Memory}
 use Rattle.wb_states.specs.Limits.{note_limit, rebuild_limit}
 use Rattle.wb_states.specs.Machine.{Machine, arch_words}
-use Rattle.wb_office.specs.Checks.{when, has_bad_key, relations_refusal, text_refusal}
-use Rattle.wb_office.specs.Found.{key_refusal, named_step}
+use Rattle.wb_office.specs.Checks.{when, has_bad_key, relations_refusal, text_refusal, key_refusal}
+use Rattle.wb_office.specs.Found.{named_step}
 use Rattle.wb_office.specs.Step.{step}
 use Rattle.wb_office.proofs.NamedLemmas.{step-GiveBack, step-DepWait, step-Fail, step-NotForUs, step-Rebuild}
 use Rattle.wb_office.proofs.StepLemmas.{step-text, two-None, two-Some, two-later}
@@ -36,7 +36,7 @@ dep_wait-refused machine arch source version relations refusal is =
     step-text machine (DepWait arch source version relations) refusal (two-Some (when (has_bad_key arch source) BadName) (option_map BadVersion (fault_of version)) (option_or (option_map (λ fault. BadRelations (Some fault)) (result_err (reading_of relations))) None) refusal is)
 
 pub dep_wait-BadRelations : (machine : Machine) (arch source version relations : List ℕ) (later refusal : Refusal)
-    → option_or (key_refusal arch source version) (Some later) ≡ Some refusal → relations_refusal (Waits 0 relations) ≡ Some later
+    → option_or (key_refusal arch source version) (Some later) ≡ Some refusal → relations_refusal relations ≡ Some later
     → step machine (DepWait arch source version relations) ≡ (Err refusal, machine)
 unfolding text_refusal
 dep_wait-BadRelations machine arch source version relations later refusal is bad =
@@ -45,7 +45,7 @@ dep_wait-BadRelations machine arch source version relations later refusal is bad
 
 -- the same where the relations may be refused for want of memory, which is never told of a key that is refused
 pub dep_wait-either : (machine : Machine) (arch source version relations : List ℕ) (later refusal : Refusal)
-    → option_or (key_refusal arch source version) (Some later) ≡ Some refusal → (later ≢ Memory → relations_refusal (Waits 0 relations) ≡ Some later) → refusal ≢ Memory
+    → option_or (key_refusal arch source version) (Some later) ≡ Some refusal → (later ≢ Memory → relations_refusal relations ≡ Some later) → refusal ≢ Memory
     → step machine (DepWait arch source version relations) ≡ (Err refusal, machine)
 dep_wait-either machine arch source version relations later refusal is bad differs =
     (elim (key_refusal arch source version) as (λ key. key_refusal arch source version ≡ key → option_or key (Some later) ≡ Some refusal

@@ -13,7 +13,8 @@ use Rattle.wb_states.specs.Limits.{count_limit}
 use Rattle.wb_states.specs.Machine.{Machine}
 use Rattle.wb_states.specs.Moves.{move_refusal, move_of, moved}
 use Rattle.wb_states.specs.Queue.{Entry}
-use Rattle.wb_office.specs.declared.moved.Moved.{Moved}
+use Rattle.wb_store.specs.declared.keyed.KeyedRecord.{KeyedRecord}
+use Rattle.wb_store.specs.Lookups.{entry_of}
 use Rattle.wb_office.specs.Checks.{when}
 use Rattle.wb_office.specs.Found.{outcome_unless, move_step}
 use Rattle.wb_office.specs.Step.{counted, after_move}
@@ -55,12 +56,12 @@ move_step-Ok machine new entry move reply is room replied left =
     ∙ (λ i. (Ok (sym replied i), sym left i))
 
 -- a record after a move is written, and the command is counted
-pub move_step-made : (machine new : Machine) (arch source : List ℕ) (current : Record) (move : Move) (made : Moved) (reply : Reply)
-    → move_refusal move current ≡ None → nat_le count_limit machine.accepted ≡ false
-    → made ≡ record { arch = arch; source = source; after = moved move current }
+pub move_step-made : (machine new : Machine) (entry : Entry) (move : Move) (made : KeyedRecord) (reply : Reply)
+    → move_refusal move entry.1 ≡ None → nat_le count_limit machine.accepted ≡ false
+    → entry_of made ≡ (entry.0, moved move entry.1)
     → reply ≡ Done (machine.accepted + 1)
-    → new ≡ counted machine (record machine { records = map.insert machine.records (made.arch, made.source) made.after })
-    → move_step machine ((arch, source), current) move ≡ (Ok reply, new)
-move_step-made machine new arch source current move made reply is room value replied left =
-    move_step-Ok machine new ((arch, source), current) move reply is room replied
-    (left ∙ (λ i. counted machine (record machine { records = map.insert machine.records ((value i).arch, (value i).source) (value i).after })))
+    → new ≡ counted machine (record machine { records = map.insert machine.records (made.arch, made.source) made.current })
+    → move_step machine entry move ≡ (Ok reply, new)
+move_step-made machine new entry move made reply is room value replied left =
+    move_step-Ok machine new entry move reply is room replied
+    (left ∙ (λ i. counted machine (record machine { records = map.insert machine.records (value i).0 (value i).1 })))

@@ -52,21 +52,21 @@ record_named-is machine arch source entry is =
     only x y e = cc
 
 pub target_of-stands : (machine : Machine) (command : Command) (entry : Entry) → target_of machine command ≡ Some entry → Stands machine entry
-target_of-stands machine (of.AddArch name os cpu) entry is = cc
-target_of-stands machine (of.AddBuilder name arch) entry is = cc
-target_of-stands machine (of.Enter arch source version priority section) entry is = cc
-target_of-stands machine (of.Next arch builder after) entry is = (head_of-waits machine arch entry is).0
-target_of-stands machine (of.Take arch builder source version) entry is = (record_named-is machine arch source entry is).0
-target_of-stands machine (of.Built take_number) entry is = taken_as-stands machine take_number entry is
-target_of-stands machine (of.Uploaded take_number) entry is = taken_as-stands machine take_number entry is
-target_of-stands machine (of.Waits take_number relations) entry is = taken_as-stands machine take_number entry is
-target_of-stands machine (of.PutBack take_number) entry is = taken_as-stands machine take_number entry is
-target_of-stands machine (of.GiveBack arch source version) entry is = (record_named-is machine arch source entry is).0
-target_of-stands machine (of.DepWait arch source version relations) entry is = (record_named-is machine arch source entry is).0
-target_of-stands machine (of.Fail arch source version note) entry is = (record_named-is machine arch source entry is).0
-target_of-stands machine (of.NotForUs arch source version note) entry is = (record_named-is machine arch source entry is).0
-target_of-stands machine (of.Rebuild arch source version number message) entry is = (record_named-is machine arch source entry is).0
-target_of-stands machine (of.Merge sources parts) entry is = cc
+target_of-stands machine (of.AddArch fields) entry is = cc
+target_of-stands machine (of.AddBuilder fields) entry is = cc
+target_of-stands machine (of.Enter fields) entry is = cc
+target_of-stands machine (of.Next fields) entry is = (head_of-waits machine fields.arch entry is).0
+target_of-stands machine (of.Take fields) entry is = (record_named-is machine fields.arch fields.source entry is).0
+target_of-stands machine (of.Built fields) entry is = taken_as-stands machine fields.take_number entry is
+target_of-stands machine (of.Uploaded fields) entry is = taken_as-stands machine fields.take_number entry is
+target_of-stands machine (of.Waits fields) entry is = taken_as-stands machine fields.take_number entry is
+target_of-stands machine (of.PutBack fields) entry is = taken_as-stands machine fields.take_number entry is
+target_of-stands machine (of.GiveBack fields) entry is = (record_named-is machine fields.arch fields.source entry is).0
+target_of-stands machine (of.DepWait fields) entry is = (record_named-is machine fields.arch fields.source entry is).0
+target_of-stands machine (of.Fail fields) entry is = (record_named-is machine fields.arch fields.source entry is).0
+target_of-stands machine (of.NotForUs fields) entry is = (record_named-is machine fields.arch fields.source entry is).0
+target_of-stands machine (of.Rebuild fields) entry is = (record_named-is machine fields.arch fields.source entry is).0
+target_of-stands machine (of.Merge fields) entry is = cc
 
 -- what is known of the record that a command moves, and of the move
 pub record MayMove (machine : Machine) (command : Command) (asked : Entry × Move) : Type 0 where

@@ -2,7 +2,7 @@
 use Rattle.std.proofs.Common.{◌≡◌, ℕ, ◌+◌, Bool, true, false, not, List, [], ◌∷◌, Option, Some, None, Ok, Err, refl, ap, ◌∙◌, nat_le, is_some, option_and_then, option_map}
 use Rattle.std.specs.Result.{result_unwrap_or}
 use Rattle.std.specs.FinMap as map
-use Rattle.wb_states.specs.declared.command.Command.TheVariants.{GiveBack, DepWait, Fail, NotForUs, Rebuild}
+use Rattle.wb_office.proofs.CommandForms.{GiveBack, DepWait, Fail, NotForUs, Rebuild}
 use Rattle.wb_states.specs.declared.moves.Move.{Move}
 use Rattle.wb_states.specs.declared.moves.Move.TheVariants as to
 use Rattle.wb_states.specs.declared.record.Record.{Record}
@@ -15,8 +15,8 @@ use Rattle.wb_states.specs.Moves.{move_refusal}
 use Rattle.wb_states.specs.Queue.{Entry}
 use Rattle.deb_relations.specs.Reading.{reading_of}
 use Rattle.deb_text.specs.Options.{first_some}
-use Rattle.wb_office.specs.Checks.{when, differing, text_refusal, state_refusal}
-use Rattle.wb_office.specs.Found.{outcome_unless, move_step, found_refusal, named_at, named_step}
+use Rattle.wb_office.specs.Checks.{when, differing, text_refusal, state_refusal, found_refusal}
+use Rattle.wb_office.specs.Found.{outcome_unless, move_step, named_at, named_step}
 use Rattle.wb_office.specs.Moving.{moving, record_named, with_move}
 use Rattle.wb_office.specs.Step.{Outcome, step, counted, after_move}
 use Rattle.wb_office.proofs.StepLemmas.{step-state, outcome_unless-option_or, outcome_unless-last}

@@ -1,7 +1,7 @@
 -- What a builder's command for the head of a queue answers.
 use Rattle.std.specs.Option.{option_or}
 use Rattle.std.proofs.Common.{◌≡◌, ℕ, ◌||◌, ◌&&◌, Bool, true, false, List, [], ◌∷◌, Option, Some, None, Ok, Err, refl, sym, ap, ◌∙◌, nat_le, is_none, option_and_then, option_map}
-use Rattle.wb_states.specs.declared.command.Command.TheVariants.{Next}
+use Rattle.wb_office.proofs.CommandForms.{Next}
 use Rattle.wb_states.specs.declared.refusal.Refusal.{Refusal}
 use Rattle.wb_states.specs.declared.refusal.Refusal.TheVariants.{AfterAhead, BadName, QueueEmpty, Spent, UnknownArch, UnknownBuilder, WrongArch}
 use Rattle.wb_states.specs.declared.reply.Reply.TheVariants.{Again}
@@ -14,10 +14,9 @@ use Rattle.wb_states.specs.Machine.{Machine}
 use Rattle.wb_states.specs.Moves.{move_refusal, may_go}
 use Rattle.wb_states.specs.Queue.{Entry, head_of}
 use Rattle.wb_states.proofs.QueueLemmas.{head_of-waits}
-use Rattle.wb_store.specs.Lookups.{named}
 use Rattle.deb_text.specs.Options.{first_some}
-use Rattle.wb_office.specs.Checks.{when, has_bad_name, is_ahead, is_for_other_archs, lacks_arch, lacks_builder, text_refusal, state_refusal, first_refusal}
-use Rattle.wb_office.specs.Found.{outcome_unless, builder_refusal, head_at, head_step, assignment_step, take_move, held_assignment}
+use Rattle.wb_office.specs.Checks.{when, has_bad_name, is_ahead, is_for_other_archs, lacks_arch, lacks_builder, text_refusal, state_refusal, first_refusal, builder_refusal}
+use Rattle.wb_office.specs.Found.{outcome_unless, head_at, head_step, assignment_step, take_move, held_assignment}
 use Rattle.wb_office.specs.Moving.{again_of, moving}
 use Rattle.wb_office.specs.Step.{outcome, step, reply_to, state_after, counted, after_take, assignment_reply}
 use Rattle.wb_office.proofs.StepLemmas.{step-refused, outcome-None, three-None, three-Some}
@@ -138,36 +137,15 @@ next-head machine arch builder after bad is later again_is =
     ∙ outcome-None (queue_checks machine builder true (head_of machine arch)) machine (Next arch builder after)
     ∙ head-answer machine arch builder after
 
--- the head of the queue, by the name and the record that the store gives for it
-pub head-named : (machine : Machine) (arch source : List ℕ) (current : Record) → Some (source, current) ≡ option_map named (head_of machine arch)
-    → head_of machine arch ≡ Some ((arch, source), current)
-head-named machine arch source current is = found (head_of machine arch) refl is where
-  found : (head : Option Entry) → head_of machine arch ≡ head → Some (source, current) ≡ option_map named head → head ≡ Some ((arch, source), current)
-  found None at e = cc
-  found (Some entry) at e =
-      let waits = head_of-waits machine arch entry at in
-      let same : (source, current) ≡ named entry = only (source, current) (named entry) e in
-      let back = sym same in
-      λ i. Some ((waits.1 i, (back i).0), (back i).1)
-    where
-      only : (x y : List ℕ × Record) → Some x ≡ Some y → x ≡ y
-      only x y e = cc
-
-head-none : (machine : Machine) (arch : List ℕ) → None ≡ option_map named (head_of machine arch) → head_of machine arch ≡ None
-head-none machine arch is = found (head_of machine arch) is where
-  found : (head : Option Entry) → None ≡ option_map named head → head ≡ None
-  found None e = refl
-  found (Some entry) e = cc
-
-pub head_step-QueueEmpty : (machine : Machine) (arch builder : List ℕ) → None ≡ option_map named (head_of machine arch)
+pub head_step-QueueEmpty : (machine : Machine) (arch builder : List ℕ) → None ≡ head_of machine arch
     → head_step machine arch builder ≡ (Err QueueEmpty, machine)
 unfolding head_step
-head_step-QueueEmpty machine arch builder is = ap (head_at machine builder) (head-none machine arch is)
+head_step-QueueEmpty machine arch builder is = ap (head_at machine builder) (sym is)
 
-pub head_step-assignment : (machine : Machine) (arch builder source : List ℕ) (current : Record) → Some (source, current) ≡ option_map named (head_of machine arch)
-    → head_step machine arch builder ≡ assignment_step machine builder ((arch, source), current)
+pub head_step-assignment : (machine : Machine) (arch builder : List ℕ) (entry : Entry) → Some entry ≡ head_of machine arch
+    → head_step machine arch builder ≡ assignment_step machine builder entry
 unfolding head_step
-head_step-assignment machine arch builder source current is = ap (head_at machine builder) (head-named machine arch source current is)
+head_step-assignment machine arch builder entry is = ap (head_at machine builder) (sym is)
 
 none-held : (entry : Option Entry) → None ≡ option_map held_assignment entry → entry ≡ None
 none-held None is = refl

@@ -6,15 +6,14 @@ use Rattle.std.specs.Option.{option_or}
 use Rattle.deb_version.specs.declared.fault.VersionFault.{VersionFault}
 use Rattle.deb_version.specs.Syntax.{fault_of}
 use Rattle.deb_text.specs.Lists.{is_filled}
-use Rattle.wb_states.specs.declared.command.Command.TheVariants.{AddArch, AddBuilder, Enter}
+use Rattle.wb_office.proofs.CommandForms.{AddArch, AddBuilder, Enter}
 use Rattle.wb_states.specs.declared.refusal.Refusal.{Refusal}
 use Rattle.wb_states.specs.declared.refusal.Refusal.TheVariants.{UnknownArch, UnknownBuilder, WrongArch, AlreadyThere, BadName, BadVersion, Spent}
 use Rattle.wb_states.specs.Limits.{count_limit}
 use Rattle.wb_states.specs.Machine.{Machine, archs_of}
 use Rattle.deb_text.specs.Options.{first_some}
-use Rattle.wb_office.specs.Found.{builder_refusal, key_refusal}
 use Rattle.wb_office.specs.Moving.{moving}
-use Rattle.wb_office.specs.Checks.{when, has_bad_key, has_bad_name, lacks_arch, text_refusal, state_refusal, first_refusal}
+use Rattle.wb_office.specs.Checks.{when, has_bad_key, has_bad_name, lacks_arch, text_refusal, state_refusal, first_refusal, builder_refusal, key_refusal}
 
 pub first_refusal-AddArch : (machine : Machine) (name os cpu : List ℕ) (is_bad is_there is_full : Bool)
     → has_bad_name (AddArch name os cpu) ≡ is_bad → map.contains_key machine.archs name ≡ is_there → nat_le count_limit machine.accepted ≡ is_full

@@ -3,7 +3,7 @@ use Rattle.std.proofs.Common.{◌≡◌, ℕ, ◌||◌, true, false, not, List, 
 use Rattle.std.specs.FinMap as map
 use Rattle.std.specs.Option.{option_or}
 use Rattle.deb_version.specs.Syntax.{fault_of}
-use Rattle.wb_states.specs.declared.command.Command.TheVariants.{Take}
+use Rattle.wb_office.proofs.CommandForms.{Take}
 use Rattle.wb_states.specs.declared.moves.Move.{Move}
 use Rattle.wb_states.specs.declared.record.Record.{Record}
 use Rattle.wb_states.specs.declared.refusal.Refusal.{Refusal}
@@ -13,8 +13,8 @@ use Rattle.wb_states.specs.Machine.{Machine}
 use Rattle.wb_states.specs.Moves.{move_refusal}
 use Rattle.wb_states.specs.Queue.{Entry}
 use Rattle.deb_text.specs.Options.{first_some}
-use Rattle.wb_office.specs.Checks.{when, differing, has_bad_name, lacks_arch, lacks_builder, is_for_other_archs, text_refusal, state_refusal}
-use Rattle.wb_office.specs.Found.{outcome_unless, builder_refusal, found_refusal, assignment_step, named_at, take_move, take_step}
+use Rattle.wb_office.specs.Checks.{when, differing, has_bad_name, lacks_arch, lacks_builder, is_for_other_archs, text_refusal, state_refusal, builder_refusal, found_refusal}
+use Rattle.wb_office.specs.Found.{outcome_unless, assignment_step, named_at, take_move, take_step}
 use Rattle.wb_office.specs.Moving.{moving, record_named}
 use Rattle.wb_office.specs.Step.{Outcome, step, counted, after_take, assignment_reply}
 use Rattle.wb_office.proofs.NamedLemmas.{named_at-refused}

@@ -126,25 +126,25 @@ moving-takes machine command old allowed =
     ]) refl
 
 state_after-takes : (machine : Machine) (command : Command) → HasTakesByState machine → refused_move machine command ≡ None → HasTakesByState (state_after machine command)
-state_after-takes machine (of.AddArch name os cpu) old allowed = old
-state_after-takes machine (of.AddBuilder name arch) old allowed = old
-state_after-takes machine (of.Enter arch source version priority section) old allowed =
-    insert_all pair_cmp_total pair_cmp-same (λ key. HasTakeByState) machine.records (arch, source) (entered version priority section) refl old
-state_after-takes machine (of.Merge sources parts) old allowed =
-    records_after-keeps (λ key. HasTakeByState) machine sources parts
+state_after-takes machine (of.AddArch fields) old allowed = old
+state_after-takes machine (of.AddBuilder fields) old allowed = old
+state_after-takes machine (of.Enter fields) old allowed =
+    insert_all pair_cmp_total pair_cmp-same (λ key. HasTakeByState) machine.records (fields.arch, fields.source) (entered fields.version fields.priority fields.section) refl old
+state_after-takes machine (of.Merge fields) old allowed =
+    records_after-keeps (λ key. HasTakeByState) machine fields.sources fields.parts
     (λ part listing is source found had. after-take found (map.get listing.listed source) (map.get listing.built source) listing.available had) machine.records old
-state_after-takes machine (of.Next arch builder after) old allowed = moving-takes machine (of.Next arch builder after) old allowed
-state_after-takes machine (of.Take arch builder source version) old allowed = moving-takes machine (of.Take arch builder source version) old allowed
-state_after-takes machine (of.Built take_number) old allowed = moving-takes machine (of.Built take_number) old allowed
-state_after-takes machine (of.Uploaded take_number) old allowed = moving-takes machine (of.Uploaded take_number) old allowed
-state_after-takes machine (of.Waits take_number relations) old allowed = moving-takes machine (of.Waits take_number relations) old allowed
-state_after-takes machine (of.PutBack take_number) old allowed = moving-takes machine (of.PutBack take_number) old allowed
-state_after-takes machine (of.GiveBack arch source version) old allowed = moving-takes machine (of.GiveBack arch source version) old allowed
-state_after-takes machine (of.DepWait arch source version relations) old allowed = moving-takes machine (of.DepWait arch source version relations) old allowed
-state_after-takes machine (of.Fail arch source version note) old allowed = moving-takes machine (of.Fail arch source version note) old allowed
-state_after-takes machine (of.NotForUs arch source version note) old allowed = moving-takes machine (of.NotForUs arch source version note) old allowed
-state_after-takes machine (of.Rebuild arch source version number message) old allowed =
-    moving-takes machine (of.Rebuild arch source version number message) old allowed
+state_after-takes machine (of.Next fields) old allowed = moving-takes machine (of.Next fields) old allowed
+state_after-takes machine (of.Take fields) old allowed = moving-takes machine (of.Take fields) old allowed
+state_after-takes machine (of.Built fields) old allowed = moving-takes machine (of.Built fields) old allowed
+state_after-takes machine (of.Uploaded fields) old allowed = moving-takes machine (of.Uploaded fields) old allowed
+state_after-takes machine (of.Waits fields) old allowed = moving-takes machine (of.Waits fields) old allowed
+state_after-takes machine (of.PutBack fields) old allowed = moving-takes machine (of.PutBack fields) old allowed
+state_after-takes machine (of.GiveBack fields) old allowed = moving-takes machine (of.GiveBack fields) old allowed
+state_after-takes machine (of.DepWait fields) old allowed = moving-takes machine (of.DepWait fields) old allowed
+state_after-takes machine (of.Fail fields) old allowed = moving-takes machine (of.Fail fields) old allowed
+state_after-takes machine (of.NotForUs fields) old allowed = moving-takes machine (of.NotForUs fields) old allowed
+state_after-takes machine (of.Rebuild fields) old allowed =
+    moving-takes machine (of.Rebuild fields) old allowed
 
 pub empty-takes : HasTakesByState empty_office
 unfolding empty_office

@@ -8,7 +8,6 @@ use Rattle.deb_version.specs.Syntax.{fault_of, reading_of}
 use Rattle.deb_relations.specs.declared.fault.RelationFault.{RelationFault}
 use Rattle.deb_relations.specs.declared.fault.RelationFault.TheVariants.{Memory as NoRelationMemory, TooLong as RelationsTooLong}
 use Rattle.deb_relations.specs.Reading.{reading_of as relations_of}
-use Rattle.wb_states.specs.declared.command.Command.TheVariants.{Waits}
 use Rattle.wb_states.specs.declared.refusal.Refusal.{Refusal}
 use Rattle.wb_states.specs.declared.refusal.Refusal.TheVariants.{Memory, BadVersion, BadRelations}
 use Rattle.wb_states.specs.Limits.{relations_limit}
@@ -31,7 +30,7 @@ read-refused text NoMemory reads differs = absurd (differs refl)
 
 pub relations-refused : (text : List ℕ) (fault : RelationFault) (refusal : Refusal)
     → (fault ≡ NoRelationMemory → refusal ≡ Memory) → (fault ≢ NoRelationMemory → refusal ≡ BadRelations (Some fault))
-    → (fault ≢ NoRelationMemory → relations_of text ≡ Err fault) → refusal ≢ Memory → relations_refusal (Waits 0 text) ≡ Some refusal
+    → (fault ≢ NoRelationMemory → relations_of text ≡ Err fault) → refusal ≢ Memory → relations_refusal text ≡ Some refusal
 relations-refused text fault refusal memory others reads differs =
     let no : fault ≢ NoRelationMemory = λ e. differs (memory e) in
     ap (λ reading. option_map (λ one. BadRelations (Some one)) (result_err reading)) (reads no) ∙ ap Some (sym (others no))

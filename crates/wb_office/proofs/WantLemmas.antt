@@ -3,15 +3,14 @@ use Rattle.std.specs.Option.{option_or}
 use Rattle.std.proofs.Common.{◌≡◌, ℕ, ◌||◌, Bool, true, false, nat_eq, nat_lt, length, List, [], ◌∷◌, Option, Some, None, Result, Ok, Err, IfErr, refl, ap, ◌∙◌, option_map}
 use Rattle.deb_version.specs.declared.fault.VersionFault.{VersionFault}
 use Rattle.deb_version.specs.Syntax.{fault_of}
-use Rattle.wb_states.specs.declared.command.Command.TheVariants.{AddArch, AddBuilder, Enter, GiveBack, DepWait, Fail, NotForUs, Rebuild}
+use Rattle.wb_office.proofs.CommandForms.{AddArch, AddBuilder, Enter, GiveBack, DepWait, Fail, NotForUs, Rebuild}
 use Rattle.wb_states.specs.declared.refusal.Refusal.{Refusal}
 use Rattle.wb_states.specs.declared.refusal.Refusal.TheVariants.{Memory, BadName, BadVersion}
 use Rattle.wb_states.specs.Limits.{note_limit, rebuild_limit, relations_limit}
 use Rattle.wb_states.specs.Machine.{Machine}
 use Rattle.deb_text.specs.Options.{first_some}
 use Rattle.deb_text.proofs.OptionLemmas.{first_some-None}
-use Rattle.wb_office.specs.Checks.{MayWantMemory, first_refusal, has_bad_key, when, text_refusal}
-use Rattle.wb_office.specs.Found.{key_refusal}
+use Rattle.wb_office.specs.Checks.{MayWantMemory, first_refusal, has_bad_key, when, text_refusal, key_refusal}
 use Rattle.wb_office.proofs.PassLemmas.{passes, when-None, option_map-None}
 
 -- what is known on a way is known of each refusal that comes of it

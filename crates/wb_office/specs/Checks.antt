@@ -14,7 +14,8 @@ use Rattle.deb_relations.specs.declared.fault.RelationFault.{RelationFault}
 use Rattle.deb_relations.specs.Reading.{reading_of}
 use Rattle.deb_text.specs.Lists.{is_filled}
 use Rattle.wb_states.specs.declared.command.Command.{Command}
-use Rattle.wb_states.specs.declared.command.Command.TheVariants.{AddArch, AddBuilder, Enter, Next, Take, Built, Uploaded, Waits, PutBack, GiveBack, DepWait, Fail, NotForUs, Rebuild, Merge}
+use Rattle.wb_states.specs.declared.command.Command.TheVariants as of
+use Rattle.wb_states.specs.declared.command.Next.{Next}
 use Rattle.wb_states.specs.declared.command.Part.{Part}
 use Rattle.wb_states.specs.declared.record.Record.{Record}
 use Rattle.wb_states.specs.declared.refusal.Refusal.{Refusal}
@@ -27,6 +28,7 @@ use Rattle.wb_states.specs.Moves.{move_refusal}
 use Rattle.deb_relations.specs.Names.{is_package_name}
 use Rattle.wb_states.specs.Names.{is_arch_name, is_os_cpu_word, is_builder_name, is_label_text}
 use Rattle.wb_states.specs.Queue.{head_of}
+use Rattle.wb_office.specs.Arguments.{arguments_of}
 use Rattle.wb_office.specs.Moving.{again_of, moving}
 use Rattle.wb_office.specs.Parts.{parts_refusal}
 
@@ -35,131 +37,185 @@ abbrev pub when : Bool → Refusal → Option Refusal
 when true refusal = Some refusal
 when false refusal = None
 
--- ---- the forms of a command's texts
+-- ---- the forms of texts
 
--- an architecture and a source package, of which one has not its form
+-- an architecture with the words of its operating system and its processor, of which one is malformed
+abbrev pub has_bad_arch : List ℕ → List ℕ → List ℕ → Bool
+has_bad_arch name os cpu = not (is_arch_name name && (is_os_cpu_word os && is_os_cpu_word cpu))
+
+-- a builder and an architecture, of which one is malformed
+abbrev pub has_bad_builder : List ℕ → List ℕ → Bool
+has_bad_builder builder arch = not (is_builder_name builder && is_arch_name arch)
+
+-- an architecture and a source package, of which one is malformed
 abbrev pub has_bad_key : List ℕ → List ℕ → Bool
 has_bad_key arch source = not (is_arch_name arch && is_package_name source)
 
--- a name, a priority or a section of the command has not its form
-abbrev pub has_bad_name : Command → Bool
-has_bad_name (AddArch name os cpu) = not (is_arch_name name && (is_os_cpu_word os && is_os_cpu_word cpu))
-has_bad_name (AddBuilder name arch) = not (is_builder_name name && is_arch_name arch)
-has_bad_name (Enter arch source version priority section) =
+-- a source package that is entered, of which a name, the priority or the section is malformed
+abbrev pub has_bad_entry : List ℕ → List ℕ → List ℕ → List ℕ → Bool
+has_bad_entry arch source priority section =
     not (is_arch_name arch && (is_package_name source && (is_label_text priority && is_label_text section)))
-has_bad_name (Next arch builder after) = not (is_arch_name arch && is_builder_name builder)
-has_bad_name (Take arch builder source version) =
-    not (is_arch_name arch && (is_builder_name builder && is_package_name source))
-has_bad_name (GiveBack arch source version) = has_bad_key arch source
-has_bad_name (DepWait arch source version relations) = has_bad_key arch source
-has_bad_name (Fail arch source version note) = has_bad_key arch source
-has_bad_name (NotForUs arch source version note) = has_bad_key arch source
-has_bad_name (Rebuild arch source version number message) = has_bad_key arch source
-has_bad_name (Merge sources parts) = list_any (λ part. not (is_arch_name part.arch)) parts
-has_bad_name _ = false
 
--- the version that the command names
-abbrev pub version_named : Command → Option (List ℕ)
-version_named (Enter arch source version priority section) = Some version
-version_named (Take arch builder source version) = Some version
-version_named (GiveBack arch source version) = Some version
-version_named (DepWait arch source version relations) = Some version
-version_named (Fail arch source version note) = Some version
-version_named (NotForUs arch source version note) = Some version
-version_named (Rebuild arch source version number message) = Some version
-version_named _ = None
+-- an architecture and a builder that asks for its head, of which one is malformed
+abbrev pub has_bad_request : List ℕ → List ℕ → Bool
+has_bad_request arch builder = not (is_arch_name arch && is_builder_name builder)
 
--- the fault of the command's version
-abbrev pub version_fault : Command → Option VersionFault
-version_fault command = option_and_then fault_of (version_named command)
+-- an architecture, a builder and the source package that it takes, of which one is malformed
+abbrev pub has_bad_take : List ℕ → List ℕ → List ℕ → Bool
+has_bad_take arch builder source = not (is_arch_name arch && (is_builder_name builder && is_package_name source))
 
--- the relations that the command names
-abbrev pub relations_named : Command → Option (List ℕ)
-relations_named (Waits take_number relations) = Some relations
-relations_named (DepWait arch source version relations) = Some relations
-relations_named _ = None
+-- a part of which the architecture is malformed
+abbrev pub has_bad_part : List Part → Bool
+has_bad_part parts = list_any (λ part. not (is_arch_name part.arch)) parts
 
--- the fault of the command's relations
-abbrev pub relation_fault : Command → Option RelationFault
-relation_fault command = option_and_then (λ relations. result_err (reading_of relations)) (relations_named command)
+-- the refusal of a version that is malformed
+abbrev pub version_refusal : List ℕ → Option Refusal
+version_refusal version = option_map BadVersion (fault_of version)
 
--- the refusal of the command's relations, where they cannot be read
-abbrev pub relations_refusal : Command → Option Refusal
-relations_refusal command = option_map (λ fault. BadRelations (Some fault)) (relation_fault command)
+-- the fault of relations that cannot be read
+abbrev pub relations_fault : List ℕ → Option RelationFault
+relations_fault relations = result_err (reading_of relations)
 
--- the number is that of no binary-only rebuild
-abbrev pub has_bad_number : Command → Bool
-has_bad_number (Rebuild arch source version number message) = nat_eq number 0 || nat_lt rebuild_limit number
-has_bad_number _ = false
+-- the refusal of relations that cannot be read
+abbrev pub relations_refusal : List ℕ → Option Refusal
+relations_refusal relations = option_map (λ fault. BadRelations (Some fault)) (relations_fault relations)
 
--- a note or a message is too long
-abbrev pub has_long_text : Command → Bool
-has_long_text (Fail arch source version note) = nat_lt note_limit (length note)
-has_long_text (NotForUs arch source version note) = nat_lt note_limit (length note)
-has_long_text (Rebuild arch source version number message) = nat_lt note_limit (length message)
-has_long_text _ = false
+-- the refusal of an architecture, a source package and a version of which one is malformed
+abbrev pub key_refusal : List ℕ → List ℕ → List ℕ → Option Refusal
+key_refusal arch source version = first_some (when (has_bad_key arch source) BadName ∷ version_refusal version ∷ [])
+
+-- a number that no binary-only rebuild has
+abbrev pub is_bad_number : ℕ → Bool
+is_bad_number number = nat_eq number 0 || nat_lt rebuild_limit number
+
+-- a note or a message that is too long
+abbrev pub is_long_text : List ℕ → Bool
+is_long_text text = nat_lt note_limit (length text)
 
 -- two parts are for one architecture
 abbrev pub has_repeated_arch : List Part → Bool
 has_repeated_arch [] = false
 has_repeated_arch (part ∷ parts) = list_any (λ other. bytes_eq part.arch other.arch) parts || has_repeated_arch parts
 
+-- ---- the forms of a command's texts
+
+-- a name, a priority or a section of the command is malformed
+abbrev pub has_bad_name : Command → Bool
+has_bad_name (of.AddArch fields) = has_bad_arch fields.name fields.os fields.cpu
+has_bad_name (of.AddBuilder fields) = has_bad_builder fields.name fields.arch
+has_bad_name (of.Enter fields) = has_bad_entry fields.arch fields.source fields.priority fields.section
+has_bad_name (of.Next fields) = has_bad_request fields.arch fields.builder
+has_bad_name (of.Take fields) = has_bad_take fields.arch fields.builder fields.source
+has_bad_name (of.Built fields) = false
+has_bad_name (of.Uploaded fields) = false
+has_bad_name (of.Waits fields) = false
+has_bad_name (of.PutBack fields) = false
+has_bad_name (of.GiveBack fields) = has_bad_key fields.arch fields.source
+has_bad_name (of.DepWait fields) = has_bad_key fields.arch fields.source
+has_bad_name (of.Fail fields) = has_bad_key fields.arch fields.source
+has_bad_name (of.NotForUs fields) = has_bad_key fields.arch fields.source
+has_bad_name (of.Rebuild fields) = has_bad_key fields.arch fields.source
+has_bad_name (of.Merge fields) = has_bad_part fields.parts
+
+-- the fault of the command's version
+abbrev pub version_fault : Command → Option VersionFault
+version_fault command = option_and_then fault_of (arguments_of command).version
+
+-- the fault of the command's relations
+abbrev pub relation_fault : Command → Option RelationFault
+relation_fault command = option_and_then relations_fault (arguments_of command).relations
+
+-- the refusal of the command's relations, if they cannot be read
+abbrev pub refused_relations : Command → Option Refusal
+refused_relations command = option_map (λ fault. BadRelations (Some fault)) (relation_fault command)
+
+-- the number is that of no binary-only rebuild
+abbrev pub has_bad_number : Command → Bool
+has_bad_number command = has_value is_bad_number (arguments_of command).number
+
+-- a note or a message is too long
+abbrev pub has_long_text : Command → Bool
+has_long_text command = has_value is_long_text (arguments_of command).text
+
 -- two parts of the command are for one architecture
 abbrev pub repeats_arch : Command → Bool
-repeats_arch (Merge sources parts) = has_repeated_arch parts
-repeats_arch _ = false
+repeats_arch command = has_value (λ merge. has_repeated_arch merge.parts) (arguments_of command).merge
 
 -- ---- what the office has
 
--- the architecture that the command names
-abbrev pub arch_named : Command → Option (List ℕ)
-arch_named (AddBuilder name arch) = Some arch
-arch_named (Enter arch source version priority section) = Some arch
-arch_named (Next arch builder after) = Some arch
-arch_named (Take arch builder source version) = Some arch
-arch_named (GiveBack arch source version) = Some arch
-arch_named (DepWait arch source version relations) = Some arch
-arch_named (Fail arch source version note) = Some arch
-arch_named (NotForUs arch source version note) = Some arch
-arch_named (Rebuild arch source version number message) = Some arch
-arch_named _ = None
+-- the architecture was never added
+abbrev pub is_unknown_arch : Machine → List ℕ → Bool
+is_unknown_arch machine arch = not (map.contains_key machine.archs arch)
+
+-- the builder was added for no architecture
+abbrev pub is_unknown_builder : Machine → List ℕ → Bool
+is_unknown_builder machine builder = not (is_filled (archs_of machine builder))
+
+-- the builder was not added for the architecture
+abbrev pub is_for_others : Machine → List ℕ → List ℕ → Bool
+is_for_others machine arch builder = not (set.contains machine.builders (builder, arch))
+
+-- the refusal of a builder that may not build for the architecture
+unfoldable pub builder_refusal : Machine → List ℕ → List ℕ → Option Refusal
+builder_refusal machine arch builder =
+    first_some (
+    when (is_unknown_arch machine arch) UnknownArch
+    ∷ when (is_unknown_builder machine builder) UnknownBuilder
+    ∷ when (is_for_others machine arch builder) WrongArch
+    ∷ [])
+
+-- a take number, or none, that was not given yet
+abbrev pub is_number_ahead : Machine → Option ℕ → Bool
+is_number_ahead machine after = has_value (nat_lt machine.handed) after
+
+-- the source package has no record on the architecture
+abbrev pub is_unknown_source : Machine → List ℕ × List ℕ → Bool
+is_unknown_source machine key = not (map.contains_key machine.records key)
+
+-- the refusal of a record of a version that differs in the order of versions (Debian Policy 5.6.12)
+abbrev pub differing : List ℕ → Record → Option Refusal
+differing version current =
+    if is_eq (version_cmp version current.version) then None else Some (OtherVersion current.version)
+
+-- the refusal of a source package on an architecture whose record, if it has one, is of another version
+abbrev pub other_version_at : Machine → List ℕ × List ℕ → List ℕ → Option Refusal
+other_version_at machine key version = option_and_then (differing version) (map.get machine.records key)
+
+-- the refusal of a source package that has no record, or one of another version
+abbrev pub found_refusal : Machine → List ℕ → List ℕ → List ℕ → Option Refusal
+found_refusal machine arch source version =
+    first_some (
+    when (is_unknown_source machine (arch, source)) UnknownSource
+    ∷ other_version_at machine (arch, source) version
+    ∷ [])
+
+-- ---- the same of a command
 
 -- it names an architecture that was never added
 abbrev pub lacks_arch : Machine → Command → Bool
-lacks_arch machine command = has_value (λ arch. not (map.contains_key machine.archs arch)) (arch_named command)
+lacks_arch machine command = has_value (is_unknown_arch machine) (arguments_of command).arch
 
 -- no part of a merge can be merged
 abbrev pub merge_refusal : Machine → Command → Option Refusal
-merge_refusal machine (Merge sources parts) = parts_refusal machine sources parts
-merge_refusal machine _ = None
-
--- the architecture and the builder that is to build for it
-abbrev pub builder_named : Command → Option (List ℕ × List ℕ)
-builder_named (Next arch builder after) = Some (arch, builder)
-builder_named (Take arch builder source version) = Some (arch, builder)
-builder_named _ = None
+merge_refusal machine command =
+    option_and_then (λ merge. parts_refusal machine merge.sources merge.parts) (arguments_of command).merge
 
 -- its builder was added for no architecture
 abbrev pub lacks_builder : Machine → Command → Bool
-lacks_builder machine command = has_value (λ named. not (is_filled (archs_of machine named.1))) (builder_named command)
+lacks_builder machine command = has_value (is_unknown_builder machine) (arguments_of command).builder
 
 -- its builder was not added for its architecture
 abbrev pub is_for_other_archs : Machine → Command → Bool
 is_for_other_archs machine command =
-    has_value (λ named. not (set.contains machine.builders (named.1, named.0))) (builder_named command)
+    has_value (λ arch. has_value (is_for_others machine arch) (arguments_of command).builder) (arguments_of command).arch
 
 -- it asks after a take number that was not given yet
 abbrev pub is_ahead : Machine → Command → Bool
-is_ahead machine (Next arch builder (Some after)) = nat_lt machine.handed after
-is_ahead machine _ = false
+is_ahead machine command = has_value (λ next. is_number_ahead machine next.after) (arguments_of command).next
 
 -- the take number that the command names
 abbrev pub take_named : Command → Option ℕ
-take_named (Built take_number) = Some take_number
-take_named (Uploaded take_number) = Some take_number
-take_named (Waits take_number relations) = Some take_number
-take_named (PutBack take_number) = Some take_number
-take_named _ = None
+take_named command = (arguments_of command).take_number
 
 -- no record is held under its take number
 abbrev pub is_not_held : Machine → Command → Bool
@@ -167,28 +223,18 @@ is_not_held machine command = has_value (λ take_number. is_none (taken_as machi
 
 -- the source package that the command moves, by name
 abbrev pub source_named : Command → Option (List ℕ × List ℕ)
-source_named (Take arch builder source version) = Some (arch, source)
-source_named (GiveBack arch source version) = Some (arch, source)
-source_named (DepWait arch source version relations) = Some (arch, source)
-source_named (Fail arch source version note) = Some (arch, source)
-source_named (NotForUs arch source version note) = Some (arch, source)
-source_named (Rebuild arch source version number message) = Some (arch, source)
-source_named _ = None
+source_named command =
+    option_and_then (λ arch. option_map (λ source. (arch, source)) (arguments_of command).source) (arguments_of command).arch
 
 -- the source package that it moves has no record
 abbrev pub lacks_source : Machine → Command → Bool
-lacks_source machine command = has_value (λ key. not (map.contains_key machine.records key)) (source_named command)
-
--- a refusal where a record is of a version that differs in the order of versions (Debian Policy 5.6.12)
-abbrev pub differing : List ℕ → Record → Option Refusal
-differing version current =
-    if is_eq (version_cmp version current.version) then None else Some (OtherVersion current.version)
+lacks_source machine command = has_value (is_unknown_source machine) (source_named command)
 
 -- the record of the source package that it moves is of another version
 abbrev pub other_version : Machine → Command → Option Refusal
 other_version machine command =
-    option_and_then (λ version. option_and_then (λ key. option_and_then (differing version) (map.get machine.records key))
-    (source_named command)) (version_named command)
+    option_and_then (λ version. option_and_then (λ key. other_version_at machine key version) (source_named command))
+    (arguments_of command).version
 
 -- the record that it moves is not in a state from which the move goes, or else the move's relations or number are refused
 abbrev pub refused_move : Machine → Command → Option Refusal
@@ -196,26 +242,46 @@ refused_move machine command = option_and_then (λ asked. move_refusal asked.1 a
 
 -- it asks for the head of a queue that is empty, and is not told again of what its builder builds
 abbrev pub has_empty_queue : Machine → Command → Bool
-has_empty_queue machine (Next arch builder after) =
-    is_none (again_of machine (Next arch builder after)) && is_none (head_of machine arch)
-has_empty_queue machine _ = false
+has_empty_queue machine command =
+    has_value (λ next. is_none (again_of machine command) && is_none (head_of machine next.arch)) (arguments_of command).next
 
 -- what it adds is there already: the architecture, the builder on the architecture, or the record
 abbrev pub is_there_already : Machine → Command → Bool
-is_there_already machine (AddArch name os cpu) = map.contains_key machine.archs name
-is_there_already machine (AddBuilder name arch) = set.contains machine.builders (name, arch)
-is_there_already machine (Enter arch source version priority section) = map.contains_key machine.records (arch, source)
-is_there_already machine _ = false
+is_there_already machine (of.AddArch fields) = map.contains_key machine.archs fields.name
+is_there_already machine (of.AddBuilder fields) = set.contains machine.builders (fields.name, fields.arch)
+is_there_already machine (of.Enter fields) = map.contains_key machine.records (fields.arch, fields.source)
+is_there_already machine (of.Next fields) = false
+is_there_already machine (of.Take fields) = false
+is_there_already machine (of.Built fields) = false
+is_there_already machine (of.Uploaded fields) = false
+is_there_already machine (of.Waits fields) = false
+is_there_already machine (of.PutBack fields) = false
+is_there_already machine (of.GiveBack fields) = false
+is_there_already machine (of.DepWait fields) = false
+is_there_already machine (of.Fail fields) = false
+is_there_already machine (of.NotForUs fields) = false
+is_there_already machine (of.Rebuild fields) = false
+is_there_already machine (of.Merge fields) = false
 
 -- a count that it would raise is at its limit
 abbrev pub is_spent : Machine → Command → Bool
-is_spent machine (Next arch builder after) =
-    is_none (again_of machine (Next arch builder after))
+is_spent machine (of.Next fields) =
+    is_none (again_of machine (of.Next fields))
     && (nat_le count_limit machine.accepted || nat_le count_limit machine.handed)
-is_spent machine (Take arch builder source version) =
-    nat_le count_limit machine.accepted || nat_le count_limit machine.handed
-is_spent machine _ = nat_le count_limit machine.accepted
-
+is_spent machine (of.Take fields) = nat_le count_limit machine.accepted || nat_le count_limit machine.handed
+is_spent machine (of.AddArch fields) = nat_le count_limit machine.accepted
+is_spent machine (of.AddBuilder fields) = nat_le count_limit machine.accepted
+is_spent machine (of.Enter fields) = nat_le count_limit machine.accepted
+is_spent machine (of.Built fields) = nat_le count_limit machine.accepted
+is_spent machine (of.Uploaded fields) = nat_le count_limit machine.accepted
+is_spent machine (of.Waits fields) = nat_le count_limit machine.accepted
+is_spent machine (of.PutBack fields) = nat_le count_limit machine.accepted
+is_spent machine (of.GiveBack fields) = nat_le count_limit machine.accepted
+is_spent machine (of.DepWait fields) = nat_le count_limit machine.accepted
+is_spent machine (of.Fail fields) = nat_le count_limit machine.accepted
+is_spent machine (of.NotForUs fields) = nat_le count_limit machine.accepted
+is_spent machine (of.Rebuild fields) = nat_le count_limit machine.accepted
+is_spent machine (of.Merge fields) = nat_le count_limit machine.accepted
 -- ---- the one order
 
 -- the checks of a command's texts, in the one order
@@ -223,7 +289,7 @@ abbrev pub text_checks : Command → List (Option Refusal)
 text_checks command =
     when (has_bad_name command) BadName
     ∷ option_map BadVersion (version_fault command)
-    ∷ relations_refusal command
+    ∷ refused_relations command
     ∷ when (has_bad_number command) BadNumber
     ∷ when (has_long_text command) TextTooLong
     ∷ when (repeats_arch command) RepeatedArch
@@ -260,7 +326,7 @@ first_refusal machine command = option_or (text_refusal command) (state_refusal 
 
 -- the relations that the command brings are longer than any that are read
 abbrev pub has_long_relations : Command → Bool
-has_long_relations command = has_value (λ relations. nat_lt relations_limit (length relations)) (relations_named command)
+has_long_relations command = has_value (λ relations. nat_lt relations_limit (length relations)) (arguments_of command).relations
 
 -- what is known of a command for which memory is wanted: its texts are refused in no way that is seen without memory
 pub record MayWantMemory (command : Command) : Type 0 where

@@ -1,12 +1,11 @@
 -- What is answered and done once it is known which record a command moves (this project's own).
 use Rattle.std.specs.Prelude.{ℕ, ◌+◌, ◌||◌, nat_le, List, [], ◌∷◌, Option, Some, None, Ok, Err}
 use Rattle.std.specs.FinMap as map
-use Rattle.wb_states.specs.declared.command.Command.TheVariants.{GiveBack, Next}
 use Rattle.wb_states.specs.declared.moves.Move.{Move}
 use Rattle.wb_states.specs.declared.moves.Move.TheVariants as to
 use Rattle.wb_states.specs.declared.record.Record.{Record}
 use Rattle.wb_states.specs.declared.refusal.Refusal.{Refusal}
-use Rattle.wb_states.specs.declared.refusal.Refusal.TheVariants.{UnknownArch, UnknownBuilder, WrongArch, UnknownSource, NotHeld, QueueEmpty, Spent}
+use Rattle.wb_states.specs.declared.refusal.Refusal.TheVariants.{UnknownArch, UnknownSource, NotHeld, QueueEmpty, Spent}
 use Rattle.wb_states.specs.declared.reply.Reply.TheVariants.{Done}
 use Rattle.wb_states.specs.declared.reply.Assignment.{Assignment}
 use Rattle.wb_states.specs.Holds.{taken_as, take_of}
@@ -15,35 +14,13 @@ use Rattle.wb_states.specs.Machine.{Machine}
 use Rattle.wb_states.specs.Moves.{move_refusal}
 use Rattle.wb_states.specs.Queue.{Entry, head_of}
 use Rattle.deb_text.specs.Options.{first_some}
-use Rattle.wb_office.specs.Checks.{differing, is_for_other_archs, lacks_arch, lacks_builder, lacks_source, other_version, text_refusal, when}
+use Rattle.wb_office.specs.Checks.{builder_refusal, differing, is_unknown_arch, when}
 use Rattle.wb_office.specs.Step.{Outcome, assignment_of, counted, after_move, after_take, assignment_reply}
 
 -- the refusal of a check, which leaves the state as it was, or else this outcome
 abbrev pub outcome_unless : Option Refusal → Machine → Outcome → Outcome
 outcome_unless (Some refusal) machine accepted = (Err refusal, machine)
 outcome_unless None machine accepted = accepted
-
--- ---- checks that commands share, as a command has them that needs no other
-
--- an architecture, a source package or a version that has not its form
-abbrev pub key_refusal : List ℕ → List ℕ → List ℕ → Option Refusal
-key_refusal arch source version = text_refusal (GiveBack arch source version)
-
--- a builder that may not build for the architecture
-unfoldable pub builder_refusal : Machine → List ℕ → List ℕ → Option Refusal
-builder_refusal machine arch builder =
-    let command = Next arch builder None in
-    first_some (
-    when (lacks_arch machine command) UnknownArch
-    ∷ when (lacks_builder machine command) UnknownBuilder
-    ∷ when (is_for_other_archs machine command) WrongArch
-    ∷ [])
-
--- a source package that has no record, or one of another version
-abbrev pub found_refusal : Machine → List ℕ → List ℕ → List ℕ → Option Refusal
-found_refusal machine arch source version =
-    let command = GiveBack arch source version in
-    first_some (when (lacks_source machine command) UnknownSource ∷ other_version machine command ∷ [])
 
 -- ---- a record that was found
 
@@ -101,7 +78,7 @@ named_at machine version done (Some current) = outcome_unless (differing version
 -- the record of a source package is moved, if it is of the version
 unfoldable pub named_step : Machine → List ℕ → List ℕ → List ℕ → Move → Outcome
 named_step machine arch source version move =
-    outcome_unless (when (lacks_arch machine (GiveBack arch source version)) UnknownArch) machine
+    outcome_unless (when (is_unknown_arch machine arch) UnknownArch) machine
     (named_at machine version (λ current. move_step machine ((arch, source), current) move) (map.get machine.records (arch, source)))
 
 -- the record of a source package is handed to a builder, if it is of the version

@@ -3,7 +3,7 @@ use Rattle.std.specs.Prelude.{◌≡◌, ℕ, ◌<◌, Bool, true, false, nat_eq
 use Rattle.std.specs.List.{cons_option}
 use Rattle.std.specs.FinMap as map
 use Rattle.wb_states.specs.declared.command.Command.{Command}
-use Rattle.wb_states.specs.declared.command.Command.TheVariants.{Next, Take}
+use Rattle.wb_states.specs.declared.command.Command.TheVariants as of
 use Rattle.wb_states.specs.declared.record.Record.{Record}
 use Rattle.wb_states.specs.declared.reply.Reply.{Reply}
 use Rattle.wb_states.specs.declared.reply.Reply.TheVariants.{Job}
@@ -28,9 +28,21 @@ given_by builder _ = None
 
 -- what a command hands out by its answer
 abbrev pub handed_by : Command → Result Reply Refusal → Option HandOut
-handed_by (Next arch builder after) answer = given_by builder answer
-handed_by (Take arch builder source version) answer = given_by builder answer
-handed_by command answer = None
+handed_by (of.Next fields) answer = given_by fields.builder answer
+handed_by (of.Take fields) answer = given_by fields.builder answer
+handed_by (of.AddArch fields) answer = None
+handed_by (of.AddBuilder fields) answer = None
+handed_by (of.Enter fields) answer = None
+handed_by (of.Built fields) answer = None
+handed_by (of.Uploaded fields) answer = None
+handed_by (of.Waits fields) answer = None
+handed_by (of.PutBack fields) answer = None
+handed_by (of.GiveBack fields) answer = None
+handed_by (of.DepWait fields) answer = None
+handed_by (of.Fail fields) answer = None
+handed_by (of.NotForUs fields) answer = None
+handed_by (of.Rebuild fields) answer = None
+handed_by (of.Merge fields) answer = None
 
 -- what a command hands out
 abbrev pub hand_out : Machine → Command → Option HandOut

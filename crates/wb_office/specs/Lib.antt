@@ -1,3 +1,4 @@
+pub mod Arguments
 pub mod Checks
 pub mod Found
 pub mod HandOuts

@@ -7,12 +7,13 @@ use Rattle.std.specs.FinMap as map
 use Rattle.deb_relations.specs.declared.arch.ArchWords.{ArchWords}
 use Rattle.deb_relations.specs.Reading.{reading_of}
 use Rattle.wb_states.specs.declared.command.Command.{Command}
-use Rattle.wb_states.specs.declared.command.Command.TheVariants.{Enter, Merge, Next, Take, Built, Uploaded, Waits, PutBack, GiveBack, DepWait, Fail, NotForUs, Rebuild}
+use Rattle.wb_states.specs.declared.command.Command.TheVariants as of
 use Rattle.wb_states.specs.declared.moves.Move.{Move}
 use Rattle.wb_states.specs.declared.moves.Move.TheVariants as to
 use Rattle.wb_states.specs.Holds.{taken_as, building_after}
 use Rattle.wb_states.specs.Machine.{Machine, arch_words}
 use Rattle.wb_states.specs.Queue.{Entry, head_of}
+use Rattle.wb_office.specs.Arguments.{arguments_of}
 
 -- the record of a source package, with its key
 unfoldable pub record_named : Machine → List ℕ → List ℕ → Option Entry
@@ -20,34 +21,40 @@ record_named machine arch source = option_map (λ current. ((arch, source), curr
 
 -- the record that a command moves: the head of a queue, one that is named, or one that is held under a take number
 abbrev pub target_of : Machine → Command → Option Entry
-target_of machine (Next arch builder after) = head_of machine arch
-target_of machine (Take arch builder source version) = record_named machine arch source
-target_of machine (Built take_number) = taken_as machine take_number
-target_of machine (Uploaded take_number) = taken_as machine take_number
-target_of machine (Waits take_number relations) = taken_as machine take_number
-target_of machine (PutBack take_number) = taken_as machine take_number
-target_of machine (GiveBack arch source version) = record_named machine arch source
-target_of machine (DepWait arch source version relations) = record_named machine arch source
-target_of machine (Fail arch source version note) = record_named machine arch source
-target_of machine (NotForUs arch source version note) = record_named machine arch source
-target_of machine (Rebuild arch source version number message) = record_named machine arch source
-target_of machine _ = None
+target_of machine (of.Next fields) = head_of machine fields.arch
+target_of machine (of.Take fields) = record_named machine fields.arch fields.source
+target_of machine (of.Built fields) = taken_as machine fields.take_number
+target_of machine (of.Uploaded fields) = taken_as machine fields.take_number
+target_of machine (of.Waits fields) = taken_as machine fields.take_number
+target_of machine (of.PutBack fields) = taken_as machine fields.take_number
+target_of machine (of.GiveBack fields) = record_named machine fields.arch fields.source
+target_of machine (of.DepWait fields) = record_named machine fields.arch fields.source
+target_of machine (of.Fail fields) = record_named machine fields.arch fields.source
+target_of machine (of.NotForUs fields) = record_named machine fields.arch fields.source
+target_of machine (of.Rebuild fields) = record_named machine fields.arch fields.source
+target_of machine (of.AddArch fields) = None
+target_of machine (of.AddBuilder fields) = None
+target_of machine (of.Enter fields) = None
+target_of machine (of.Merge fields) = None
 
 -- the move that a command makes of a record of an architecture with these words
 abbrev pub move_asked : Machine → Command → ArchWords → Option Move
-move_asked machine (Next arch builder after) words = Some (to.Take builder (machine.handed + 1))
-move_asked machine (Take arch builder source version) words = Some (to.Take builder (machine.handed + 1))
-move_asked machine (Built take_number) words = Some to.Built
-move_asked machine (Uploaded take_number) words = Some to.Uploaded
-move_asked machine (Waits take_number relations) words = Some (to.Waits (result_unwrap_or (reading_of relations) []) words)
-move_asked machine (PutBack take_number) words = Some to.PutBack
-move_asked machine (GiveBack arch source version) words = Some to.GiveBack
-move_asked machine (DepWait arch source version relations) words =
-    Some (to.DepWait (result_unwrap_or (reading_of relations) []) words)
-move_asked machine (Fail arch source version note) words = Some (to.Fail note)
-move_asked machine (NotForUs arch source version note) words = Some (to.NotForUs note)
-move_asked machine (Rebuild arch source version number message) words = Some (to.Rebuild number message)
-move_asked machine _ words = None
+move_asked machine (of.Next fields) words = Some (to.Take fields.builder (machine.handed + 1))
+move_asked machine (of.Take fields) words = Some (to.Take fields.builder (machine.handed + 1))
+move_asked machine (of.Built fields) words = Some to.Built
+move_asked machine (of.Uploaded fields) words = Some to.Uploaded
+move_asked machine (of.Waits fields) words = Some (to.Waits (result_unwrap_or (reading_of fields.relations) []) words)
+move_asked machine (of.PutBack fields) words = Some to.PutBack
+move_asked machine (of.GiveBack fields) words = Some to.GiveBack
+move_asked machine (of.DepWait fields) words =
+    Some (to.DepWait (result_unwrap_or (reading_of fields.relations) []) words)
+move_asked machine (of.Fail fields) words = Some (to.Fail fields.note)
+move_asked machine (of.NotForUs fields) words = Some (to.NotForUs fields.note)
+move_asked machine (of.Rebuild fields) words = Some (to.Rebuild fields.number fields.message)
+move_asked machine (of.AddArch fields) words = None
+move_asked machine (of.AddBuilder fields) words = None
+move_asked machine (of.Enter fields) words = None
+move_asked machine (of.Merge fields) words = None
 
 -- a record with its key, and the move that a command makes of it
 abbrev pub with_move : Machine → Command → Entry → Option (Entry × Move)
@@ -60,11 +67,27 @@ moving machine command = option_and_then (with_move machine command) (target_of 
 
 -- what a builder is told of again: what it builds on the architecture under the least take number after the one that it names
 abbrev pub again_of : Machine → Command → Option Entry
-again_of machine (Next arch builder (Some after)) = building_after machine arch builder after
-again_of machine _ = None
+again_of machine command =
+    option_and_then (λ next. option_and_then (building_after machine next.arch next.builder) next.after) (arguments_of command).next
+
+-- a command moves the record at a key
+abbrev pub MayMove : Machine → Command → List ℕ × List ℕ → Type 0
+MayMove machine command key = (entry : Entry) × ((target_of machine command ≡ Some entry) × (key ≡ entry.0))
 
 -- a command may change the record at a key: the one that it enters or moves, and of a merge those of its parts' architectures
 abbrev pub MayChange : Machine → Command → List ℕ × List ℕ → Type 0
-MayChange machine (Enter arch source version priority section) key = key ≡ (arch, source)
-MayChange machine (Merge sources parts) key = IsTrue (list_any (λ part. bytes_eq key.0 part.arch) parts)
-MayChange machine command key = (entry : Entry) × ((target_of machine command ≡ Some entry) × (key ≡ entry.0))
+MayChange machine (of.Enter fields) key = key ≡ (fields.arch, fields.source)
+MayChange machine (of.Merge fields) key = IsTrue (list_any (λ part. bytes_eq key.0 part.arch) fields.parts)
+MayChange machine (of.AddArch fields) key = MayMove machine (of.AddArch fields) key
+MayChange machine (of.AddBuilder fields) key = MayMove machine (of.AddBuilder fields) key
+MayChange machine (of.Next fields) key = MayMove machine (of.Next fields) key
+MayChange machine (of.Take fields) key = MayMove machine (of.Take fields) key
+MayChange machine (of.Built fields) key = MayMove machine (of.Built fields) key
+MayChange machine (of.Uploaded fields) key = MayMove machine (of.Uploaded fields) key
+MayChange machine (of.Waits fields) key = MayMove machine (of.Waits fields) key
+MayChange machine (of.PutBack fields) key = MayMove machine (of.PutBack fields) key
+MayChange machine (of.GiveBack fields) key = MayMove machine (of.GiveBack fields) key
+MayChange machine (of.DepWait fields) key = MayMove machine (of.DepWait fields) key
+MayChange machine (of.Fail fields) key = MayMove machine (of.Fail fields) key
+MayChange machine (of.NotForUs fields) key = MayMove machine (of.NotForUs fields) key
+MayChange machine (of.Rebuild fields) key = MayMove machine (of.Rebuild fields) key

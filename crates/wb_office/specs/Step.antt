@@ -3,7 +3,8 @@ use Rattle.std.specs.Prelude.{ℕ, ◌+◌, List, [], Option, Some, None, Result
 use Rattle.std.specs.FinMap as map
 use Rattle.std.specs.FinSet as set
 use Rattle.wb_states.specs.declared.command.Command.{Command}
-use Rattle.wb_states.specs.declared.command.Command.TheVariants.{AddArch, AddBuilder, Enter, Next, Take, Merge}
+use Rattle.wb_states.specs.declared.command.Command.TheVariants as of
+use Rattle.wb_states.specs.declared.command.Part.{Part}
 use Rattle.wb_states.specs.declared.moves.Move.{Move}
 use Rattle.wb_states.specs.declared.record.Record.{Record}
 use Rattle.wb_states.specs.declared.reply.Assignment.{Assignment}
@@ -18,6 +19,18 @@ use Rattle.wb_merge.specs.Merge.{blank_record}
 use Rattle.wb_office.specs.Checks.{first_refusal}
 use Rattle.wb_office.specs.Moving.{again_of, moving, target_of}
 use Rattle.wb_office.specs.Parts.{part_replies, records_after}
+
+-- a builder's command for the head of a queue
+abbrev pub next_of : List ℕ → List ℕ → Option ℕ → Command
+next_of arch builder after = of.Next (record { arch = arch; builder = builder; after = after })
+
+-- a holder's report that it built what it holds under a take number
+abbrev pub built_of : ℕ → Command
+built_of take_number = of.Built (record { take_number = take_number })
+
+-- a merge of a Sources list and parts
+abbrev pub merge_of : List ℕ → List Part → Command
+merge_of sources parts = of.Merge (record { sources = sources; parts = parts })
 
 -- the answer to a command, and the state after it
 abbrev pub Outcome : Type 0
@@ -42,16 +55,24 @@ after_take machine asked = record (after_move machine asked) { handed = machine.
 
 -- the state after a command
 abbrev pub state_after : Machine → Command → Machine
-state_after machine (AddArch name os cpu) =
-    record machine { archs = map.insert machine.archs name (record { os = os; cpu = cpu }) }
-state_after machine (AddBuilder name arch) = record machine { builders = set.insert machine.builders (name, arch) }
-state_after machine (Enter arch source version priority section) =
-    record machine { records = map.insert machine.records (arch, source) (entered version priority section) }
-state_after machine (Next arch builder after) = after_take machine (moving machine (Next arch builder after))
-state_after machine (Take arch builder source version) = after_take machine (moving machine (Take arch builder source version))
-state_after machine (Merge sources parts) =
-    record machine { records = records_after machine sources parts machine.records }
-state_after machine command = after_move machine (moving machine command)
+state_after machine (of.AddArch fields) =
+    record machine { archs = map.insert machine.archs fields.name (record { os = fields.os; cpu = fields.cpu }) }
+state_after machine (of.AddBuilder fields) = record machine { builders = set.insert machine.builders (fields.name, fields.arch) }
+state_after machine (of.Enter fields) =
+    record machine { records = map.insert machine.records (fields.arch, fields.source) (entered fields.version fields.priority fields.section) }
+state_after machine (of.Next fields) = after_take machine (moving machine (of.Next fields))
+state_after machine (of.Take fields) = after_take machine (moving machine (of.Take fields))
+state_after machine (of.Merge fields) =
+    record machine { records = records_after machine fields.sources fields.parts machine.records }
+state_after machine (of.Built fields) = after_move machine (moving machine (of.Built fields))
+state_after machine (of.Uploaded fields) = after_move machine (moving machine (of.Uploaded fields))
+state_after machine (of.Waits fields) = after_move machine (moving machine (of.Waits fields))
+state_after machine (of.PutBack fields) = after_move machine (moving machine (of.PutBack fields))
+state_after machine (of.GiveBack fields) = after_move machine (moving machine (of.GiveBack fields))
+state_after machine (of.DepWait fields) = after_move machine (moving machine (of.DepWait fields))
+state_after machine (of.Fail fields) = after_move machine (moving machine (of.Fail fields))
+state_after machine (of.NotForUs fields) = after_move machine (moving machine (of.NotForUs fields))
+state_after machine (of.Rebuild fields) = after_move machine (moving machine (of.Rebuild fields))
 
 -- ---- the reply to a command that is accepted
 
@@ -74,11 +95,22 @@ assignment_reply machine (Some entry) = Job (machine.accepted + 1) (assignment_o
 
 -- the reply to a command
 abbrev pub reply_to : Machine → Command → Reply
-reply_to machine (Next arch builder after) = assignment_reply machine (target_of machine (Next arch builder after))
-reply_to machine (Take arch builder source version) = assignment_reply machine (target_of machine (Take arch builder source version))
-reply_to machine (Merge sources parts) =
-    Merged (machine.accepted + 1) (part_replies machine sources parts machine.records)
-reply_to machine command = Done (machine.accepted + 1)
+reply_to machine (of.Next fields) = assignment_reply machine (target_of machine (of.Next fields))
+reply_to machine (of.Take fields) = assignment_reply machine (target_of machine (of.Take fields))
+reply_to machine (of.Merge fields) =
+    Merged (machine.accepted + 1) (part_replies machine fields.sources fields.parts machine.records)
+reply_to machine (of.AddArch fields) = Done (machine.accepted + 1)
+reply_to machine (of.AddBuilder fields) = Done (machine.accepted + 1)
+reply_to machine (of.Enter fields) = Done (machine.accepted + 1)
+reply_to machine (of.Built fields) = Done (machine.accepted + 1)
+reply_to machine (of.Uploaded fields) = Done (machine.accepted + 1)
+reply_to machine (of.Waits fields) = Done (machine.accepted + 1)
+reply_to machine (of.PutBack fields) = Done (machine.accepted + 1)
+reply_to machine (of.GiveBack fields) = Done (machine.accepted + 1)
+reply_to machine (of.DepWait fields) = Done (machine.accepted + 1)
+reply_to machine (of.Fail fields) = Done (machine.accepted + 1)
+reply_to machine (of.NotForUs fields) = Done (machine.accepted + 1)
+reply_to machine (of.Rebuild fields) = Done (machine.accepted + 1)
 
 -- ---- the step
 

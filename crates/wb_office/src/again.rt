@@ -1,19 +1,17 @@
 //! What a builder is told again.
-ghost use Rattle.std.specs.Prelude.{◌≡◌, [], map as each, IfOk, IfErr};
+ghost use Rattle.std.specs.Prelude.{◌≡◌, [], map as each, IfOk, IfErr, option_and_then};
 ghost use Rattle.std.specs.List.{find};
 ghost use Rattle.std.specs.Option.{option_map};
-ghost use Rattle.wb_states.specs.declared.command.Command.TheVariants.{Next};
 ghost use Rattle.wb_states.specs.declared.refusal.Refusal.TheVariants.{Memory};
 ghost use Rattle.wb_states.specs.Holds.{building_after, is_building_after};
 ghost use Rattle.wb_store.specs.Lookups.{entry_of};
-ghost use Rattle.wb_office.specs.Moving.{again_of};
 ghost use Rattle.wb_office.specs.Found.{held_assignment};
 
 use crate::builder::assignment;
 use deb_text::Text;
 use std::alloc::Global;
 use wb_states::{Assignment, Record, Refusal, State};
-use wb_store::Store;
+use wb_store::{KeyedRecord, Store};
 
 /// Whether the record is being built on the architecture under a take number after this one.
 fn is_later(of: &Text, current: &Record, arch: &Text, after: u64) -> bool
@@ -24,17 +22,13 @@ fn is_later(of: &Text, current: &Record, arch: &Text, after: u64) -> bool
 }
 
 /// The first of the rows that is being built on the architecture under a take number after this one.
-fn first_later<'a>(
-    rows: &[(&'a Text, &'a Text, &'a Record)],
-    arch: &Text,
-    after: u64,
-) -> Option<(&'a Text, &'a Text, &'a Record)>
+fn first_later(rows: Vec<KeyedRecord>, arch: &Text, after: u64) -> Option<KeyedRecord>
     ensures value { option_map entry_of result
-        ≡ find (is_building_after arch.now after) (each entry_of rows.now) }
+        ≡ find (is_building_after arch.now after) (each entry_of rows.items) }
 {
     for row in rows {
-        if is_later(row.0, row.2, arch, after) {
-            return Some(*row);
+        if is_later(&row.arch, &row.current, arch, after) {
+            return Some(row);
         }
     }
     None
@@ -53,17 +47,17 @@ fn assignment_after(
     ensures refused { IfErr result (λ refusal. refusal ≡ Memory) }
 {
     let held = store.held_by(builder)?;
-    match first_later(held.as_slice(), arch, after) {
+    match first_later(held, arch, after) {
         None => Ok(None),
-        Some((of, source, current)) => {
-            let take_number = current.take.unwrap_or(0);
-            let made = assignment(alloc, of, source, current, take_number)?;
+        Some(row) => {
+            let take_number = row.current.take.unwrap_or(0);
+            let made = assignment(alloc, &row, take_number)?;
             Ok(Some(made))
         }
     }
 }
 
-/// What the builder is told again, where it asks after a take number and builds under a later one.
+/// What is reported to the builder again, if it asks after a take number and builds under a later one.
 pub(crate) fn assignment_again(
     alloc: Global,
     store: &Store,
@@ -71,8 +65,8 @@ pub(crate) fn assignment_again(
     builder: &Text,
     after: Option<u64>,
 ) -> Result<Option<Assignment>, Refusal>
-    ensures value { IfOk result (λ found. found
-        ≡ option_map held_assignment (again_of store.now (Next arch.now builder.now after))) }
+    ensures value { IfOk result (λ found. found ≡ option_map held_assignment
+        (option_and_then (building_after store.now arch.now builder.now) after)) }
     ensures refused { IfErr result (λ refusal. refusal ≡ Memory) }
 {
     match after {

@@ -1,51 +1,53 @@
 //! The commands by which builders take source packages.
-ghost use Rattle.std.specs.Prelude.{◌≡◌, ◌≢◌, ◌+◌, ◌||◌, None, Some, false, nat_le, Ok, Err, OnOk, IfOk, IfErr, OnErr};
+ghost use Rattle.std.specs.Prelude.{◌≡◌, ◌+◌, ◌||◌, None, Some, false, nat_le, Ok, Err, OnOk, IfOk, IfErr, OnErr};
 ghost use Rattle.std.specs.FinMap as map;
-ghost use Rattle.wb_states.specs.declared.command.Command.TheVariants.{Next, Take};
+ghost use Rattle.wb_states.specs.declared.command.Command.TheVariants as of;
 ghost use Rattle.wb_states.specs.declared.moves.Move.TheVariants as to;
 ghost use Rattle.wb_states.specs.declared.refusal.Refusal.TheVariants.{Memory};
 ghost use Rattle.wb_states.specs.declared.reply.Reply.TheVariants.{Job};
 ghost use Rattle.wb_states.specs.Limits.{count_limit};
 ghost use Rattle.wb_states.specs.Moves.{move_refusal, moved};
-ghost use Rattle.wb_office.specs.Checks.{MayWantMemory};
-ghost use Rattle.wb_office.specs.Found.{builder_refusal, head_step, assignment_step, take_move, take_step};
+ghost use Rattle.wb_states.specs.Refusals.{IsOfMachine};
+ghost use Rattle.wb_store.specs.Lookups.{entry_of};
+ghost use Rattle.wb_office.specs.Checks.{MayWantMemory, builder_refusal};
+ghost use Rattle.wb_office.specs.Found.{head_step, assignment_step, take_move, take_step};
 ghost use Rattle.wb_office.specs.Step.{step, assignment_of};
 
 use crate::again::assignment_again;
 use crate::checks::{
-    find_source, is_ahead, is_assignment_spent, is_for_other_archs, lacks_arch, lacks_builder,
+    accepted, find_source, handed, is_ahead, is_assignment_spent, is_for_other_archs, lacks_arch,
+    lacks_builder,
 };
-use crate::forms::{is_bad_asker, is_bad_taker};
-use crate::moved::{Moved, move_checked};
+use crate::forms::{has_bad_request, has_bad_take};
+use crate::moved::move_checked;
 use crate::texts::read_version;
 use deb_text::Text;
 use deb_version::Version;
 use std::alloc::Global;
+use wb_states::command;
 use wb_states::{Assignment, COUNT_LIMIT, Counts, Move, Record, Refusal, Reply, build_text};
-use wb_store::Store;
+use wb_store::{KeyedRecord, Store};
 
 /// A record after a builder took it, and the assignment that answers the builder.
 #[derive(Drop)]
 pub(crate) struct Assigned {
-    pub(crate) made: Moved,
+    pub(crate) made: KeyedRecord,
     pub(crate) assignment: Assignment,
 }
 
 /// The assignment of a record under a take number.
 pub(crate) fn assignment(
     alloc: Global,
-    arch: &Text,
-    source: &Text,
-    current: &Record,
+    row: &KeyedRecord,
     take_number: u64,
 ) -> Result<Assignment, Refusal>
-    ensures value { IfOk result (λ made. made
-        ≡ assignment_of ((arch.now, source.now), current.now) take_number) }
+    ensures value { IfOk result (λ made. made ≡ assignment_of (entry_of row.now) take_number) }
     ensures refused { IfErr result (λ refusal. refusal ≡ Memory) }
 {
+    let current = &row.current;
     Ok(Assignment {
-        arch: arch.clone()?,
-        source: source.clone()?,
+        arch: row.arch.clone()?,
+        source: row.source.clone()?,
         version: Text::copied(alloc, current.version.text())?,
         build: build_text(alloc, current)?,
         number: current.number,
@@ -55,14 +57,16 @@ pub(crate) fn assignment(
 }
 
 /// The take number after the last, where one can be given.
-fn next_take(store: &Store) -> u64
-    ensures value { nat_le count_limit store.now.handed ≡ false → result ≡ store.now.handed + 1 }
+fn next_take(store: &Store) -> Result<u64, Refusal>
+    ensures value { IfOk result (λ take_number. nat_le count_limit store.now.handed ≡ false
+        → take_number ≡ store.now.handed + 1) }
+    ensures refused { IfErr result (λ refusal. refusal ≡ Memory) }
 {
-    let handed = store.office_row().handed;
+    let handed = handed(store)?;
     if handed < COUNT_LIMIT {
-        handed + 1
+        Ok(handed + 1)
     } else {
-        handed
+        Ok(handed)
     }
 }
 
@@ -76,7 +80,7 @@ fn take_checked(
     ensures value { IfOk result (λ after.
         after ≡ moved (to.Take builder.now take_number) current.now) }
     ensures ok { OnOk result (move_refusal (to.Take builder.now take_number) current.now ≡ None) }
-    ensures refused { IfErr result (λ refusal. refusal ≢ Memory
+    ensures refused { IfErr result (λ refusal. IsOfMachine refusal
         → move_refusal (to.Take builder.now take_number) current.now ≡ Some refusal) }
 {
     let change = Move::Take {
@@ -91,37 +95,33 @@ fn take_checked(
 pub(crate) fn prepare_assignment(
     alloc: Global,
     store: &Store,
-    arch: &Text,
-    source: &Text,
-    current: &Record,
+    row: KeyedRecord,
     builder: &Text,
 ) -> Result<Assigned, Refusal>
     // what is handed out
-    ensures key { IfOk result (λ given.
-        (given.made.arch ≡ arch.now) × (given.made.source ≡ source.now)) }
-    ensures value { IfOk result (λ given.
-        given.made.after ≡ moved (take_move store.now builder.now) current.now) }
+    ensures value { IfOk result (λ given. entry_of given.made
+        ≡ ((row.arch, row.source), moved (take_move store.now builder.now) row.current)) }
     ensures reply { IfOk result (λ given. given.assignment
-        ≡ assignment_of ((arch.now, source.now), current.now) (store.now.handed + 1)) }
+        ≡ assignment_of (entry_of row) (store.now.handed + 1)) }
     // that nothing refuses it, or what does
-    ensures ok { OnOk result (move_refusal (take_move store.now builder.now) current.now ≡ None) }
+    ensures ok { OnOk result (move_refusal (take_move store.now builder.now) row.current ≡ None) }
     ensures room { OnOk result
         ((nat_le count_limit store.now.accepted || nat_le count_limit store.now.handed) ≡ false) }
-    ensures refused { IfErr result (λ refusal. refusal ≢ Memory
-        → assignment_step store.now builder.now ((arch.now, source.now), current.now)
-        ≡ (Err refusal, store.now)) }
+    ensures refused { IfErr result (λ refusal. IsOfMachine refusal
+        → assignment_step store.now builder.now (entry_of row) ≡ (Err refusal, store.now)) }
 {
-    let take_number = next_take(store);
-    let after = take_checked(alloc, current, builder, take_number)?;
-    if is_assignment_spent(store) {
+    let take_number = next_take(store)?;
+    let after = take_checked(alloc, &row.current, builder, take_number)?;
+    let is_full = is_assignment_spent(store)?;
+    if is_full {
         return Err(Refusal::Spent);
     }
-    let assignment = assignment(alloc, arch, source, current, take_number)?;
+    let assignment = assignment(alloc, &row, take_number)?;
     Ok(Assigned {
-        made: Moved {
-            arch: arch.clone()?,
-            source: source.clone()?,
-            after,
+        made: KeyedRecord {
+            arch: row.arch,
+            source: row.source,
+            current: after,
         },
         assignment,
     })
@@ -133,18 +133,18 @@ pub(crate) fn keep_assignment(store: &mut Store, given: Assigned) -> Result<Repl
         ≡ false }
     ensures reply { IfOk result (λ reply. reply ≡ Job (store.old.accepted + 1) given.assignment) }
     ensures ok { OnOk result (store.new ≡ record store.old {
-      records = map.insert store.old.records (given.made.arch, given.made.source) given.made.after;
+      records = map.insert store.old.records (given.made.arch, given.made.source) given.made.current;
       handed = store.old.handed + 1;
       accepted = store.old.accepted + 1;
     }) }
     ensures refused { IfErr result (λ refusal. refusal ≡ Memory) }
     ensures unchanged { OnErr result (store.new ≡ store.old) }
 {
-    let counts = store.office_row();
+    let counts = store.office_row()?;
     let handed = counts.handed + 1;
     let accepted = counts.accepted + 1;
-    store.put(given.made.arch, given.made.source, given.made.after)?;
-    store.set_counts(Counts { handed, accepted });
+    store.put(given.made.arch, given.made.source, given.made.current)?;
+    store.set_counts(Counts { handed, accepted })?;
     Ok(Reply::Job {
         accepted,
         assignment: given.assignment,
@@ -154,10 +154,11 @@ pub(crate) fn keep_assignment(store: &mut Store, given: Assigned) -> Result<Repl
 /// Whether the builder may build for the architecture.
 pub(crate) fn check_builds(store: &Store, arch: &Text, builder: &Text) -> Result<(), Refusal>
     ensures ok { OnOk result (builder_refusal store.now arch.now builder.now ≡ None) }
-    ensures refused { IfErr result (λ refusal. refusal ≢ Memory
+    ensures refused { IfErr result (λ refusal. IsOfMachine refusal
         → builder_refusal store.now arch.now builder.now ≡ Some refusal) }
 {
-    if lacks_arch(store, arch) {
+    let is_unknown_arch = lacks_arch(store, arch)?;
+    if is_unknown_arch {
         return Err(Refusal::UnknownArch);
     }
     let is_unknown = lacks_builder(store, builder)?;
@@ -180,51 +181,49 @@ fn next_head(
 ) -> Result<Reply, Refusal>
     ensures reply { IfOk result (λ reply.
         head_step store.old arch.now builder.now ≡ (Ok reply, store.new)) }
-    ensures refused { IfErr result (λ refusal. refusal ≢ Memory
+    ensures refused { IfErr result (λ refusal. IsOfMachine refusal
         → head_step store.old arch.now builder.now ≡ (Err refusal, store.old)) }
     ensures unchanged { OnErr result (store.new ≡ store.old) }
 {
-    let Some((source, current)) = store.head(arch) else {
+    let found = store.head(arch)?;
+    let Some(row) = found else {
         return Err(Refusal::QueueEmpty);
     };
-    let given = prepare_assignment(alloc, store, arch, source, current, builder)?;
+    let given = prepare_assignment(alloc, store, row, builder)?;
     keep_assignment(store, given)
 }
 
-/// Hands the head of the architecture's queue to the builder, or tells it again what it builds there
+/// Hands the head of the architecture's queue to the builder, or reports to it again what it builds there
 /// under the least take number after the one that it knows of.
 pub(crate) fn next(
     alloc: Global,
     store: &mut Store,
-    arch: &Text,
-    builder: &Text,
-    after: Option<u64>,
+    command: &command::Next,
 ) -> Result<Reply, Refusal>
     ensures reply { IfOk result (λ reply.
-        step store.old (Next arch.now builder.now after) ≡ (Ok reply, store.new)) }
-    ensures refused { IfErr result (λ refusal. refusal ≢ Memory
-        → step store.old (Next arch.now builder.now after) ≡ (Err refusal, store.old)) }
+        step store.old (of.Next command.now) ≡ (Ok reply, store.new)) }
+    ensures refused { IfErr result (λ refusal. IsOfMachine refusal
+        → step store.old (of.Next command.now) ≡ (Err refusal, store.old)) }
     ensures memory { IfErr result (λ refusal. refusal ≡ Memory
-        → MayWantMemory (Next arch.now builder.now after)) }
+        → MayWantMemory (of.Next command.now)) }
     ensures unchanged { OnErr result (store.new ≡ store.old) }
 {
-    if is_bad_asker(arch, builder) {
+    let (arch, builder) = (&command.arch, &command.builder);
+    if has_bad_request(arch, builder) {
         return Err(Refusal::BadName);
     }
     check_builds(store, arch, builder)?;
-    if is_ahead(store, after) {
-        let counts = store.office_row();
-        return Err(Refusal::AfterAhead {
-            handed: counts.handed,
-        });
+    let handed = handed(store)?;
+    if is_ahead(handed, command.after) {
+        return Err(Refusal::AfterAhead { handed });
     }
-    let held = assignment_again(alloc, store, arch, builder, after)?;
+    let held = assignment_again(alloc, store, arch, builder, command.after)?;
     match held {
         None => next_head(alloc, store, arch, builder),
         Some(assignment) => {
-            let row = store.office_row();
+            let accepted = accepted(store)?;
             Ok(Reply::Again {
-                accepted: row.accepted,
+                accepted,
                 assignment,
             })
         }
@@ -232,7 +231,7 @@ pub(crate) fn next(
 }
 
 /// Hands the source package to the builder, if it is of the version and waits in the queue.
-fn take_named(
+fn take_by_name(
     alloc: Global,
     store: &mut Store,
     arch: &Text,
@@ -242,14 +241,14 @@ fn take_named(
 ) -> Result<Reply, Refusal>
     ensures reply { IfOk result (λ reply.
         take_step store.old arch.now builder.now source.now version.now ≡ (Ok reply, store.new)) }
-    ensures refused { IfErr result (λ refusal. refusal ≢ Memory
+    ensures refused { IfErr result (λ refusal. IsOfMachine refusal
         → take_step store.old arch.now builder.now source.now version.now
         ≡ (Err refusal, store.old)) }
     ensures unchanged { OnErr result (store.new ≡ store.old) }
 {
     check_builds(store, arch, builder)?;
-    let current = find_source(alloc, store, arch, source, version)?;
-    let given = prepare_assignment(alloc, store, arch, source, current, builder)?;
+    let row = find_source(alloc, store, arch, source, version)?;
+    let given = prepare_assignment(alloc, store, row, builder)?;
     keep_assignment(store, given)
 }
 
@@ -257,23 +256,25 @@ fn take_named(
 pub(crate) fn take(
     alloc: Global,
     store: &mut Store,
-    arch: &Text,
-    builder: &Text,
-    source: &Text,
-    version: &Text,
+    command: &command::Take,
 ) -> Result<Reply, Refusal>
     ensures reply { IfOk result (λ reply.
-        step store.old (Take arch.now builder.now source.now version.now) ≡ (Ok reply, store.new)) }
-    ensures refused { IfErr result (λ refusal. refusal ≢ Memory
-        → step store.old (Take arch.now builder.now source.now version.now)
-        ≡ (Err refusal, store.old)) }
+        step store.old (of.Take command.now) ≡ (Ok reply, store.new)) }
+    ensures refused { IfErr result (λ refusal. IsOfMachine refusal
+        → step store.old (of.Take command.now) ≡ (Err refusal, store.old)) }
     ensures memory { IfErr result (λ refusal. refusal ≡ Memory
-        → MayWantMemory (Take arch.now builder.now source.now version.now)) }
+        → MayWantMemory (of.Take command.now)) }
     ensures unchanged { OnErr result (store.new ≡ store.old) }
 {
-    if is_bad_taker(arch, builder, source) {
+    let command::Take {
+        arch,
+        builder,
+        source,
+        version,
+    } = command;
+    if has_bad_take(arch, builder, source) {
         return Err(Refusal::BadName);
     }
     let read = read_version(alloc, version)?;
-    take_named(alloc, store, arch, builder, source, &read)
+    take_by_name(alloc, store, arch, builder, source, &read)
 }

@@ -1,16 +1,17 @@
 //! The merge of what the archive lists into the records of the office.
-ghost use Rattle.std.specs.Prelude.{◌≡◌, ◌≢◌, ◌+◌, ℕ, List, not, None, Some, Ok, Err, true, false, nat_le, bytes_eq, OnOk, IfOk, IfErr, OnErr};
+ghost use Rattle.std.specs.Prelude.{◌≡◌, ◌+◌, ℕ, List, not, None, Some, Ok, Err, true, false, nat_le, bytes_eq, OnOk, IfOk, IfErr, OnErr};
 ghost use Rattle.std.specs.List.{list_any};
-ghost use Rattle.wb_states.specs.declared.command.Command.TheVariants.{Merge};
+ghost use Rattle.wb_states.specs.declared.command.Command.TheVariants as of;
 ghost use Rattle.wb_states.specs.declared.command.Part.{Part};
 ghost use Rattle.wb_states.specs.declared.refusal.Refusal.TheVariants.{Memory};
 ghost use Rattle.wb_states.specs.declared.reply.Reply.TheVariants.{Merged};
 ghost use Rattle.wb_states.specs.Limits.{count_limit};
 ghost use Rattle.wb_states.specs.Machine.{Machine};
 ghost use Rattle.wb_states.specs.Names.{is_arch_name};
+ghost use Rattle.wb_states.specs.Refusals.{IsOfMachine};
 ghost use Rattle.wb_office.specs.Checks.{MayWantMemory, first_refusal, has_repeated_arch};
 ghost use Rattle.wb_office.specs.Parts.{is_good, is_known, is_merged, part_listing, part_replies, parts_refusal, records_after, end_with, records_with};
-ghost use Rattle.wb_office.specs.Step.{step};
+ghost use Rattle.wb_office.specs.Step.{merge_of, step};
 
 use crate::checks::{has_arch, is_spent};
 use crate::part::merge_listing;
@@ -18,7 +19,8 @@ use deb_relations::ArchWords;
 use deb_text::{Items, Text};
 use std::alloc::Global;
 use wb_merge::{Listing, Sources};
-use wb_states::{Counts, Part, PartEnd, PartReply, Refusal, Reply, is_arch};
+use wb_states::command::{self, Part};
+use wb_states::{Counts, PartEnd, PartReply, Refusal, Reply, is_arch};
 use wb_store::{Records, Store};
 
 /// The records after the parts of a merge, and what became of each part.
@@ -55,11 +57,17 @@ fn repeats_arch(parts: &[Part]) -> bool
     false
 }
 
-/// Whether one of the parts is for an architecture that was added. Takes no memory.
-fn is_any_known(store: &Store, parts: &[Part]) -> bool
-    ensures { result ≡ list_any (is_known store.now) parts.now }
+/// Whether one of the parts is for an architecture that was added. Of tables in memory it cannot fail.
+fn is_any_known(store: &Store, parts: &[Part]) -> Result<bool, Refusal>
+    ensures value { result ≡ Ok (list_any (is_known store.now) parts.now) }
 {
-    parts.iter().any(|part| has_arch(store, &part.arch))
+    for part in parts {
+        let is_there = has_arch(store, &part.arch)?;
+        if is_there {
+            return Ok(true);
+        }
+    }
+    Ok(false)
 }
 
 /// The listing of a part, or why the part is refused.
@@ -72,10 +80,11 @@ fn listing_of(
 ) -> Result<Listing, Refusal>
     ensures value { IfOk result (λ listing.
         part_listing store.now sources.now part.now ≡ Ok listing) }
-    ensures refused { IfErr result (λ refusal. refusal ≢ Memory
+    ensures refused { IfErr result (λ refusal. IsOfMachine refusal
         → part_listing store.now sources.now part.now ≡ Err refusal) }
 {
-    let Some(words) = store.arch(&part.arch) else {
+    let found = store.arch(&part.arch)?;
+    let Some(words) = found else {
         return Err(Refusal::UnknownArch);
     };
     let (name, os, cpu) = (part.arch.as_str(), words.os.as_str(), words.cpu.as_str());
@@ -179,14 +188,14 @@ fn prepare_merge(
     ensures replies { IfOk result (λ made. made.replies.items
         ≡ part_replies store.now sources.now parts.now store.now.records) }
     // that nothing refuses it, or what does
-    ensures ok { OnOk result (first_refusal store.now (Merge sources.now parts.now) ≡ None) }
+    ensures ok { OnOk result (first_refusal store.now (merge_of sources.now parts.now) ≡ None) }
     ensures room { OnOk result (nat_le count_limit store.now.accepted ≡ false) }
     ensures memory { IfErr result (λ refusal. refusal ≡ Memory
-        → MayWantMemory (Merge sources.now parts.now)) }
+        → MayWantMemory (merge_of sources.now parts.now)) }
     ensures known { IfErr result (λ refusal. refusal ≡ Memory
         → list_any (is_known store.now) parts.now ≡ true) }
-    ensures refused { IfErr result (λ refusal. refusal ≢ Memory
-        → first_refusal store.now (Merge sources.now parts.now) ≡ Some refusal) }
+    ensures refused { IfErr result (λ refusal. IsOfMachine refusal
+        → first_refusal store.now (merge_of sources.now parts.now) ≡ Some refusal) }
 {
     if has_bad_arch(parts) {
         return Err(Refusal::BadName);
@@ -194,14 +203,16 @@ fn prepare_merge(
     if repeats_arch(parts) {
         return Err(Refusal::RepeatedArch);
     }
-    if !is_any_known(store, parts) {
+    let has_known = is_any_known(store, parts)?;
+    if !has_known {
         return Err(Refusal::UnknownArch);
     }
     let made = merge_parts(alloc, store, sources, parts)?;
     if !made.is_any_good {
         return Err(first_part_refusal(made.replies));
     }
-    if is_spent(store) {
+    let is_full = is_spent(store)?;
+    if is_full {
         return Err(Refusal::Spent);
     }
     Ok(made)
@@ -213,27 +224,26 @@ fn prepare_merge(
 pub(crate) fn merge(
     alloc: Global,
     store: &mut Store,
-    sources: &Items<u8>,
-    parts: &Items<Part>,
+    command: &command::Merge,
 ) -> Result<Reply, Refusal>
     ensures reply { IfOk result (λ reply.
-        step store.old (Merge sources.now parts.now) ≡ (Ok reply, store.new)) }
-    ensures refused { IfErr result (λ refusal. refusal ≢ Memory
-        → step store.old (Merge sources.now parts.now) ≡ (Err refusal, store.old)) }
+        step store.old (of.Merge command.now) ≡ (Ok reply, store.new)) }
+    ensures refused { IfErr result (λ refusal. IsOfMachine refusal
+        → step store.old (of.Merge command.now) ≡ (Err refusal, store.old)) }
     ensures memory { IfErr result (λ refusal. refusal ≡ Memory
-        → MayWantMemory (Merge sources.now parts.now)) }
+        → MayWantMemory (of.Merge command.now)) }
     ensures known { IfErr result (λ refusal. refusal ≡ Memory
-        → list_any (is_known store.old) parts.now ≡ true) }
+        → list_any (is_known store.old) command.now.parts ≡ true) }
     ensures unchanged { OnErr result (store.new ≡ store.old) }
 {
-    let made = prepare_merge(alloc, store, sources.as_slice(), parts.as_slice())?;
-    let counts = store.office_row();
+    let made = prepare_merge(alloc, store, command.sources.as_slice(), command.parts.as_slice())?;
+    let counts = store.office_row()?;
     let accepted = counts.accepted + 1;
     store.replace_records(made.records);
     store.set_counts(Counts {
         handed: counts.handed,
         accepted,
-    });
+    })?;
     Ok(Reply::Merged {
         accepted,
         parts: Items::from(made.replies),

@@ -1,27 +1,20 @@
 //! The record that a command moves.
-ghost use Rattle.std.specs.Prelude.{◌≡◌, ◌≢◌, ◌+◌, None, false, nat_le, Ok, Err, OnOk, IfOk, IfErr, OnErr};
+ghost use Rattle.std.specs.Prelude.{◌≡◌, ◌+◌, None, false, nat_le, Ok, Err, OnOk, IfOk, IfErr, OnErr};
 ghost use Rattle.std.specs.FinMap as map;
 ghost use Rattle.wb_states.specs.declared.refusal.Refusal.TheVariants.{Memory};
 ghost use Rattle.wb_states.specs.declared.reply.Reply.TheVariants.{Done};
 ghost use Rattle.wb_states.specs.Limits.{count_limit};
 ghost use Rattle.wb_states.specs.Moves.{move_refusal, moved};
+ghost use Rattle.wb_states.specs.Refusals.{IsOfMachine};
+ghost use Rattle.wb_store.specs.Lookups.{entry_of};
 ghost use Rattle.wb_office.specs.Found.{move_step};
 ghost use Rattle.wb_office.specs.Step.{counted};
 
 use crate::checks::is_spent;
 use crate::operator::count_done;
-use deb_text::Text;
 use std::alloc::Global;
 use wb_states::{Move, Record, Refusal, Reply, move_record};
-use wb_store::Store;
-
-/// A record after a move, with its key.
-#[derive(Drop)]
-pub(crate) struct Moved {
-    pub(crate) arch: Text,
-    pub(crate) source: Text,
-    pub(crate) after: Record,
-}
+use wb_store::{KeyedRecord, Store};
 
 /// The record after a move that nothing refuses.
 pub(crate) fn move_checked(
@@ -31,7 +24,7 @@ pub(crate) fn move_checked(
 ) -> Result<Record, Refusal>
     ensures value { IfOk result (λ after. after ≡ moved change.now current.now) }
     ensures ok { OnOk result (move_refusal change.now current.now ≡ None) }
-    ensures refused { IfErr result (λ refusal. refusal ≢ Memory
+    ensures refused { IfErr result (λ refusal. IsOfMachine refusal
         → move_refusal change.now current.now ≡ Some refusal) }
 {
     move_record(alloc, current, change)
@@ -41,41 +34,39 @@ pub(crate) fn move_checked(
 pub(crate) fn prepare_move(
     alloc: Global,
     store: &Store,
-    arch: &Text,
-    source: &Text,
-    current: &Record,
+    row: KeyedRecord,
     change: &Move,
-) -> Result<Moved, Refusal>
-    ensures value { IfOk result (λ made. made
-        ≡ record { arch = arch.now; source = source.now; after = moved change.now current.now }) }
-    ensures ok { OnOk result (move_refusal change.now current.now ≡ None) }
+) -> Result<KeyedRecord, Refusal>
+    ensures value { IfOk result (λ made. entry_of made
+        ≡ ((row.arch, row.source), moved change.now row.current)) }
+    ensures ok { OnOk result (move_refusal change.now row.current ≡ None) }
     ensures room { OnOk result (nat_le count_limit store.now.accepted ≡ false) }
-    ensures refused { IfErr result (λ refusal. refusal ≢ Memory
-        → move_step store.now ((arch.now, source.now), current.now) change.now
-        ≡ (Err refusal, store.now)) }
+    ensures refused { IfErr result (λ refusal. IsOfMachine refusal
+        → move_step store.now (entry_of row) change.now ≡ (Err refusal, store.now)) }
 {
-    let after = move_checked(alloc, current, change)?;
-    if is_spent(store) {
+    let after = move_checked(alloc, &row.current, change)?;
+    let is_full = is_spent(store)?;
+    if is_full {
         return Err(Refusal::Spent);
     }
-    Ok(Moved {
-        arch: arch.clone()?,
-        source: source.clone()?,
-        after,
+    Ok(KeyedRecord {
+        arch: row.arch,
+        source: row.source,
+        current: after,
     })
 }
 
 /// Writes a record after a move, and counts the command.
-pub(crate) fn keep_move(store: &mut Store, made: Moved) -> Result<Reply, Refusal>
+pub(crate) fn keep_move(store: &mut Store, made: KeyedRecord) -> Result<Reply, Refusal>
     requires { nat_le count_limit store.old.accepted ≡ false }
     ensures reply { IfOk result (λ reply. reply ≡ Done (store.old.accepted + 1)) }
     ensures ok { OnOk result (store.new ≡ counted store.old
         (record store.old {
-          records = map.insert store.old.records (made.arch, made.source) made.after;
+          records = map.insert store.old.records (made.arch, made.source) made.current;
         })) }
     ensures refused { IfErr result (λ refusal. refusal ≡ Memory) }
     ensures unchanged { OnErr result (store.new ≡ store.old) }
 {
-    store.put(made.arch, made.source, made.after)?;
-    Ok(count_done(store))
+    store.put(made.arch, made.source, made.current)?;
+    count_done(store)
 }

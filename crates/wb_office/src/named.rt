@@ -1,8 +1,9 @@
 //! The commands that name a source package, by which operators move its record.
-ghost use Rattle.std.specs.Prelude.{◌≡◌, ◌≢◌, Ok, Err, IfOk, IfErr, OnOk, OnErr};
+ghost use Rattle.std.specs.Prelude.{◌≡◌, Ok, Err, IfOk, IfErr, OnOk, OnErr};
 ghost use Rattle.std.specs.Str.{IsUtf8};
-ghost use Rattle.wb_states.specs.declared.command.Command.TheVariants.{GiveBack, DepWait, Fail, NotForUs, Rebuild};
+ghost use Rattle.wb_states.specs.declared.command.Command.TheVariants as of;
 ghost use Rattle.wb_states.specs.declared.refusal.Refusal.TheVariants.{Memory};
+ghost use Rattle.wb_states.specs.Refusals.{IsOfMachine};
 ghost use Rattle.wb_office.specs.Checks.{MayWantMemory};
 ghost use Rattle.wb_office.specs.Found.{named_step};
 ghost use Rattle.wb_office.specs.Step.{step};
@@ -13,6 +14,7 @@ use crate::texts::{is_long, read_key, read_refusal_or, read_relations, rebuild_n
 use deb_text::Text;
 use deb_version::Version;
 use std::alloc::Global;
+use wb_states::command;
 use wb_states::{Move, Refusal, Reply};
 use wb_store::Store;
 
@@ -27,16 +29,17 @@ fn move_named(
 ) -> Result<Reply, Refusal>
     ensures reply { IfOk result (λ reply.
         named_step store.old arch.now source.now version.now change.now ≡ (Ok reply, store.new)) }
-    ensures refused { IfErr result (λ refusal. refusal ≢ Memory
+    ensures refused { IfErr result (λ refusal. IsOfMachine refusal
         → named_step store.old arch.now source.now version.now change.now
         ≡ (Err refusal, store.old)) }
     ensures unchanged { OnErr result (store.new ≡ store.old) }
 {
-    if lacks_arch(store, arch) {
+    let is_unknown = lacks_arch(store, arch)?;
+    if is_unknown {
         return Err(Refusal::UnknownArch);
     }
-    let current = find_source(alloc, store, arch, source, version)?;
-    let made = prepare_move(alloc, store, arch, source, current, change)?;
+    let row = find_source(alloc, store, arch, source, version)?;
+    let made = prepare_move(alloc, store, row, change)?;
     keep_move(store, made)
 }
 
@@ -44,41 +47,42 @@ fn move_named(
 pub(crate) fn give_back(
     alloc: Global,
     store: &mut Store,
-    arch: &Text,
-    source: &Text,
-    version: &Text,
+    command: &command::GiveBack,
 ) -> Result<Reply, Refusal>
     ensures reply { IfOk result (λ reply.
-        step store.old (GiveBack arch.now source.now version.now) ≡ (Ok reply, store.new)) }
-    ensures refused { IfErr result (λ refusal. refusal ≢ Memory
-        → step store.old (GiveBack arch.now source.now version.now) ≡ (Err refusal, store.old)) }
+        step store.old (of.GiveBack command.now) ≡ (Ok reply, store.new)) }
+    ensures refused { IfErr result (λ refusal. IsOfMachine refusal
+        → step store.old (of.GiveBack command.now) ≡ (Err refusal, store.old)) }
     ensures memory { IfErr result (λ refusal. refusal ≡ Memory
-        → MayWantMemory (GiveBack arch.now source.now version.now)) }
+        → MayWantMemory (of.GiveBack command.now)) }
     ensures unchanged { OnErr result (store.new ≡ store.old) }
 {
-    let read = read_key(alloc, arch, source, version)?;
-    move_named(alloc, store, arch, source, &read, &Move::GiveBack)
+    let read = read_key(alloc, &command.arch, &command.source, &command.version)?;
+    move_named(alloc, store, &command.arch, &command.source, &read, &Move::GiveBack)
 }
 
 /// Lets it wait for what the relations ask for.
 pub(crate) fn dep_wait(
     alloc: Global,
     store: &mut Store,
-    arch: &Text,
-    source: &Text,
-    version: &Text,
-    relations: &Text,
+    command: &command::DepWait,
 ) -> Result<Reply, Refusal>
     ensures reply { IfOk result (λ reply.
-        step store.old (DepWait arch.now source.now version.now relations.now)
+        step store.old (of.DepWait command.now)
         ≡ (Ok reply, store.new)) }
-    ensures refused { IfErr result (λ refusal. refusal ≢ Memory
-        → step store.old (DepWait arch.now source.now version.now relations.now)
+    ensures refused { IfErr result (λ refusal. IsOfMachine refusal
+        → step store.old (of.DepWait command.now)
         ≡ (Err refusal, store.old)) }
     ensures memory { IfErr result (λ refusal. refusal ≡ Memory
-        → MayWantMemory (DepWait arch.now source.now version.now relations.now)) }
+        → MayWantMemory (of.DepWait command.now)) }
     ensures unchanged { OnErr result (store.new ≡ store.old) }
 {
+    let command::DepWait {
+        arch,
+        source,
+        version,
+        relations,
+    } = command;
     let key = read_key(alloc, arch, source, version);
     let groups = match read_relations(alloc, relations) {
         Ok(groups) => groups,
@@ -97,21 +101,24 @@ pub(crate) fn dep_wait(
 pub(crate) fn fail(
     alloc: Global,
     store: &mut Store,
-    arch: &Text,
-    source: &Text,
-    version: &Text,
-    note: &Text,
+    command: &command::SetAside,
 ) -> Result<Reply, Refusal>
     ensures reply { IfOk result (λ reply.
-        step store.old (Fail arch.now source.now version.now note.now) ≡ (Ok reply, store.new)) }
-    ensures refused { IfErr result (λ refusal. refusal ≢ Memory
-        → step store.old (Fail arch.now source.now version.now note.now)
+        step store.old (of.Fail command.now) ≡ (Ok reply, store.new)) }
+    ensures refused { IfErr result (λ refusal. IsOfMachine refusal
+        → step store.old (of.Fail command.now)
         ≡ (Err refusal, store.old)) }
     ensures memory { IfErr result (λ refusal. refusal ≡ Memory
-        → MayWantMemory (Fail arch.now source.now version.now note.now)) }
+        → MayWantMemory (of.Fail command.now)) }
     ensures unchanged { OnErr result (store.new ≡ store.old) }
-    ensures utf8 { OnOk result (IsUtf8 note.now) }
+    ensures utf8 { OnOk result (IsUtf8 command.now.note) }
 {
+    let command::SetAside {
+        arch,
+        source,
+        version,
+        note,
+    } = command;
     let key = read_key(alloc, arch, source, version);
     if is_long(note) {
         return Err(read_refusal_or(key, Refusal::TextTooLong));
@@ -127,22 +134,25 @@ pub(crate) fn fail(
 pub(crate) fn not_for_us(
     alloc: Global,
     store: &mut Store,
-    arch: &Text,
-    source: &Text,
-    version: &Text,
-    note: &Text,
+    command: &command::SetAside,
 ) -> Result<Reply, Refusal>
     ensures reply { IfOk result (λ reply.
-        step store.old (NotForUs arch.now source.now version.now note.now)
+        step store.old (of.NotForUs command.now)
         ≡ (Ok reply, store.new)) }
-    ensures refused { IfErr result (λ refusal. refusal ≢ Memory
-        → step store.old (NotForUs arch.now source.now version.now note.now)
+    ensures refused { IfErr result (λ refusal. IsOfMachine refusal
+        → step store.old (of.NotForUs command.now)
         ≡ (Err refusal, store.old)) }
     ensures memory { IfErr result (λ refusal. refusal ≡ Memory
-        → MayWantMemory (NotForUs arch.now source.now version.now note.now)) }
+        → MayWantMemory (of.NotForUs command.now)) }
     ensures unchanged { OnErr result (store.new ≡ store.old) }
-    ensures utf8 { OnOk result (IsUtf8 note.now) }
+    ensures utf8 { OnOk result (IsUtf8 command.now.note) }
 {
+    let command::SetAside {
+        arch,
+        source,
+        version,
+        note,
+    } = command;
     let key = read_key(alloc, arch, source, version);
     if is_long(note) {
         return Err(read_refusal_or(key, Refusal::TextTooLong));
@@ -158,25 +168,28 @@ pub(crate) fn not_for_us(
 pub(crate) fn rebuild(
     alloc: Global,
     store: &mut Store,
-    arch: &Text,
-    source: &Text,
-    version: &Text,
-    number: u64,
-    message: &Text,
+    command: &command::Rebuild,
 ) -> Result<Reply, Refusal>
     ensures reply { IfOk result (λ reply.
-        step store.old (Rebuild arch.now source.now version.now number message.now)
+        step store.old (of.Rebuild command.now)
         ≡ (Ok reply, store.new)) }
-    ensures refused { IfErr result (λ refusal. refusal ≢ Memory
-        → step store.old (Rebuild arch.now source.now version.now number message.now)
+    ensures refused { IfErr result (λ refusal. IsOfMachine refusal
+        → step store.old (of.Rebuild command.now)
         ≡ (Err refusal, store.old)) }
     ensures memory { IfErr result (λ refusal. refusal ≡ Memory
-        → MayWantMemory (Rebuild arch.now source.now version.now number message.now)) }
+        → MayWantMemory (of.Rebuild command.now)) }
     ensures unchanged { OnErr result (store.new ≡ store.old) }
-    ensures utf8 { OnOk result (IsUtf8 message.now) }
+    ensures utf8 { OnOk result (IsUtf8 command.now.message) }
 {
+    let command::Rebuild {
+        arch,
+        source,
+        version,
+        number,
+        message,
+    } = command;
     let key = read_key(alloc, arch, source, version);
-    let Some(number) = rebuild_number(number) else {
+    let Some(number) = rebuild_number(*number) else {
         return Err(read_refusal_or(key, Refusal::BadNumber));
     };
     if is_long(message) {

@@ -1,7 +1,8 @@
 //! The office over its store.
-ghost use Rattle.std.specs.Prelude.{◌≡◌, ◌≢◌, IfOk, IfErr, OnOk, OnErr};
+ghost use Rattle.std.specs.Prelude.{◌≡◌, IfOk, IfErr, OnOk, OnErr};
 ghost use Rattle.wb_states.specs.declared.refusal.Refusal.TheVariants.{Memory};
 ghost use Rattle.wb_states.specs.Machine.{IsConsistent, empty_office};
+ghost use Rattle.wb_states.specs.Refusals.{IsOfMachine};
 ghost use Rattle.wb_office.specs.Checks.{MayWantMemory};
 ghost use Rattle.wb_office.specs.Step.{step};
 ghost use Rattle.wb_office.specs.Utf8.{HasUtf8Texts};
@@ -62,7 +63,10 @@ impl Office {
     pub fn accepted(&self) -> u64
         ensures value { result ≡ self.now.accepted }
     {
-        self.store.office_row().accepted
+        match self.store.office_row() {
+            Ok(counts) => counts.accepted,
+            Err(_) => 0,
+        }
     }
 
     /// Carries out one command, whole or not at all, and answers it.
@@ -73,7 +77,7 @@ impl Office {
     /// own).
     pub fn apply(&mut self, command: &Command) -> Result<Reply, Refusal>
         ensures reply { IfOk result (λ reply. step self.old command.now ≡ (Ok reply, self.new)) }
-        ensures refused { IfErr result (λ refusal. refusal ≢ Memory
+        ensures refused { IfErr result (λ refusal. IsOfMachine refusal
             → step self.old command.now ≡ (Err refusal, self.old)) }
         ensures memory { IfErr result (λ refusal. refusal ≡ Memory → MayWantMemory command.now) }
         ensures unchanged { OnErr result (self.new ≡ self.old) }
@@ -85,106 +89,29 @@ impl Office {
     /// Carries out one command by its kind.
     fn carry_out(&mut self, command: &Command) -> Result<Reply, Refusal>
         ensures reply { IfOk result (λ reply. step self.old command.now ≡ (Ok reply, self.new)) }
-        ensures refused { IfErr result (λ refusal. refusal ≢ Memory
+        ensures refused { IfErr result (λ refusal. IsOfMachine refusal
             → step self.old command.now ≡ (Err refusal, self.old)) }
         ensures memory { IfErr result (λ refusal. refusal ≡ Memory → MayWantMemory command.now) }
         ensures unchanged { OnErr result (self.new ≡ self.old) }
         ensures utf8 { OnOk result (HasUtf8Texts command.now) }
     {
+        let (alloc, store) = (self.alloc, &mut self.store);
         match command {
-            Command::AddArch { name, os, cpu } => {
-                operator::add_arch(&mut self.store, name, os, cpu)
-            }
-            Command::AddBuilder { name, arch } => {
-                operator::add_builder(&mut self.store, name, arch)
-            }
-            Command::Enter {
-                arch,
-                source,
-                version,
-                priority,
-                section,
-            } => operator::enter(
-                self.alloc,
-                &mut self.store,
-                arch,
-                source,
-                version,
-                priority,
-                section,
-            ),
-            Command::Next {
-                arch,
-                builder,
-                after,
-            } => builder::next(self.alloc, &mut self.store, arch, builder, *after),
-            Command::Take {
-                arch,
-                builder,
-                source,
-                version,
-            } => builder::take(self.alloc, &mut self.store, arch, builder, source, version),
-            Command::Built { take_number } => {
-                holder::built(self.alloc, &mut self.store, *take_number)
-            }
-            Command::Uploaded { take_number } => {
-                holder::uploaded(self.alloc, &mut self.store, *take_number)
-            }
-            Command::Waits {
-                take_number,
-                relations,
-            } => holder::waits(self.alloc, &mut self.store, *take_number, relations),
-            Command::PutBack { take_number } => {
-                holder::put_back(self.alloc, &mut self.store, *take_number)
-            }
-            Command::GiveBack {
-                arch,
-                source,
-                version,
-            } => named::give_back(self.alloc, &mut self.store, arch, source, version),
-            Command::DepWait {
-                arch,
-                source,
-                version,
-                relations,
-            } => named::dep_wait(
-                self.alloc,
-                &mut self.store,
-                arch,
-                source,
-                version,
-                relations,
-            ),
-            Command::Fail {
-                arch,
-                source,
-                version,
-                note,
-            } => named::fail(self.alloc, &mut self.store, arch, source, version, note),
-            Command::NotForUs {
-                arch,
-                source,
-                version,
-                note,
-            } => named::not_for_us(self.alloc, &mut self.store, arch, source, version, note),
-            Command::Rebuild {
-                arch,
-                source,
-                version,
-                number,
-                message,
-            } => named::rebuild(
-                self.alloc,
-                &mut self.store,
-                arch,
-                source,
-                version,
-                *number,
-                message,
-            ),
-            Command::Merge { sources, parts } => {
-                merging::merge(self.alloc, &mut self.store, sources, parts)
-            }
+            Command::AddArch(command) => operator::add_arch(store, command),
+            Command::AddBuilder(command) => operator::add_builder(store, command),
+            Command::Enter(command) => operator::enter(alloc, store, command),
+            Command::Next(command) => builder::next(alloc, store, command),
+            Command::Take(command) => builder::take(alloc, store, command),
+            Command::Built(command) => holder::built(alloc, store, command),
+            Command::Uploaded(command) => holder::uploaded(alloc, store, command),
+            Command::Waits(command) => holder::waits(alloc, store, command),
+            Command::PutBack(command) => holder::put_back(alloc, store, command),
+            Command::GiveBack(command) => named::give_back(alloc, store, command),
+            Command::DepWait(command) => named::dep_wait(alloc, store, command),
+            Command::Fail(command) => named::fail(alloc, store, command),
+            Command::NotForUs(command) => named::not_for_us(alloc, store, command),
+            Command::Rebuild(command) => named::rebuild(alloc, store, command),
+            Command::Merge(command) => merging::merge(alloc, store, command),
         }
     }
 }

@@ -1,52 +1,57 @@
 //! The commands that add architectures, builders and source packages.
-ghost use Rattle.std.specs.Prelude.{◌≡◌, ◌≢◌, ◌+◌, None, Some, false, nat_le, OnOk, IfOk, IfErr, OnErr};
-ghost use Rattle.wb_states.specs.declared.command.Command.TheVariants.{AddArch, AddBuilder, Enter};
+ghost use Rattle.std.specs.Prelude.{◌≡◌, ◌+◌, None, Some, Ok, Err, false, nat_le, OnOk, IfOk, IfErr, OnErr};
+ghost use Rattle.wb_states.specs.declared.command.Command.TheVariants as of;
 ghost use Rattle.wb_states.specs.declared.refusal.Refusal.TheVariants.{Memory};
 ghost use Rattle.wb_states.specs.declared.reply.Reply.TheVariants.{Done};
 ghost use Rattle.wb_states.specs.Limits.{count_limit};
+ghost use Rattle.wb_states.specs.Refusals.{IsOfMachine};
 ghost use Rattle.wb_office.specs.Checks.{MayWantMemory, first_refusal};
 ghost use Rattle.wb_office.specs.Step.{step, counted, entered};
 
-use crate::checks::{has_arch, has_record, is_spent, lacks_arch};
-use crate::forms::{is_bad_arch, is_bad_builder, is_bad_entry};
+use crate::checks::{has_arch, has_builder, has_record, is_spent, lacks_arch};
+use crate::forms::{has_bad_arch, has_bad_builder, has_bad_entry};
 use crate::texts::read_version;
 use deb_text::Text;
 use deb_version::Version;
 use std::alloc::Global;
 use wb_merge::blank_record;
+use wb_states::command;
 use wb_states::{Counts, OsCpu, Record, Refusal, Reply};
 use wb_store::Store;
 
-/// Counts one more accepted command.
-pub(crate) fn count_done(store: &mut Store) -> Reply
+/// Counts one more accepted command. Of tables in memory it cannot fail.
+pub(crate) fn count_done(store: &mut Store) -> Result<Reply, Refusal>
     requires { nat_le count_limit store.old.accepted ≡ false }
-    ensures reply { result ≡ Done (store.old.accepted + 1) }
+    ensures reply { result ≡ Ok (Done (store.old.accepted + 1)) }
     ensures ok { store.new ≡ counted store.old store.old }
 {
-    let counts = store.office_row();
+    let counts = store.office_row()?;
     let accepted = counts.accepted + 1;
     store.set_counts(Counts {
         handed: counts.handed,
         accepted,
-    });
-    Reply::Done { accepted }
+    })?;
+    Ok(Reply::Done { accepted })
 }
 
-/// The checks of a command that adds an architecture. Takes no memory.
-fn check_arch(store: &Store, name: &Text, os: &Text, cpu: &Text) -> Result<(), Refusal>
-    ensures ok { OnOk result (first_refusal store.now (AddArch name.now os.now cpu.now) ≡ None) }
-    ensures refused { IfErr result (λ refusal.
-        first_refusal store.now (AddArch name.now os.now cpu.now) ≡ Some refusal) }
-    ensures memory { IfErr result (λ refusal. refusal ≢ Memory) }
+/// The checks of a command that adds an architecture.
+fn check_arch(store: &Store, command: &command::AddArch) -> Result<(), Refusal>
+    ensures ok { OnOk result (first_refusal store.now (of.AddArch command.now) ≡ None) }
+    ensures refused { IfErr result (λ refusal. IsOfMachine refusal
+        → first_refusal store.now (of.AddArch command.now) ≡ Some refusal) }
+    ensures memory { IfErr result (λ refusal. refusal ≡ Memory
+        → MayWantMemory (of.AddArch command.now)) }
     ensures room { OnOk result (nat_le count_limit store.now.accepted ≡ false) }
 {
-    if is_bad_arch(name, os, cpu) {
+    if has_bad_arch(&command.name, &command.os, &command.cpu) {
         return Err(Refusal::BadName);
     }
-    if has_arch(store, name) {
+    let is_there = has_arch(store, &command.name)?;
+    if is_there {
         return Err(Refusal::AlreadyThere);
     }
-    if is_spent(store) {
+    let is_full = is_spent(store)?;
+    if is_full {
         return Err(Refusal::Spent);
     }
     Ok(())
@@ -54,49 +59,46 @@ fn check_arch(store: &Store, name: &Text, os: &Text, cpu: &Text) -> Result<(), R
 
 /// Adds an architecture.
 #[tactic(auto, unfolding(crate::specs::Step::step))]
-pub(crate) fn add_arch(
-    store: &mut Store,
-    name: &Text,
-    os: &Text,
-    cpu: &Text,
-) -> Result<Reply, Refusal>
+pub(crate) fn add_arch(store: &mut Store, command: &command::AddArch) -> Result<Reply, Refusal>
     ensures reply { IfOk result (λ reply.
-        step store.old (AddArch name.now os.now cpu.now) ≡ (Ok reply, store.new)) }
-    ensures refused { IfErr result (λ refusal. refusal ≢ Memory
-        → step store.old (AddArch name.now os.now cpu.now) ≡ (Err refusal, store.old)) }
+        step store.old (of.AddArch command.now) ≡ (Ok reply, store.new)) }
+    ensures refused { IfErr result (λ refusal. IsOfMachine refusal
+        → step store.old (of.AddArch command.now) ≡ (Err refusal, store.old)) }
     ensures memory { IfErr result (λ refusal. refusal ≡ Memory
-        → MayWantMemory (AddArch name.now os.now cpu.now)) }
+        → MayWantMemory (of.AddArch command.now)) }
     ensures unchanged { OnErr result (store.new ≡ store.old) }
 {
-    check_arch(store, name, os, cpu)?;
+    check_arch(store, command)?;
     let words = OsCpu {
-        os: os.clone()?,
-        cpu: cpu.clone()?,
+        os: command.os.clone()?,
+        cpu: command.cpu.clone()?,
     };
-    store.add_arch(name.clone()?, words)?;
-    Ok(count_done(store))
+    store.add_arch(command.name.clone()?, words)?;
+    count_done(store)
 }
 
 /// The checks of a command that lets a builder build for an architecture.
-fn check_builder(store: &Store, name: &Text, arch: &Text) -> Result<(), Refusal>
-    ensures ok { OnOk result (first_refusal store.now (AddBuilder name.now arch.now) ≡ None) }
-    ensures refused { IfErr result (λ refusal. refusal ≢ Memory
-        → first_refusal store.now (AddBuilder name.now arch.now) ≡ Some refusal) }
+fn check_builder(store: &Store, command: &command::AddBuilder) -> Result<(), Refusal>
+    ensures ok { OnOk result (first_refusal store.now (of.AddBuilder command.now) ≡ None) }
+    ensures refused { IfErr result (λ refusal. IsOfMachine refusal
+        → first_refusal store.now (of.AddBuilder command.now) ≡ Some refusal) }
     ensures memory { IfErr result (λ refusal. refusal ≡ Memory
-        → MayWantMemory (AddBuilder name.now arch.now)) }
+        → MayWantMemory (of.AddBuilder command.now)) }
     ensures room { OnOk result (nat_le count_limit store.now.accepted ≡ false) }
 {
-    if is_bad_builder(name, arch) {
+    if has_bad_builder(&command.name, &command.arch) {
         return Err(Refusal::BadName);
     }
-    if lacks_arch(store, arch) {
+    let is_unknown = lacks_arch(store, &command.arch)?;
+    if is_unknown {
         return Err(Refusal::UnknownArch);
     }
-    let is_there = store.has_builder(name, arch)?;
+    let is_there = has_builder(store, &command.name, &command.arch)?;
     if is_there {
         return Err(Refusal::AlreadyThere);
     }
-    if is_spent(store) {
+    let is_full = is_spent(store)?;
+    if is_full {
         return Err(Refusal::Spent);
     }
     Ok(())
@@ -104,53 +106,51 @@ fn check_builder(store: &Store, name: &Text, arch: &Text) -> Result<(), Refusal>
 
 /// Lets a builder build for an architecture.
 #[tactic(auto, unfolding(crate::specs::Step::step))]
-pub(crate) fn add_builder(store: &mut Store, name: &Text, arch: &Text) -> Result<Reply, Refusal>
+pub(crate) fn add_builder(store: &mut Store, command: &command::AddBuilder) -> Result<Reply, Refusal>
     ensures reply { IfOk result (λ reply.
-        step store.old (AddBuilder name.now arch.now) ≡ (Ok reply, store.new)) }
-    ensures refused { IfErr result (λ refusal. refusal ≢ Memory
-        → step store.old (AddBuilder name.now arch.now) ≡ (Err refusal, store.old)) }
+        step store.old (of.AddBuilder command.now) ≡ (Ok reply, store.new)) }
+    ensures refused { IfErr result (λ refusal. IsOfMachine refusal
+        → step store.old (of.AddBuilder command.now) ≡ (Err refusal, store.old)) }
     ensures memory { IfErr result (λ refusal. refusal ≡ Memory
-        → MayWantMemory (AddBuilder name.now arch.now)) }
+        → MayWantMemory (of.AddBuilder command.now)) }
     ensures unchanged { OnErr result (store.new ≡ store.old) }
 {
-    check_builder(store, name, arch)?;
-    store.add_builder(name.clone()?, arch.clone()?)?;
-    Ok(count_done(store))
+    check_builder(store, command)?;
+    store.add_builder(command.name.clone()?, command.arch.clone()?)?;
+    count_done(store)
 }
 
 /// The checks of a command that enters a source package, and its version as it is read.
-fn check_entry(
-    alloc: Global,
-    store: &Store,
-    arch: &Text,
-    source: &Text,
-    version: &Text,
-    priority: &Text,
-    section: &Text,
-) -> Result<Version, Refusal>
-    ensures value { IfOk result (λ read. read ≡ version.now) }
-    ensures ok { OnOk result
-        (first_refusal store.now (Enter arch.now source.now version.now priority.now section.now)
-        ≡ None) }
-    ensures refused { IfErr result (λ refusal. refusal ≢ Memory
-        → first_refusal store.now (Enter arch.now source.now version.now priority.now section.now)
-        ≡ Some refusal) }
+fn check_entry(alloc: Global, store: &Store, command: &command::Enter) -> Result<Version, Refusal>
+    ensures value { IfOk result (λ read. read ≡ command.now.version) }
+    ensures ok { OnOk result (first_refusal store.now (of.Enter command.now) ≡ None) }
+    ensures refused { IfErr result (λ refusal. IsOfMachine refusal
+        → first_refusal store.now (of.Enter command.now) ≡ Some refusal) }
     ensures memory { IfErr result (λ refusal. refusal ≡ Memory
-        → MayWantMemory (Enter arch.now source.now version.now priority.now section.now)) }
+        → MayWantMemory (of.Enter command.now)) }
     ensures room { OnOk result (nat_le count_limit store.now.accepted ≡ false) }
 {
-    if is_bad_entry(arch, source, priority, section) {
+    let command::Enter {
+        arch,
+        source,
+        version,
+        priority,
+        section,
+    } = command;
+    if has_bad_entry(arch, source, priority, section) {
         return Err(Refusal::BadName);
     }
     let read = read_version(alloc, version)?;
-    if lacks_arch(store, arch) {
+    let is_unknown = lacks_arch(store, arch)?;
+    if is_unknown {
         return Err(Refusal::UnknownArch);
     }
     let is_there = has_record(store, arch, source)?;
     if is_there {
         return Err(Refusal::AlreadyThere);
     }
-    if is_spent(store) {
+    let is_full = is_spent(store)?;
+    if is_full {
         return Err(Refusal::Spent);
     }
     Ok(read)
@@ -161,26 +161,20 @@ fn check_entry(
 pub(crate) fn enter(
     alloc: Global,
     store: &mut Store,
-    arch: &Text,
-    source: &Text,
-    version: &Text,
-    priority: &Text,
-    section: &Text,
+    command: &command::Enter,
 ) -> Result<Reply, Refusal>
     ensures reply { IfOk result (λ reply.
-        step store.old (Enter arch.now source.now version.now priority.now section.now)
-        ≡ (Ok reply, store.new)) }
-    ensures refused { IfErr result (λ refusal. refusal ≢ Memory
-        → step store.old (Enter arch.now source.now version.now priority.now section.now)
-        ≡ (Err refusal, store.old)) }
+        step store.old (of.Enter command.now) ≡ (Ok reply, store.new)) }
+    ensures refused { IfErr result (λ refusal. IsOfMachine refusal
+        → step store.old (of.Enter command.now) ≡ (Err refusal, store.old)) }
     ensures memory { IfErr result (λ refusal. refusal ≡ Memory
-        → MayWantMemory (Enter arch.now source.now version.now priority.now section.now)) }
+        → MayWantMemory (of.Enter command.now)) }
     ensures unchanged { OnErr result (store.new ≡ store.old) }
 {
-    let read = check_entry(alloc, store, arch, source, version, priority, section)?;
-    let waiting = entered_record(alloc, read, priority, section)?;
-    store.put(arch.clone()?, source.clone()?, waiting)?;
-    Ok(count_done(store))
+    let read = check_entry(alloc, store, command)?;
+    let waiting = entered_record(alloc, read, &command.priority, &command.section)?;
+    store.put(command.arch.clone()?, command.source.clone()?, waiting)?;
+    count_done(store)
 }
 
 /// The record of a source package that waits for its first build.

@@ -5,14 +5,13 @@ ghost use Rattle.std.specs.Str.{IsUtf8};
 ghost use Rattle.deb_version.specs.Syntax.{fault_of};
 ghost use Rattle.deb_relations.specs.declared.fault.RelationFault.TheVariants.{Memory as NoMemory};
 ghost use Rattle.deb_relations.specs.Reading.{reading_of};
-ghost use Rattle.wb_states.specs.declared.command.Command.TheVariants.{Waits};
 ghost use Rattle.wb_states.specs.declared.refusal.Refusal.{Refusal};
 ghost use Rattle.wb_states.specs.declared.refusal.Refusal.TheVariants.{Memory, BadVersion, BadRelations};
 ghost use Rattle.wb_states.specs.Limits.{note_limit, rebuild_limit, relations_limit};
-ghost use Rattle.wb_office.specs.Checks.{refusal_of_fault, relations_refusal};
-ghost use Rattle.wb_office.specs.Found.{key_refusal};
+ghost use Rattle.wb_states.specs.Refusals.{IsOfMachine};
+ghost use Rattle.wb_office.specs.Checks.{is_bad_number, is_long_text, key_refusal, refusal_of_fault, relations_refusal, version_refusal};
 
-use crate::forms::is_bad_key;
+use crate::forms::has_bad_key;
 use deb_relations::{RelationFault, Relations};
 use deb_text::Text;
 use deb_version::{Version, VersionFault};
@@ -29,8 +28,8 @@ const REBUILD_LIMIT: u64 = 999;
 pub(crate) fn read_version(alloc: Global, text: &Text) -> Result<Version, Refusal>
     ensures value { IfOk result (λ read. read ≡ text.now) }
     ensures ok { OnOk result (fault_of text.now ≡ None) }
-    ensures refused { IfErr result (λ refusal. refusal ≢ Memory
-        → option_map BadVersion (fault_of text.now) ≡ Some refusal) }
+    ensures refused { IfErr result (λ refusal. IsOfMachine refusal
+        → version_refusal text.now ≡ Some refusal) }
     ensures memory { IfErr result (λ refusal. refusal ≡ Memory → fault_of text.now ≡ None) }
 {
     match Version::parse(alloc, text.as_str()) {
@@ -53,8 +52,8 @@ fn version_refused(fault: VersionFault) -> Refusal
 pub(crate) fn read_relations(alloc: Global, text: &Text) -> Result<Relations, Refusal>
     ensures value { IfOk result (λ read. reading_of text.now ≡ Ok read) }
     ensures short { OnOk result (nat_lt relations_limit (length text.now) ≡ false) }
-    ensures refused { IfErr result (λ refusal. refusal ≢ Memory
-        → relations_refusal (Waits 0 text.now) ≡ Some refusal) }
+    ensures refused { IfErr result (λ refusal. IsOfMachine refusal
+        → relations_refusal text.now ≡ Some refusal) }
     ensures memory { IfErr result (λ refusal. refusal ≡ Memory
         → nat_lt relations_limit (length text.now) ≡ false) }
 {
@@ -84,12 +83,12 @@ pub(crate) fn read_key(
 ) -> Result<Version, Refusal>
     ensures value { IfOk result (λ read. read ≡ version.now) }
     ensures ok { OnOk result (key_refusal arch.now source.now version.now ≡ None) }
-    ensures refused { IfErr result (λ refusal. refusal ≢ Memory
+    ensures refused { IfErr result (λ refusal. IsOfMachine refusal
         → key_refusal arch.now source.now version.now ≡ Some refusal) }
     ensures memory { IfErr result (λ refusal. refusal ≡ Memory
         → key_refusal arch.now source.now version.now ≡ None) }
 {
-    if is_bad_key(arch, source) {
+    if has_bad_key(arch, source) {
         return Err(Refusal::BadName);
     }
     read_version(alloc, version)
@@ -99,7 +98,7 @@ pub(crate) fn read_key(
 /// of memory.
 pub(crate) fn read_refusal_or(read: Result<Version, Refusal>, later: Refusal) -> Refusal
     ensures value { (first : Option Refusal) → OnOk read (first ≡ None)
-        → IfErr read (λ refusal. refusal ≢ Memory → first ≡ Some refusal)
+        → IfErr read (λ refusal. IsOfMachine refusal → first ≡ Some refusal)
         → IfErr read (λ refusal. refusal ≡ Memory → first ≡ None)
         → option_or first (Some later) ≡ Some result }
     ensures memory { result ≡ Memory → later ≡ Memory }
@@ -112,7 +111,7 @@ pub(crate) fn read_refusal_or(read: Result<Version, Refusal>, later: Refusal) ->
 
 /// Whether a note or a message, which is UTF-8 as each text is, has more than 1000 bytes.
 pub(crate) fn is_long(text: &Text) -> bool
-    ensures value { result ≡ nat_lt note_limit (length text.now) }
+    ensures value { result ≡ is_long_text text.now }
     ensures utf8 { IsUtf8 text.now }
 {
     NOTE_LIMIT < text.as_str().len()
@@ -121,7 +120,7 @@ pub(crate) fn is_long(text: &Text) -> bool
 /// The number of a rebuild as a record keeps it, or none where no rebuild has it.
 pub(crate) fn rebuild_number(number: u64) -> Option<u16>
     ensures value { result
-        ≡ (if nat_eq number 0 || nat_lt rebuild_limit number then None else Some number) }
+        ≡ (if is_bad_number number then None else Some number) }
 {
     if number == 0 || number > REBUILD_LIMIT {
         return None;

@@ -9,4 +9,5 @@ pub mod Queue
 pub mod Record
 pub mod Refusals
 pub mod State
+pub mod StoreFaults
 pub mod Table

@@ -3,10 +3,11 @@ use Rattle.std.specs.Prelude.{ℕ, List, ◌++◌, codes, decimal, Some, None}
 use Rattle.deb_relations.specs.Faults.{fault_text as relation_fault_text}
 use Rattle.deb_version.specs.Faults.{fault_text as version_fault_text}
 use Rattle.wb_states.specs.declared.refusal.Refusal.{Refusal}
-use Rattle.wb_states.specs.declared.refusal.Refusal.TheVariants.{UnknownArch, UnknownBuilder, WrongArch, UnknownSource, OtherVersion, WrongState, QueueEmpty, NotHeld, AfterAhead, AlreadyThere, BadName, BadVersion, BadRelations, BadNumber, BadListing, TextTooLong, Spent, RepeatedArch, Memory}
+use Rattle.wb_states.specs.declared.refusal.Refusal.TheVariants.{UnknownArch, UnknownBuilder, WrongArch, UnknownSource, OtherVersion, WrongState, QueueEmpty, NotHeld, AfterAhead, AlreadyThere, BadName, BadVersion, BadRelations, BadNumber, BadListing, TextTooLong, Spent, RepeatedArch, Closed, Store, Memory}
 use Rattle.wb_states.specs.declared.refusal.ListKind.TheVariants.{Sources, Packages}
 use Rattle.wb_states.specs.Refusals.{name_of_listing_fault}
 use Rattle.wb_states.specs.State.{name_of}
+use Rattle.wb_states.specs.StoreFaults.{message_of_store_fault}
 
 -- the message of a refusal
 abbrev pub message_of_refusal : Refusal → List ℕ
@@ -20,11 +21,11 @@ message_of_refusal QueueEmpty = codes "no source package waits for a builder"
 message_of_refusal NotHeld = codes "nothing is held under the take number"
 message_of_refusal (AfterAhead handed) = codes "the last take number is " ++ decimal handed
 message_of_refusal AlreadyThere = codes "it is there already"
-message_of_refusal BadName = codes "a name, a word, a priority or a section has not its form"
-message_of_refusal (BadVersion fault) = codes "the version has not its form: " ++ version_fault_text fault
+message_of_refusal BadName = codes "a name, a word, a priority or a section is malformed"
+message_of_refusal (BadVersion fault) = codes "the version is malformed: " ++ version_fault_text fault
 message_of_refusal (BadRelations (Some fault)) = codes "the relations are refused: " ++ relation_fault_text fault
 message_of_refusal (BadRelations None) = codes "nothing of the relations is left for the architecture"
-message_of_refusal BadNumber = codes "the number of the rebuild is not to be had"
+message_of_refusal BadNumber = codes "the rebuild number is out of range, or not above the current one"
 message_of_refusal (BadListing Sources paragraph fault) =
     name_of_listing_fault fault ++ (codes " in paragraph " ++ (decimal paragraph ++ codes " of Sources"))
 message_of_refusal (BadListing Packages paragraph fault) =
@@ -32,4 +33,6 @@ message_of_refusal (BadListing Packages paragraph fault) =
 message_of_refusal TextTooLong = codes "a note or a message has more than 1000 bytes"
 message_of_refusal Spent = codes "a count of the office is at its limit"
 message_of_refusal RepeatedArch = codes "two parts are for one architecture"
-message_of_refusal Memory = codes "there is no memory for it now"
+message_of_refusal Closed = codes "the office is closed until it is opened again"
+message_of_refusal Memory = codes "out of memory"
+message_of_refusal (Store fault) = codes "the store failed: " ++ message_of_store_fault fault

@@ -1,8 +1,10 @@
 -- The numbers and the names of the refusals (this project's own).
-use Rattle.std.specs.Prelude.{ℕ, List, codes}
+use Rattle.std.specs.Prelude.{◌≡◌, ◌≢◌, ℕ, List, codes}
 use Rattle.deb_control.specs.Faults.{fault_name}
 use Rattle.wb_states.specs.declared.refusal.Refusal.{Refusal}
-use Rattle.wb_states.specs.declared.refusal.Refusal.TheVariants.{UnknownArch, UnknownBuilder, WrongArch, UnknownSource, OtherVersion, WrongState, QueueEmpty, NotHeld, AfterAhead, AlreadyThere, BadName, BadVersion, BadRelations, BadNumber, BadListing, TextTooLong, Spent, RepeatedArch, Memory}
+use Rattle.wb_states.specs.declared.refusal.Refusal.TheVariants.{UnknownArch, UnknownBuilder, WrongArch, UnknownSource, OtherVersion, WrongState, QueueEmpty, NotHeld, AfterAhead, AlreadyThere, BadName, BadVersion, BadRelations, BadNumber, BadListing, TextTooLong, Spent, RepeatedArch, Closed, Store, Memory}
+use Rattle.wb_states.specs.declared.store_fault.StoreFault.{StoreFault}
+use Rattle.wb_states.specs.declared.store_fault.StoreFault.TheVariants.{Memory as NoMemory}
 use Rattle.wb_states.specs.declared.refusal.ListKind.{ListKind}
 use Rattle.wb_states.specs.declared.refusal.ListKind.TheVariants.{Sources, Packages}
 use Rattle.wb_states.specs.declared.refusal.ListField.{ListField}
@@ -30,7 +32,9 @@ code_of_refusal (BadListing which paragraph fault) = 15
 code_of_refusal TextTooLong = 17
 code_of_refusal Spent = 18
 code_of_refusal RepeatedArch = 22
+code_of_refusal Closed = 19
 code_of_refusal Memory = 20
+code_of_refusal (Store fault) = 21
 
 -- the name of a refusal
 abbrev pub name_of_refusal : Refusal → List ℕ
@@ -52,7 +56,17 @@ name_of_refusal (BadListing which paragraph fault) = codes "BadListing"
 name_of_refusal TextTooLong = codes "TextTooLong"
 name_of_refusal Spent = codes "Spent"
 name_of_refusal RepeatedArch = codes "RepeatedArch"
+name_of_refusal Closed = codes "Closed"
 name_of_refusal Memory = codes "Memory"
+name_of_refusal (Store fault) = codes "Store"
+
+-- the machine gives this refusal: it is not that memory ran out, the one fault of a store that is kept in memory
+abbrev pub IsOfMachine : Refusal → Type 0
+IsOfMachine refusal = refusal ≢ Memory
+
+-- the refusal of a command whose store has a fault: out of memory is the same of both
+abbrev pub IsOfStore : StoreFault → Refusal → Type 0
+IsOfStore fault refusal = (fault ≡ NoMemory → refusal ≡ Memory) × (fault ≢ NoMemory → refusal ≡ Store fault)
 
 -- the name of a list in the archive
 abbrev pub name_of_list : ListKind → List ℕ

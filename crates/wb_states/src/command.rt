@@ -1,8 +1,137 @@
-//! What operators and builders ask of the office.
+//! What operators and builders ask of the office: one struct a command, with its texts as they came.
 ghost use Rattle.std.specs.Prelude.{◌≡◌};
 ghost use Rattle.wb_states.specs.Commands.{name_of_command};
 
 use deb_text::{Items, Text};
+
+/// Adds an architecture, with the words of its operating system and its processor.
+#[derive(Debug, Drop)]
+pub struct AddArch {
+    /// The name of the architecture.
+    pub name: Text,
+    /// The word of its operating system.
+    pub os: Text,
+    /// The word of its processor.
+    pub cpu: Text,
+}
+
+/// Lets a builder build for an architecture.
+#[derive(Debug, Drop)]
+pub struct AddBuilder {
+    /// The name of the builder.
+    pub name: Text,
+    /// The architecture for which it may build.
+    pub arch: Text,
+}
+
+/// Puts a source package that has no record into the queue of an architecture.
+#[derive(Debug, Drop)]
+pub struct Enter {
+    /// The architecture.
+    pub arch: Text,
+    /// The source package.
+    pub source: Text,
+    /// The version to build (Debian Policy 5.6.12).
+    pub version: Text,
+    /// The priority (Debian Policy 2.5).
+    pub priority: Text,
+    /// The section (Debian Policy 2.4).
+    pub section: Text,
+}
+
+/// Gives a builder the head of an architecture's queue.
+#[derive(Debug, Drop)]
+pub struct Next {
+    /// The architecture to build for.
+    pub arch: Text,
+    /// The builder.
+    pub builder: Text,
+    /// A take number that the builder knows of: the least later one under which it builds for the
+    /// architecture, if there is one, is reported to it again, so a builder that was never answered learns
+    /// what it holds.
+    pub after: Option<u64>,
+}
+
+/// Gives a builder a source package that waits in the queue.
+#[derive(Debug, Drop)]
+pub struct Take {
+    /// The architecture to build for.
+    pub arch: Text,
+    /// The builder.
+    pub builder: Text,
+    /// The source package.
+    pub source: Text,
+    /// The version that the record must have, in the order of versions.
+    pub version: Text,
+}
+
+/// What a holder reports of a source package that it holds, by its take number alone.
+#[derive(Debug, Drop)]
+pub struct Held {
+    /// The number under which it is held.
+    pub take_number: u64,
+}
+
+/// A holder found that a source package waits for what these relations ask for (Debian Policy 7.1).
+#[derive(Debug, Drop)]
+pub struct Waits {
+    /// The number under which it is held.
+    pub take_number: u64,
+    /// What it waits for.
+    pub relations: Text,
+}
+
+/// Puts a source package back into the queue.
+#[derive(Debug, Drop)]
+pub struct GiveBack {
+    /// The architecture.
+    pub arch: Text,
+    /// The source package.
+    pub source: Text,
+    /// The version that the record must have, in the order of versions.
+    pub version: Text,
+}
+
+/// Lets a source package wait for what these relations ask for (Debian Policy 7.1).
+#[derive(Debug, Drop)]
+pub struct DepWait {
+    /// The architecture.
+    pub arch: Text,
+    /// The source package.
+    pub source: Text,
+    /// The version that the record must have, in the order of versions.
+    pub version: Text,
+    /// What it waits for.
+    pub relations: Text,
+}
+
+/// Takes a source package out of the queue, with a note that says why.
+#[derive(Debug, Drop)]
+pub struct SetAside {
+    /// The architecture.
+    pub arch: Text,
+    /// The source package.
+    pub source: Text,
+    /// The version that the record must have, in the order of versions.
+    pub version: Text,
+    /// Why, in at most 1000 bytes.
+    pub note: Text,
+}
+
+/// Builds an installed source package once more, as a binary-only rebuild.
+#[derive(Debug, Drop)]
+pub struct Rebuild {
+    /// The architecture.
+    pub arch: Text,
+    /// The source package.
+    pub source: Text,
+    /// The version that the record must have, in the order of versions.
+    pub version: Text,
+    /// The number of the rebuild: 1 to 999, and above the record's.
+    pub number: u64,
+    /// Why, in at most 1000 bytes.
+    pub message: Text,
+}
 
 /// A part of a merge: what the archive has for one architecture.
 #[derive(Debug, Drop)]
@@ -13,101 +142,48 @@ pub struct Part {
     pub packages: Items<u8>,
 }
 
+/// Brings the records of each part's architecture in line with what the archive lists.
+#[derive(Debug, Drop)]
+pub struct Merge {
+    /// The bytes of the Sources list for all parts, uncompressed.
+    pub sources: Items<u8>,
+    /// A Packages list for each architecture.
+    pub parts: Items<Part>,
+}
+
 /// A command to the office. All its texts are taken as they came: the office tests their forms.
 #[derive(Debug, Drop)]
 pub enum Command {
-    /// Adds an architecture, with the words of its operating system and its processor.
-    AddArch {
-        name: Text,
-        os: Text,
-        cpu: Text,
-    },
+    /// Adds an architecture.
+    AddArch(AddArch),
     /// Lets a builder build for an architecture.
-    AddBuilder {
-        name: Text,
-        arch: Text,
-    },
-    /// Puts a source package that has no record into the queue of an architecture.
-    Enter {
-        arch: Text,
-        source: Text,
-        version: Text,
-        priority: Text,
-        section: Text,
-    },
-    /// Gives the builder the head of the architecture's queue. With `after`, a take number that the
-    /// builder knows of, it is told again of the least later one under which it builds for the
-    /// architecture, if there is one: so a builder that was never answered learns what it holds.
-    Next {
-        arch: Text,
-        builder: Text,
-        after: Option<u64>,
-    },
-    /// Gives the builder this source package, which waits in the queue.
-    Take {
-        arch: Text,
-        builder: Text,
-        source: Text,
-        version: Text,
-    },
+    AddBuilder(AddBuilder),
+    /// Puts a source package that has no record into the queue.
+    Enter(Enter),
+    /// Gives a builder the head of a queue.
+    Next(Next),
+    /// Gives a builder a source package that it names.
+    Take(Take),
     /// The holder built it.
-    Built {
-        take_number: u64,
-    },
+    Built(Held),
     /// The holder uploaded what it built.
-    Uploaded {
-        take_number: u64,
-    },
-    /// The holder found that it waits for what these relations ask for (Debian Policy 7.1).
-    Waits {
-        take_number: u64,
-        relations: Text,
-    },
+    Uploaded(Held),
+    /// The holder found that it waits for other packages.
+    Waits(Waits),
     /// The holder puts it back into the queue.
-    PutBack {
-        take_number: u64,
-    },
+    PutBack(Held),
     /// Puts a source package back into the queue.
-    GiveBack {
-        arch: Text,
-        source: Text,
-        version: Text,
-    },
-    /// Lets a source package wait for what these relations ask for (Debian Policy 7.1).
-    DepWait {
-        arch: Text,
-        source: Text,
-        version: Text,
-        relations: Text,
-    },
+    GiveBack(GiveBack),
+    /// Lets a source package wait for other packages.
+    DepWait(DepWait),
     /// Its build failed.
-    Fail {
-        arch: Text,
-        source: Text,
-        version: Text,
-        note: Text,
-    },
+    Fail(SetAside),
     /// It is not to be built on the architecture.
-    NotForUs {
-        arch: Text,
-        source: Text,
-        version: Text,
-        note: Text,
-    },
-    /// Builds an installed source package once more, as the binary-only rebuild of this number.
-    Rebuild {
-        arch: Text,
-        source: Text,
-        version: Text,
-        number: u64,
-        message: Text,
-    },
-    /// Brings the records of each part's architecture in line with what the archive lists: one Sources
-    /// list for all parts, and a Packages list for each.
-    Merge {
-        sources: Items<u8>,
-        parts: Items<Part>,
-    },
+    NotForUs(SetAside),
+    /// Builds an installed source package once more.
+    Rebuild(Rebuild),
+    /// Brings the records in line with what the archive lists.
+    Merge(Merge),
 }
 
 impl Command {
@@ -116,21 +192,21 @@ impl Command {
         ensures value { result.now ≡ name_of_command self.now }
     {
         match self {
-            Command::AddArch { .. } => "add-arch",
-            Command::AddBuilder { .. } => "add-builder",
-            Command::Enter { .. } => "enter",
-            Command::Next { .. } => "next",
-            Command::Take { .. } => "take",
-            Command::Built { .. } => "built",
-            Command::Uploaded { .. } => "uploaded",
-            Command::Waits { .. } => "waits",
-            Command::PutBack { .. } => "put-back",
-            Command::GiveBack { .. } => "give-back",
-            Command::DepWait { .. } => "dep-wait",
-            Command::Fail { .. } => "fail",
-            Command::NotForUs { .. } => "not-for-us",
-            Command::Rebuild { .. } => "rebuild",
-            Command::Merge { .. } => "merge",
+            Command::AddArch(_) => "add-arch",
+            Command::AddBuilder(_) => "add-builder",
+            Command::Enter(_) => "enter",
+            Command::Next(_) => "next",
+            Command::Take(_) => "take",
+            Command::Built(_) => "built",
+            Command::Uploaded(_) => "uploaded",
+            Command::Waits(_) => "waits",
+            Command::PutBack(_) => "put-back",
+            Command::GiveBack(_) => "give-back",
+            Command::DepWait(_) => "dep-wait",
+            Command::Fail(_) => "fail",
+            Command::NotForUs(_) => "not-for-us",
+            Command::Rebuild(_) => "rebuild",
+            Command::Merge(_) => "merge",
         }
     }
 }

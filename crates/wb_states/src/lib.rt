@@ -3,7 +3,7 @@
 #![tactic(auto)]
 
 mod arch;
-mod command;
+pub mod command;
 mod counts;
 pub mod laws;
 mod moves;
@@ -13,6 +13,7 @@ mod record;
 mod refusal;
 mod reply;
 mod state;
+mod store_fault;
 
 pub use arch::OsCpu;
 pub use command::{Command, Part};
@@ -24,3 +25,4 @@ pub use record::Record;
 pub use refusal::{ListField, ListKind, ListingFault, Refusal};
 pub use reply::{Assignment, MergeCounts, PartEnd, PartReply, Reply};
 pub use state::State;
+pub use store_fault::{StoreFault, Table};

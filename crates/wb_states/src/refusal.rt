@@ -2,7 +2,7 @@
 ghost use Rattle.std.specs.Prelude.{◌≡◌};
 ghost use Rattle.wb_states.specs.Refusals.{code_of_refusal, name_of_refusal, name_of_list, name_of_field, name_of_listing_fault};
 
-use crate::State;
+use crate::{State, StoreFault};
 use deb_control::ControlFaultKind;
 use deb_relations::RelationFault;
 use deb_text::Text;
@@ -72,7 +72,7 @@ pub enum ListingFault {
     Control { kind: ControlFaultKind },
     /// The paragraph lacks this field.
     Missing { field: ListField },
-    /// The field has not its form.
+    /// The value of the field is malformed.
     BadValue { field: ListField },
 }
 
@@ -101,13 +101,14 @@ impl fmt::Display for ListingFault {
 
 /// Why a command was refused. After a refusal the office is as it was.
 ///
-/// Where several are true of a command, the first is answered, in this order. The forms of its texts:
+/// If several apply to a command, the first is answered, in this order. `Closed`. The forms of its texts:
 /// `BadName`, `BadVersion`, `BadRelations` for relations that cannot be read, `BadNumber` for a number
 /// that no rebuild has, `TextTooLong`, `RepeatedArch`. Then what the office has: `UnknownArch`,
 /// `BadListing`, `UnknownBuilder`, `WrongArch`, `AfterAhead`, `NotHeld`, `UnknownSource`,
 /// `OtherVersion`, `WrongState`, `QueueEmpty`, `AlreadyThere`, `BadRelations` for waits that reduce to
-/// nothing or to too much, `BadNumber` for a number that is not above the record's, `Spent`. `Memory`
-/// may come at any point. The order, the numbers and the names are this project's own.
+/// nothing or to too much, `BadNumber` for a number that is not above the record's, `Spent`. `Memory` and,
+/// after the texts, `Store` may come at any point. The order, the numbers and the names are this project's
+/// own.
 #[derive(Debug, Drop)]
 pub enum Refusal {
     /// The architecture was never added, or a merge has no part.
@@ -136,7 +137,7 @@ pub enum Refusal {
     },
     /// The architecture, the builder on the architecture, or the record is there already.
     AlreadyThere,
-    /// A name, a word, a priority or a section has not its form.
+    /// A name, a word, a priority or a section is malformed.
     BadName,
     /// The version has this fault.
     BadVersion {
@@ -160,7 +161,13 @@ pub enum Refusal {
     Spent,
     /// Two parts of the merge are for one architecture.
     RepeatedArch,
-    /// There is no memory for it now.
+    /// The store failed before, and the office answers nothing until it is opened again.
+    Closed,
+    /// The store has this fault, which is not that it is out of memory.
+    Store {
+        fault: StoreFault,
+    },
+    /// It is out of memory now.
     Memory,
 }
 
@@ -187,7 +194,9 @@ impl Refusal {
             Refusal::BadListing { .. } => 15,
             Refusal::TextTooLong => 17,
             Refusal::Spent => 18,
+            Refusal::Closed => 19,
             Refusal::Memory => 20,
+            Refusal::Store { .. } => 21,
             Refusal::RepeatedArch => 22,
         }
     }
@@ -214,7 +223,9 @@ impl Refusal {
             Refusal::BadListing { .. } => "BadListing",
             Refusal::TextTooLong => "TextTooLong",
             Refusal::Spent => "Spent",
+            Refusal::Closed => "Closed",
             Refusal::Memory => "Memory",
+            Refusal::Store { .. } => "Store",
             Refusal::RepeatedArch => "RepeatedArch",
         }
     }
@@ -241,10 +252,10 @@ impl fmt::Display for Refusal {
             Refusal::NotHeld => f.write_str("nothing is held under the take number"),
             Refusal::AfterAhead { handed } => write!(f, "the last take number is {handed}"),
             Refusal::AlreadyThere => f.write_str("it is there already"),
-            Refusal::BadName => f.write_str(
-                "a name, a word, a priority or a section has not its form",
-            ),
-            Refusal::BadVersion { fault } => write!(f, "the version has not its form: {fault}"),
+            Refusal::BadName => {
+                f.write_str("a name, a word, a priority or a section is malformed")
+            }
+            Refusal::BadVersion { fault } => write!(f, "the version is malformed: {fault}"),
             Refusal::BadRelations { fault: Some(fault) } => write!(
                 f,
                 "the relations are refused: {fault}"
@@ -252,7 +263,9 @@ impl fmt::Display for Refusal {
             Refusal::BadRelations { fault: None } => {
                 f.write_str("nothing of the relations is left for the architecture")
             }
-            Refusal::BadNumber => f.write_str("the number of the rebuild is not to be had"),
+            Refusal::BadNumber => f.write_str(
+                "the rebuild number is out of range, or not above the current one",
+            ),
             Refusal::BadListing {
                 which: ListKind::Sources,
                 paragraph,
@@ -265,7 +278,9 @@ impl fmt::Display for Refusal {
             } => write!(f, "{fault} in paragraph {paragraph} of Packages"),
             Refusal::TextTooLong => f.write_str("a note or a message has more than 1000 bytes"),
             Refusal::Spent => f.write_str("a count of the office is at its limit"),
-            Refusal::Memory => f.write_str("there is no memory for it now"),
+            Refusal::Closed => f.write_str("the office is closed until it is opened again"),
+            Refusal::Memory => f.write_str("out of memory"),
+            Refusal::Store { fault } => write!(f, "the store failed: {fault}"),
             Refusal::RepeatedArch => f.write_str("two parts are for one architecture"),
         }
     }
@@ -290,5 +305,18 @@ impl<T: Drop> From<AllocFailed<T>> for Refusal {
 
     fn from(_refused: AllocFailed<T>) -> Refusal {
         Refusal::Memory
+    }
+}
+
+impl From<StoreFault> for Refusal {
+    ghost use Rattle.wb_states.specs.Refusals.{IsOfStore};
+
+    ghost from_gives = { IsOfStore };
+
+    fn from(fault: StoreFault) -> Refusal {
+        match fault {
+            StoreFault::Memory => Refusal::Memory,
+            _ => Refusal::Store { fault },
+        }
     }
 }

@@ -10,6 +10,9 @@ use Rattle.wb_states.specs.Machine.{Machine}
 use Rattle.wb_states.specs.Queue.{Entry, entry_cmp, is_waiting, queue_of, head_of}
 use Rattle.deb_text.specs.Lists.{first_of, sorted_by, with_item}
 use Rattle.wb_states.proofs.QueueLemmas.{entry_cmp_total, head_of-waits}
+use Rattle.std.specs.Option.{option_map}
+use Rattle.wb_store.specs.declared.keyed.KeyedRecord.{KeyedRecord}
+use Rattle.wb_store.specs.Lookups.{entry_of}
 
 -- the sooner of a first and an item, where the first stays at a tie
 abbrev pub sooner : {X : Type 0} → (X → X → Ordering) → X → Option X → X
@@ -78,9 +81,10 @@ pub scan-head : (machine : Machine) (arch : List ℕ) → scan entry_cmp None (f
 unfolding head_of queue_of
 scan-head machine arch = scan-all entry_cmp_total (filter (is_waiting arch) (finite.entries machine.records))
 
--- what is true of an entry at the head: it waits, and the records have it at its name
+-- what is true of an entry at the head: it is of the architecture, it waits, and the records have it at its name
 abbrev pub Heads : Machine → List ℕ → Entry → Type 0
-Heads machine arch entry = (entry.1.state ≡ NeedsBuild) × (finite.get machine.records (arch, entry.0.1) ≡ Some entry.1)
+Heads machine arch entry =
+    (entry.0.0 ≡ arch) × ((entry.1.state ≡ NeedsBuild) × (finite.get machine.records (arch, entry.0.1) ≡ Some entry.1))
 
 pub head-heads : (machine : Machine) (arch : List ℕ) → IfSome (head_of machine arch) (Heads machine arch)
 head-heads machine arch = found (head_of machine arch) refl where
@@ -88,4 +92,12 @@ head-heads machine arch = found (head_of machine arch) refl where
   found None is = tt
   found (Some entry) is =
       let waits = head_of-waits machine arch entry is in
-      (waits.2, ap (λ a. finite.get machine.records (a, entry.0.1)) (sym waits.1) ∙ waits.0)
+      (waits.1, (waits.2, ap (λ a. finite.get machine.records (a, entry.0.1)) (sym waits.1) ∙ waits.0))
+
+-- the same of a copy of the head
+pub keyed-heads : (machine : Machine) (arch : List ℕ) (found : Option KeyedRecord) → option_map entry_of found ≡ head_of machine arch
+    → IfSome found (λ row. Heads machine arch (entry_of row))
+keyed-heads machine arch None is = tt
+keyed-heads machine arch (Some row) is =
+    let P : Option Entry → Type 0 = λ head. IfSome head (Heads machine arch) in
+    subst P (sym is) (head-heads machine arch)

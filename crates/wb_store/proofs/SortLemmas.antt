@@ -7,10 +7,12 @@ use Rattle.std.specs.List.Sorted.{ties, IsNonDecreasingBy, IsStableByKey}
 use Rattle.std.specs.Ordering.{on}
 use Rattle.std.specs.Option.{unwrap_or}
 use Rattle.std.specs.FinMap as finite
-use Rattle.wb_states.specs.Machine.{Machine}
+use Rattle.wb_states.specs.Machine.{Key, Machine}
 use Rattle.deb_text.specs.Lists.{with_item, sorted_by}
 use Rattle.wb_states.specs.Holds.{is_held_by, held_of, take_cmp}
-use Rattle.wb_store.specs.Lookups.{Row, entry_of}
+use Rattle.std.specs.Borrow.{Bor}
+use Rattle.std.specs.Map.Iter.{deref_pair}
+use Rattle.wb_states.specs.declared.record.Record.{Record}
 
 ties_at : (m n : ℕ) → (ties (λ x y. is_lt (nat_cmp x y)) m n ≡ true → m ≡ n) × (m ≡ n → ties (λ x y. is_lt (nat_cmp x y)) m n ≡ true)
 ties_at m n = (λ h. grind (arith, nat_tests), λ h. grind (arith, nat_tests))
@@ -152,13 +154,17 @@ module _ {X Y : Type 0} (f : X → Y) (R : Y → Y → Ordering) where
   sorted_by-map [] = refl
   sorted_by-map (x ∷ xs) = ap (with_item R (f x)) (sorted_by-map xs) ∙ with_item-map x (sorted_by (on f R) xs)
 
+-- a record that is lent, after its key
+abbrev pub Row : Type 0
+Row = Bor Key × Bor Record
+
 -- the take number of a record, where none counts as 0
 abbrev pub number_of : Row → ℕ
-number_of row = unwrap_or row.2.now.take 0
+number_of row = unwrap_or row.1.now.take 0
 
 -- a stable sort of the builder's records by their take numbers gives them in their order
 pub held-sorted : (machine : Machine) (builder : List ℕ) (xs ys : List Row) → IsNonDecreasingBy number_of ys → IsStableByKey number_of nat_cmp xs ys
-    → map entry_of xs ≡ filter (is_held_by builder) (finite.entries machine.records) → map entry_of ys ≡ held_of machine builder
+    → map deref_pair xs ≡ filter (is_held_by builder) (finite.entries machine.records) → map deref_pair ys ≡ held_of machine builder
 unfolding held_of
 held-sorted machine builder xs ys rises stable all =
-    ap (map entry_of) (sorted-is number_of xs ys rises stable) ∙ sym (sorted_by-map entry_of take_cmp xs) ∙ ap (sorted_by take_cmp) all
+    ap (map deref_pair) (sorted-is number_of xs ys rises stable) ∙ sym (sorted_by-map deref_pair take_cmp xs) ∙ ap (sorted_by take_cmp) all

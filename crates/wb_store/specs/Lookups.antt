@@ -1,34 +1,25 @@
 -- What is looked up in the tables of the office (this project's own).
-use Rattle.std.specs.Prelude.{ℕ, Bool, List, filter, nat_eq, bytes_eq, map, ◌&&◌, length}
-use Rattle.std.specs.Borrow.{Bor}
+use Rattle.std.specs.Prelude.{ℕ, Bool, List, filter, nat_eq, bytes_eq, ◌&&◌, length}
 use Rattle.std.specs.FinMap as finite
-use Rattle.wb_states.specs.declared.record.Record.{Record}
 use Rattle.wb_states.specs.declared.state.State.{State}
 use Rattle.wb_states.specs.declared.state.State.TheVariants.{NeedsBuild, Building, Built, Uploaded, Installed, DepWait, BdUninstallable, Failed, NotForUs}
 use Rattle.wb_states.specs.State.{code_of}
 use Rattle.wb_states.specs.Machine.{Machine}
 use Rattle.wb_states.specs.Queue.{Entry}
 use Rattle.wb_store.specs.declared.counts.StateCounts.{StateCounts}
+use Rattle.wb_store.specs.declared.keyed.KeyedRecord.{KeyedRecord}
 
--- the name of the source package of a record, and the record
-abbrev pub named : Entry → List ℕ × Record
-named entry = (entry.0.1, entry.1)
-
--- a record that is lent, after its architecture and its source package
-abbrev pub Row : Type 0
-Row = Bor (List ℕ) × Bor (List ℕ) × Bor Record
-
--- the key and the record that are lent
-abbrev pub entry_of : Row → Entry
-entry_of row = ((row.0.now, row.1.now), row.2.now)
+-- a record after its architecture and its source package
+abbrev pub entry_of : KeyedRecord → Entry
+entry_of row = ((row.arch, row.source), row.current)
 
 -- a record of the architecture
 abbrev pub is_of : List ℕ → Entry → Bool
 is_of arch entry = bytes_eq entry.0.0 arch
 
 -- the records of the architecture, by the names of their source packages
-unfoldable pub rows_of : Machine → List ℕ → List (List ℕ × Record)
-rows_of machine arch = map named (filter (is_of arch) (finite.entries machine.records))
+unfoldable pub rows_of : Machine → List ℕ → List Entry
+rows_of machine arch = filter (is_of arch) (finite.entries machine.records)
 
 -- a record of the architecture that is in the state
 abbrev pub is_in : List ℕ → State → Entry → Bool

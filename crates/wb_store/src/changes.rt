@@ -1,21 +1,23 @@
 //! The changes of the tables: each changes the row of its key and no other.
-ghost use Rattle.std.specs.Prelude.{◌≡◌, IfOk, OnOk, OnErr};
+ghost use Rattle.std.specs.Prelude.{◌≡◌, IfOk, IfErr, OnOk, OnErr};
 ghost use Rattle.std.specs.FinMap as map;
 ghost use Rattle.std.specs.FinSet as set;
+ghost use Rattle.wb_states.specs.declared.store_fault.StoreFault.TheVariants.{Memory};
 
 use crate::{Records, Store};
 use deb_text::Text;
 use std::alloc::AllocError;
-use wb_states::{OsCpu, Record};
+use wb_states::{OsCpu, Record, StoreFault};
 
 impl Store {
     /// Gives the source package `source` on the architecture `arch` the record `current`, in the
-    /// place of the one that it had, if any. All else stays. The only error is that there is no
-    /// memory for it; the tables are then as they were (this project's own).
-    pub fn put(&mut self, arch: Text, source: Text, current: Record) -> Result<(), AllocError>
+    /// place of the one that it had, if any. All else stays. The only error is `Memory`;
+    /// the tables are then as they were (this project's own).
+    pub fn put(&mut self, arch: Text, source: Text, current: Record) -> Result<(), StoreFault>
         ensures ok { OnOk result (self.new
             ≡ record self.old { records = map.insert self.old.records (arch, source) current }) }
         ensures err { OnErr result (self.new ≡ self.old) }
+        ensures fault { IfErr result (λ fault. fault ≡ Memory) }
     {
         self.records.insert((arch, source), current)?;
         Ok(())
@@ -24,10 +26,11 @@ impl Store {
     /// Takes the record of the source package `source` on the architecture `arch` out, where it has
     /// one. All else stays. The only error is that there is no memory for it; the tables are then
     /// as they were (this project's own).
-    pub fn remove(&mut self, arch: &Text, source: &Text) -> Result<(), AllocError>
+    pub fn remove(&mut self, arch: &Text, source: &Text) -> Result<(), StoreFault>
         ensures ok { OnOk result (self.new
             ≡ record self.old { records = map.remove self.old.records (arch.now, source.now) }) }
         ensures err { OnErr result (self.new ≡ self.old) }
+        ensures fault { IfErr result (λ fault. fault ≡ Memory) }
     {
         let key = (arch.clone()?, source.clone()?);
         self.records.remove(&key);
@@ -37,10 +40,11 @@ impl Store {
     /// Adds the architecture `name` with its words, or gives an architecture that is there these
     /// words. All else stays. The only error is that there is no memory for it; the tables are then
     /// as they were (this project's own).
-    pub fn add_arch(&mut self, name: Text, words: OsCpu) -> Result<(), AllocError>
+    pub fn add_arch(&mut self, name: Text, words: OsCpu) -> Result<(), StoreFault>
         ensures ok { OnOk result (self.new
             ≡ record self.old { archs = map.insert self.old.archs name words }) }
         ensures err { OnErr result (self.new ≡ self.old) }
+        ensures fault { IfErr result (λ fault. fault ≡ Memory) }
     {
         self.archs.insert(name, words)?;
         Ok(())
@@ -48,10 +52,11 @@ impl Store {
 
     /// Adds that the builder builds for the architecture `arch`. All else stays. The only error is
     /// that there is no memory for it; the tables are then as they were (this project's own).
-    pub fn add_builder(&mut self, builder: Text, arch: Text) -> Result<(), AllocError>
+    pub fn add_builder(&mut self, builder: Text, arch: Text) -> Result<(), StoreFault>
         ensures ok { OnOk result (self.new
             ≡ record self.old { builders = set.insert self.old.builders (builder, arch) }) }
         ensures err { OnErr result (self.new ≡ self.old) }
+        ensures fault { IfErr result (λ fault. fault ≡ Memory) }
     {
         self.builders.insert((builder, arch))?;
         Ok(())

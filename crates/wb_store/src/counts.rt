@@ -1,10 +1,10 @@
 //! How many records of an architecture are in each state.
-ghost use Rattle.std.specs.Prelude.{◌≡◌};
+ghost use Rattle.std.specs.Prelude.{◌≡◌, Ok};
 ghost use Rattle.wb_store.specs.Lookups.{counts_of, number_in};
 
 use crate::Store;
 use deb_text::Text;
-use wb_states::State;
+use wb_states::{State, StoreFault};
 
 /// How many records of an architecture are in each state (this project's own).
 #[derive(Clone, Copy, Debug, PartialEq, Eq)]
@@ -30,13 +30,13 @@ pub struct StateCounts {
 }
 
 impl Store {
-    /// How many records of the architecture are in each state. Takes no memory (this project's
-    /// own).
+    /// How many records of the architecture are in each state. Takes no memory, and cannot fail of tables in
+    /// memory (this project's own).
     #[tactic(auto, unfolding(crate::specs::Lookups::counts_of))]
-    pub fn counts(&self, arch: &Text) -> StateCounts
-        ensures value { result ≡ counts_of self.now arch.now }
+    pub fn counts(&self, arch: &Text) -> Result<StateCounts, StoreFault>
+        ensures value { result ≡ Ok (counts_of self.now arch.now) }
     {
-        StateCounts {
+        Ok(StateCounts {
             needs_build: self.number_in(arch, State::NeedsBuild),
             building: self.number_in(arch, State::Building),
             built: self.number_in(arch, State::Built),
@@ -46,7 +46,7 @@ impl Store {
             bd_uninstallable: self.number_in(arch, State::BdUninstallable),
             failed: self.number_in(arch, State::Failed),
             not_for_us: self.number_in(arch, State::NotForUs),
-        }
+        })
     }
 
     #[tactic(auto, unfolding(crate::specs::Lookups::number_in))]

@@ -1,12 +1,12 @@
 //! The tables of the office and its two counts.
-ghost use Rattle.std.specs.Prelude.{◌≡◌};
+ghost use Rattle.std.specs.Prelude.{◌≡◌, Ok, IsOk};
 ghost use Rattle.wb_states.specs.Machine.{empty_office};
 
 use deb_text::Text;
 use std::alloc::Global;
 use std::collections::{BTreeMap, BTreeSet};
 use std::marker::Model;
-use wb_states::{Counts, OsCpu, Record};
+use wb_states::{Counts, OsCpu, Record, StoreFault};
 
 /// The tables of the office: the records, by architecture and source package, the words of the
 /// architectures, the pairs of a builder and an architecture for which it builds, and the two
@@ -57,19 +57,23 @@ impl Store {
         }
     }
 
-    /// The two counts of the office. Takes no memory (this project's own).
-    pub fn office_row(&self) -> Counts
-        ensures value { result ≡ record { handed = self.now.handed; accepted = self.now.accepted } }
+    /// The two counts of the office. Takes no memory, and cannot fail of tables in memory (this project's
+    /// own).
+    pub fn office_row(&self) -> Result<Counts, StoreFault>
+        ensures value { result
+            ≡ Ok (record { handed = self.now.handed; accepted = self.now.accepted }) }
     {
-        self.counts
+        Ok(self.counts)
     }
 
-    /// Sets both counts of the office; all else stays. It cannot fail and takes no memory (this
-    /// project's own).
-    pub fn set_counts(&mut self, counts: Counts)
+    /// Sets both counts of the office; all else stays. Takes no memory, and cannot fail of tables in memory
+    /// (this project's own).
+    pub fn set_counts(&mut self, counts: Counts) -> Result<(), StoreFault>
+        ensures value { IsOk result }
         ensures ok { self.new
             ≡ record self.old { handed = counts.handed; accepted = counts.accepted } }
     {
         self.counts = counts;
+        Ok(())
     }
 }

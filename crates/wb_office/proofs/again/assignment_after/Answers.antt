@@ -1,4 +1,4 @@
-use Rattle.std.proofs.Common.{◌∙◌, Some, ap, map, option_map}
+use Rattle.std.proofs.Common.{◌∙◌, Some, ap, option_map}
 use Rattle.std.specs.List.{find}
 use Rattle.wb_states.specs.Holds.{building_after, is_building_after}
 use Rattle.wb_store.specs.Lookups.{entry_of}
@@ -9,13 +9,11 @@ use Rattle.wb_office.proofs.again.assignment_after.Goals as goal
 pub returns-in-None-clause-value : goal.returns-in-None-clause-value
 unfolding building_after
 returns-in-None-clause-value c = ap (option_map held_assignment) (c.in-None.ensures.value
-    ∙ ap (λ rows. find (is_building_after c.args.arch.now c.args.after) (map entry_of rows)) c.as_slice.ensures.value
     ∙ ap (find (is_building_after c.args.arch.now c.args.after)) c.in_ok-held.ensures.value)
 
-pub returns-clause-value : goal.returns-clause-value
+pub returns-in_ok-made-in-Some-clause-value : goal.returns-in_ok-made-in-Some-clause-value
 unfolding building_after
-returns-clause-value c =
-    ap Some (c.in_ok-made-in-Some.ensures.value ∙ ap (assignment_of ((c.in-Some.of.now, c.in-Some.source.now), c.in-Some.current.now)) c.unwrap_or-take_number.ensures)
+returns-in_ok-made-in-Some-clause-value c =
+    ap Some (c.in_ok-made-in-Some.ensures.value ∙ ap (assignment_of (entry_of c.in-Some.row)) c.unwrap_or-take_number.ensures)
     ∙ ap (option_map held_assignment) (c.in-Some.ensures.value
-    ∙ ap (λ rows. find (is_building_after c.args.arch.now c.args.after) (map entry_of rows)) c.as_slice.ensures.value
     ∙ ap (find (is_building_after c.args.arch.now c.args.after)) c.in_ok-held.ensures.value)

@@ -1,22 +1,25 @@
-use Rattle.std.proofs.Common.{◌∙◌}
+use Rattle.std.proofs.Common.{◌∙◌, ap, sym, option_map}
 use Rattle.std.proofs.lemmas.Result.{IfOk-weaker, err_from_is_err_and}
+use Rattle.wb_store.specs.Lookups.{entry_of}
 use Rattle.wb_office.proofs.NextLemmas.{head_step-QueueEmpty, head_step-assignment}
 use Rattle.wb_office.proofs.AssignmentLemmas.{assignment_step-kept}
 use Rattle.wb_office.proofs.StepLemmas.{with-known}
 use Rattle.wb_office.proofs.builder.next_head.Goals as goal
 
 pub returns-in_default-clause-refused : goal.returns-in_default-clause-refused
-returns-in_default-clause-refused c = λ _. head_step-QueueEmpty c.args.store.now c.args.arch.now c.args.builder.now c.in_default.ensures.value
+returns-in_default-clause-refused c = λ _.
+    head_step-QueueEmpty c.args.store.now c.args.arch.now c.args.builder.now (sym (ap (option_map entry_of) c.in_default.is) ∙ c.in_ok-found.ensures.value)
 
 pub returns-in_err-given-clause-refused : goal.returns-in_err-given-clause-refused
 returns-in_err-given-clause-refused c =
-    let p = err_from_is_err_and c.from_residual.result c.from_residual.ensures.1 in
-    rw (p.1, p.2) (λ differs. head_step-assignment c.args.store.now c.args.arch.now c.args.builder.now c.in-Some.source.now c.in-Some.current.now c.in-Some.ensures.value
+    let p = err_from_is_err_and c.from_residual-in_err-given.result c.from_residual-in_err-given.ensures.1 in
+    rw (p.1, p.2) (λ differs.
+    head_step-assignment c.args.store.now c.args.arch.now c.args.builder.now (entry_of c.in-Some.row) (sym (ap (option_map entry_of) c.in-Some.is) ∙ c.in_ok-found.ensures.value)
     ∙ c.in_err-given.ensures.refused differs)
 
 pub returns-clause-reply : goal.returns-clause-reply
 returns-clause-reply c = IfOk-weaker c.keep_assignment.result _ _ (λ _ is.
-    head_step-assignment c.args.store.now c.args.arch.now c.args.builder.now c.in-Some.source.now c.in-Some.current.now c.in-Some.ensures.value
-    ∙ assignment_step-kept c.args.store.now _ c.args.builder.now c.args.arch.now c.in-Some.source.now _ _ c.in-Some.current.now _ _ _
-    c.in_ok-given.ensures.ok c.in_ok-given.ensures.room c.in_ok-given.ensures.key c.in_ok-given.ensures.value c.in_ok-given.ensures.reply is.0 is.1)
+    head_step-assignment c.args.store.now c.args.arch.now c.args.builder.now (entry_of c.in-Some.row) (sym (ap (option_map entry_of) c.in-Some.is) ∙ c.in_ok-found.ensures.value)
+    ∙ assignment_step-kept c.args.store.now _ c.args.builder.now (entry_of c.in-Some.row) _ _ _
+    c.in_ok-given.ensures.ok c.in_ok-given.ensures.room c.in_ok-given.ensures.value c.in_ok-given.ensures.reply is.0 is.1)
     (with-known c.keep_assignment.result _ _ c.keep_assignment.ensures.reply c.keep_assignment.ensures.ok)

@@ -4,22 +4,22 @@ use Rattle.wb_office.specs.Found.{take_step}
 use Rattle.wb_office.proofs.TakeLemmas.{take-BadName, take-BadVersion, take-is}
 use Rattle.wb_office.proofs.builder.take.Goals as goal
 
-pub returns-then-is_bad_taker-clause-refused : goal.returns-then-is_bad_taker-clause-refused
-returns-then-is_bad_taker-clause-refused c = λ _.
-    take-BadName c.args.store.now c.args.arch.now c.args.builder.now c.args.source.now c.args.version.now (sym c.is_bad_taker.ensures.value ∙ c.if-is_bad_taker.true)
+pub returns-then-has_bad_take-clause-refused : goal.returns-then-has_bad_take-clause-refused
+returns-then-has_bad_take-clause-refused c = λ _.
+    take-BadName c.args.store.now c.args.command.now.arch c.args.command.now.builder c.args.command.now.source c.args.command.now.version (sym c.has_bad_take.ensures.value ∙ c.if-has_bad_take.true)
 
 pub returns-in_err-read-clause-refused : goal.returns-in_err-read-clause-refused
 returns-in_err-read-clause-refused c =
     let p = err_from_is_err_and c.from_residual.result c.from_residual.ensures.1 in
-    rw (p.1, p.2) (λ differs. take-BadVersion c.args.store.now c.args.arch.now c.args.builder.now c.args.source.now c.args.version.now _
-    (sym c.is_bad_taker.ensures.value ∙ c.if-is_bad_taker.false) (c.in_err-read.ensures.refused differs))
+    rw (p.1, p.2) (λ differs. take-BadVersion c.args.store.now c.args.command.now.arch c.args.command.now.builder c.args.command.now.source c.args.command.now.version _
+    (sym c.has_bad_take.ensures.value ∙ c.if-has_bad_take.false) (c.in_err-read.ensures.refused differs))
 
 pub returns-clause-refused : goal.returns-clause-refused
-returns-clause-refused c = IfErr-weaker c.take_named.result _ _ (λ _ is differs. take-is c.args.store.now c.args.arch.now c.args.builder.now c.args.source.now c.args.version.now
-    (sym c.is_bad_taker.ensures.value ∙ c.if-is_bad_taker.false) c.in_ok-read.ensures.ok
-    ∙ (λ i. take_step c.args.store.now c.args.arch.now c.args.builder.now c.args.source.now (sym c.in_ok-read.ensures.value i)) ∙ is differs) c.take_named.ensures.refused
+returns-clause-refused c = IfErr-weaker c.take_by_name.result _ _ (λ _ is differs. take-is c.args.store.now c.args.command.now.arch c.args.command.now.builder c.args.command.now.source c.args.command.now.version
+    (sym c.has_bad_take.ensures.value ∙ c.if-has_bad_take.false) c.in_ok-read.ensures.ok
+    ∙ (λ i. take_step c.args.store.now c.args.command.now.arch c.args.command.now.builder c.args.command.now.source (sym c.in_ok-read.ensures.value i)) ∙ is differs) c.take_by_name.ensures.refused
 
 pub returns-clause-reply : goal.returns-clause-reply
-returns-clause-reply c = IfOk-weaker c.take_named.result _ _ (λ _ is. take-is c.args.store.now c.args.arch.now c.args.builder.now c.args.source.now c.args.version.now
-    (sym c.is_bad_taker.ensures.value ∙ c.if-is_bad_taker.false) c.in_ok-read.ensures.ok
-    ∙ (λ i. take_step c.args.store.now c.args.arch.now c.args.builder.now c.args.source.now (sym c.in_ok-read.ensures.value i)) ∙ is) c.take_named.ensures.reply
+returns-clause-reply c = IfOk-weaker c.take_by_name.result _ _ (λ _ is. take-is c.args.store.now c.args.command.now.arch c.args.command.now.builder c.args.command.now.source c.args.command.now.version
+    (sym c.has_bad_take.ensures.value ∙ c.if-has_bad_take.false) c.in_ok-read.ensures.ok
+    ∙ (λ i. take_step c.args.store.now c.args.command.now.arch c.args.command.now.builder c.args.command.now.source (sym c.in_ok-read.ensures.value i)) ∙ is) c.take_by_name.ensures.reply

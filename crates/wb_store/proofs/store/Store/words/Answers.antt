@@ -2,7 +2,7 @@ use Rattle.std.proofs.Common.{sym, ap, ◌∙◌}
 use Rattle.std.specs.FinMap as map
 use Rattle.std.specs.Cmp.Lexicographic.{nat_list_cmp_total}
 use Rattle.deb_text.proofs.MapLemmas.{get-lookup}
-use Rattle.wb_store.proofs.store.Store.arch.Goals as goal
+use Rattle.wb_store.proofs.store.Store.words.Goals as goal
 
 pub returns : goal.returns
 returns c = record {

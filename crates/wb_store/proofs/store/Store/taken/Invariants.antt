@@ -2,7 +2,7 @@ use Rattle.std.proofs.Common.{◌≡◌, filter}
 use Rattle.std.specs.FinMap as finite
 use Rattle.deb_text.specs.Lists.{first_of}
 use Rattle.wb_states.specs.Holds.{is_taken_as}
-use Rattle.wb_store.proofs.store.Store.by_take.Given as goal
+use Rattle.wb_store.proofs.store.Store.taken.Given as goal
 
 abbrev pub invariant-loop-key : goal.invariant-loop-key
 invariant-loop-key l =

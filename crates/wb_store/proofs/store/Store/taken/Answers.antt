@@ -1,12 +1,12 @@
-use Rattle.std.proofs.Common.{◌≡◌, ◌∙◌, ◌++◌, filter, map}
-use Rattle.std.specs.Map.Iter.{deref_pair}
+use Rattle.std.proofs.Common.{◌≡◌, ◌∙◌, filter}
 use Rattle.std.specs.FinMap as finite
-use Rattle.wb_store.specs.Lookups.{named, is_of}
+use Rattle.deb_text.specs.Lists.{first_of}
+use Rattle.wb_states.specs.Holds.{is_taken_as}
 use Rattle.wb_store.proofs.TableLemmas.{records-iterated}
-use Rattle.wb_store.proofs.store.Store.all_of.Goals as goal
+use Rattle.wb_store.proofs.store.Store.taken.Goals as goal
 
 pub loop-key-init : goal.loop-key-init
 loop-key-init c =
     let start : c.into_iter-key-iterator.result ≡ finite.entries c.args.self.now.records =
     records-iterated c.self.inside c.args.self.now c.self.view_is c.iter-key-items.ensures.ordered _ (c.into_iter-key-iterator.ensures.into_iter_gives ∙ c.iter-key-items.ensures.rest) in
-    λ i. map deref_pair (c.new-rows.ensures.items i) ++ map named (filter (is_of c.args.arch.now) (start i))
+    λ i. first_of (filter (is_taken_as c.args.take_number) (start i))

@@ -2,7 +2,7 @@ use Rattle.std.proofs.Common.{sym, ap, ◌∙◌}
 use Rattle.std.specs.FinMap as map
 use Rattle.deb_text.proofs.MapLemmas.{get-lookup}
 use Rattle.deb_text.proofs.KeyLemmas.{pair_cmp_total}
-use Rattle.wb_store.proofs.store.Store.get.Goals as goal
+use Rattle.wb_store.proofs.store.Store.current.Goals as goal
 
 pub returns : goal.returns
 returns c = record {
