@@ -1,5 +1,5 @@
 //! The merge of what the archive lists into the records of the office.
-ghost use Rattle.std.specs.Prelude.{◌≡◌, ◌+◌, ℕ, List, not, None, Some, Ok, Err, true, false, nat_le, bytes_eq, OnOk, IfOk, IfErr, OnErr};
+ghost use Rattle.std.specs.Prelude.{◌≡◌, ◌+◌, ℕ, List, not, None, Some, Ok, Err, true, false, nat_le, bytes_eq, IsOk, OnOk, IfOk, IfErr, OnErr};
 ghost use Rattle.std.specs.List.{list_any};
 ghost use Rattle.wb_states.specs.declared.command.Command.TheVariants as of;
 ghost use Rattle.wb_states.specs.declared.command.Part.{Part};
@@ -59,7 +59,8 @@ fn repeats_arch(parts: &[Part]) -> bool
 
 /// Whether one of the parts is for an architecture that was added. Of tables in memory it cannot fail.
 fn is_any_known(store: &Store, parts: &[Part]) -> Result<bool, Refusal>
-    ensures value { result ≡ Ok (list_any (is_known store.now) parts.now) }
+    ensures value { IfOk result (λ known. known ≡ list_any (is_known store.now) parts.now) }
+    ensures ok { IsOk result }
 {
     for part in parts {
         let is_there = has_arch(store, &part.arch)?;

@@ -16,11 +16,11 @@ returns-then-repeats_arch-clause-refused c = λ _.
     first_refusal-Merge c.args.store.now c.args.sources.now c.args.parts.now false true _ _
     (sym c.has_bad_arch.ensures ∙ c.if-has_bad_arch.false) (sym c.repeats_arch.ensures ∙ c.if-repeats_arch.true) refl refl
 
-pub returns-then-not-is_any_known-clause-refused : goal.returns-then-not-is_any_known-clause-refused
-returns-then-not-is_any_known-clause-refused c = λ _.
+pub returns-then-not-has_known-clause-refused : goal.returns-then-not-has_known-clause-refused
+returns-then-not-has_known-clause-refused c = λ _.
     first_refusal-Merge c.args.store.now c.args.sources.now c.args.parts.now false false (Some UnknownArch) _
     (sym c.has_bad_arch.ensures ∙ c.if-has_bad_arch.false) (sym c.repeats_arch.ensures ∙ c.if-repeats_arch.false)
-    (parts_refusal-unknown c.args.store.now c.args.sources.now c.args.parts.now (sym c.is_any_known.ensures ∙ c.if-not-is_any_known.true)) refl
+    (parts_refusal-unknown c.args.store.now c.args.sources.now c.args.parts.now (sym c.in_ok-has_known.ensures.value ∙ c.if-not-has_known.true)) refl
 
 pub returns-then-not-made-clause-refused : goal.returns-then-not-made-clause-refused
 returns-then-not-made-clause-refused c = λ _.
@@ -29,16 +29,16 @@ returns-then-not-made-clause-refused c = λ _.
     (sym c.has_bad_arch.ensures ∙ c.if-has_bad_arch.false) (sym c.repeats_arch.ensures ∙ c.if-repeats_arch.false)
     (c.first_part_refusal.ensures c.args.store.now c.args.sources.now c.args.parts.now c.in_ok-made.ensures.replies none) refl
 
-pub returns-then-is_spent-clause-refused : goal.returns-then-is_spent-clause-refused
-returns-then-is_spent-clause-refused c = λ _.
+pub returns-then-is_full-clause-refused : goal.returns-then-is_full-clause-refused
+returns-then-is_full-clause-refused c = λ _.
     let some : list_any (is_good c.args.store.now c.args.sources.now) c.args.parts.now ≡ true = search rules in
     first_refusal-Merge c.args.store.now c.args.sources.now c.args.parts.now false false None true
     (sym c.has_bad_arch.ensures ∙ c.if-has_bad_arch.false) (sym c.repeats_arch.ensures ∙ c.if-repeats_arch.false)
-    (parts_refusal-none c.args.store.now c.args.sources.now c.args.parts.now some) (sym c.is_spent.ensures.value ∙ c.if-is_spent.true)
+    (parts_refusal-none c.args.store.now c.args.sources.now c.args.parts.now some) (sym c.in_ok-is_full.ensures.value ∙ c.if-is_full.true)
 
 pub returns-clause-ok : goal.returns-clause-ok
 returns-clause-ok c =
     let some : list_any (is_good c.args.store.now c.args.sources.now) c.args.parts.now ≡ true = search rules in
     first_refusal-Merge c.args.store.now c.args.sources.now c.args.parts.now false false None false
     (sym c.has_bad_arch.ensures ∙ c.if-has_bad_arch.false) (sym c.repeats_arch.ensures ∙ c.if-repeats_arch.false)
-    (parts_refusal-none c.args.store.now c.args.sources.now c.args.parts.now some) (sym c.is_spent.ensures.value ∙ c.if-is_spent.false)
+    (parts_refusal-none c.args.store.now c.args.sources.now c.args.parts.now some) (sym c.in_ok-is_full.ensures.value ∙ c.if-is_full.false)
