@@ -10,7 +10,7 @@ use std::alloc::{AllocError, Global};
 use std::marker::Model;
 
 /// The name and the trimmed first value of a field's line, which stand before
-/// and behind its first colon.
+/// and after its first colon.
 #[tactic(auto, unfolding(crate::specs::Fields::has_colon, crate::specs::Fields::name_of, crate::specs::Fields::first_of))]
 pub(crate) fn colon_parts(line: &str) -> Option<(&str, &str)>
     ensures none { IfNone result (has_colon line.now ≡ false) }
@@ -42,7 +42,7 @@ pub(crate) fn is_name(name: &str) -> bool
 }
 
 /// The first line of a text as a field has it, where it is a continuation
-/// line, and what stands behind it.
+/// line, and what stands after it.
 fn next_continuation(text: &str) -> Option<(&str, &str)>
     ensures none { IfNone result (continuations text.now ≡ []) }
     ensures some { IfSome result (λ cut.
@@ -113,7 +113,7 @@ impl<'a> Field<'a> {
         self.name
     }
 
-    /// What stands behind the colon, without the spaces and tabs round it;
+    /// What stands after the colon, without the spaces and tabs round it;
     /// it may be empty (Debian Policy 5.1).
     pub fn first(&self) -> &'a str
         ensures { result.now ≡ self.now.first }

@@ -52,8 +52,8 @@ pub fn fields_are_found()
 {}
 
 /// Call by call a reader answers the paragraphs in their order, each by its
-/// reading, up to and with the first that has none; behind the last it
-/// answers none, behind a refusal `Ended` (this project's own).
+/// reading, up to and with the first that has none; after the last it
+/// answers none, after a refusal `Ended` (this project's own).
 pub fn calls_give_paragraphs()
     ensures value { (before : List (List (List ℕ))) (lines : List (List ℕ))
         (later : List (List (List ℕ))) → list_all has_reading before ≡ true →

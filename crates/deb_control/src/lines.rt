@@ -12,7 +12,7 @@ fn feed_place(bytes: &[u8]) -> Option<usize>
     memchr(b'\n', bytes)
 }
 
-/// The first line, without its line feed, and what stands behind that.
+/// The first line, without its line feed, and what stands after it.
 pub(crate) fn split_line(bytes: &[u8]) -> (&[u8], &[u8])
     ensures line { result.0.now ≡ before_first is_feed bytes.now }
     ensures rest { result.1.now ≡ after_first is_feed bytes.now }
@@ -23,7 +23,7 @@ pub(crate) fn split_line(bytes: &[u8]) -> (&[u8], &[u8])
     }
 }
 
-/// The first line of a text, without its line feed, and what stands behind.
+/// The first line of a text, without its line feed, and what stands after.
 pub(crate) fn split_text(text: &str) -> (&str, &str)
     ensures line { result.0.now ≡ before_first is_feed text.now }
     ensures rest { result.1.now ≡ after_first is_feed text.now }
@@ -42,7 +42,7 @@ fn is_blank_line(line: &[u8]) -> bool
     line.iter().all(|b| *b == b' ' || *b == b'\t')
 }
 
-/// What stands behind a separator, where the bytes begin with one.
+/// What stands after a separator, where the bytes begin with one.
 fn after_separator(bytes: &[u8]) -> Option<&[u8]>
     ensures none { IfNone result (begins_separator bytes.now ≡ false) }
     ensures some { OnSome result (begins_separator bytes.now ≡ true) }
@@ -58,7 +58,7 @@ fn after_separator(bytes: &[u8]) -> Option<&[u8]>
     None
 }
 
-/// What stands behind a line of a paragraph, where the bytes begin with one.
+/// What stands after a line of a paragraph, where the bytes begin with one.
 fn after_line(bytes: &[u8]) -> Option<&[u8]>
     ensures none { IfNone result (begins_paragraph bytes.now ≡ false) }
     ensures some { OnSome result (begins_paragraph bytes.now ≡ true) }
@@ -87,7 +87,7 @@ fn without_separators(bytes: &[u8]) -> &[u8]
     left
 }
 
-/// The first paragraph of bytes that begin with one, and what stands behind.
+/// The first paragraph of bytes that begin with one, and what stands after.
 fn cut_paragraph(bytes: &[u8]) -> (&[u8], &[u8])
     requires { begins_paragraph bytes.now ≡ true }
     ensures cut { IsFirstParagraph bytes.now result.0.now result.1.now }
@@ -100,7 +100,7 @@ fn cut_paragraph(bytes: &[u8]) -> (&[u8], &[u8])
     (&bytes[..bytes.len() - left.len()], left)
 }
 
-/// The first paragraph, and what stands behind it, where there is one.
+/// The first paragraph, and what stands after it, where there is one.
 pub(crate) fn next_paragraph(bytes: &[u8]) -> Option<(&[u8], &[u8])>
     ensures none { IfNone result (paragraphs_in (lines_of bytes.now) ≡ []) }
     ensures some { IfSome result (λ cut. IsFirstParagraph bytes.now cut.0.now cut.1.now) }

@@ -69,7 +69,7 @@ fn add_name(
     Ok(new)
 }
 
-/// Reads one line, behind which `rest` stands.
+/// Reads one line, after which `rest` stands.
 #[tactic(auto, unfolding(crate::specs::Fields::line_fault, crate::specs::Fields::form_fault, crate::specs::Fields::fields_at, crate::specs::Fields::field_of, crate::specs::Fields::continuations))]
 fn read_line<'a>(
     alloc: Global,

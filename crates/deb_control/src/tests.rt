@@ -4,7 +4,7 @@ use std::alloc::Global;
 use std::test::Fail;
 
 /// Texts, and what they hold: a line for each field with its name, its folded
-/// value and its continuation lines, an empty line behind each paragraph, and
+/// value and its continuation lines, an empty line after each paragraph, and
 /// the fault.
 const CASES: [(&str, &str); 10] = [
     // apt tagfile_test.cc SingleField
@@ -240,7 +240,7 @@ const CASES: [(&str, &str); 10] = [
     ),
 ];
 
-/// Puts a paragraph's fields behind a text, a line each.
+/// Puts a paragraph's fields after a text, a line each.
 fn show(alloc: Global, text: &mut String, paragraph: &Paragraph<'_>) -> Result<(), Fail> {
     for field in paragraph.fields() {
         let folded = field.folded(alloc)?;

@@ -10,7 +10,7 @@ use std::error::Error;
 use std::fmt;
 
 /// What is wrong with the text of relations: `TooLong` before all else, then the first fault from the left,
-/// save that of a bracket which is not closed in its alternative only that is told. The place of `Stray` is a
+/// save that of a bracket which is not closed in its alternative only that is reported. The place of `Stray` is a
 /// byte offset, counted from 0 at the start of the whole text; one in the fault of a version, at its start.
 /// Source: Debian Policy 7.1; the limit is this project's own.
 #[derive(Clone, Copy, PartialEq, Eq, Debug)]
@@ -25,7 +25,7 @@ pub enum RelationFault {
     Mixed,
     /// A bracket is not closed before the next bar or comma, or the end.
     Unclosed,
-    /// Nothing stands before, between or behind the bars of a group.
+    /// Nothing stands before, between or after the bars of a group.
     EmptyAlternative,
     /// What stands at this place belongs to no part of an alternative.
     Stray(usize),

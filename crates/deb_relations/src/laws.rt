@@ -35,8 +35,8 @@ pub fn printed_reads()
 {}
 
 /// A text is read as the groups that the grammar gives it, and has a fault where it gives none:
-/// too long is exactly above 65536 bytes, none is want of memory, and that of a version is the
-/// fault of a text that stands behind an operator in parentheses.
+/// too long is exactly above 65536 bytes, none is out of memory, and that of a version is the
+/// fault of a text that stands after an operator in parentheses.
 /// Source: Debian Policy 7.1; the limit is this project's own.
 pub fn readings_are_of_grammar()
     ensures reads { (text : List ℕ)
@@ -79,7 +79,7 @@ pub fn reduced_is_bare()
         → reduced other (reduced arch groups) ≡ reduced arch groups }
 {}
 
-/// What is told as stray stands at its place in the whole text, and is no white space.
+/// What is reported as stray stands at its place in the whole text, and is no white space.
 /// Source: this project's own.
 pub fn strays_stand_in_the_text()
     ensures { (text : List ℕ) (place : ℕ)

@@ -40,7 +40,7 @@ fn place_of(text: &str, end: usize) -> usize
     end.saturating_sub(text.len())
 }
 
-// Where the text before a mark ends, when the text behind it ends at this place.
+// Where the text before a mark ends, when the text after it ends at this place.
 fn end_before(behind: &str, end: usize) -> usize
     ensures { result ≡ end_before end behind.now }
 {
@@ -84,7 +84,7 @@ fn read_qualifier(alloc: Global, text: &str) -> Result<(Option<Text>, &str), Rel
     Ok((Some(Text::copied(alloc, word)?), rest))
 }
 
-// What stands between two brackets and behind them, or none where the first does not stand.
+// What stands between two brackets and after them, or none where the first does not stand.
 #[tactic(auto, unfolding(crate::specs::Reader::between))]
 fn between(left: char, right: char, text: &str) -> Result<Option<(&str, &str)>, RelationFault>
     requires left { left < 128 }
@@ -310,7 +310,7 @@ fn profile_of(alloc: Global, piece: &str, end: usize) -> Result<Items<Term>, Rel
     }
 }
 
-// What is wrong with characters behind the last list.
+// What is wrong with characters after the last list.
 #[tactic(auto, unfolding(crate::specs::Reading::list_fault))]
 fn end_fault(rest: &str, end: usize) -> RelationFault
     ensures { result ≡ list_fault Unclosed end rest.now }
@@ -420,10 +420,10 @@ fn read_groups(alloc: Global, text: &str) -> Result<Items<Items<Alternative>>, R
 impl Relations {
     /// Reads relations, a text of at most 65536 bytes. Groups stand between commas, and blank ones
     /// are skipped; alternatives stand between bars. An alternative is a package name, directly
-    /// behind it perhaps `:` and a qualifier, then perhaps an operator and a version in parentheses,
+    /// after it perhaps `:` and a qualifier, then perhaps an operator and a version in parentheses,
     /// architecture words in brackets, all negated by `!` or none, and any number of lists of build
     /// profiles in angle brackets. White space parts them and says nothing else; none stands inside
-    /// a word or behind `!`. The old operators `<` and `>` are read as `<=` and `>=`.
+    /// a word or after `!`. The old operators `<` and `>` are read as `<=` and `>=`.
     ///
     /// Errors: `TooLong` above 65536 bytes, and before all else; `Memory` if the growth of a text or of
     /// a list was refused, which comes after a first package name at the earliest; else, if the text

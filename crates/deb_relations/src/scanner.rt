@@ -106,7 +106,7 @@ pub(crate) fn strip(mark: char, text: &str) -> Option<&str>
     text.strip_prefix(mark)
 }
 
-// What stands before the first such character, and behind it.
+// What stands before the first such character, and after it.
 pub(crate) fn cut_at(mark: char, text: &str) -> Option<(&str, &str)>
     requires { mark < 128 }
     ensures { option_map halves_of result ≡ cut mark text.now }

@@ -59,7 +59,7 @@ pub fn letters_are_earlier()
     ensures { LettersAreEarlier }
 {}
 
-/// Parts compare by their first non-digit runs, then by the numbers behind these, then by what follows;
+/// Parts compare by their first non-digit runs, then by the numbers after these, then by what follows;
 /// zeros before a number change nothing.
 /// Source: Debian Policy 5.6.12.
 pub fn parts_compare_by_runs()
