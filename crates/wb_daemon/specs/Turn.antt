@@ -1,5 +1,5 @@
 -- What one turn of a run does: it reads a line and answers it (this project's own).
-use Rattle.std.specs.Prelude.{◌≡◌, ℕ, ◌<◌, ◌≤◌, false, true, ◌⊎◌, List, length, take, Option}
+use Rattle.std.specs.Prelude.{◌≡◌, ℕ, Bool, ◌<◌, ◌≤◌, false, true, ◌⊎◌, List, length, take, Option, None, Some, Result, Ok, Err}
 use Rattle.std.specs.Cow.{cow_str_bytes}
 use Rattle.std.specs.Io.KnownBytes.{Appends, Consumes, IsAtEnd}
 use Rattle.wb_states.specs.Machine.{Machine}
@@ -10,8 +10,8 @@ use Rattle.wb_daemon.specs.Line.{is_long, with_feed}
 use Rattle.wb_daemon.specs.Lists.{Gives}
 use Rattle.wb_daemon.specs.Run.{Said, Says, SaysAsked, command_said, memory_said, Accepts, EndsInput, LineAsks, RunStopsFor}
 use Rattle.wb_daemon.specs.declared.answer.Answer.{Answer}
-use Rattle.wb_daemon.specs.declared.run.Cause.{Cause}
-use Rattle.wb_daemon.specs.declared.run.Cause.TheVariants.{Read, Write, Reply}
+use Rattle.wb_daemon.specs.declared.message.Cause.{Cause}
+use Rattle.wb_daemon.specs.declared.message.Cause.TheVariants.{Read, Write, Reply, Lines, Room}
 use Rattle.wb_daemon.specs.declared.run.RunEnd.{RunEnd}
 use Rattle.wb_daemon.specs.declared.run.RunEnd.TheVariants.{Ended, Stopped}
 use Rattle.wb_daemon.specs.declared.run.Turn.{Turn}
@@ -86,3 +86,23 @@ Ran gives (Ended status) before after old_input new_input old new =
     (status ≤ 3) × EndsInput gives old_input old new before after status
 Ran gives (Stopped cause) before after old_input new_input old new =
     RunStopsFor gives cause old_input new_input old new before after
+
+-- whether a line was not answered since a write failed
+abbrev pub fails_to_write : Result ℕ Cause → Bool
+fails_to_write (Ok status) = false
+fails_to_write (Err Read) = false
+fails_to_write (Err Write) = true
+fails_to_write (Err Reply) = false
+fails_to_write (Err Lines) = false
+fails_to_write (Err Room) = false
+
+-- why a turn stopped, where it did
+abbrev pub cause_of_turn : Turn → Option Cause
+cause_of_turn (More status) = None
+cause_of_turn (End status) = None
+cause_of_turn (Stop cause) = Some cause
+
+-- why a run stopped, where it did
+abbrev pub cause_of_end : RunEnd → Option Cause
+cause_of_end (Ended status) = None
+cause_of_end (Stopped cause) = Some cause
