@@ -81,7 +81,7 @@ pub Says-asked : (gives : Gives) (machine : Machine) (line : List ℕ) (asked : 
 Says-asked gives machine line asked said h k e (inl p) =
     Says-kind gives machine line (Request asked) said (kind_of_line-read line h k ∙ ap kind_of_asked e) p
 Says-asked gives machine line asked said h k e (inr p) =
-    inr (needs_memory-read line h k (utf8-asked line asked (is_utf8 line) refl e), p)
+    inr (needs_memory-read line h k (utf8-asked line asked (is_utf8 line) refl e), p.1)
 
 pub Says-fault : (gives : Gives) (machine : Machine) (line : List ℕ) (said : Said) → is_long line ≡ false → is_blank_line line ≡ false
     → asked_of_line line ≡ None → said ≡ fault_said machine → Says gives machine line said

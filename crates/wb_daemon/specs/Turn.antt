@@ -1,10 +1,15 @@
 -- What one turn of a run does: it reads a line and answers it (this project's own).
-use Rattle.std.specs.Prelude.{◌≡◌, ℕ, Bool, ◌<◌, ◌≤◌, false, true, ◌⊎◌, List, length, take, Option, None, Some, Result, Ok, Err}
+use Rattle.std.specs.Prelude.{◌≡◌, ℕ, Bool, ◌<◌, ◌≤◌, false, true, ◌⊎◌, List, length, take, ⊤, IsOk, Option, None, Some, Result, Ok, Err}
 use Rattle.std.specs.Cow.{cow_str_bytes}
 use Rattle.std.specs.Io.KnownBytes.{Appends, Consumes, IsAtEnd}
 use Rattle.wb_states.specs.Machine.{Machine}
 use Rattle.wb_states.specs.declared.command.Command.{Command}
+use Rattle.wb_states.specs.declared.refusal.Refusal.{Refusal}
+use Rattle.wb_office.specs.Checks.{MayWantMemory}
+use Rattle.wb_office.specs.Step.{step}
 use Rattle.wb_words.specs.declared.words.Asked.{Asked}
+use Rattle.wb_words.specs.declared.words.Asked.TheVariants.{Command as asked_Command, Merge as asked_Merge}
+use Rattle.wb_api.specs.Encoding.{is_plain}
 use Rattle.deb_control.specs.Lines.{IsOneLine}
 use Rattle.wb_daemon.specs.Line.{is_long, with_feed}
 use Rattle.wb_daemon.specs.Lists.{Gives}
@@ -21,14 +26,27 @@ use Rattle.wb_daemon.specs.declared.run.Turn.TheVariants.{More, End, Stop}
 abbrev pub said_by : Answer → Machine → Said
 said_by answer after = record { text = with_feed (cow_str_bytes answer.text); machine = after; status = answer.status }
 
+-- why a command may be answered by want of memory: it may want some, or its refusal tells more than a number and a name, or its reply repeats an assignment
+abbrev pub MayLackMemory : Machine → Command → Type 0
+MayLackMemory machine command =
+    (MayWantMemory command
+    ⊎ ((refusal : Refusal) × ((step machine command).0 ≡ Err refusal) × (is_plain refusal ≡ false)))
+    ⊎ (IsOk (step machine command).0 × ((step machine command).1 ≡ machine))
+
 -- what may be said to a command: that there is no memory for it is possible too
 abbrev pub SaysCommandOrMemory : Machine → Command → Said → Type 0
 SaysCommandOrMemory machine command said =
-    (said ≡ command_said machine command) ⊎ (said ≡ memory_said machine)
+    (said ≡ command_said machine command) ⊎ (MayLackMemory machine command × (said ≡ memory_said machine))
+
+-- why what a line asks for may be answered by want of memory: a command as above, and the lists of a merge are read into memory
+abbrev pub MayLackMemoryFor : Machine → Asked → Type 0
+MayLackMemoryFor machine (asked_Command command) = MayLackMemory machine command
+MayLackMemoryFor machine (asked_Merge sources parts) = ⊤
 
 -- what may be said to what a line asks for: that there is no memory for it is possible too
 abbrev pub SaysAskedOrMemory : Gives → Machine → Asked → Said → Type 0
-SaysAskedOrMemory gives machine asked said = SaysAsked gives machine asked said ⊎ (said ≡ memory_said machine)
+SaysAskedOrMemory gives machine asked said =
+    SaysAsked gives machine asked said ⊎ (MayLackMemoryFor machine asked × (said ≡ memory_said machine))
 
 -- a front of a text, but not the whole, is appended
 abbrev pub AppendsFront : Option (List ℕ) → Option (List ℕ) → List ℕ → Type 0

@@ -62,6 +62,7 @@ fn answer_to(alloc: Global, office: &mut Office, command: &Command) -> Option<An
             Err(_) if office.accepted() == accepted => Some(memory_answer(alloc)),
             Err(_) => None,
         },
+        Err(Refusal::Memory) => Some(memory_answer(alloc)),
         Err(refusal) => Some(Answer {
             text: refusal_json(alloc, &refusal),
             status: REFUSED,

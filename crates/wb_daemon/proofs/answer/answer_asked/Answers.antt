@@ -35,4 +35,8 @@ returns-in-Ok-None-clause-value g c =
     )
 
 pub returns-in-Err-clause-value : goal.returns-in-Err-clause-value
-returns-in-Err-clause-value g c = (c.memory_answer.ensures.status, inr (c.memory_answer.ensures.value c.args.office.now))
+returns-in-Err-clause-value g c = (
+  c.memory_answer.ensures.status,
+  subst (λ asked. SaysAskedOrMemory (g.L.Lists.gives c.args.lists.now) c.args.office.now asked (said_by c.memory_answer.result c.args.office.now))
+      (sym c.in-Merge.is) (inr (tt, c.memory_answer.ensures.value c.args.office.now)),
+)
