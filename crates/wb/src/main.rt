@@ -2,57 +2,95 @@
 #![tactic(auto)]
 
 use std::alloc::{AllocError, Global};
-use std::io::{self, BufReader};
+use std::io::{self, BufReader, Read};
 use std::process::ExitCode;
 use std::rt::{Env, Files};
 use std::{env, fs};
 use wb_api::line_fault_json;
-use wb_daemon::{Lists, run_lines};
+use wb_daemon::{Cause, Lists, Message, WatchedReader, WatchedWriter, run_lines, status};
 use wb_office::Office;
 use wb_words::{HELP, Start, start_of};
 
-/// The lists that stand in files, whose names are paths from the working directory.
+/// The program and the kit that it is proved with, for `wb --version`.
+const VERSION: &str = "wb 0.1.0, proved with rattle-kit-13b logic dac8208d650f15bf";
+
+/// The lists that stand in files, whose names are paths from the working directory. Messages go to standard
+/// error.
 struct FileLists<'a, F> {
-    files: &'a F,
+    rt: &'a F,
 }
 
 impl<'a, F> Drop for FileLists<'a, F> {
     fn drop(self) {
-        let FileLists { files: _ } = self;
+        let FileLists { rt: _ } = self;
     }
 }
 
-impl<'a, F: Files> Lists for FileLists<'a, F> {
+impl<'a, F: Files + Eprint> Lists for FileLists<'a, F> {
     type List = F::File;
 
     fn open(&mut self, _alloc: Global, name: &str) -> Result<Option<F::File>, AllocError> {
-        Ok(fs::open(self.files, name).ok())
+        match fs::open(self.rt, name) {
+            Ok(list) => Ok(Some(list)),
+            Err(error) => {
+                self.report(Message::ListFailed {
+                    name,
+                    error: &error,
+                });
+                Ok(None)
+            }
+        }
+    }
+
+    fn read(list: &mut F::File, room: &mut [u8]) -> io::Result<usize> {
+        list.read(room)
+    }
+
+    fn report(&mut self, message: Message<'_>) {
+        say(self.rt, message);
     }
 }
 
-/// Answers the lines of the input, or says how the program is used.
+/// Prints a message on standard error; one that cannot be printed is dropped.
+fn say(rt: &impl Eprint, message: Message<'_>) {
+    let _ = eprintln!(rt; "wb: {message}");
+}
+
+/// Answers the lines of the input, or says how the program is used or which it is.
 ///
-/// Ends with 0 where all was accepted or help was asked for, with 1 after a refusal, with 2 where a line
-/// or the program's own words are no command, and with 3 where a list cannot be read, or where reading,
-/// writing or memory failed before the end of the input.
+/// Ends with 0 where all was accepted, or help or the version was asked for, with 1 after a refusal, with 2
+/// where a line or the program's own words are no command, and with 3 where a list cannot be read, or where
+/// reading, writing or memory failed before the end of the input.
 fn main(rt: HostRuntime) -> ExitCode {
     let status = match start(&rt) {
-        Some(Start::Run) => run(&rt),
-        Some(Start::Help) => said(rt.print(HELP), 0),
-        None => said(rt.println(line_fault_json()), 2),
+        Some(Asked::Start(Start::Run)) => run(&rt),
+        Some(Asked::Start(Start::Help)) => said(rt.print(HELP), status::ACCEPTED),
+        Some(Asked::Version) => said(rt.println(VERSION), status::ACCEPTED),
+        None => said(rt.println(line_fault_json()), status::LINE_FAULT),
     };
     ExitCode::from(status)
 }
 
+/// What the program's words ask for.
+#[derive(Clone, Copy)]
+enum Asked {
+    Start(Start),
+    /// To name the program and its kit: the one word `--version`.
+    Version,
+}
+
 /// What the program's words ask for, or none where they ask for nothing that there is.
-fn start(rt: &(impl Env + AllocGlobal + Eprint)) -> Option<Start> {
+fn start(rt: &(impl Env + AllocGlobal + Eprint)) -> Option<Asked> {
     let arguments: Vec<String> = env::args(rt).ok()?.skip(1).collect(rt.alloc()).ok()?;
     let mut words: Vec<&str> = Vec::new(rt.alloc());
     for argument in &arguments {
         words.push(argument.as_str()).ok()?;
     }
+    if let ["--version"] = words.as_slice() {
+        return Some(Asked::Version);
+    }
     match start_of(rt.alloc(), &words) {
-        Ok(start) => Some(start),
+        Ok(start) => Some(Asked::Start(start)),
         Err(error) => {
             let _ = rt.eprintln(error);
             None
@@ -61,22 +99,29 @@ fn start(rt: &(impl Env + AllocGlobal + Eprint)) -> Option<Start> {
 }
 
 /// Answers the lines of standard input on standard output.
-fn run(rt: &(impl Input + Print + AllocGlobal + Files)) -> u8 {
+fn run(rt: &(impl Input + Print + Eprint + AllocGlobal + Files)) -> u8 {
     let mut office = Office::new(rt.alloc());
-    let Ok(mut reader) = BufReader::new(rt.alloc(), rt.reader()) else {
-        return 3;
+    let Ok(buffered) = BufReader::new(rt.alloc(), rt.reader()) else {
+        say(rt, Message::Stopped { cause: Cause::Room });
+        return status::STOPPED;
     };
-    let mut lists = FileLists { files: rt };
+    let mut reader = WatchedReader::new(buffered);
+    let mut writer = WatchedWriter::new(io::writer(rt));
+    let mut lists = FileLists { rt };
     run_lines(
         rt.alloc(),
         &mut office,
         &mut reader,
-        &mut io::writer(rt),
+        &mut writer,
         &mut lists,
     )
 }
 
 /// The status after something was printed, or that of a failed write.
 fn said(printed: io::Result<()>, status: u8) -> u8 {
-    if printed.is_ok() { status } else { 3 }
+    if printed.is_ok() {
+        status
+    } else {
+        status::STOPPED
+    }
 }

@@ -6,6 +6,8 @@ use Rattle.std.specs.Io.KnownBytes.{Appends}
 use Rattle.wb_states.specs.Machine.{Machine}
 use Rattle.wb_states.specs.declared.command.Command.{Command}
 use Rattle.wb_states.specs.declared.reply.Reply.{Reply}
+use Rattle.wb_office.proofs.CountedLemmas.{step-accepted}
+use Rattle.wb_office.proofs.PassLemmas.{step-either}
 use Rattle.wb_office.specs.Step.{step, Outcome}
 use Rattle.wb_words.specs.Words.{asked_in}
 use Rattle.wb_words.specs.declared.words.Asked.{Asked}
@@ -17,12 +19,12 @@ use Rattle.wb_daemon.specs.Line.{is_long, with_feed}
 use Rattle.wb_daemon.specs.Lists.{Gives, GivesMerge, GivesNoMore}
 use Rattle.wb_daemon.specs.Run.{Said, Says, Accepts, AsksFor, LineAsks, SaysOfKind, LineKind, Blank, Fault, Request, kind_of_line, kind_of_asked, asked_of_line, fault_said, memory_said, needs_memory}
 use Rattle.wb_daemon.specs.Turn.{Answers, SaysAskedOrMemory, AnswersInPart, AppendsFront, TookEndedLine, TookLastLine, LacksAnswer, StopsTurn, Turns}
-use Rattle.wb_daemon.specs.declared.run.Cause.{Cause}
-use Rattle.wb_daemon.specs.declared.run.Cause.TheVariants as why
+use Rattle.wb_daemon.specs.declared.message.Cause.{Cause}
+use Rattle.wb_daemon.specs.declared.message.Cause.TheVariants as why
 use Rattle.wb_daemon.specs.declared.run.Turn.{Turn}
 use Rattle.wb_daemon.specs.declared.run.Turn.TheVariants.{More, End, Stop}
 use Rattle.wb_daemon.proofs.LineLemmas.{Appends-same}
-use Rattle.wb_daemon.proofs.ListLemmas.{GivesParts-more}
+use Rattle.wb_daemon.proofs.ListLemmas.{GivesParts-more, LacksMerge-more}
 
 -- ---- the kind of a line
 
@@ -79,7 +81,7 @@ pub Says-asked : (gives : Gives) (machine : Machine) (line : List ℕ) (asked : 
 Says-asked gives machine line asked said h k e (inl p) =
     Says-kind gives machine line (Request asked) said (kind_of_line-read line h k ∙ ap kind_of_asked e) p
 Says-asked gives machine line asked said h k e (inr p) =
-    inr (needs_memory-read line h k (utf8-asked line asked (is_utf8 line) refl e), p)
+    inr (needs_memory-read line h k (utf8-asked line asked (is_utf8 line) refl e), p.1)
 
 pub Says-fault : (gives : Gives) (machine : Machine) (line : List ℕ) (said : Said) → is_long line ≡ false → is_blank_line line ≡ false
     → asked_of_line line ≡ None → said ≡ fault_said machine → Says gives machine line said
@@ -94,7 +96,7 @@ Says-memory gives machine line said h k u p = inr (needs_memory-read line h k u,
 GivesMerge-more : (old new : Gives) → GivesNoMore old new → (sources : List ℕ) (names : List PartNames) (command : Command)
     → GivesMerge new sources names command → GivesMerge old sources names command
 GivesMerge-more old new m sources names command g =
-    (g.0, g.1, (m sources g.0 g.2.0, g.2.1), GivesParts-more old new m names g.1 g.3, g.4)
+    (g.0, g.1, (m.0 sources g.0 g.2.0, g.2.1), GivesParts-more old new m names g.1 g.3, g.4)
 
 SaysOfKind-more : (old new : Gives) → GivesNoMore old new → (machine : Machine) (kind : LineKind) (said : Said)
     → SaysOfKind new machine kind said → SaysOfKind old machine kind said
@@ -103,7 +105,8 @@ SaysOfKind-more old new m machine Fault said h = h
 SaysOfKind-more old new m machine (Request (asked_Command command)) said h = h
 SaysOfKind-more old new m machine (Request (asked_Merge sources parts)) said (inl h) =
     inl (h.0, GivesMerge-more old new m sources parts h.0 h.1, h.2)
-SaysOfKind-more old new m machine (Request (asked_Merge sources parts)) said (inr h) = inr h
+SaysOfKind-more old new m machine (Request (asked_Merge sources parts)) said (inr h) =
+    inr (LacksMerge-more old new m sources parts h.0, h.1)
 
 Says-more : (old new : Gives) → GivesNoMore old new → (machine : Machine) (line : List ℕ) (said : Said)
     → Says new machine line said → Says old machine line said
@@ -150,10 +153,25 @@ Turns-more old new m (Stop cause) before after i j a b t = StopsTurn-more old ne
 
 -- ---- what was written
 
--- a command that the office replies to is accepted
-pub reply-accepted : (machine after : Machine) (command : Command) (reply : Reply) → step machine command ≡ (Ok reply, after) → Accepts machine command after
-reply-accepted machine after command reply e =
-    (subst (λ (outcome : Outcome). IsOk outcome.0) (sym e) refl, sym (ap (λ (outcome : Outcome). outcome.1) e))
+-- a command that the office replies to is accepted, where the office counts one more after it
+pub reply-accepted : (machine after : Machine) (command : Command) (reply : Reply) → step machine command ≡ (Ok reply, after)
+    → ¬ (after.accepted ≡ machine.accepted) → Accepts machine command after
+reply-accepted machine after command reply e more =
+    let is : after ≡ (step machine command).1 = sym (ap (λ (outcome : Outcome). outcome.1) e) in
+    let rises = step-accepted machine command in
+    let same : (step machine command).1.accepted ≡ after.accepted = ap (λ (m : Machine). m.accepted) (sym is) in
+    (subst (λ (outcome : Outcome). IsOk outcome.0) (sym e) refl, is, omega (arith, rises, same, more))
+
+-- a command after which the office counts no more changed nothing
+step-repeats : (machine : Machine) (command : Command) → (step machine command).1.accepted ≡ machine.accepted → (step machine command).1 ≡ machine
+step-repeats machine command =
+    step-either (λ after. after.accepted ≡ machine.accepted → after ≡ machine) machine command (λ _. refl) (λ _ _ e. absurd (omega (arith, e)))
+
+pub reply-repeats : (machine after : Machine) (command : Command) (reply : Reply) → step machine command ≡ (Ok reply, after)
+    → after.accepted ≡ machine.accepted → after ≡ machine
+reply-repeats machine after command reply e same =
+    let is : (step machine command).1 ≡ after = ap (λ (outcome : Outcome). outcome.1) e in
+    sym is ∙ step-repeats machine command (ap (λ (m : Machine). m.accepted) is ∙ same)
 
 -- a line that is neither long nor blank asks for what its words ask for
 pub LineAsks-asked : (gives : Gives) (line : List ℕ) (asked : Asked) (command : Command) → is_long line ≡ false → is_blank_line line ≡ false

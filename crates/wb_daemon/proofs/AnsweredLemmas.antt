@@ -40,7 +40,7 @@ fixed-one text said e one = (text, e, one)
 asked-one : (gives : Gives) (machine : Machine) (asked : Asked) (said : Said) → SaysAsked gives machine asked said → SaidTo true said
 asked-one gives machine (asked_Command command) said e = command-one machine command said e
 asked-one gives machine (asked_Merge sources parts) said (inl h) = command-one machine h.0 said h.2
-asked-one gives machine (asked_Merge sources parts) said (inr e) = fixed-one file_fault_text said (ap (λ (s : Said). s.text) e) refl
+asked-one gives machine (asked_Merge sources parts) said (inr h) = fixed-one file_fault_text said (ap (λ (s : Said). s.text) h.1) refl
 
 kind-one : (gives : Gives) (machine : Machine) (long blank : Bool) (asked : Option Asked) (said : Said)
     → SaysOfKind gives machine (cond long Fault (cond blank Blank (kind_of_asked asked))) said → SaidTo (long || not blank) said

@@ -1,6 +1,6 @@
 -- Lemmas on what a reader has left.
 use Rattle.std.proofs.Common.{take, drop, take-add, subst, append-nil, ◌≤◌, Option, None, Some, ◌≡◌, ℕ, ◌+◌, true, false, List, [], ◌∷◌, ◌++◌, length, sym, ap, ◌∙◌, append_assoc, arith, length-append}
-use Rattle.std.specs.Io.KnownBytes.{Consumes, Appends}
+use Rattle.std.specs.Io.KnownBytes.{Consumes, Appends, Keeps}
 use Rattle.std.specs.Str.{IsUtf8, is_utf8}
 use Rattle.std.proofs.lemmas.Str.{IsUtf8-from_is_utf8}
 use Rattle.std.proofs.lemmas.Bool.{false_from_ne_true}
@@ -49,3 +49,9 @@ Appends-take a b c bs m n p q = subst (Appends a c) (sym (take-add m n bs)) (App
 pub Appends-same : (a : Option (List ℕ)) → Appends a a []
 Appends-same None = tt
 Appends-same (Some x) = sym (append-nil x)
+
+-- what grew by nothing stayed as it was
+pub Keeps-nothing : (a b : Option (List ℕ)) → Appends a b [] → Keeps a b
+Keeps-nothing None b p = tt
+Keeps-nothing (Some x) None p = absurd p
+Keeps-nothing (Some x) (Some y) p = p ∙ append-nil x

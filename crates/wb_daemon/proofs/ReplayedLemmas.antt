@@ -13,8 +13,8 @@ use Rattle.wb_daemon.specs.Line.{ended_in, input_lines}
 use Rattle.wb_daemon.specs.Lists.{Gives}
 use Rattle.wb_daemon.specs.Replays.{IsReplay, IsReplayCut, LeavesReplay, SaysNoReply}
 use Rattle.wb_daemon.specs.Run.{Request, AsksFor, EndsInput, Fault, LineKind, LineAsks, Runs, Said, Says, SaysAsked, SaysOfKind, Blank, RunStopsFor, StopsInLine, answer_said, command_said, followed, kind_of_line, nothing_said}
-use Rattle.wb_daemon.specs.declared.run.Cause.{Cause}
-use Rattle.wb_daemon.specs.declared.run.Cause.TheVariants as why
+use Rattle.wb_daemon.specs.declared.message.Cause.{Cause}
+use Rattle.wb_daemon.specs.declared.message.Cause.TheVariants as why
 use Rattle.wb_daemon.proofs.RunLemmas.{Runs-snoc}
 
 answer_said-machine : (name : List ℕ) (result : Result Reply Refusal) (after : Machine) → (answer_said name result after).machine ≡ after
@@ -37,7 +37,7 @@ kind-carries gives machine line said Blank e h = inl (inl (inl h))
 kind-carries gives machine line said Fault e h = inl (inl (inr h))
 kind-carries gives machine line said (Request (asked_Command command)) e h = inr (command, (asked_Command command, e, refl), h)
 kind-carries gives machine line said (Request (asked_Merge sources parts)) e (inl h) = inr (h.0, (asked_Merge sources parts, e, h.1), h.2)
-kind-carries gives machine line said (Request (asked_Merge sources parts)) e (inr h) = inl (inr (inl h))
+kind-carries gives machine line said (Request (asked_Merge sources parts)) e (inr h) = inl (inr (inl h.1))
 
 Says-carries : (gives : Gives) (machine : Machine) (line : List ℕ) (said : Said) → Says gives machine line said → Carries gives machine line said
 Says-carries gives machine line said (inl h) = kind-carries gives machine line said (kind_of_line line) refl h

@@ -1,5 +1,5 @@
 -- Lemmas on runs over lines, as far as a loop has come.
-use Rattle.std.proofs.Common.{◌≡◌, ℕ, ◌+◌, ◌-◌, ◌<◌, ◌≤◌, Bool, true, false, cond, max, List, [], ◌∷◌, ◌++◌, length, take, Option, None, Some, IsTrue, ◌⊎◌, inl, inr, refl, sym, ap, ◌∙◌, subst, append_assoc, append-nil, length-append, length-take, arith}
+use Rattle.std.proofs.Common.{◌≡◌, ℕ, ◌+◌, ◌-◌, ◌<◌, ◌≤◌, Bool, true, false, cond, max, List, [], ◌∷◌, ◌++◌, length, take, Option, None, Some, Err, IsTrue, ◌⊎◌, inl, inr, refl, sym, ap, ◌∙◌, subst, append_assoc, append-nil, length-append, length-take, arith}
 use Rattle.std.proofs.Math.Nat.{max-zero, zero-max}
 use Rattle.std.proofs.lemmas.Bool.{or_left, or_parts, or_right}
 use Rattle.std.proofs.lemmas.Bool.Decides.{nat_tests}
@@ -13,10 +13,11 @@ use Rattle.deb_text.proofs.ListLemmas.{slice_split-run, slice_split-end}
 use Rattle.deb_text.specs.Lines.{is_feed, IsOneLine}
 use Rattle.wb_daemon.specs.Line.{ended_in, is_long, input_lines, line_limit, lines_limit, through_long, with_feed, with_feeds, AreWithinLimit}
 use Rattle.wb_daemon.specs.Lists.{Gives, IsAllOf}
-use Rattle.wb_daemon.specs.Run.{Said, Says, Runs, EndsInput, RunStops, StopsBeforeReply, StopsBetween, RunStopsFor, StopsWithin, WereActedOn, followed, nothing_said}
-use Rattle.wb_daemon.specs.Turn.{Answers, AnswersInPart, TookEndedLine, TookLastLine, LacksAnswer, LacksReply, StopsTurn}
-use Rattle.wb_daemon.specs.declared.run.Cause.{Cause}
-use Rattle.wb_daemon.specs.declared.run.Cause.TheVariants.{Read, Write, Reply, Lines, Room}
+use Rattle.wb_daemon.specs.Run.{Said, Says, Runs, EndsInput, FailsFor, StopsBeforeReply, StopsBetween, RunStopsFor, StopsWithin, WereActedOn, followed, nothing_said}
+use Rattle.wb_daemon.specs.Streams.{Flags, Stream}
+use Rattle.wb_daemon.specs.Turn.{Answers, AnswersInPart, TookEndedLine, TookLastLine, LacksAnswer, LacksReply, StopsTurn, fails_to_write}
+use Rattle.wb_daemon.specs.declared.message.Cause.{Cause}
+use Rattle.wb_daemon.specs.declared.message.Cause.TheVariants.{Read, Write, Reply, Lines, Room}
 use Rattle.wb_daemon.proofs.LineLemmas.{Appends-same, Appends-then, Consumes-then}
 use Rattle.wb_daemon.proofs.AnswerLemmas.{Says-long, answers-blank}
 use lib.Seq.{take-append_seam}
@@ -346,15 +347,6 @@ module _ {gives : Gives} {input now old new : Option (List ℕ)} {before after :
 pub stops-at_once : (gives : Gives) (input old : Option (List ℕ)) (machine : Machine) → RunStopsFor gives Room input input old old machine machine
 stops-at_once gives input old machine = ([], [], Consumes-same input, Appends-same old, (refl, refl, refl))
 
--- a run that stopped, for whatever cause
-pub RunStopsFor-stops : (gives : Gives) (cause : Cause) (input left old new : Option (List ℕ)) (before after : Machine)
-    → RunStopsFor gives cause input left old new before after → RunStops gives input left old new before after
-RunStopsFor-stops gives Read input left old new before after h = (h.0, h.1, h.2, h.3, inl (inl h.4))
-RunStopsFor-stops gives Write input left old new before after h = (h.0, h.1, h.2, h.3, inr (inr (inl h.4)))
-RunStopsFor-stops gives Reply input left old new before after h = (h.0, h.1, h.2, h.3, inr (inr (inr h.4)))
-RunStopsFor-stops gives Lines input left old new before after h = (h.0, h.1, h.2, h.3, inl (inr h.4))
-RunStopsFor-stops gives Room input left old new before after h = (h.0, h.1, h.2, h.3, inr (inl h.4))
-
 -- the run goes on, or ends, with the greater of two statuses
 pub so_far-next : {gives : Gives} {input now old new : Option (List ℕ)} {before after : Machine} {status count : ℕ} (far : SoFar gives input now old new before after status count)
     (line : List ℕ) (left written : Option (List ℕ)) (next : Machine) (more greatest : ℕ)
@@ -365,3 +357,31 @@ so_far-next {gives} {input} {old} {before} {count} far line left written next mo
 
 pub short_line : (room : List ℕ) (len : ℕ) → len ≤ line_limit → is_long (take len room) ≡ false
 short_line room len h = grind (arith, nat_tests, length-take len room)
+
+-- ---- what failed
+
+-- nothing failed before, and then what this cause says
+pub FailsFor-then : (cause : Option Cause) (a b c x y z : Stream) → FailsFor None a b x y → FailsFor cause b c y z → FailsFor cause a c x z
+FailsFor-then (Some Read) a b c x y z p q = (q.0, q.1 ∙ p.1)
+FailsFor-then (Some Write) a b c x y z p q = (q.0 ∙ p.0, q.1)
+FailsFor-then (Some Reply) a b c x y z p q = (q.0 ∙ p.0, q.1 ∙ p.1)
+FailsFor-then (Some Lines) a b c x y z p q = (q.0 ∙ p.0, q.1 ∙ p.1)
+FailsFor-then (Some Room) a b c x y z p q = (q.0 ∙ p.0, q.1 ∙ p.1)
+FailsFor-then None a b c x y z p q = (q.0 ∙ p.0, q.1 ∙ p.1)
+
+-- a line that was read was not answered: no read failed, and a write only where that is why
+pub FailsFor-answer : (cause : Cause) (a b x y : Stream) → b.failed ≡ a.failed → ¬ (cause ≡ Read) → Flags (fails_to_write (Err cause)) x y → FailsFor (Some cause) a b x y
+FailsFor-answer Read a b x y p n q = absurd (n refl)
+FailsFor-answer Write a b x y p n q = (p, q)
+FailsFor-answer Reply a b x y p n q = (p, q)
+FailsFor-answer Lines a b x y p n q = (p, q)
+FailsFor-answer Room a b x y p n q = (p, q)
+
+-- why a line that was read is not answered is no failed read
+pub LacksAnswer-written : (gives : Gives) (cause : Cause) (line : List ℕ) (before after : Machine) (a b : Option (List ℕ))
+    → LacksAnswer gives line before after a b cause → ¬ (cause ≡ Read)
+LacksAnswer-written gives Read line before after a b h e = h
+LacksAnswer-written gives Write line before after a b h e = cc
+LacksAnswer-written gives Reply line before after a b h e = cc
+LacksAnswer-written gives Lines line before after a b h e = h
+LacksAnswer-written gives Room line before after a b h e = h

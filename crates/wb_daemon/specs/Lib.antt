@@ -3,4 +3,5 @@ pub mod Line
 pub mod Lists
 pub mod Replays
 pub mod Run
+pub mod Streams
 pub mod Turn

@@ -1,6 +1,6 @@
 -- The lines that a run reads (this project's own).
-use Rattle.std.specs.Prelude.{◌≡◌, ◌⊎◌, ℕ, ◌-◌, ◌≤◌, Bool, true, nat_lt, if◌then◌else◌, List, [], ◌∷◌, ◌++◌, length, take, Option}
-use Rattle.std.specs.List.{flat_map, slice_split}
+use Rattle.std.specs.Prelude.{◌≡◌, ◌⊎◌, ℕ, ◌-◌, ◌≤◌, Bool, true, false, nat_lt, if◌then◌else◌, List, [], ◌∷◌, ◌++◌, length, take, Option}
+use Rattle.std.specs.List.{flat_map, list_all, slice_split}
 use Rattle.std.specs.Io.KnownBytes.{Consumes, IsAtEnd}
 use Rattle.deb_text.specs.Lines.{is_feed, IsOneLine}
 use Rattle.wb_daemon.specs.declared.line.LineRead.{LineRead}
@@ -59,3 +59,16 @@ TookLine room old new (Ended len) = (len ≤ line_limit) × IsOneLine (take len 
 TookLine room old new (Last len) = (len ≤ line_limit) × IsOneLine (take len room) × Consumes old new (take len room) × IsAtEnd new
 TookLine room old new TooLong = (line : List ℕ) × (is_long line ≡ true) × IsOneLine line × Consumes old new line
 TookLine room old new Failed = (line : List ℕ) × IsOneLine line × Consumes old new line
+
+-- whether a read of one byte failed
+abbrev pub is_failed_byte : ByteRead → Bool
+is_failed_byte (byte.Byte c) = false
+is_failed_byte byte.End = false
+is_failed_byte byte.Failed = true
+
+-- whether a read of one line failed
+abbrev pub is_failed_line : LineRead → Bool
+is_failed_line (Ended len) = false
+is_failed_line (Last len) = false
+is_failed_line TooLong = false
+is_failed_line Failed = true

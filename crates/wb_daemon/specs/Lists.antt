@@ -1,5 +1,5 @@
 -- The lists that a merge names, and the bytes that they are read as (this project's own).
-use Rattle.std.specs.Prelude.{◌≡◌, ℕ, ◌<◌, ◌≤◌, ⊤, List, length, Option, IfSome}
+use Rattle.std.specs.Prelude.{◌≡◌, ◌⊎◌, ℕ, ◌<◌, ◌≤◌, ⊤, List, ◌∷◌, ◌++◌, length, Option, IfSome}
 use Rattle.std.specs.List.{AllZip}
 use Rattle.wb_states.specs.declared.command.Command.{Command}
 use Rattle.wb_states.specs.declared.command.Command.TheVariants.{Merge}
@@ -8,9 +8,14 @@ use Rattle.wb_words.specs.declared.words.PartNames.{PartNames}
 use Rattle.wb_daemon.specs.declared.lists.ListRead.{ListRead}
 use Rattle.wb_daemon.specs.declared.lists.ListRead.TheVariants.{Whole, TooLong, Failed}
 
--- which bytes the list of a name may be read as: those that it holds where these are known, and any where nothing is known of it
-abbrev pub Gives : Type 1
-Gives = List ℕ → List ℕ → Type 0
+-- what is known of the lists: which bytes the list of a name may be read as, and which names have a list that may not be opened or whose reading may fail
+pub record Gives : Type 1 where
+  pub reads : List ℕ → List ℕ → Type 0
+  pub fails : List ℕ → Type 0
+
+-- nothing is known: each list may be read as any bytes, and may fail
+abbrev pub any_lists : Gives
+any_lists = record { reads = λ _ _. ⊤; fails = λ _. ⊤ }
 
 -- the greatest length of a list
 abbrev pub list_limit : ℕ
@@ -20,23 +25,29 @@ list_limit = 2147483648
 abbrev pub IsAllOf : Option (List ℕ) → List ℕ → Type 0
 IsAllOf known bytes = IfSome known (λ left. bytes ≡ left)
 
--- what a read of a list gave: all its bytes, or there are more than a list may have; a read may always fail
-abbrev pub ReadsList : Option (List ℕ) → ListRead → Type 0
-ReadsList known (Whole bytes) = IsAllOf known bytes × (length bytes ≤ list_limit)
-ReadsList known TooLong = IfSome known (λ left. list_limit < length left)
-ReadsList known Failed = ⊤
+-- what a read of a list gave: all its bytes, or there are more than a list may have, or a read failed of a list that may fail
+abbrev pub ReadsList : Type 0 → Option (List ℕ) → ListRead → Type 0
+ReadsList breaks known (Whole bytes) = IsAllOf known bytes × (length bytes ≤ list_limit)
+ReadsList breaks known TooLong = (bytes : List ℕ) × IsAllOf known bytes × (list_limit < length bytes)
+ReadsList breaks known (Failed error) = breaks
 
 -- a reader was opened over the list of this name: what it reads to its end is what the list may be read as
 abbrev pub OpensList : Gives → List ℕ → Option (List ℕ) → Type 0
-OpensList gives name known = (bytes : List ℕ) → IsAllOf known bytes → gives name bytes
+OpensList gives name known = (bytes : List ℕ) → IsAllOf known bytes → gives.reads name bytes
 
--- what a list may be read as later it might be read as before
+-- what a list may be read as later it might be read as before, and a list that may fail later might fail before
 abbrev pub GivesNoMore : Gives → Gives → Type 0
-GivesNoMore old new = (name bytes : List ℕ) → new name bytes → old name bytes
+GivesNoMore old new =
+    ((name bytes : List ℕ) → new.reads name bytes → old.reads name bytes)
+    × ((name : List ℕ) → new.fails name → old.fails name)
 
 -- the list of this name may be read as these bytes, and is not too long
 abbrev pub GivesList : Gives → List ℕ → List ℕ → Type 0
-GivesList gives name bytes = gives name bytes × (length bytes ≤ list_limit)
+GivesList gives name bytes = gives.reads name bytes × (length bytes ≤ list_limit)
+
+-- the list of this name is at fault: it may not be opened, or its reading may fail, or it may be read as more bytes than a list may have
+abbrev pub LacksList : Gives → List ℕ → Type 0
+LacksList gives name = gives.fails name ⊎ ((bytes : List ℕ) × gives.reads name bytes × (list_limit < length bytes))
 
 -- a part of a merge, with the bytes that the list which the line names for it may be read as
 abbrev pub GivesPart : Gives → PartNames → Part → Type 0
@@ -51,3 +62,18 @@ abbrev pub GivesMerge : Gives → List ℕ → List PartNames → Command → Ty
 GivesMerge gives sources names command =
     (bytes : List ℕ) × (parts : List Part) × GivesList gives sources bytes × GivesParts gives names parts
     × (command ≡ Merge bytes parts)
+
+-- a part of a merge has a list that is at fault, and those of the parts before it were read
+pub record LacksPart (gives : Gives) (names : List PartNames) : Type 0 where
+  pub before : List PartNames
+  pub name : PartNames
+  pub after : List PartNames
+  pub parts : List Part
+  pub is : names ≡ before ++ name ∷ after
+  pub given : GivesParts gives before parts
+  pub lacks : LacksList gives name.packages
+
+-- the first list that is at fault of those that a line names for a merge: its Sources list, or after that was read the list of a part
+abbrev pub LacksMerge : Gives → List ℕ → List PartNames → Type 0
+LacksMerge gives sources names =
+    LacksList gives sources ⊎ ((bytes : List ℕ) × GivesList gives sources bytes × LacksPart gives names)

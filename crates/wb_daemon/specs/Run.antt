@@ -1,5 +1,5 @@
 -- What a run over the lines of an input writes, and what it leaves of the office (this project's own).
-use Rattle.std.specs.Prelude.{◌≡◌, ℕ, ◌<◌, max, Bool, not, ◌&&◌, ◌⊎◌, if◌then◌else◌, List, [], ◌∷◌, ◌++◌, length, take, Option, None, Some, IsTrue, IsOk, Result, Ok, Err}
+use Rattle.std.specs.Prelude.{◌≡◌, ℕ, ◌<◌, max, Bool, true, not, ◌&&◌, ◌⊎◌, if◌then◌else◌, List, [], ◌∷◌, ◌++◌, length, take, Option, None, Some, IsTrue, IsOk, Result, Ok, Err}
 use Rattle.std.specs.List.{list_any}
 use Rattle.std.specs.Str.{is_utf8}
 use Rattle.std.specs.Io.KnownBytes.{Appends, Consumes, IsAtEnd}
@@ -16,9 +16,10 @@ use Rattle.wb_words.specs.declared.words.PartNames.{PartNames}
 use Rattle.wb_api.specs.Encoding.{reply_text, refusal_text, memory_text, line_fault_text, file_fault_text}
 use Rattle.deb_text.specs.Lines.{words_in, is_blank_line}
 use Rattle.wb_daemon.specs.Line.{is_long, input_lines, ended_in, lines_limit, with_feed, AreWithinLimit}
-use Rattle.wb_daemon.specs.Lists.{Gives, GivesMerge, IsAllOf}
-use Rattle.wb_daemon.specs.declared.run.Cause.{Cause}
-use Rattle.wb_daemon.specs.declared.run.Cause.TheVariants as why
+use Rattle.wb_daemon.specs.Lists.{Gives, GivesMerge, IsAllOf, LacksMerge}
+use Rattle.wb_daemon.specs.Streams.{Stream}
+use Rattle.wb_daemon.specs.declared.message.Cause.{Cause}
+use Rattle.wb_daemon.specs.declared.message.Cause.TheVariants as why
 
 -- what is said to lines: the text, the office after it, and the status: 0 accepted, 1 refused, 2 no command, 3 a list that cannot be read
 pub record Said : Type 0 where
@@ -82,15 +83,16 @@ AsksFor gives (asked_Merge sources parts) command = GivesMerge gives sources par
 abbrev pub LineAsks : Gives → List ℕ → Command → Type 0
 LineAsks gives line command = (asked : Asked) × (kind_of_line line ≡ Request asked) × AsksFor gives asked command
 
--- a command is accepted, and the office is then in this state
+-- a command is accepted, and the office is then in this state: it counts one more, which a repeated reply does not
 abbrev pub Accepts : Machine → Command → Machine → Type 0
-Accepts before command after = IsOk (step before command).0 × (after ≡ (step before command).1)
+Accepts before command after =
+    IsOk (step before command).0 × (after ≡ (step before command).1) × (before.accepted < after.accepted)
 
--- what may be said to a merge of these lists: what is said to the command with what the lists gave, or that one of them cannot be read
+-- what may be said to a merge of these lists: what is said to the command with what the lists gave, or that one of them is at fault
 abbrev pub SaysMerge : Gives → Machine → List ℕ → List PartNames → Said → Type 0
 SaysMerge gives machine sources parts said =
     ((command : Command) × GivesMerge gives sources parts command × (said ≡ command_said machine command))
-    ⊎ (said ≡ file_said machine)
+    ⊎ (LacksMerge gives sources parts × (said ≡ file_said machine))
 
 -- what may be said to what a line asks for
 abbrev pub SaysAsked : Gives → Machine → Asked → Said → Type 0
@@ -206,14 +208,22 @@ RunStopsFor gives cause old_input new_input old_text new_text before after =
     (seen text : List ℕ) × Consumes old_input new_input seen × Appends old_text new_text text
     × StopsFor gives cause seen new_input before text after
 
--- a run that stopped for one of the causes
-abbrev pub StopsForSomeCause : Gives → List ℕ → Option (List ℕ) → Machine → List ℕ → Machine → Type 0
-StopsForSomeCause gives seen left before text after =
-    (StopsFor gives why.Read seen left before text after ⊎ StopsFor gives why.Lines seen left before text after)
-    ⊎ (StopsFor gives why.Room seen left before text after ⊎ StopsInLine gives seen left before text after)
+-- the flags of the reader and the writer of a run, before and after: that of the reader is set where the run stopped for a failed read, that of the writer where for a failed write, and else they stay
+abbrev pub FailsFor : Option Cause → Stream → Stream → Stream → Stream → Type 0
+FailsFor (Some why.Read) input left old new = (left.failed ≡ true) × (new.failed ≡ old.failed)
+FailsFor (Some why.Write) input left old new = (left.failed ≡ input.failed) × (new.failed ≡ true)
+FailsFor (Some why.Reply) input left old new = (left.failed ≡ input.failed) × (new.failed ≡ old.failed)
+FailsFor (Some why.Lines) input left old new = (left.failed ≡ input.failed) × (new.failed ≡ old.failed)
+FailsFor (Some why.Room) input left old new = (left.failed ≡ input.failed) × (new.failed ≡ old.failed)
+FailsFor None input left old new = (left.failed ≡ input.failed) × (new.failed ≡ old.failed)
 
--- a run that stopped before its input ended: what it had read, what it wrote, and why it stopped
-abbrev pub RunStops : Gives → Option (List ℕ) → Option (List ℕ) → Option (List ℕ) → Option (List ℕ) → Machine → Machine → Type 0
-RunStops gives old_input new_input old_text new_text before after =
-    (seen text : List ℕ) × Consumes old_input new_input seen × Appends old_text new_text text
-    × StopsForSomeCause gives seen new_input before text after
+-- a run ended with its input, and no read and no write of it failed
+abbrev pub RunEndsWell : Gives → Stream → Stream → Stream → Stream → Machine → Machine → ℕ → Type 0
+RunEndsWell gives input left old new before after status =
+    EndsInput gives input.bytes old.bytes new.bytes before after status × FailsFor None input left old new
+
+-- a run stopped before its input ended: what it had read, what it wrote and why, and the read or the write that is why did fail
+abbrev pub RunStops : Gives → Stream → Stream → Stream → Stream → Machine → Machine → Type 0
+RunStops gives input left old new before after =
+    (cause : Cause) × RunStopsFor gives cause input.bytes left.bytes old.bytes new.bytes before after
+    × FailsFor (Some cause) input left old new

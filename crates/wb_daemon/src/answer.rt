@@ -12,24 +12,14 @@ ghost use Rattle.wb_daemon.specs.Turn.{said_by, SaysAskedOrMemory, SaysCommandOr
 
 use crate::line::{text_of, words_in};
 use crate::lists::{Lists, merge_of};
+use crate::message::Message;
+use crate::status::{ACCEPTED, FILE_FAULT, LINE_FAULT, REFUSED};
 use std::alloc::Global;
 use std::borrow::CowStr;
 use wb_api::{file_fault_json, line_fault_json, refusal_json, reply_json};
 use wb_office::Office;
 use wb_states::{Command, Refusal};
-use wb_words::{Asked, WordsFault, asked_of};
-
-/// The status of a line that the office accepted, or that is blank.
-pub(crate) const ACCEPTED: u8 = 0;
-
-/// The status of a line that the office refused.
-const REFUSED: u8 = 1;
-
-/// The status of a line that asks for nothing that there is.
-pub(crate) const LINE_FAULT: u8 = 2;
-
-/// The status of a line that names a list which cannot be read.
-const FILE_FAULT: u8 = 3;
+use wb_words::{Asked, WordsFault, asked_of, fault_of};
 
 /// What is written to a line, without its line feed, and the status of the line.
 #[derive(Drop)]
@@ -56,21 +46,24 @@ fn asked_of_line(alloc: Global, line: &[u8]) -> Result<Asked, WordsFault>
 }
 
 /// The reply or the refusal of the office to a command, with its status. It is `None` where the command
-/// was accepted and there is no memory for the reply.
+/// was accepted and there is no memory for the reply; a reply that repeats an assignment accepts nothing.
 fn answer_to(alloc: Global, office: &mut Office, command: &Command) -> Option<Answer>
     ensures value { IfSome result (λ answer. (answer.status ≤ 3)
         × SaysCommandOrMemory office.old command.now (said_by answer office.new)) }
     ensures memory { result ≡ None → Accepts office.old command.now office.new }
     ensures consistent { IsConsistent office.old → IsConsistent office.new }
 {
+    let accepted = office.accepted();
     match office.apply(command) {
         Ok(reply) => match reply_json(alloc, command.name(), &reply) {
             Ok(text) => Some(Answer {
                 text: CowStr::Owned(text),
                 status: ACCEPTED,
             }),
+            Err(_) if office.accepted() == accepted => Some(memory_answer(alloc)),
             Err(_) => None,
         },
+        Err(Refusal::Memory) => Some(memory_answer(alloc)),
         Err(refusal) => Some(Answer {
             text: refusal_json(alloc, &refusal),
             status: REFUSED,
@@ -155,5 +148,26 @@ pub(crate) fn answer_of<L: Lists>(
             status: LINE_FAULT,
         }),
         Err(WordsFault::Memory) => Some(memory_answer(alloc)),
+    }
+}
+
+/// Reports why the line of this number is a line fault; nothing where there is no memory for that.
+pub(crate) fn report_fault<L: Lists>(alloc: Global, lists: &mut L, number: u64, line: &[u8])
+    ensures kept { GivesNoMore (L.gives lists.old) (L.gives lists.new) }
+{
+    let Some(text) = text_of(line) else {
+        return lists.report(Message::LineFault {
+            line: number,
+            reason: "it is not UTF-8",
+        });
+    };
+    let Ok(words) = words_in(alloc, text) else {
+        return;
+    };
+    if let Ok(reason) = fault_of(alloc, &words) {
+        lists.report(Message::LineFault {
+            line: number,
+            reason: reason.as_str(),
+        });
     }
 }

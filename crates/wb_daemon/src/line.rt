@@ -4,8 +4,10 @@ ghost use Rattle.std.specs.Str.{is_utf8};
 ghost use Rattle.std.specs.Io.KnownBytes.{Consumes, IsAtEnd};
 ghost use Rattle.wb_daemon.specs.declared.line.ByteRead.TheVariants.{End};
 ghost use Rattle.deb_text.specs.Lines.{words_in};
-ghost use Rattle.wb_daemon.specs.Line.{bytes_of, line_limit, TookLine};
+ghost use Rattle.wb_daemon.specs.Line.{bytes_of, is_failed_byte, is_failed_line, line_limit, TookLine};
+ghost use Rattle.wb_daemon.specs.Streams.{Flags};
 
+use crate::watched::WatchedReader;
 use std::alloc::{AllocError, Global};
 use std::io::Read;
 use std::str;
@@ -34,9 +36,10 @@ pub(crate) enum LineRead {
 }
 
 /// Reads one byte. An interrupted read is a failed one too.
-pub(crate) fn read_byte<R: Read>(reader: &mut R) -> ByteRead
-    ensures value { Consumes (R.remaining reader.old) (R.remaining reader.new) (bytes_of result) }
-    ensures status { result ≡ End → IsAtEnd (R.remaining reader.new) }
+pub(crate) fn read_byte<R: Read + Drop>(reader: &mut WatchedReader<R>) -> ByteRead
+    ensures value { Consumes reader.old.bytes reader.new.bytes (bytes_of result) }
+    ensures status { result ≡ End → IsAtEnd reader.new.bytes }
+    ensures failed { Flags (is_failed_byte result) reader.old reader.new }
 {
     let mut room = [0u8; 1];
     match reader.read(&mut room) {
@@ -47,9 +50,10 @@ pub(crate) fn read_byte<R: Read>(reader: &mut R) -> ByteRead
 }
 
 /// Reads one line into the room, byte by byte, and no byte after it.
-pub(crate) fn read_line<R: Read>(reader: &mut R, room: &mut [u8]) -> LineRead
+pub(crate) fn read_line<R: Read + Drop>(reader: &mut WatchedReader<R>, room: &mut [u8]) -> LineRead
     requires { length room.old ≡ line_limit }
-    ensures value { TookLine room.new (R.remaining reader.old) (R.remaining reader.new) result }
+    ensures value { TookLine room.new reader.old.bytes reader.new.bytes result }
+    ensures failed { Flags (is_failed_line result) reader.old reader.new }
 {
     for len in 0..room.len() {
         match read_byte(reader) {

@@ -1,31 +1,53 @@
 //! The lists that a merge names, each read whole.
-ghost use Rattle.std.specs.Prelude.{◌≡◌, ℕ, List, Option, IfOk, IfSome};
-ghost use Rattle.wb_daemon.specs.Lists.{GivesList, GivesMerge, GivesNoMore, GivesPart, GivesParts};
-ghost use Rattle.wb_daemon.specs.Lists.{OpensList, ReadsList};
+ghost use Rattle.std.specs.Prelude.{◌≡◌, ⊤, IfErr, IfNone, IfOk, IfSome, OnErr};
+ghost use Rattle.std.specs.Io.{ReadsAtMost};
+ghost use Rattle.std.specs.Io.KnownBytes.{ReadConsumes};
+ghost use Rattle.wb_daemon.specs.Lists.{any_lists, Gives, GivesList, GivesMerge, GivesNoMore, GivesPart};
+ghost use Rattle.wb_daemon.specs.Lists.{GivesParts, LacksList, LacksMerge, LacksPart, OpensList, ReadsList};
 
+use crate::message::Message;
 use deb_text::{Items, Text};
 use std::alloc::{AllocError, Global};
-use std::io::Read;
+use std::io::{self, Read};
 use wb_states::{Command, Part};
 use wb_words::PartNames;
 
 /// The greatest length of a list.
 const LIST_LIMIT: usize = 2147483648;
 
-/// Where the lists are that a merge names (this project's own).
+/// Where the lists are that a merge names, and who is told what no answer says (this project's own).
 pub trait Lists {
     /// What reads the bytes of a list.
     type List: Read + Drop;
 
-    // Which bytes the list of a name may be read as: any, where nothing is known of the lists.
-    ghost gives: { Self → List ℕ → List ℕ → Type 0 } = { λ _ _ _. Unit {0} };
+    // What is known of the lists: nothing, where an implementation does not say.
+    ghost gives: { Self → Gives } = { λ _. any_lists };
+
+    // Whether a read of this opened list may fail: any may, where an implementation does not say.
+    ghost breaks: { Self.List → Type 0 } = { λ _. ⊤ };
 
     /// A reader over the list of this name, none where it cannot be opened. The error is that there is no
     /// memory for it.
     fn open(&mut self, alloc: Global, name: &str) -> Result<Option<Self::List>, AllocError>
         ensures value { IfOk result (λ found. IfSome found (λ list.
             OpensList (gives self.old) name.now (Self.List.remaining list))) }
+        ensures err { IfOk result (λ found. IfSome found (λ list.
+            breaks list → (gives self.old).fails name.now)) }
+        ensures refused { IfOk result (λ found. IfNone found ((gives self.old).fails name.now)) }
         ensures kept { GivesNoMore (gives self.old) (gives self.new) };
+
+    /// Reads on in an opened list, as its `read` does.
+    fn read(list: &mut Self::List, room: &mut [u8]) -> io::Result<usize>
+        ensures bound { ReadsAtMost result room.new }
+        ensures bytes { ReadConsumes (Self.List.remaining list.old) (Self.List.remaining list.new) result room.new }
+        ensures err { OnErr result (breaks list.old) }
+        ensures kept { breaks list.new → breaks list.old };
+
+    /// Takes a message for a person, which no answer says. It is dropped where an implementation does not
+    /// say what becomes of it.
+    fn report(&mut self, _message: Message<'_>)
+        ensures kept { GivesNoMore (gives self.old) (gives self.new) }
+    {}
 }
 
 /// What a read of a list gave.
@@ -36,21 +58,20 @@ enum ListRead {
     /// There are more bytes than a list may have.
     TooLong,
     /// A read failed, or was interrupted.
-    Failed,
+    Failed(io::Error),
 }
 
-/// All bytes that the reader has left, or why there are none. The error is that there is no memory for
-/// them.
-fn read_list<R: Read>(alloc: Global, reader: &mut R) -> Result<ListRead, AllocError>
-    ensures value { IfOk result (ReadsList (R.remaining reader.old)) }
+/// All bytes that the list has left, or why there are none. The error is that there is no memory for them.
+fn read_list<L: Lists>(alloc: Global, list: &mut L::List) -> Result<ListRead, AllocError>
+    ensures value { IfOk result (ReadsList (L.breaks list.old) (L.List.remaining list.old)) }
 {
     let mut room = [0u8; 8192];
     let mut bytes: Vec<u8> = Vec::new(alloc);
     while bytes.len() <= LIST_LIMIT {
-        match reader.read(&mut room) {
+        match L::read(list, &mut room) {
             Ok(0) => return Ok(ListRead::Whole(Items::from(bytes))),
             Ok(count) => bytes.extend_from_slice(&room[..count])?,
-            Err(_) => return Ok(ListRead::Failed),
+            Err(error) => return Ok(ListRead::Failed(error)),
         }
     }
     Ok(ListRead::TooLong)
@@ -64,15 +85,23 @@ fn list_of<L: Lists>(
 ) -> Result<Option<Items<u8>>, AllocError>
     ensures value { IfOk result (λ found. IfSome found (λ bytes.
         GivesList (L.gives lists.old) name.now bytes)) }
+    ensures refused { IfOk result (λ found. IfNone found (LacksList (L.gives lists.old) name.now)) }
     ensures kept { GivesNoMore (L.gives lists.old) (L.gives lists.new) }
 {
     let Some(mut list) = lists.open(alloc, name.as_str())? else {
         return Ok(None);
     };
-    match read_list(alloc, &mut list)? {
-        ListRead::Whole(bytes) => Ok(Some(bytes)),
-        ListRead::TooLong | ListRead::Failed => Ok(None),
+    match read_list::<L>(alloc, &mut list)? {
+        ListRead::Whole(bytes) => return Ok(Some(bytes)),
+        ListRead::TooLong => lists.report(Message::ListTooLong {
+            name: name.as_str(),
+        }),
+        ListRead::Failed(error) => lists.report(Message::ListFailed {
+            name: name.as_str(),
+            error: &error,
+        }),
     }
+    Ok(None)
 }
 
 /// The part of a merge with the list that stands for it; none where that is at fault.
@@ -83,6 +112,7 @@ fn part_of<L: Lists>(
 ) -> Result<Option<Part>, AllocError>
     ensures value { IfOk result (λ found. IfSome found (λ part.
         GivesPart (L.gives lists.old) names.now part)) }
+    ensures refused { IfOk result (λ found. IfNone found (LacksList (L.gives lists.old) names.now.packages)) }
     ensures kept { GivesNoMore (L.gives lists.old) (L.gives lists.new) }
 {
     let Some(packages) = list_of(alloc, lists, &names.packages)? else {
@@ -102,6 +132,7 @@ fn parts_of<L: Lists>(
 ) -> Result<Option<Items<Part>>, AllocError>
     ensures value { IfOk result (λ found. IfSome found (λ parts.
         GivesParts (L.gives lists.old) names.now parts)) }
+    ensures refused { IfOk result (λ found. IfNone found (LacksPart (L.gives lists.old) names.now)) }
     ensures kept { GivesNoMore (L.gives lists.old) (L.gives lists.new) }
 {
     let mut parts = Items::new(alloc);
@@ -125,6 +156,8 @@ pub(crate) fn merge_of<L: Lists>(
 ) -> Result<Option<Command>, AllocError>
     ensures value { IfOk result (λ found. IfSome found (λ command.
         GivesMerge (L.gives lists.old) sources.now parts.now command)) }
+    ensures refused { IfOk result (λ found. IfNone found
+        (LacksMerge (L.gives lists.old) sources.now parts.now)) }
     ensures kept { GivesNoMore (L.gives lists.old) (L.gives lists.new) }
 {
     let Some(sources) = list_of(alloc, lists, sources)? else {

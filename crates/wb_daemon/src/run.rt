@@ -4,12 +4,17 @@ ghost use Rattle.wb_states.specs.Machine.{IsConsistent};
 ghost use Rattle.wb_daemon.specs.Line.{is_long, line_limit};
 ghost use Rattle.wb_daemon.specs.Lists.{GivesNoMore};
 ghost use Rattle.wb_daemon.specs.Replays.{LeavesReplay};
-ghost use Rattle.wb_daemon.specs.Run.{EndsInput, RunStops};
-ghost use Rattle.wb_daemon.specs.Turn.{Answers, LacksAnswer, Ran, Turns};
+ghost use Rattle.wb_daemon.specs.Run.{FailsFor, RunEndsWell, RunStops};
+ghost use Rattle.wb_daemon.specs.Streams.{Flags};
+ghost use Rattle.wb_daemon.specs.Turn.{Answers, LacksAnswer, Ran, Turns, cause_of_end};
+ghost use Rattle.wb_daemon.specs.Turn.{cause_of_turn, fails_to_write};
 
-use crate::answer::{ACCEPTED, Answer, LINE_FAULT, answer_of};
+use crate::answer::{Answer, answer_of, report_fault};
 use crate::line::{ByteRead, LINE_LIMIT, LineRead, read_byte, read_line};
 use crate::lists::Lists;
+use crate::message::{Cause, Message};
+use crate::status::{ACCEPTED, LINE_FAULT, STOPPED};
+use crate::watched::{WatchedReader, WatchedWriter};
 use crate::write::write_line;
 use deb_text::is_blank_line;
 use std::alloc::Global;
@@ -19,24 +24,6 @@ use wb_office::Office;
 
 /// The greatest number of line feeds that a run reads.
 const LINES_LIMIT: u64 = 1_000_000_000;
-
-/// The status of a run that stopped before its input ended.
-const STOPPED: u8 = 3;
-
-/// Why a run stops before its input ends.
-#[derive(Clone, Copy)]
-pub(crate) enum Cause {
-    /// A read failed.
-    Read,
-    /// A write failed, or took no byte.
-    Write,
-    /// There is no memory for the reply to an accepted command.
-    Reply,
-    /// More follows the last line that a run reads.
-    Lines,
-    /// There is no memory for the room that holds a line.
-    Room,
-}
 
 /// How a turn of the run ended. A status is that of its line.
 #[derive(Clone, Copy)]
@@ -58,20 +45,22 @@ pub(crate) enum RunEnd {
     Stopped(Cause),
 }
 
-/// Acts on a line and writes what is said to it. Gives the status of the line. The errors are `Reply` and
-/// `Write`, and the run stops there.
-fn answer_line<W: Write, L: Lists>(
+/// Acts on the line of this number and writes what is said to it. Gives the status of the line. The errors
+/// are `Reply` and `Write`, and the run stops there.
+fn answer_line<W: Write + Drop, L: Lists>(
     alloc: Global,
     office: &mut Office,
+    number: u64,
     line: &[u8],
-    writer: &mut W,
+    writer: &mut WatchedWriter<W>,
     lists: &mut L,
 ) -> Result<u8, Cause>
     requires { is_long line.now ≡ false }
     ensures value { IfOk result (Answers (L.gives lists.old) line.now office.old office.new
-        (W.contents writer.old) (W.contents writer.new)) }
+        writer.old.bytes writer.new.bytes) }
     ensures err { IfErr result (LacksAnswer (L.gives lists.old) line.now office.old office.new
-        (W.contents writer.old) (W.contents writer.new)) }
+        writer.old.bytes writer.new.bytes) }
+    ensures failed { Flags (fails_to_write result) writer.old writer.new }
     ensures kept { GivesNoMore (L.gives lists.old) (L.gives lists.new) }
     ensures consistent { IsConsistent office.old → IsConsistent office.new }
 {
@@ -82,46 +71,55 @@ fn answer_line<W: Write, L: Lists>(
         return Err(Cause::Reply);
     };
     let Answer { text, status } = answer;
-    if write_line(writer, text.as_str().as_bytes()) {
+    if status == LINE_FAULT {
+        report_fault(alloc, lists, number, line);
+    }
+    if write_line(alloc, writer, text.as_str()) {
         Ok(status)
     } else {
         Err(Cause::Write)
     }
 }
 
-/// Reads a line into the room and answers it.
-fn take_turn<R: Read, W: Write, L: Lists>(
+/// Reads the line of this number into the room and answers it.
+fn take_turn<R: Read + Drop, W: Write + Drop, L: Lists>(
     alloc: Global,
     office: &mut Office,
-    reader: &mut R,
-    writer: &mut W,
+    reader: &mut WatchedReader<R>,
+    writer: &mut WatchedWriter<W>,
     lists: &mut L,
+    number: u64,
     room: &mut [u8],
 ) -> Turn
     requires { length room.old ≡ line_limit }
     ensures value { Turns (L.gives lists.old) result office.old office.new
-        (R.remaining reader.old) (R.remaining reader.new)
-        (W.contents writer.old) (W.contents writer.new) }
+        reader.old.bytes reader.new.bytes
+        writer.old.bytes writer.new.bytes }
+    ensures failed { FailsFor (cause_of_turn result) reader.old reader.new writer.old writer.new }
     ensures kept { GivesNoMore (L.gives lists.old) (L.gives lists.new) }
     ensures consistent { IsConsistent office.old → IsConsistent office.new }
 {
     match read_line(reader, room) {
         LineRead::Ended(len) => {
             let (line, _) = room.split_at(len);
-            match answer_line(alloc, office, line, writer, lists) {
+            match answer_line(alloc, office, number, line, writer, lists) {
                 Ok(status) => Turn::More(status),
                 Err(cause) => Turn::Stop(cause),
             }
         }
         LineRead::Last(len) => {
             let (line, _) = room.split_at(len);
-            match answer_line(alloc, office, line, writer, lists) {
+            match answer_line(alloc, office, number, line, writer, lists) {
                 Ok(status) => Turn::End(status),
                 Err(cause) => Turn::Stop(cause),
             }
         }
         LineRead::TooLong => {
-            if write_line(writer, line_fault_json().as_bytes()) {
+            lists.report(Message::LineFault {
+                line: number,
+                reason: "a line has at most 65536 bytes",
+            });
+            if write_line(alloc, writer, line_fault_json()) {
                 Turn::End(LINE_FAULT)
             } else {
                 Turn::Stop(Cause::Write)
@@ -132,23 +130,24 @@ fn take_turn<R: Read, W: Write, L: Lists>(
 }
 
 /// The run in a room that holds one line.
-fn run_within<R: Read, W: Write, L: Lists>(
+fn run_within<R: Read + Drop, W: Write + Drop, L: Lists>(
     alloc: Global,
     office: &mut Office,
-    reader: &mut R,
-    writer: &mut W,
+    reader: &mut WatchedReader<R>,
+    writer: &mut WatchedWriter<W>,
     lists: &mut L,
     room: &mut [u8],
 ) -> RunEnd
     requires { length room.old ≡ line_limit }
     ensures value { Ran (L.gives lists.old) result office.old office.new
-        (R.remaining reader.old) (R.remaining reader.new)
-        (W.contents writer.old) (W.contents writer.new) }
+        reader.old.bytes reader.new.bytes
+        writer.old.bytes writer.new.bytes }
+    ensures failed { FailsFor (cause_of_end result) reader.old reader.new writer.old writer.new }
     ensures consistent { IsConsistent office.old → IsConsistent office.new }
 {
     let mut greatest = ACCEPTED;
-    'lines: for _count in 0..LINES_LIMIT {
-        match take_turn(alloc, office, reader, writer, lists, room) {
+    'lines: for count in 0..LINES_LIMIT {
+        match take_turn(alloc, office, reader, writer, lists, count + 1, room) {
             Turn::More(status) => greatest = greatest.max(status),
             Turn::End(status) => return RunEnd::Ended(greatest.max(status)),
             Turn::Stop(cause) => return RunEnd::Stopped(cause),
@@ -162,16 +161,17 @@ fn run_within<R: Read, W: Write, L: Lists>(
 }
 
 /// The run in a room of its own, for which there may be no memory.
-fn run_in_room<R: Read, W: Write, L: Lists>(
+fn run_in_room<R: Read + Drop, W: Write + Drop, L: Lists>(
     alloc: Global,
     office: &mut Office,
-    reader: &mut R,
-    writer: &mut W,
+    reader: &mut WatchedReader<R>,
+    writer: &mut WatchedWriter<W>,
     lists: &mut L,
 ) -> RunEnd
     ensures value { Ran (L.gives lists.old) result office.old office.new
-        (R.remaining reader.old) (R.remaining reader.new)
-        (W.contents writer.old) (W.contents writer.new) }
+        reader.old.bytes reader.new.bytes
+        writer.old.bytes writer.new.bytes }
+    ensures failed { FailsFor (cause_of_end result) reader.old reader.new writer.old writer.new }
     ensures consistent { IsConsistent office.old → IsConsistent office.new }
 {
     let Ok(mut room) = vec![in alloc; 0u8; LINE_LIMIT] else {
@@ -196,25 +196,27 @@ fn run_in_room<R: Read, W: Write, L: Lists>(
 /// and nothing of it was written; or more follows the 1000000000th line feed; or there was no memory for the
 /// room that holds a line, and nothing was read. The commands of all lines that were acted on stand (this
 /// project's own).
-pub fn run_lines<R: Read, W: Write, L: Lists>(
+pub fn run_lines<R: Read + Drop, W: Write + Drop, L: Lists>(
     alloc: Global,
     office: &mut Office,
-    reader: &mut R,
-    writer: &mut W,
+    reader: &mut WatchedReader<R>,
+    writer: &mut WatchedWriter<W>,
     lists: &mut L,
 ) -> u8
     ensures status { result ≤ 3 }
-    ensures value { result < 3 → EndsInput (L.gives lists.old) (R.remaining reader.old)
-        (W.contents writer.old) (W.contents writer.new) office.old office.new result }
-    ensures err { result ≡ 3 → EndsInput (L.gives lists.old) (R.remaining reader.old)
-        (W.contents writer.old) (W.contents writer.new) office.old office.new 3
-        ⊎ RunStops (L.gives lists.old) (R.remaining reader.old) (R.remaining reader.new)
-        (W.contents writer.old) (W.contents writer.new) office.old office.new }
+    ensures value { result < 3 → RunEndsWell (L.gives lists.old) reader.old reader.new
+        writer.old writer.new office.old office.new result }
+    ensures err { result ≡ 3 → RunEndsWell (L.gives lists.old) reader.old reader.new
+        writer.old writer.new office.old office.new 3
+        ⊎ RunStops (L.gives lists.old) reader.old reader.new writer.old writer.new office.old office.new }
     ensures replay { LeavesReplay (L.gives lists.old) office.old office.new }
     ensures consistent { IsConsistent office.old → IsConsistent office.new }
 {
     match run_in_room(alloc, office, reader, writer, lists) {
         RunEnd::Ended(status) => status,
-        RunEnd::Stopped(_) => STOPPED,
+        RunEnd::Stopped(cause) => {
+            lists.report(Message::Stopped { cause });
+            STOPPED
+        }
     }
 }

@@ -93,3 +93,12 @@ pub fn asked_of<'a>(alloc: Global, words: &'a [&'a str]) -> Result<Asked, WordsF
         None => Err(WordsFault::NoCommand),
     }
 }
+
+/// Why words are no command, for a person: what `clap` says of them, or that an argument which it takes is
+/// no number or no part. The error is that there is no memory for the text.
+pub fn fault_of<'a>(alloc: Global, words: &'a [&'a str]) -> Result<String, AllocError> {
+    match wb_app(alloc)?.try_get_matches_from(words) {
+        Ok(_) => format!(in alloc; "an argument is no number, or no part ARCH=PACKAGESFILE"),
+        Err(error) => format!(in alloc; "{error}"),
+    }
+}

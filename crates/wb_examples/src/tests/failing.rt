@@ -3,7 +3,7 @@ use super::lists::MemoryLists;
 use std::alloc::Global;
 use std::io::{self, ErrorKind, Read, Write};
 use std::test::Fail;
-use wb_daemon::run_lines;
+use wb_daemon::{WatchedReader, WatchedWriter, run_lines};
 use wb_office::Office;
 
 /// A reader of one byte at a time that fails after so many reads.
@@ -61,7 +61,9 @@ fn status_of<R: Read, W: Write>(
     writer: &mut W,
 ) -> u8 {
     let mut lists = MemoryLists { rows: &[] };
-    run_lines(alloc, office, reader, writer, &mut lists)
+    let mut reader = WatchedReader::new(reader);
+    let mut writer = WatchedWriter::new(writer);
+    run_lines(alloc, office, &mut reader, &mut writer, &mut lists)
 }
 
 #[test]

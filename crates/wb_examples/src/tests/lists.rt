@@ -1,7 +1,8 @@
 //! Lists that stand in memory, and runs that find them.
 use std::alloc::{AllocError, Global};
+use std::io::{self, Read};
 use std::test::Fail;
-use wb_daemon::{Lists, run_lines};
+use wb_daemon::{Lists, WatchedReader, WatchedWriter, run_lines};
 use wb_office::Office;
 
 /// Lists in memory: the name and the text of each.
@@ -26,6 +27,10 @@ impl<'a> Lists for MemoryLists<'a> {
         }
         Ok(None)
     }
+
+    fn read(list: &mut &'a [u8], room: &mut [u8]) -> io::Result<usize> {
+        list.read(room)
+    }
 }
 
 /// What a run over the input prints, where these are the lists, and its status.
@@ -35,9 +40,10 @@ pub(super) fn printed(
     input: &str,
     rows: &[(&str, &str)],
 ) -> Result<(String, u8), Fail> {
-    let mut reader = input.as_bytes();
-    let mut writer: Vec<u8> = Vec::new(alloc);
+    let mut written: Vec<u8> = Vec::new(alloc);
+    let mut reader = WatchedReader::new(input.as_bytes());
+    let mut writer = WatchedWriter::new(&mut written);
     let mut lists = MemoryLists { rows };
     let status = run_lines(alloc, office, &mut reader, &mut writer, &mut lists);
-    Ok((String::from_utf8(writer)?, status))
+    Ok((String::from_utf8(written)?, status))
 }

@@ -1,6 +1,6 @@
 -- What may be said to the command may be said to what the line asks for.
-use Rattle.std.proofs.Common.{refl, sym, subst, inl, inr, IfSome}
-use Rattle.wb_daemon.specs.Lists.{GivesMerge}
+use Rattle.std.proofs.Common.{refl, sym, subst, inl, inr, IfNone, IfSome}
+use Rattle.wb_daemon.specs.Lists.{GivesMerge, LacksMerge}
 use Rattle.wb_daemon.specs.Run.{AsksFor}
 use Rattle.wb_daemon.specs.Turn.{said_by, SaysAskedOrMemory}
 use Rattle.wb_daemon.proofs.answer.answer_asked.Goals as goal
@@ -24,11 +24,19 @@ returns-in-Ok-Some-clause-memory g c = λ e.
     )
 
 pub returns-in-Ok-None-clause-value : goal.returns-in-Ok-None-clause-value
-returns-in-Ok-None-clause-value g c = (
-  c.file_answer.ensures.status,
-  subst (λ asked. SaysAskedOrMemory (g.L.Lists.gives c.args.lists.now) c.args.office.now asked (said_by c.file_answer.result c.args.office.now))
-      (sym c.in-Merge.is) (inl (inr (c.file_answer.ensures.value c.args.office.now))),
-)
+returns-in-Ok-None-clause-value g c =
+    let gives = g.L.Lists.gives c.args.lists.now in
+    let missed = subst (λ found. IfNone found (LacksMerge gives c.in-Merge.sources c.as_slice.result.now))
+    c.in-Ok-None.field-0-is c.in-Ok-None.ensures.refused in
+    let lacks = subst (λ parts. LacksMerge gives c.in-Merge.sources parts) c.as_slice.ensures missed in (
+      c.file_answer.ensures.status,
+      subst (λ asked. SaysAskedOrMemory gives c.args.office.now asked (said_by c.file_answer.result c.args.office.now))
+          (sym c.in-Merge.is) (inl (inr (lacks, c.file_answer.ensures.value c.args.office.now))),
+    )
 
 pub returns-in-Err-clause-value : goal.returns-in-Err-clause-value
-returns-in-Err-clause-value g c = (c.memory_answer.ensures.status, inr (c.memory_answer.ensures.value c.args.office.now))
+returns-in-Err-clause-value g c = (
+  c.memory_answer.ensures.status,
+  subst (λ asked. SaysAskedOrMemory (g.L.Lists.gives c.args.lists.now) c.args.office.now asked (said_by c.memory_answer.result c.args.office.now))
+      (sym c.in-Merge.is) (inr (tt, c.memory_answer.ensures.value c.args.office.now)),
+)

@@ -6,7 +6,8 @@ use Rattle.wb_daemon.proofs.lists.read_list.Given as goal
 
 abbrev pub invariant-loop-room : goal.invariant-loop-room
 invariant-loop-room g l = record {
-  taken : Consumes (g.R.Read.remaining l.initial.reader) (g.R.Read.remaining l.reader) l.bytes.items;
+  taken : Consumes (g.L.List.Read.remaining l.initial.list) (g.L.List.Read.remaining l.list) l.bytes.items;
+  breaks : g.L.Lists.breaks l.list → g.L.Lists.breaks l.initial.list;
 }
 
 abbrev pub decreases-loop-room : goal.decreases-loop-room

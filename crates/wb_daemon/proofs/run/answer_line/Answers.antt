@@ -7,7 +7,7 @@ use Rattle.wb_daemon.proofs.run.answer_line.Goals as goal
 
 pub returns-then-is_blank_line-clause-value : goal.returns-then-is_blank_line-clause-value
 returns-then-is_blank_line-clause-value g c =
-    answers-blank (g.L.Lists.gives c.args.lists.now) c.args.office.now c.args.line.now (g.W.Write.contents c.args.writer.now) c.requires
+    answers-blank (g.L.Lists.gives c.args.lists.now) c.args.office.now c.args.line.now c.args.writer.now.bytes c.requires
     (sym c.is_blank_line.ensures ∙ c.if-is_blank_line.true)
 
 pub returns-in_default-clause-err : goal.returns-in_default-clause-err
@@ -18,6 +18,6 @@ returns-clause-err g c = (
   said_by c.in-Some.answer c.answer_of.new.office,
   c.in-Some.ensures.value.1,
   refl,
-  subst (λ t. AppendsFront (g.W.Write.contents c.args.writer.now) (g.W.Write.contents c.write_line.new.writer) (with_feed t))
-      (c.as_bytes.ensures.value ∙ c.as_str.ensures.value) (c.write_line.ensures.err c.if-write_line.false),
+  subst (λ t. AppendsFront c.args.writer.now.bytes c.write_line.new.writer.bytes (with_feed t))
+      c.as_str.ensures.value (c.write_line.ensures.err c.if-write_line.false),
 )

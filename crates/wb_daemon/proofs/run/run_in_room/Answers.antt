@@ -1,10 +1,12 @@
 -- Without room for a line the run does not begin.
+use Rattle.std.proofs.Common.{refl}
 use Rattle.wb_daemon.proofs.RunLemmas.{stops-at_once}
 use Rattle.wb_daemon.proofs.run.run_in_room.Goals as goal
 
 pub returns-in_default : goal.returns-in_default
 returns-in_default g c = record {
   consistent = λ h. h;
+  failed = (refl, refl);
   value = stops-at_once (g.L.Lists.gives c.args.lists.now)
-      (g.R.Read.remaining c.args.reader.now) (g.W.Write.contents c.args.writer.now) c.args.office.now;
+      c.args.reader.now.bytes c.args.writer.now.bytes c.args.office.now;
 }

@@ -1,0 +1,53 @@
+//! What a run reports to a person, which its answers do not say.
+use std::{fmt, io};
+
+/// Why a run stops before its input ends.
+#[derive(Clone, Copy, Debug, PartialEq, Eq)]
+pub enum Cause {
+    /// A read of the input failed.
+    Read,
+    /// A write of an answer failed, or took no byte.
+    Write,
+    /// There is no memory for the reply to an accepted command.
+    Reply,
+    /// More follows the last line that a run reads.
+    Lines,
+    /// There is no memory for the room that holds a line.
+    Room,
+}
+
+impl fmt::Display for Cause {
+    fn fmt<W: fmt::Write>(&self, f: &mut fmt::Formatter<W>) -> fmt::Result {
+        f.write_str(match self {
+            Cause::Read => "the input cannot be read",
+            Cause::Write => "an answer cannot be written",
+            Cause::Reply => "out of memory for the reply to an accepted command",
+            Cause::Lines => "there are more lines than a run answers",
+            Cause::Room => "out of memory for the room that holds a line",
+        })
+    }
+}
+
+/// A message for a person (this project's own). Its text is no part of the answers.
+#[derive(Clone, Copy)]
+pub enum Message<'a> {
+    /// The line of this number, the first being 1, is a line fault for this reason.
+    LineFault { line: u64, reason: &'a str },
+    /// A read of the list of this name failed.
+    ListFailed { name: &'a str, error: &'a io::Error },
+    /// The list of this name is longer than a list may be.
+    ListTooLong { name: &'a str },
+    /// The run stopped.
+    Stopped { cause: Cause },
+}
+
+impl<'a> fmt::Display for Message<'a> {
+    fn fmt<W: fmt::Write>(&self, f: &mut fmt::Formatter<W>) -> fmt::Result {
+        match self {
+            Message::LineFault { line, reason } => write!(f, "line {line}: {}", reason.trim_end()),
+            Message::ListFailed { name, error } => write!(f, "{name}: {error}"),
+            Message::ListTooLong { name } => write!(f, "{name}: a list is at most 2 GiB long"),
+            Message::Stopped { cause } => write!(f, "stopped: {cause}"),
+        }
+    }
+}
