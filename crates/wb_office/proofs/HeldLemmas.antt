@@ -5,7 +5,7 @@ use Rattle.std.specs.Result.{result_err, result_unwrap_or}
 use Rattle.deb_relations.specs.declared.arch.ArchWords.{ArchWords}
 use Rattle.deb_relations.specs.declared.relations.Alternative.{Alternative}
 use Rattle.deb_relations.specs.Reading.{reading_of}
-use Rattle.wb_office.proofs.CommandForms.{Built, Uploaded, Waits, PutBack}
+use Rattle.wb_states.specs.Forms.{Built, Uploaded, Waits, PutBack}
 use Rattle.wb_states.specs.declared.moves.Move.{Move}
 use Rattle.wb_states.specs.declared.moves.Move.TheVariants as to
 use Rattle.wb_states.specs.declared.refusal.Refusal.{Refusal}

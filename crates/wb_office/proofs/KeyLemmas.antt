@@ -6,7 +6,7 @@ use Rattle.deb_version.specs.Syntax.{fault_of}
 use Rattle.deb_relations.specs.declared.arch.ArchWords.{ArchWords}
 use Rattle.deb_relations.specs.declared.relations.Alternative.{Alternative}
 use Rattle.deb_relations.specs.Reading.{reading_of}
-use Rattle.wb_office.proofs.CommandForms.{Waits, GiveBack, DepWait, Fail, NotForUs, Rebuild}
+use Rattle.wb_states.specs.Forms.{Waits, GiveBack, DepWait, Fail, NotForUs, Rebuild}
 use Rattle.wb_states.specs.declared.moves.Move.TheVariants as to
 use Rattle.wb_states.specs.declared.refusal.Refusal.{Refusal}
 use Rattle.wb_states.specs.declared.refusal.Refusal.TheVariants.{BadName, BadVersion, BadRelations, BadNumber, TextTooLong, Memory}

@@ -2,7 +2,6 @@ pub mod ApartPartLemmas
 pub mod AppliedLemmas
 pub mod AskedLemmas
 pub mod AssignmentLemmas
-pub mod CommandForms
 pub mod ConsistencyLemmas
 pub mod CountedLemmas
 pub mod EndedLemmas

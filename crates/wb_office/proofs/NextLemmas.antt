@@ -1,7 +1,7 @@
 -- What a builder's command for the head of a queue answers.
 use Rattle.std.specs.Option.{option_or}
 use Rattle.std.proofs.Common.{◌≡◌, ℕ, ◌||◌, ◌&&◌, Bool, true, false, List, [], ◌∷◌, Option, Some, None, Ok, Err, refl, sym, ap, ◌∙◌, nat_le, is_none, option_and_then, option_map}
-use Rattle.wb_office.proofs.CommandForms.{Next}
+use Rattle.wb_states.specs.Forms.{Next}
 use Rattle.wb_states.specs.declared.refusal.Refusal.{Refusal}
 use Rattle.wb_states.specs.declared.refusal.Refusal.TheVariants.{AfterAhead, BadName, QueueEmpty, Spent, UnknownArch, UnknownBuilder, WrongArch}
 use Rattle.wb_states.specs.declared.reply.Reply.TheVariants.{Again}

@@ -5,7 +5,7 @@ use Rattle.std.specs.List.{list_any}
 use Rattle.std.specs.Option.{option_or}
 use Rattle.std.specs.FinMap as map
 use Rattle.std.proofs.lemmas.Bool.{or_parts}
-use Rattle.wb_office.proofs.CommandForms.{Merge}
+use Rattle.wb_states.specs.Forms.{Merge}
 use Rattle.wb_states.specs.declared.command.Part.{Part}
 use Rattle.wb_states.specs.declared.refusal.Refusal.{Refusal}
 use Rattle.wb_states.specs.declared.refusal.Refusal.TheVariants.{BadName, BadNumber, TextTooLong, RepeatedArch, UnknownArch, UnknownBuilder, WrongArch, AfterAhead, NotHeld, UnknownSource, QueueEmpty, AlreadyThere, Spent}

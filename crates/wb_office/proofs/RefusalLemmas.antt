@@ -6,7 +6,7 @@ use Rattle.std.specs.Option.{option_or}
 use Rattle.deb_version.specs.declared.fault.VersionFault.{VersionFault}
 use Rattle.deb_version.specs.Syntax.{fault_of}
 use Rattle.deb_text.specs.Lists.{is_filled}
-use Rattle.wb_office.proofs.CommandForms.{AddArch, AddBuilder, Enter}
+use Rattle.wb_states.specs.Forms.{AddArch, AddBuilder, Enter}
 use Rattle.wb_states.specs.declared.refusal.Refusal.{Refusal}
 use Rattle.wb_states.specs.declared.refusal.Refusal.TheVariants.{UnknownArch, UnknownBuilder, WrongArch, AlreadyThere, BadName, BadVersion, Spent}
 use Rattle.wb_states.specs.Limits.{count_limit}

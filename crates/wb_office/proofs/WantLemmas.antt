@@ -3,7 +3,7 @@ use Rattle.std.specs.Option.{option_or}
 use Rattle.std.proofs.Common.{◌≡◌, ℕ, ◌||◌, Bool, true, false, nat_eq, nat_lt, length, List, [], ◌∷◌, Option, Some, None, Result, Ok, Err, IfErr, refl, ap, ◌∙◌, option_map}
 use Rattle.deb_version.specs.declared.fault.VersionFault.{VersionFault}
 use Rattle.deb_version.specs.Syntax.{fault_of}
-use Rattle.wb_office.proofs.CommandForms.{AddArch, AddBuilder, Enter, GiveBack, DepWait, Fail, NotForUs, Rebuild}
+use Rattle.wb_states.specs.Forms.{AddArch, AddBuilder, Enter, GiveBack, DepWait, Fail, NotForUs, Rebuild}
 use Rattle.wb_states.specs.declared.refusal.Refusal.{Refusal}
 use Rattle.wb_states.specs.declared.refusal.Refusal.TheVariants.{Memory, BadName, BadVersion}
 use Rattle.wb_states.specs.Limits.{note_limit, rebuild_limit, relations_limit}

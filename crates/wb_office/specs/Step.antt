@@ -4,7 +4,6 @@ use Rattle.std.specs.FinMap as map
 use Rattle.std.specs.FinSet as set
 use Rattle.wb_states.specs.declared.command.Command.{Command}
 use Rattle.wb_states.specs.declared.command.Command.TheVariants as of
-use Rattle.wb_states.specs.declared.command.Part.{Part}
 use Rattle.wb_states.specs.declared.moves.Move.{Move}
 use Rattle.wb_states.specs.declared.record.Record.{Record}
 use Rattle.wb_states.specs.declared.reply.Assignment.{Assignment}
@@ -19,18 +18,6 @@ use Rattle.wb_merge.specs.Merge.{blank_record}
 use Rattle.wb_office.specs.Checks.{first_refusal}
 use Rattle.wb_office.specs.Moving.{again_of, moving, target_of}
 use Rattle.wb_office.specs.Parts.{part_replies, records_after}
-
--- a builder's command for the head of a queue
-abbrev pub next_of : List ℕ → List ℕ → Option ℕ → Command
-next_of arch builder after = of.Next (record { arch = arch; builder = builder; after = after })
-
--- a holder's report that it built what it holds under a take number
-abbrev pub built_of : ℕ → Command
-built_of take_number = of.Built (record { take_number = take_number })
-
--- a merge of a Sources list and parts
-abbrev pub merge_of : List ℕ → List Part → Command
-merge_of sources parts = of.Merge (record { sources = sources; parts = parts })
 
 -- the answer to a command, and the state after it
 abbrev pub Outcome : Type 0

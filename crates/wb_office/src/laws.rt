@@ -16,7 +16,8 @@ ghost use Rattle.wb_office.specs.HandOuts.{HandOut, IsBeingBuilt, HasTakesByStat
 ghost use Rattle.wb_office.specs.Moving.{MayChange};
 ghost use Rattle.wb_office.specs.Parts.{part_listing, records_with};
 ghost use Rattle.wb_office.specs.Replay.{replay};
-ghost use Rattle.wb_office.specs.Step.{built_of, merge_of, next_of, step};
+ghost use Rattle.wb_states.specs.Forms.{Built, Merge, Next};
+ghost use Rattle.wb_office.specs.Step.{step};
 ghost use Rattle.wb_office.specs.Utf8.{HasUtf8Texts, HaveUtf8Texts};
 
 /// Every step keeps the invariant of the office, over every state and command, and so does every list of
@@ -80,14 +81,14 @@ pub fn hand_outs_are_held()
 pub fn retries_are_idempotent()
     ensures again { (machine : Machine) (arch builder : List ℕ) (after accepted : ℕ)
         (given : Assignment)
-        → (step machine (next_of arch builder (Some after))).0 ≡ Ok (Job accepted given)
-        → step (step machine (next_of arch builder (Some after))).1 (next_of arch builder (Some after))
-        ≡ (Ok (Again accepted given), (step machine (next_of arch builder (Some after))).1) }
+        → (step machine (Next arch builder (Some after))).0 ≡ Ok (Job accepted given)
+        → step (step machine (Next arch builder (Some after))).1 (Next arch builder (Some after))
+        ≡ (Ok (Again accepted given), (step machine (Next arch builder (Some after))).1) }
     ensures lost { (machine : Machine) (arch builder : List ℕ) (after : Option ℕ) (accepted : ℕ)
         (given : Assignment) → IsConsistent machine
-        → (step machine (next_of arch builder after)).0 ≡ Ok (Job accepted given)
-        → step (step machine (next_of arch builder after)).1 (next_of arch builder (Some machine.handed))
-        ≡ (Ok (Again accepted given), (step machine (next_of arch builder after)).1) }
+        → (step machine (Next arch builder after)).0 ≡ Ok (Job accepted given)
+        → step (step machine (Next arch builder after)).1 (Next arch builder (Some machine.handed))
+        ≡ (Ok (Again accepted given), (step machine (Next arch builder after)).1) }
 {}
 
 /// A take number is a fencing token: one that was given and under which nothing is held is held never
@@ -103,7 +104,7 @@ pub fn ended_takes_stay_ended()
         → is_ok (step (replay machine commands) command).0 ≡ false }
     ensures not_held { (machine : Machine) (commands : List Command) (take_number : ℕ)
         → take_number ≤ machine.handed → taken_as machine take_number ≡ None
-        → (step (replay machine commands) (built_of take_number)).0 ≡ Err NotHeld }
+        → (step (replay machine commands) (Built take_number)).0 ≡ Err NotHeld }
 {}
 
 /// A command changes no record but the one that it enters or moves, and a merge none of another
@@ -119,10 +120,10 @@ pub fn commands_leave_other_records()
 pub fn next_takes_the_head()
     ensures queue { (machine : Machine) (arch builder : List ℕ) (after : Option ℕ) (accepted : ℕ)
         (given : Assignment)
-        → (step machine (next_of arch builder after)).0 ≡ Ok (Job accepted given)
+        → (step machine (Next arch builder after)).0 ≡ Ok (Job accepted given)
         → (current : Record) × (queue_of machine arch
         ≡ ((arch, given.source), current)
-        ∷ queue_of (step machine (next_of arch builder after)).1 arch) }
+        ∷ queue_of (step machine (Next arch builder after)).1 arch) }
 {}
 
 /// The parts of an accepted merge stand apart: the records of a part's architecture are afterwards what that
@@ -130,8 +131,8 @@ pub fn next_takes_the_head()
 pub fn parts_are_merged_apart()
     ensures part { (machine : Machine) (sources : List ℕ) (before : List Part) (part : Part)
         (behind : List Part) (key : List ℕ × List ℕ)
-        → is_ok (step machine (merge_of sources (before ++ part ∷ behind))).0 ≡ true
+        → is_ok (step machine (Merge sources (before ++ part ∷ behind))).0 ≡ true
         → key.0 ≡ part.arch
-        → map.get (step machine (merge_of sources (before ++ part ∷ behind))).1.records key
+        → map.get (step machine (Merge sources (before ++ part ∷ behind))).1.records key
         ≡ map.get (records_with machine.records part.arch (part_listing machine sources part)) key }
 {}

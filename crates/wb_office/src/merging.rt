@@ -11,7 +11,8 @@ ghost use Rattle.wb_states.specs.Names.{is_arch_name};
 ghost use Rattle.wb_states.specs.Refusals.{IsOfMachine};
 ghost use Rattle.wb_office.specs.Checks.{MayWantMemory, first_refusal, has_repeated_arch};
 ghost use Rattle.wb_office.specs.Parts.{is_good, is_known, is_merged, part_listing, part_replies, parts_refusal, records_after, end_with, records_with};
-ghost use Rattle.wb_office.specs.Step.{merge_of, step};
+ghost use Rattle.wb_states.specs.Forms.{Merge};
+ghost use Rattle.wb_office.specs.Step.{step};
 
 use crate::checks::{has_arch, is_spent};
 use crate::part::merge_listing;
@@ -189,14 +190,14 @@ fn prepare_merge(
     ensures replies { IfOk result (λ made. made.replies.items
         ≡ part_replies store.now sources.now parts.now store.now.records) }
     // that nothing refuses it, or what does
-    ensures ok { OnOk result (first_refusal store.now (merge_of sources.now parts.now) ≡ None) }
+    ensures ok { OnOk result (first_refusal store.now (Merge sources.now parts.now) ≡ None) }
     ensures room { OnOk result (nat_le count_limit store.now.accepted ≡ false) }
     ensures memory { IfErr result (λ refusal. refusal ≡ Memory
-        → MayWantMemory (merge_of sources.now parts.now)) }
+        → MayWantMemory (Merge sources.now parts.now)) }
     ensures known { IfErr result (λ refusal. refusal ≡ Memory
         → list_any (is_known store.now) parts.now ≡ true) }
     ensures refused { IfErr result (λ refusal. IsOfMachine refusal
-        → first_refusal store.now (merge_of sources.now parts.now) ≡ Some refusal) }
+        → first_refusal store.now (Merge sources.now parts.now) ≡ Some refusal) }
 {
     if has_bad_arch(parts) {
         return Err(Refusal::BadName);

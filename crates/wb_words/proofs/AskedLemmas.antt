@@ -3,7 +3,7 @@ use Rattle.std.proofs.Common.{◌≡◌, ℕ, List, refl}
 use Rattle.std.specs.Prelude.{Option, Some, None, option_map}
 use Rattle.std.specs.Option.{option_or}
 use Rattle.wb_states.specs.declared.command.Command.{Command}
-use Rattle.wb_states.specs.declared.command.Command.TheVariants.{Next}
+use Rattle.wb_states.specs.Forms.{Next}
 use Rattle.wb_words.specs.Words.{or_asked}
 use Rattle.wb_words.specs.declared.words.Asked.TheVariants as asked
 

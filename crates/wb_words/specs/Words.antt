@@ -6,9 +6,9 @@ use Rattle.std.specs.Option.{option_or}
 use Rattle.std.specs.Str.{bytes_eq}
 use Rattle.clap.specs.Words.{Kinds, Row, Text, fault_of, subcommand_of}
 use Rattle.wb_states.specs.declared.command.Command.{Command}
-use Rattle.wb_states.specs.declared.command.Command.TheVariants.{AddArch, AddBuilder, Built, DepWait}
-use Rattle.wb_states.specs.declared.command.Command.TheVariants.{Enter, Fail, GiveBack, Next, NotForUs}
-use Rattle.wb_states.specs.declared.command.Command.TheVariants.{PutBack, Rebuild, Take, Uploaded, Waits}
+use Rattle.wb_states.specs.Forms.{AddArch, AddBuilder, Built, DepWait}
+use Rattle.wb_states.specs.Forms.{Enter, Fail, GiveBack, Next, NotForUs}
+use Rattle.wb_states.specs.Forms.{PutBack, Rebuild, Take, Uploaded, Waits}
 use Rattle.wb_words.specs.Arguments.{number_of, optional_number_of, parts_of, subject_of, word_of, words_of}
 use Rattle.wb_words.specs.Usages.{wb_app}
 use Rattle.wb_words.specs.declared.words.Asked.{Asked}

@@ -9,6 +9,7 @@ use crate::usage::ArgumentKind;
 use clap::ArgMatches;
 use std::alloc::{AllocError, Global};
 use wb_states::Command;
+use wb_states::command;
 
 /// The subcommands with their arguments.
 pub static USAGES: [(&str, &[(&str, ArgumentKind)]); 6] = [
@@ -77,11 +78,11 @@ fn next(alloc: Global, arguments: &ArgMatches<'_>) -> Result<Option<Command>, Al
     let Some(after) = optional_number(arguments, "after") else {
         return Ok(None);
     };
-    Ok(Some(Command::Next {
+    Ok(Some(Command::Next(command::Next {
         arch,
         builder,
         after,
-    }))
+    })))
 }
 
 #[tactic(auto, unfolding(crate::specs::Words::take_of))]
@@ -94,12 +95,12 @@ fn take(alloc: Global, arguments: &ArgMatches<'_>) -> Result<Option<Command>, Al
     let Some(builder) = word(alloc, arguments, "builder")? else {
         return Ok(None);
     };
-    Ok(Some(Command::Take {
+    Ok(Some(Command::Take(command::Take {
         arch: subject.arch,
         builder,
         source: subject.source,
         version: subject.version,
-    }))
+    })))
 }
 
 #[tactic(auto, unfolding(crate::specs::Words::built_of))]
@@ -107,7 +108,7 @@ fn built(arguments: &ArgMatches<'_>) -> Option<Command>
     ensures value { result ≡ built_of (rows_of (found_of arguments.now)) }
 {
     let take_number = number(arguments, "take")?;
-    Some(Command::Built { take_number })
+    Some(Command::Built(command::Held { take_number }))
 }
 
 #[tactic(auto, unfolding(crate::specs::Words::uploaded_of))]
@@ -115,7 +116,7 @@ fn uploaded(arguments: &ArgMatches<'_>) -> Option<Command>
     ensures value { result ≡ uploaded_of (rows_of (found_of arguments.now)) }
 {
     let take_number = number(arguments, "take")?;
-    Some(Command::Uploaded { take_number })
+    Some(Command::Uploaded(command::Held { take_number }))
 }
 
 #[tactic(auto, unfolding(crate::specs::Words::put_back_of))]
@@ -123,7 +124,7 @@ fn put_back(arguments: &ArgMatches<'_>) -> Option<Command>
     ensures value { result ≡ put_back_of (rows_of (found_of arguments.now)) }
 {
     let take_number = number(arguments, "take")?;
-    Some(Command::PutBack { take_number })
+    Some(Command::PutBack(command::Held { take_number }))
 }
 
 #[tactic(auto, unfolding(crate::specs::Words::waits_of))]
@@ -133,8 +134,8 @@ fn waits(alloc: Global, arguments: &ArgMatches<'_>) -> Result<Option<Command>, A
     let Some(take_number) = number(arguments, "take") else {
         return Ok(None);
     };
-    Ok(Some(Command::Waits {
+    Ok(Some(Command::Waits(command::Waits {
         take_number,
         relations: words(alloc, arguments, "relations")?,
-    }))
+    })))
 }

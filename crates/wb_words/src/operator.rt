@@ -9,6 +9,7 @@ use crate::usage::ArgumentKind;
 use clap::ArgMatches;
 use std::alloc::{AllocError, Global};
 use wb_states::Command;
+use wb_states::command;
 
 /// The subcommands with their arguments.
 pub static USAGES: [(&str, &[(&str, ArgumentKind)]); 8] = [
@@ -120,7 +121,7 @@ fn add_arch(alloc: Global, arguments: &ArgMatches<'_>) -> Result<Option<Command>
     let Some(cpu) = word(alloc, arguments, "cpu")? else {
         return Ok(None);
     };
-    Ok(Some(Command::AddArch { name, os, cpu }))
+    Ok(Some(Command::AddArch(command::AddArch { name, os, cpu })))
 }
 
 #[tactic(auto, unfolding(crate::specs::Words::add_builder_of))]
@@ -134,7 +135,7 @@ fn add_builder(alloc: Global, arguments: &ArgMatches<'_>) -> Result<Option<Comma
     let Some(arch) = word(alloc, arguments, "arch")? else {
         return Ok(None);
     };
-    Ok(Some(Command::AddBuilder { name, arch }))
+    Ok(Some(Command::AddBuilder(command::AddBuilder { name, arch })))
 }
 
 #[tactic(auto, unfolding(crate::specs::Words::enter_of))]
@@ -151,13 +152,13 @@ fn enter(alloc: Global, arguments: &ArgMatches<'_>) -> Result<Option<Command>, A
     let Some(section) = word(alloc, arguments, "section")? else {
         return Ok(None);
     };
-    Ok(Some(Command::Enter {
+    Ok(Some(Command::Enter(command::Enter {
         arch: subject.arch,
         source: subject.source,
         version: subject.version,
         priority,
         section,
-    }))
+    })))
 }
 
 #[tactic(auto, unfolding(crate::specs::Words::give_back_of))]
@@ -168,11 +169,11 @@ fn give_back(alloc: Global, arguments: &ArgMatches<'_>) -> Result<Option<Command
     let Some(subject) = read_subject(alloc, arguments)? else {
         return Ok(None);
     };
-    Ok(Some(Command::GiveBack {
+    Ok(Some(Command::GiveBack(command::GiveBack {
         arch: subject.arch,
         source: subject.source,
         version: subject.version,
-    }))
+    })))
 }
 
 #[tactic(auto, unfolding(crate::specs::Words::dep_wait_of))]
@@ -183,12 +184,12 @@ fn dep_wait(alloc: Global, arguments: &ArgMatches<'_>) -> Result<Option<Command>
     let Some(subject) = read_subject(alloc, arguments)? else {
         return Ok(None);
     };
-    Ok(Some(Command::DepWait {
+    Ok(Some(Command::DepWait(command::DepWait {
         arch: subject.arch,
         source: subject.source,
         version: subject.version,
         relations: words(alloc, arguments, "relations")?,
-    }))
+    })))
 }
 
 #[tactic(auto, unfolding(crate::specs::Words::fail_of))]
@@ -199,12 +200,12 @@ fn fail(alloc: Global, arguments: &ArgMatches<'_>) -> Result<Option<Command>, Al
     let Some(subject) = read_subject(alloc, arguments)? else {
         return Ok(None);
     };
-    Ok(Some(Command::Fail {
+    Ok(Some(Command::Fail(command::SetAside {
         arch: subject.arch,
         source: subject.source,
         version: subject.version,
         note: words(alloc, arguments, "note")?,
-    }))
+    })))
 }
 
 #[tactic(auto, unfolding(crate::specs::Words::not_for_us_of))]
@@ -215,12 +216,12 @@ fn not_for_us(alloc: Global, arguments: &ArgMatches<'_>) -> Result<Option<Comman
     let Some(subject) = read_subject(alloc, arguments)? else {
         return Ok(None);
     };
-    Ok(Some(Command::NotForUs {
+    Ok(Some(Command::NotForUs(command::SetAside {
         arch: subject.arch,
         source: subject.source,
         version: subject.version,
         note: words(alloc, arguments, "note")?,
-    }))
+    })))
 }
 
 #[tactic(auto, unfolding(crate::specs::Words::rebuild_of))]
@@ -234,11 +235,11 @@ fn rebuild(alloc: Global, arguments: &ArgMatches<'_>) -> Result<Option<Command>,
     let Some(number) = number(arguments, "number") else {
         return Ok(None);
     };
-    Ok(Some(Command::Rebuild {
+    Ok(Some(Command::Rebuild(command::Rebuild {
         arch: subject.arch,
         source: subject.source,
         version: subject.version,
         number,
         message: words(alloc, arguments, "message")?,
-    }))
+    })))
 }

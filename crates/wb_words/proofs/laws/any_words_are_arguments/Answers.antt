@@ -1,6 +1,6 @@
 use Rattle.std.proofs.Common.{◌∷◌, [], refl}
 use Rattle.clap.proofs.OnLiterals.{clap_on_literals}
-use Rattle.wb_states.specs.declared.command.Command.TheVariants.{Built, PutBack, Rebuild, Uploaded, Waits}
+use Rattle.wb_states.specs.Forms.{Built, PutBack, Rebuild, Uploaded, Waits}
 use Rattle.wb_words.specs.Arguments.{joined, number_in}
 use Rattle.wb_words.proofs.AskedLemmas.{operator-asked, builder-asked, next-asked}
 use Rattle.wb_words.proofs.LiteralLemmas.{words_on_literals}

@@ -1,50 +1,65 @@
--- The commands by their fields, one after another.
-use Rattle.std.proofs.Common.{ℕ, List, Option}
+-- The commands by their fields, one after another (this project's own).
+use Rattle.std.specs.Prelude.{ℕ, List, Option}
 use Rattle.wb_states.specs.declared.command.Command.{Command}
 use Rattle.wb_states.specs.declared.command.Command.TheVariants as of
 use Rattle.wb_states.specs.declared.command.Part.{Part}
 
+-- an architecture is added
 abbrev pub AddArch : List ℕ → List ℕ → List ℕ → Command
 AddArch name os cpu = of.AddArch (record { name = name; os = os; cpu = cpu })
 
+-- a builder is added
 abbrev pub AddBuilder : List ℕ → List ℕ → Command
 AddBuilder name arch = of.AddBuilder (record { name = name; arch = arch })
 
+-- a source package is entered
 abbrev pub Enter : List ℕ → List ℕ → List ℕ → List ℕ → List ℕ → Command
 Enter arch source version priority section = of.Enter (record { arch = arch; source = source; version = version; priority = priority; section = section })
 
+-- a builder asks for the head of a queue
 abbrev pub Next : List ℕ → List ℕ → Option ℕ → Command
 Next arch builder after = of.Next (record { arch = arch; builder = builder; after = after })
 
+-- a builder takes a source package
 abbrev pub Take : List ℕ → List ℕ → List ℕ → List ℕ → Command
 Take arch builder source version = of.Take (record { arch = arch; builder = builder; source = source; version = version })
 
+-- a holder built it
 abbrev pub Built : ℕ → Command
 Built take_number = of.Built (record { take_number = take_number })
 
+-- a holder uploaded it
 abbrev pub Uploaded : ℕ → Command
 Uploaded take_number = of.Uploaded (record { take_number = take_number })
 
+-- a holder lets it wait
 abbrev pub Waits : ℕ → List ℕ → Command
 Waits take_number relations = of.Waits (record { take_number = take_number; relations = relations })
 
+-- a holder puts it back
 abbrev pub PutBack : ℕ → Command
 PutBack take_number = of.PutBack (record { take_number = take_number })
 
+-- a source package is given back
 abbrev pub GiveBack : List ℕ → List ℕ → List ℕ → Command
 GiveBack arch source version = of.GiveBack (record { arch = arch; source = source; version = version })
 
+-- a source package waits for others
 abbrev pub DepWait : List ℕ → List ℕ → List ℕ → List ℕ → Command
 DepWait arch source version relations = of.DepWait (record { arch = arch; source = source; version = version; relations = relations })
 
+-- its build failed
 abbrev pub Fail : List ℕ → List ℕ → List ℕ → List ℕ → Command
 Fail arch source version note = of.Fail (record { arch = arch; source = source; version = version; note = note })
 
+-- it is not to be built
 abbrev pub NotForUs : List ℕ → List ℕ → List ℕ → List ℕ → Command
 NotForUs arch source version note = of.NotForUs (record { arch = arch; source = source; version = version; note = note })
 
+-- it is built once more
 abbrev pub Rebuild : List ℕ → List ℕ → List ℕ → ℕ → List ℕ → Command
 Rebuild arch source version number message = of.Rebuild (record { arch = arch; source = source; version = version; number = number; message = message })
 
+-- lists are merged
 abbrev pub Merge : List ℕ → List Part → Command
 Merge sources parts = of.Merge (record { sources = sources; parts = parts })
