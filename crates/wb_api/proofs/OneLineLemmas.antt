@@ -10,9 +10,10 @@ use Rattle.deb_text.specs.Lines.{is_feed, IsOneLine}
 use Rattle.deb_version.specs.Faults.{fault_name as name_of_fault}
 use Rattle.wb_states.specs.Refusals.{name_of_list, name_of_field}
 use Rattle.wb_states.specs.State.{name_of}
+use Rattle.wb_states.specs.StoreFaults.{name_of_store_fault}
 use Rattle.wb_states.specs.declared.refusal.ListingFault.TheVariants.{Control, Missing, BadValue}
 use Rattle.wb_states.specs.declared.refusal.Refusal.{Refusal}
-use Rattle.wb_states.specs.declared.refusal.Refusal.TheVariants.{UnknownArch, UnknownBuilder, WrongArch, UnknownSource, OtherVersion, WrongState, QueueEmpty, NotHeld, AfterAhead, AlreadyThere, BadName, BadVersion, BadRelations, BadNumber, BadListing, TextTooLong, Spent, RepeatedArch, Memory}
+use Rattle.wb_states.specs.declared.refusal.Refusal.TheVariants.{UnknownArch, UnknownBuilder, WrongArch, UnknownSource, OtherVersion, WrongState, QueueEmpty, NotHeld, AfterAhead, AlreadyThere, BadName, BadVersion, BadRelations, BadNumber, BadListing, TextTooLong, Spent, RepeatedArch, Closed, Store, Memory}
 use Rattle.wb_states.specs.declared.reply.PartEnd.{PartEnd}
 use Rattle.wb_states.specs.declared.reply.PartEnd.TheVariants.{Merged as part_Merged, Refused}
 use Rattle.wb_states.specs.declared.reply.PartReply.{PartReply}
@@ -97,6 +98,8 @@ members-one BadNumber = refl
 members-one TextTooLong = refl
 members-one Spent = refl
 members-one RepeatedArch = refl
+members-one Closed = refl
+members-one (Store fault) = behind (quoted (name_of_store_fault fault)) _ (quoted-one (name_of_store_fault fault))
 members-one Memory = refl
 
 pub refusal_text-one : (refusal : Refusal) → IsOneLine (refusal_text refusal)

@@ -2,7 +2,7 @@
 use Rattle.std.proofs.Common.{◌≡◌, refl, codes}
 use Rattle.std.specs.Fmt.{digits}
 use Rattle.json.specs.Print.{escape_byte}
-use Rattle.wb_states.specs.declared.refusal.Refusal.TheVariants.{UnknownArch, UnknownBuilder, WrongArch, UnknownSource, QueueEmpty, NotHeld, AlreadyThere, BadName, BadNumber, TextTooLong, Spent, Memory, RepeatedArch}
+use Rattle.wb_states.specs.declared.refusal.Refusal.TheVariants.{UnknownArch, UnknownBuilder, WrongArch, UnknownSource, QueueEmpty, NotHeld, AlreadyThere, BadName, BadNumber, TextTooLong, Spent, Closed, Memory, RepeatedArch}
 use Rattle.wb_api.specs.Encoding.{refusal_text, refusal_members}
 
 pub refusal_text-UnknownArch : refusal_text UnknownArch ≡ codes "{\"code\":1,\"refused\":\"UnknownArch\"}"
@@ -48,6 +48,10 @@ refusal_text-TextTooLong = refl
 pub refusal_text-Spent : refusal_text Spent ≡ codes "{\"code\":18,\"refused\":\"Spent\"}"
 unfolding digits escape_byte refusal_text refusal_members
 refusal_text-Spent = refl
+
+pub refusal_text-Closed : refusal_text Closed ≡ codes "{\"code\":19,\"refused\":\"Closed\"}"
+unfolding digits escape_byte refusal_text refusal_members
+refusal_text-Closed = refl
 
 pub refusal_text-Memory : refusal_text Memory ≡ codes "{\"code\":20,\"refused\":\"Memory\"}"
 unfolding digits escape_byte refusal_text refusal_members

@@ -12,13 +12,14 @@ use Rattle.deb_control.specs.Faults.{fault_name}
 use Rattle.deb_relations.specs.Faults.{fault_name as name_of_relation_fault}
 use Rattle.deb_relations.specs.declared.fault.RelationFault.{RelationFault}
 use Rattle.wb_states.specs.State.{name_of}
+use Rattle.wb_states.specs.StoreFaults.{name_of_store_fault}
 use Rattle.wb_states.specs.Refusals.{code_of_refusal, name_of_refusal, name_of_list, name_of_field}
 use Rattle.wb_states.specs.declared.refusal.ListField.{ListField}
 use Rattle.wb_states.specs.declared.refusal.ListKind.{ListKind}
 use Rattle.wb_states.specs.declared.refusal.ListingFault.{ListingFault}
 use Rattle.wb_states.specs.declared.refusal.ListingFault.TheVariants.{Control, Missing, BadValue}
 use Rattle.wb_states.specs.declared.refusal.Refusal.{Refusal}
-use Rattle.wb_states.specs.declared.refusal.Refusal.TheVariants.{OtherVersion, WrongState, AfterAhead, BadVersion, BadRelations, BadListing}
+use Rattle.wb_states.specs.declared.refusal.Refusal.TheVariants.{OtherVersion, WrongState, AfterAhead, BadVersion, BadRelations, BadListing, Store}
 use Rattle.wb_states.specs.declared.reply.Assignment.{Assignment}
 use Rattle.wb_states.specs.declared.reply.PartEnd.{PartEnd}
 use Rattle.wb_states.specs.declared.reply.PartEnd.TheVariants.{Merged as part_Merged, Refused}
@@ -70,6 +71,7 @@ refusal_members (BadVersion fault) = concat (codes "\"code\":12,\"fault\":" ∷ 
 refusal_members (BadRelations fault) =
     concat (codes "\"code\":13,\"fault\":" ∷ quoted (name_of_relations_fault fault) ∷ codes ",\"refused\":\"BadRelations\"}" ∷ [])
 refusal_members (BadListing which paragraph fault) = listing_fault_members which paragraph fault
+refusal_members (Store fault) = concat (codes "\"code\":21,\"refused\":\"Store\",\"store\":" ∷ quoted (name_of_store_fault fault) ∷ codes "}" ∷ [])
 refusal_members refusal = concat
     (codes "\"code\":" ∷ decimal (code_of_refusal refusal) ∷
     codes ",\"refused\":" ∷ quoted (name_of_refusal refusal) ∷ codes "}" ∷ [])
@@ -119,6 +121,7 @@ is_plain (AfterAhead handed) = false
 is_plain (BadVersion fault) = false
 is_plain (BadRelations fault) = false
 is_plain (BadListing which paragraph fault) = false
+is_plain (Store fault) = false
 is_plain refusal = true
 
 -- the text for want of memory as a borrowed constant, which takes none (this project's own)

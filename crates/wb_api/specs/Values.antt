@@ -4,13 +4,14 @@ use Rattle.serde_json.specs.Data.{Data, Items, null, boolean, number, unsigned, 
 use Rattle.serde_json.specs.View.{items_of}
 use Rattle.deb_version.specs.Faults.{fault_name as name_of_fault}
 use Rattle.wb_states.specs.State.{name_of}
+use Rattle.wb_states.specs.StoreFaults.{name_of_store_fault}
 use Rattle.wb_states.specs.Refusals.{code_of_refusal, name_of_refusal, name_of_list, name_of_field, name_of_listing_fault}
 use Rattle.wb_states.specs.declared.refusal.ListField.{ListField}
 use Rattle.wb_states.specs.declared.refusal.ListKind.{ListKind}
 use Rattle.wb_states.specs.declared.refusal.ListingFault.{ListingFault}
 use Rattle.wb_states.specs.declared.refusal.ListingFault.TheVariants.{Control, Missing, BadValue}
 use Rattle.wb_states.specs.declared.refusal.Refusal.{Refusal}
-use Rattle.wb_states.specs.declared.refusal.Refusal.TheVariants.{OtherVersion, WrongState, AfterAhead, BadVersion, BadRelations, BadListing}
+use Rattle.wb_states.specs.declared.refusal.Refusal.TheVariants.{OtherVersion, WrongState, AfterAhead, BadVersion, BadRelations, BadListing, Store}
 use Rattle.wb_states.specs.declared.reply.Assignment.{Assignment}
 use Rattle.wb_states.specs.declared.reply.MergeCounts.{MergeCounts}
 use Rattle.wb_states.specs.declared.reply.PartEnd.{PartEnd}
@@ -72,6 +73,10 @@ value_of_refusal (AfterAhead handed) = value_with_member (AfterAhead handed) (co
 value_of_refusal (BadVersion fault) = value_with_member (BadVersion fault) (codes "fault") (string (name_of_fault fault))
 value_of_refusal (BadRelations fault) = value_with_member (BadRelations fault) (codes "fault") (string (name_of_relations_fault fault))
 value_of_refusal (BadListing which paragraph fault) = value_of_listing_fault which paragraph fault
+value_of_refusal (Store fault) = object
+    (member (codes "code") (number (unsigned 21))
+    (member (codes "refused") (string (codes "Store"))
+    (member (codes "store") (string (name_of_store_fault fault)) no_members)))
 value_of_refusal refusal = object
     (member (codes "code") (number (unsigned (code_of_refusal refusal)))
     (member (codes "refused") (string (name_of_refusal refusal)) no_members))

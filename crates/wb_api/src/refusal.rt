@@ -34,6 +34,7 @@ fn constant_text(refusal: &Refusal) -> Option<&'static str>
         Refusal::BadNumber => Some(r#"{"code":14,"refused":"BadNumber"}"#),
         Refusal::TextTooLong => Some(r#"{"code":17,"refused":"TextTooLong"}"#),
         Refusal::Spent => Some(r#"{"code":18,"refused":"Spent"}"#),
+        Refusal::Closed => Some(r#"{"code":19,"refused":"Closed"}"#),
         Refusal::Memory => Some(MEMORY),
         Refusal::RepeatedArch => Some(r#"{"code":22,"refused":"RepeatedArch"}"#),
         Refusal::OtherVersion { .. }
@@ -41,7 +42,8 @@ fn constant_text(refusal: &Refusal) -> Option<&'static str>
         | Refusal::AfterAhead { .. }
         | Refusal::BadVersion { .. }
         | Refusal::BadRelations { .. }
-        | Refusal::BadListing { .. } => None,
+        | Refusal::BadListing { .. }
+        | Refusal::Store { .. } => None,
     }
 }
 
@@ -113,6 +115,9 @@ pub(crate) fn value_of_refusal(alloc: Global, refusal: &Refusal) -> Result<Value
             paragraph,
             fault,
         } => value_of_listing_fault(alloc, *which, *paragraph, *fault),
+        Refusal::Store { fault } => {
+            json!(in alloc; {"code": code, "refused": name, "store": fault.name()})
+        }
         _ => json!(in alloc; {"code": code, "refused": name}),
     }
 }

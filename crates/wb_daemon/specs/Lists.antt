@@ -2,7 +2,7 @@
 use Rattle.std.specs.Prelude.{◌≡◌, ◌⊎◌, ℕ, ◌<◌, ◌≤◌, ⊤, List, ◌∷◌, ◌++◌, length, Option, IfSome}
 use Rattle.std.specs.List.{AllZip}
 use Rattle.wb_states.specs.declared.command.Command.{Command}
-use Rattle.wb_states.specs.declared.command.Command.TheVariants.{Merge}
+use Rattle.wb_states.specs.Forms.{Merge}
 use Rattle.wb_states.specs.declared.command.Part.{Part}
 use Rattle.wb_words.specs.declared.words.PartNames.{PartNames}
 use Rattle.wb_daemon.specs.declared.lists.ListRead.{ListRead}

@@ -9,7 +9,7 @@ use crate::message::Message;
 use deb_text::{Items, Text};
 use std::alloc::{AllocError, Global};
 use std::io::{self, Read};
-use wb_states::{Command, Part};
+use wb_states::command::{self, Command, Part};
 use wb_words::PartNames;
 
 /// The greatest length of a list.
@@ -166,5 +166,5 @@ pub(crate) fn merge_of<L: Lists>(
     let Some(parts) = parts_of(alloc, lists, parts)? else {
         return Ok(None);
     };
-    Ok(Some(Command::Merge { sources, parts }))
+    Ok(Some(Command::Merge(command::Merge { sources, parts })))
 }

@@ -1,6 +1,6 @@
 use Rattle.std.proofs.Common.{sym, ap, ◌∙◌}
 use Rattle.wb_api.specs.Encoding.{refusal_text}
-use Rattle.wb_api.proofs.PlainLemmas.{refusal_text-UnknownArch, refusal_text-UnknownBuilder, refusal_text-WrongArch, refusal_text-UnknownSource, refusal_text-QueueEmpty, refusal_text-NotHeld, refusal_text-AlreadyThere, refusal_text-BadName, refusal_text-BadNumber, refusal_text-TextTooLong, refusal_text-Spent, refusal_text-Memory, refusal_text-RepeatedArch}
+use Rattle.wb_api.proofs.PlainLemmas.{refusal_text-UnknownArch, refusal_text-UnknownBuilder, refusal_text-WrongArch, refusal_text-UnknownSource, refusal_text-QueueEmpty, refusal_text-NotHeld, refusal_text-AlreadyThere, refusal_text-BadName, refusal_text-BadNumber, refusal_text-TextTooLong, refusal_text-Spent, refusal_text-Closed, refusal_text-Memory, refusal_text-RepeatedArch}
 use Rattle.wb_api.proofs.refusal.constant_text.Goals as goal
 
 pub returns-in-UnknownArch-clause-value : goal.returns-in-UnknownArch-clause-value
@@ -35,6 +35,9 @@ returns-in-TextTooLong-clause-value c = sym (ap refusal_text c.in-TextTooLong.is
 
 pub returns-in-Spent-clause-value : goal.returns-in-Spent-clause-value
 returns-in-Spent-clause-value c = sym (ap refusal_text c.in-Spent.is ∙ refusal_text-Spent)
+
+pub returns-in-Closed-clause-value : goal.returns-in-Closed-clause-value
+returns-in-Closed-clause-value c = sym (ap refusal_text c.in-Closed.is ∙ refusal_text-Closed)
 
 pub returns-in-Memory-clause-value : goal.returns-in-Memory-clause-value
 returns-in-Memory-clause-value c = sym (ap refusal_text c.in-Memory.is ∙ refusal_text-Memory)
