@@ -1,5 +1,5 @@
 -- Lemmas on what may be said to a line.
-use Rattle.std.proofs.Common.{◌≡◌, ℕ, Bool, true, false, not, ◌&&◌, cond, List, [], Option, None, Some, Ok, IsOk, IsTrue, ◌⊎◌, inl, inr, refl, sym, ap, ◌∙◌, subst, arith}
+use Rattle.std.proofs.Common.{◌≡◌, ℕ, Bool, true, false, not, ◌&&◌, cond, List, [], Option, None, Some, Ok, IsOk, IfSome, IsTrue, ◌≤◌, ◌⊎◌, inl, inr, refl, sym, ap, ◌∙◌, subst, arith}
 use Rattle.std.proofs.lemmas.Bool.{false≢true}
 use Rattle.std.specs.Str.{is_utf8}
 use Rattle.std.specs.Io.KnownBytes.{Appends}
@@ -18,7 +18,8 @@ use Rattle.deb_text.specs.Lines.{words_in, is_blank_line}
 use Rattle.wb_daemon.specs.Line.{is_long, with_feed}
 use Rattle.wb_daemon.specs.Lists.{Gives, GivesMerge, GivesNoMore}
 use Rattle.wb_daemon.specs.Run.{Said, Says, Accepts, AsksFor, LineAsks, SaysOfKind, LineKind, Blank, Fault, Request, kind_of_line, kind_of_asked, asked_of_line, fault_said, memory_said, needs_memory}
-use Rattle.wb_daemon.specs.Turn.{Answers, SaysAskedOrMemory, AnswersInPart, AppendsFront, TookEndedLine, TookLastLine, LacksAnswer, StopsTurn, Turns}
+use Rattle.wb_daemon.specs.declared.answer.Answer.{Answer}
+use Rattle.wb_daemon.specs.Turn.{said_by, Answers, SaysCommandOrMemory, SaysAskedOrMemory, AnswersInPart, AppendsFront, TookEndedLine, TookLastLine, LacksAnswer, StopsTurn, Turns}
 use Rattle.wb_daemon.specs.declared.message.Cause.{Cause}
 use Rattle.wb_daemon.specs.declared.message.Cause.TheVariants as why
 use Rattle.wb_daemon.specs.declared.run.Turn.{Turn}
@@ -201,3 +202,20 @@ pub answers-long_cut : (gives : Gives) (line : List ℕ) (machine : Machine) (ol
     → AppendsFront old new (with_feed line_fault_text) → AnswersInPart gives line machine machine old new
 answers-long_cut gives line machine old new h p =
     (fault_said machine, Says-kind gives machine line Fault _ (kind_of_line-long line h) refl, refl, p)
+
+-- what may be said to the command of a merge may be said to the merge
+merge-said : (gives : Gives) (machine : Machine) (asked : Asked) (sources : List ℕ) (parts : List PartNames) (command : Command) (said : Said)
+    → asked ≡ asked_Merge sources parts → GivesMerge gives sources parts command → SaysCommandOrMemory machine command said → SaysAskedOrMemory gives machine asked said
+merge-said gives machine asked sources parts command said is given (inl same) =
+    subst (λ a. SaysAskedOrMemory gives machine a said) (sym is) (inl (inl (command, given, same)))
+merge-said gives machine asked sources parts command said is given (inr short) =
+    subst (λ a. SaysAskedOrMemory gives machine a said) (sym is) (inr (tt, short.1))
+
+-- the same of an answer, if there is one
+pub merge-answered : (gives : Gives) (machine after : Machine) (asked : Asked) (sources : List ℕ) (parts : List PartNames) (command : Command) (answer : Option Answer)
+    → asked ≡ asked_Merge sources parts → GivesMerge gives sources parts command
+    → IfSome answer (λ a. (a.status ≤ 3) × SaysCommandOrMemory machine command (said_by a after))
+    → IfSome answer (λ a. (a.status ≤ 3) × SaysAskedOrMemory gives machine asked (said_by a after))
+merge-answered gives machine after asked sources parts command None is given known = tt
+merge-answered gives machine after asked sources parts command (Some answer) is given known =
+    (known.0, merge-said gives machine asked sources parts command (said_by answer after) is given known.1)

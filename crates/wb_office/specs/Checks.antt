@@ -282,6 +282,7 @@ is_spent machine (of.Fail fields) = nat_le count_limit machine.accepted
 is_spent machine (of.NotForUs fields) = nat_le count_limit machine.accepted
 is_spent machine (of.Rebuild fields) = nat_le count_limit machine.accepted
 is_spent machine (of.Merge fields) = nat_le count_limit machine.accepted
+
 -- ---- the one order
 
 -- the checks of a command's texts, in the one order

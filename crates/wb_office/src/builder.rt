@@ -24,8 +24,9 @@ use crate::texts::read_version;
 use deb_text::Text;
 use deb_version::Version;
 use std::alloc::Global;
-use wb_states::command;
-use wb_states::{Assignment, COUNT_LIMIT, Counts, Move, Record, Refusal, Reply, build_text};
+use wb_states::{
+    Assignment, COUNT_LIMIT, Counts, Move, Record, Refusal, Reply, build_text, command,
+};
 use wb_store::{KeyedRecord, Store};
 
 /// A record after a builder took it, and the assignment that answers the builder.

@@ -11,8 +11,7 @@ use crate::checks::words_of;
 use crate::moved::{keep_move, prepare_move};
 use crate::texts::read_relations;
 use std::alloc::Global;
-use wb_states::command;
-use wb_states::{Move, Refusal, Reply};
+use wb_states::{Move, Refusal, Reply, command};
 use wb_store::Store;
 
 /// Moves the record that is held under the take number.

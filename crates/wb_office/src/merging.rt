@@ -238,7 +238,12 @@ pub(crate) fn merge(
         → list_any (is_known store.old) command.now.parts ≡ true) }
     ensures unchanged { OnErr result (store.new ≡ store.old) }
 {
-    let made = prepare_merge(alloc, store, command.sources.as_slice(), command.parts.as_slice())?;
+    let made = prepare_merge(
+        alloc,
+        store,
+        command.sources.as_slice(),
+        command.parts.as_slice(),
+    )?;
     let counts = store.office_row()?;
     let accepted = counts.accepted + 1;
     store.replace_records(made.records);

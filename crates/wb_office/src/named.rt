@@ -14,8 +14,7 @@ use crate::texts::{is_long, read_key, read_refusal_or, read_relations, rebuild_n
 use deb_text::Text;
 use deb_version::Version;
 use std::alloc::Global;
-use wb_states::command;
-use wb_states::{Move, Refusal, Reply};
+use wb_states::{Move, Refusal, Reply, command};
 use wb_store::Store;
 
 /// Moves the record of the source package, if it is of the version.
@@ -58,7 +57,14 @@ pub(crate) fn give_back(
     ensures unchanged { OnErr result (store.new ≡ store.old) }
 {
     let read = read_key(alloc, &command.arch, &command.source, &command.version)?;
-    move_named(alloc, store, &command.arch, &command.source, &read, &Move::GiveBack)
+    move_named(
+        alloc,
+        store,
+        &command.arch,
+        &command.source,
+        &read,
+        &Move::GiveBack,
+    )
 }
 
 /// Lets it wait for what the relations ask for.

@@ -15,8 +15,7 @@ use deb_text::Text;
 use deb_version::Version;
 use std::alloc::Global;
 use wb_merge::blank_record;
-use wb_states::command;
-use wb_states::{Counts, OsCpu, Record, Refusal, Reply};
+use wb_states::{Counts, OsCpu, Record, Refusal, Reply, command};
 use wb_store::Store;
 
 /// Counts one more accepted command. Of tables in memory it cannot fail.
@@ -106,7 +105,10 @@ fn check_builder(store: &Store, command: &command::AddBuilder) -> Result<(), Ref
 
 /// Lets a builder build for an architecture.
 #[tactic(auto, unfolding(crate::specs::Step::step))]
-pub(crate) fn add_builder(store: &mut Store, command: &command::AddBuilder) -> Result<Reply, Refusal>
+pub(crate) fn add_builder(
+    store: &mut Store,
+    command: &command::AddBuilder,
+) -> Result<Reply, Refusal>
     ensures reply { IfOk result (λ reply.
         step store.old (of.AddBuilder command.now) ≡ (Ok reply, store.new)) }
     ensures refused { IfErr result (λ refusal. IsOfMachine refusal

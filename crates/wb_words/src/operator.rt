@@ -8,8 +8,7 @@ use crate::argument::{number, read_subject, word, words};
 use crate::usage::ArgumentKind;
 use clap::ArgMatches;
 use std::alloc::{AllocError, Global};
-use wb_states::Command;
-use wb_states::command;
+use wb_states::{Command, command};
 
 /// The subcommands with their arguments.
 pub static USAGES: [(&str, &[(&str, ArgumentKind)]); 8] = [

@@ -16,7 +16,7 @@ fn office_at(alloc: Global, counts: Counts) -> Result<Office, Fail> {
     add(alloc, &mut store, "amd64")?;
     put(alloc, &mut store, "amd64", "held", held(alloc, LIMIT)?)?;
     put(alloc, &mut store, "amd64", "waiting", waiting(alloc)?)?;
-    store.set_counts(counts);
+    store.set_counts(counts)?;
     Ok(Office::over(alloc, store))
 }
 

@@ -22,15 +22,14 @@ fn take_head(
     arch: &Text,
     take_number: u64,
 ) -> Result<Text, Fail> {
-    let (source, current) = store.head(arch).ok_or("an empty queue")?;
+    let row = store.head(arch)?.ok_or("an empty queue")?;
     let change = Move::Take {
         holder: Text::copied(alloc, "b1")?,
         take_number,
     };
-    let held = move_record(alloc, current, &change)?;
-    let source = source.clone()?;
-    store.put(arch.clone()?, source.clone()?, held)?;
-    Ok(source)
+    let held = move_record(alloc, &row.current, &change)?;
+    store.put(arch.clone()?, row.source.clone()?, held)?;
+    Ok(row.source)
 }
 
 #[test]
@@ -56,7 +55,7 @@ fn order_of_four_sources(rt: HostRuntime) -> Result<(), Fail> {
         assert_eq!(rt; current.take, Some(take_number));
         assert_eq!(rt; current.note.as_str(), "");
     }
-    assert!(rt; store.head(&amd64).is_none());
+    assert!(rt; store.head(&amd64)?.is_none());
     Ok(())
 }
 

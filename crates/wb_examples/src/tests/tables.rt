@@ -28,9 +28,9 @@ fn holds(rt: HostRuntime) -> Result<(), Fail> {
     let builder = Text::copied(alloc, "b1")?;
     let rows = store.held_by(&builder)?;
     assert_eq!(rt; rows.len(), 2);
-    assert_eq!(rt; rows[0].0.as_str(), "arm64");
-    assert!(rt; store.by_take(7).is_some());
-    assert!(rt; store.by_take(6).is_none());
+    assert_eq!(rt; rows[0].arch.as_str(), "arm64");
+    assert!(rt; store.by_take(7)?.is_some());
+    assert!(rt; store.by_take(6)?.is_none());
     Ok(())
 }
 
@@ -42,9 +42,9 @@ fn records(rt: HostRuntime) -> Result<(), Fail> {
     let arch = Text::copied(alloc, "amd64")?;
     let source = Text::copied(alloc, "hello")?;
     assert_eq!(rt; store.all_of(&arch)?.len(), 1);
-    assert_eq!(rt; store.counts(&arch).building, 1);
+    assert_eq!(rt; store.counts(&arch)?.building, 1);
     store.remove(&arch, &source)?;
     assert!(rt; store.get(&arch, &source)?.is_none());
-    assert_eq!(rt; store.counts(&arch).building, 0);
+    assert_eq!(rt; store.counts(&arch)?.building, 0);
     Ok(())
 }

@@ -3,6 +3,7 @@ use Rattle.std.proofs.Common.{refl, sym, subst, inl, inr, IfNone, IfSome}
 use Rattle.wb_daemon.specs.Lists.{GivesMerge, LacksMerge}
 use Rattle.wb_daemon.specs.Run.{AsksFor}
 use Rattle.wb_daemon.specs.Turn.{said_by, SaysAskedOrMemory}
+use Rattle.wb_daemon.proofs.AnswerLemmas.{merge-answered}
 use Rattle.wb_daemon.proofs.answer.answer_asked.Goals as goal
 
 pub returns-in-Command-clause-memory : goal.returns-in-Command-clause-memory
@@ -22,6 +23,15 @@ returns-in-Ok-Some-clause-memory g c = λ e.
       subst (λ asked. AsksFor gives asked c.in-Ok-Some.command) (sym c.in-Merge.is) given,
       c.answer_to-in-Ok-Some.ensures.memory e,
     )
+
+pub returns-in-Ok-Some-clause-value : goal.returns-in-Ok-Some-clause-value
+returns-in-Ok-Some-clause-value g c =
+    let gives = g.L.Lists.gives c.args.lists.now in
+    let found = subst (λ found. IfSome found (λ command. GivesMerge gives c.in-Merge.sources c.as_slice.result.now command))
+    c.in-Ok-Some.field-0-is c.in-Ok-Some.ensures.value in
+    let given = subst (λ parts. GivesMerge gives c.in-Merge.sources parts c.in-Ok-Some.command) c.as_slice.ensures found in
+    merge-answered gives c.args.office.now _ c.args.asked.now c.in-Merge.sources c.in-Merge.parts c.in-Ok-Some.command _
+    c.in-Merge.is given c.answer_to-in-Ok-Some.ensures.value
 
 pub returns-in-Ok-None-clause-value : goal.returns-in-Ok-None-clause-value
 returns-in-Ok-None-clause-value g c =
