@@ -12,7 +12,7 @@ use Rattle.deb_control.specs.declared.fault.ControlFaultKind.{ControlFaultKind}
 use Rattle.deb_control.specs.declared.fault.ControlFaultKind.TheVariants.{TooLarge, NotUtf8, Orphan, NoColon, BadName, Duplicate, Memory, Ended}
 use Rattle.deb_control.specs.Lines.{is_continuation, body_of}
 use Rattle.std.specs.Str.{str_to_ascii_lowercase}
-use Rattle.deb_control.specs.Fields.{Entry, Reads, HaveDistinctNames, IsLineFault, HasBadLine, IsFault, has_colon, is_name, name_of, field_of, fields_of, is_among, names_in, form_fault, line_fault, names_after, first_fault, largest_paragraph, fault_of, outcome, reading_of}
+use Rattle.deb_control.specs.Fields.{FieldText, Reads, HaveDistinctNames, IsLineFault, HasBadLine, IsFault, has_colon, is_name, name_of, field_of, fields_of, is_among, names_in, form_fault, line_fault, names_after, first_fault, largest_paragraph, fault_of, outcome, reading_of}
 use Rattle.deb_control.proofs.NameLemmas.{is_among-names_in}
 use Rattle.deb_control.proofs.FormLemmas.{option_or-none}
 use Rattle.deb_control.proofs.GrammarLemmas.{Reads-first_fault, first_fault-Reads}
@@ -51,20 +51,20 @@ suc_zero : (n : ℕ) → (suc n == 0) ≡ true → ⊥
 suc_zero n none = grind (arith, nat_tests)
 
 -- no names where there are no fields
-no_fields : (fields : List Entry) → (length (names_in fields) == 0) ≡ true → fields ≡ []
+no_fields : (fields : List FieldText) → (length (names_in fields) == 0) ≡ true → fields ≡ []
 no_fields [] none = refl
 no_fields (field ∷ fields) none = absurd (suc_zero (length (names_in fields)) none)
 
-no_names : (fields : List Entry) → fields ≡ [] → (length (names_in fields) == 0) ≡ true
+no_names : (fields : List FieldText) → fields ≡ [] → (length (names_in fields) == 0) ≡ true
 no_names fields none = rw none refl
 
 -- the fault of a line behind the names of fields, and the relation
-line_fault-is : (kind : ControlFaultKind) (fields : List Entry) (line : List ℕ) → line_fault (names_in fields) line ≡ Some kind → IsLineFault kind fields line
+line_fault-is : (kind : ControlFaultKind) (fields : List FieldText) (line : List ℕ) → line_fault (names_in fields) line ≡ Some kind → IsLineFault kind fields line
 unfolding line_fault form_fault
 line_fault-is kind fields line is =
     by_tests kind fields line (line_cases (is_continuation line) (length (names_in fields) == 0) (has_colon line) (is_name (name_of line)) (is_among (str_to_ascii_lowercase (name_of line)) (names_in fields)) kind is)
   where
-    by_tests : (kind : ControlFaultKind) (fields : List Entry) (line : List ℕ)
+    by_tests : (kind : ControlFaultKind) (fields : List FieldText) (line : List ℕ)
         → FaultByTests kind (is_continuation line) (length (names_in fields) == 0) (has_colon line) (is_name (name_of line)) (is_among (str_to_ascii_lowercase (name_of line)) (names_in fields))
         → IsLineFault kind fields line
     by_tests Orphan fields line f = (f.0, no_fields fields f.1)
@@ -76,12 +76,12 @@ line_fault-is kind fields line is =
     by_tests Memory fields line f = absurd f
     by_tests Ended fields line f = absurd f
 
-line_fault-from : (kind : ControlFaultKind) (fields : List Entry) (line : List ℕ) → IsLineFault kind fields line → line_fault (names_in fields) line ≡ Some kind
+line_fault-from : (kind : ControlFaultKind) (fields : List FieldText) (line : List ℕ) → IsLineFault kind fields line → line_fault (names_in fields) line ≡ Some kind
 unfolding line_fault form_fault
 line_fault-from kind fields line f =
     tests_fault kind (is_continuation line) (length (names_in fields) == 0) (has_colon line) (is_name (name_of line)) (is_among (str_to_ascii_lowercase (name_of line)) (names_in fields)) (to_tests kind fields line f)
   where
-    to_tests : (kind : ControlFaultKind) (fields : List Entry) (line : List ℕ) → IsLineFault kind fields line
+    to_tests : (kind : ControlFaultKind) (fields : List FieldText) (line : List ℕ) → IsLineFault kind fields line
         → FaultByTests kind (is_continuation line) (length (names_in fields) == 0) (has_colon line) (is_name (name_of line)) (is_among (str_to_ascii_lowercase (name_of line)) (names_in fields))
     to_tests Orphan fields line f = (f.0, no_names fields f.1)
     to_tests NoColon fields line f = f
@@ -171,7 +171,7 @@ first_fault-HasBadLine lines kind h =
     let read : (first_fault [] h.good ≡ None) × (fields_of h.good ≡ h.fields) = first_fault-Reads h.good h.fields h.read h.names in
     ap (first_fault []) h.cut
     ∙ first_fault-append [] h.good (h.bad ∷ h.rest) read.0
-    ∙ ap (λ (v : List Entry). first_fault (names_in v) (h.bad ∷ h.rest)) read.1
+    ∙ ap (λ (v : List FieldText). first_fault (names_in v) (h.bad ∷ h.rest)) read.1
     ∙ ap (λ (v : Option ControlFaultKind). option_or v (first_fault (names_after (names_in h.fields) h.bad) h.rest)) (line_fault-from kind h.fields h.bad h.fault)
 
 -- a number is below another or not, as a test
@@ -187,7 +187,7 @@ test_below a b less = grind (arith, nat_tests)
 test_not_below : (a b : ℕ) → nat_lt a b ≡ false → b ≤ a
 test_not_below a b less = grind (arith, nat_tests)
 
-outcome_err : (fault : Option ControlFaultKind) (fields : List Entry) (kind : ControlFaultKind) → outcome fault fields ≡ Err kind → fault ≡ Some kind
+outcome_err : (fault : Option ControlFaultKind) (fields : List FieldText) (kind : ControlFaultKind) → outcome fault fields ≡ Err kind → fault ≡ Some kind
 outcome_err None fields kind is = cc
 outcome_err (Some other) fields kind is = let same : other ≡ kind = cc in ap (λ (k : ControlFaultKind). Some k) same
 

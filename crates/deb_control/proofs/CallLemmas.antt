@@ -6,18 +6,18 @@ use Rattle.std.proofs.lemmas.Bool.{and_parts}
 use Rattle.std.proofs.lemmas.List.{append-nil}
 use Rattle.deb_control.specs.declared.fault.ControlFaultKind.{ControlFaultKind}
 use Rattle.deb_control.specs.declared.fault.ControlFaultKind.TheVariants.{Ended}
-use Rattle.deb_control.specs.Fields.{Entry, reading_of}
-use Rattle.deb_control.specs.Paragraphs.{Place, begun, ended_at, answered, step, after_calls, answer_after, answer_for, has_reading}
+use Rattle.deb_control.specs.Fields.{FieldText, reading_of}
+use Rattle.deb_control.specs.Paragraphs.{ReaderState, begun, ended_at, answered, step, after_calls, answer_after, answer_for, has_reading}
 
-answered-ok : (number : ℕ) (later : List (List (List ℕ))) (reading : Result (List Entry) ControlFaultKind) → is_ok reading ≡ true → (answered number later reading).1 ≡ record { passed = number; ahead = Some later }
+answered-ok : (number : ℕ) (later : List (List (List ℕ))) (reading : Result (List FieldText) ControlFaultKind) → is_ok reading ≡ true → (answered number later reading).1 ≡ record { passed = number; ahead = Some later }
 answered-ok number later (Ok fields) ok = refl
 answered-ok number later (Err kind) ok = cc
 
-answered-err : (number : ℕ) (later : List (List (List ℕ))) (reading : Result (List Entry) ControlFaultKind) → is_ok reading ≡ false → (answered number later reading).1 ≡ ended_at number
+answered-err : (number : ℕ) (later : List (List (List ℕ))) (reading : Result (List FieldText) ControlFaultKind) → is_ok reading ≡ false → (answered number later reading).1 ≡ ended_at number
 answered-err number later (Ok fields) err = cc
 answered-err number later (Err kind) err = refl
 
-answered-answer : (number : ℕ) (later : List (List (List ℕ))) (reading : Result (List Entry) ControlFaultKind) → (answered number later reading).0 ≡ (answered number [] reading).0
+answered-answer : (number : ℕ) (later : List (List (List ℕ))) (reading : Result (List FieldText) ControlFaultKind) → (answered number later reading).0 ≡ (answered number [] reading).0
 answered-answer number later (Ok fields) = refl
 answered-answer number later (Err kind) = refl
 
@@ -43,7 +43,7 @@ suc_more m n = omega arith
 zero_first : (n : ℕ) → zero + n ≡ n
 zero_first n = omega arith
 
-after_calls-add : (m n : ℕ) (place : Place) → after_calls (m + n) place ≡ after_calls n (after_calls m place)
+after_calls-add : (m n : ℕ) (place : ReaderState) → after_calls (m + n) place ≡ after_calls n (after_calls m place)
 after_calls-add zero n place = ap (λ (k : ℕ). after_calls k place) (zero_first n)
 after_calls-add (suc m) n place = ap (λ (k : ℕ). after_calls k place) (suc_more m n) ∙ after_calls-add m n (step place).1
 
@@ -63,12 +63,12 @@ from_begun before later all = passes 0 before later all ∙ ap (λ (k : ℕ). re
 pub answer_after-paragraph : (before : List (List (List ℕ))) (lines : List (List ℕ)) (later : List (List (List ℕ))) → list_all has_reading before ≡ true
     → answer_after (length before) (begun (before ++ lines ∷ later)) ≡ answer_for (length before + 1) lines
 answer_after-paragraph before lines later all =
-    ap (λ (p : Place). (step p).0) (from_begun before (lines ∷ later) all) ∙ answered-answer (length before + 1) later (reading_of lines)
+    ap (λ (p : ReaderState). (step p).0) (from_begun before (lines ∷ later) all) ∙ answered-answer (length before + 1) later (reading_of lines)
 
 pub answer_after-end : (paragraphs : List (List (List ℕ))) (more : ℕ) → list_all has_reading paragraphs ≡ true
     → answer_after (length paragraphs + more) (begun paragraphs) ≡ Ok None
 answer_after-end paragraphs more all =
-    ap (λ (p : Place). (step p).0)
+    ap (λ (p : ReaderState). (step p).0)
     (after_calls-add (length paragraphs) more (begun paragraphs)
     ∙ ap (after_calls more) (ap (λ (v : List (List (List ℕ))). after_calls (length paragraphs) (begun v)) (sym (append-nil paragraphs)) ∙ from_begun paragraphs [] all)
     ∙ stays_at_end more (length paragraphs))
@@ -77,7 +77,7 @@ pub answer_after-ended : (before : List (List (List ℕ))) (lines : List (List �
     → has_reading lines ≡ false
     → answer_after (length before + 1 + more) (begun (before ++ lines ∷ later)) ≡ Err (record { paragraph = length before + 1; kind = Ended })
 answer_after-ended before lines later more all bad =
-    ap (λ (p : Place). (step p).0)
+    ap (λ (p : ReaderState). (step p).0)
     (after_calls-add (length before + 1) more (begun (before ++ lines ∷ later))
     ∙ ap (after_calls more)
     (after_calls-add (length before) 1 (begun (before ++ lines ∷ later))

@@ -11,7 +11,7 @@ use Rattle.deb_control.specs.declared.fault.ControlFaultKind.{ControlFaultKind}
 use Rattle.deb_control.specs.declared.fault.ControlFaultKind.TheVariants.{TooLarge, NotUtf8}
 use Rattle.deb_control.specs.Lines.{body_of, is_continuation}
 use Rattle.std.specs.Str.{str_to_ascii_lowercase}
-use Rattle.deb_control.specs.Fields.{Entry, IsField, Reads, HaveDistinctNames, is_colon, is_name, has_colon, name_of, first_of, is_among, continued, field_of, fields_of, line_fault, names_after, first_fault, largest_paragraph, fault_of, outcome, reading_of, IsReading}
+use Rattle.deb_control.specs.Fields.{FieldText, IsField, Reads, HaveDistinctNames, is_colon, is_name, has_colon, name_of, first_of, is_among, continued, field_of, fields_of, line_fault, names_after, first_fault, largest_paragraph, fault_of, outcome, reading_of, IsReading}
 use Rattle.std.proofs.lemmas.Str.{IsUtf8-from_is_utf8, is_utf8-from_IsUtf8}
 use Rattle.deb_control.proofs.FieldLemmas.{take_while-continuation, take_while-other}
 use Rattle.deb_control.proofs.FormLemmas.{Named, named, line-name, option_or-none, good_line, line_good, continuation_good, names_after-continuation, names_after-other}
@@ -122,16 +122,16 @@ take_while-skip (line ∷ more) rest all none =
     let parts : (is_continuation line ≡ true) × (list_all is_continuation more ≡ true) = and_parts _ _ all in
     take_while-continuation line (more ++ rest) parts.0 ∙ ap (λ (v : List (List ℕ)). line ∷ v) (take_while-skip more rest parts.1 none)
 
-named_field : (field : Entry) (line : List ℕ) (more : List (List ℕ)) → IsField field line more → Named field.name field.first line
+named_field : (field : FieldText) (line : List ℕ) (more : List (List ℕ)) → IsField field line more → Named field.name field.first line
 named_field field line more f = named field.name f.value field.first line f.form f.begins f.trimmed
 
 -- what is read begins with no continuation line
-take_while-reads : (fields : List Entry) (lines : List (List ℕ)) → Reads lines fields → take_while is_continuation lines ≡ []
+take_while-reads : (fields : List FieldText) (lines : List (List ℕ)) → Reads lines fields → take_while is_continuation lines ≡ []
 take_while-reads [] lines reads = ap (take_while is_continuation) reads
 take_while-reads (field ∷ fields) lines (line, more, rest, is, f, behind) =
     ap (take_while is_continuation) is ∙ take_while-other line (more ++ rest) (named_field field line more f).plain
 
-field_of-is : (field : Entry) (line : List ℕ) (lines : List (List ℕ)) → name_of line ≡ field.name → first_of line ≡ field.first → map continued (take_while is_continuation lines) ≡ field.lines
+field_of-is : (field : FieldText) (line : List ℕ) (lines : List (List ℕ)) → name_of line ≡ field.name → first_of line ≡ field.first → map continued (take_while is_continuation lines) ≡ field.lines
     → field_of line lines ≡ field
 unfolding field_of
 field_of-is field line lines name first added =
@@ -140,7 +140,7 @@ field_of-is field line lines name first added =
     ∙ ap (λ (v : List (List ℕ)). record { name = field.name; first = field.first; lines = v }) added
 
 -- lines that are fields have no fault, and those fields
-read_only : (names lines : List (List ℕ)) (fields : List Entry) → Reads lines fields → Apart names fields → (first_fault names lines ≡ None) × (fields_of lines ≡ fields)
+read_only : (names lines : List (List ℕ)) (fields : List FieldText) → Reads lines fields → Apart names fields → (first_fault names lines ≡ None) × (fields_of lines ≡ fields)
 read_only names lines [] reads apart = rw reads (refl, refl)
 read_only names lines (field ∷ fields) (line, more, rest, is, f, behind) apart =
     let n : Named field.name field.first line = named_field field line more f in
@@ -157,10 +157,10 @@ read_only names lines (field ∷ fields) (line, more, rest, is, f, behind) apart
           ∙ later.0,
       ap fields_of is
           ∙ (fields_of-other line (more ++ rest) n.plain).1
-          ∙ ap (λ (v : Entry). v ∷ fields_of (more ++ rest))
+          ∙ ap (λ (v : FieldText). v ∷ fields_of (more ++ rest))
           (field_of-is field line (more ++ rest) n.name_is n.first_is
           (ap (map continued) (take_while-skip more rest f.continues (take_while-reads fields rest behind)) ∙ sym f.added))
-          ∙ ap (λ (v : List Entry). field ∷ v) (skip_fields more rest f.continues ∙ later.1),
+          ∙ ap (λ (v : List FieldText). field ∷ v) (skip_fields more rest f.continues ∙ later.1),
     )
 
 -- the relation between lines and fields, from the definitions and to them
@@ -169,10 +169,10 @@ Reads-first_fault lines good =
     let read : Reads lines (fields_of lines) × Apart [] (fields_of lines) = read_first lines good in
     (read.0, (apart_to [] (fields_of lines) read.1).1)
 
-pub first_fault-Reads : (lines : List (List ℕ)) (fields : List Entry) → Reads lines fields → HaveDistinctNames fields → (first_fault [] lines ≡ None) × (fields_of lines ≡ fields)
+pub first_fault-Reads : (lines : List (List ℕ)) (fields : List FieldText) → Reads lines fields → HaveDistinctNames fields → (first_fault [] lines ≡ None) × (fields_of lines ≡ fields)
 first_fault-Reads lines fields reads distinct = read_only [] lines fields reads (apart_from [] fields (none_among_nil fields) distinct)
 
-outcome_cases : (fault : Option ControlFaultKind) (found fields : List Entry) → outcome fault found ≡ Ok fields → (fault ≡ None) × (found ≡ fields)
+outcome_cases : (fault : Option ControlFaultKind) (found fields : List FieldText) → outcome fault found ≡ Ok fields → (fault ≡ None) × (found ≡ fields)
 outcome_cases None found fields is = (refl, cc)
 outcome_cases (Some kind) found fields is = cc
 
@@ -189,7 +189,7 @@ not_below_test : (a b : ℕ) → b ≤ a → nat_lt a b ≡ false
 not_below_test a b more = grind (arith, nat_tests)
 
 -- a reading is what the relation says, and the other way round
-pub IsReading-from_reading_of : (lines : List (List ℕ)) (fields : List Entry) → reading_of lines ≡ Ok fields → IsReading lines fields
+pub IsReading-from_reading_of : (lines : List (List ℕ)) (fields : List FieldText) → reading_of lines ≡ Ok fields → IsReading lines fields
 unfolding reading_of fault_of
 IsReading-from_reading_of lines fields is =
     let parts : (fault_of lines ≡ None) × (fields_of (map body_of lines) ≡ fields) = outcome_cases _ _ fields is in
@@ -198,15 +198,15 @@ IsReading-from_reading_of lines fields is =
     record {
       size = not_below largest_paragraph (length (concat lines)) faults.0;
       text = IsUtf8-from_is_utf8 (concat lines) faults.1;
-      is = subst (λ (v : List Entry). Reads (map body_of lines) v) parts.1 read.0;
-      names = subst (λ (v : List Entry). HaveDistinctNames v) parts.1 read.1;
+      is = subst (λ (v : List FieldText). Reads (map body_of lines) v) parts.1 read.0;
+      names = subst (λ (v : List FieldText). HaveDistinctNames v) parts.1 read.1;
     }
 
-pub reading_of-IsReading : (lines : List (List ℕ)) (fields : List Entry) → IsReading lines fields → reading_of lines ≡ Ok fields
+pub reading_of-IsReading : (lines : List (List ℕ)) (fields : List FieldText) → IsReading lines fields → reading_of lines ≡ Ok fields
 unfolding reading_of fault_of
 reading_of-IsReading lines fields reading =
     let small : nat_lt largest_paragraph (length (concat lines)) ≡ false = not_below_test largest_paragraph (length (concat lines)) reading.size in
     let utf8 : is_utf8 (concat lines) ≡ true = is_utf8-from_IsUtf8 (concat lines) reading.text in
     let read : (first_fault [] (map body_of lines) ≡ None) × (fields_of (map body_of lines) ≡ fields) = first_fault-Reads (map body_of lines) fields reading.is reading.names in
     ap (λ (v : Option ControlFaultKind). outcome v (fields_of (map body_of lines))) (cond-false _ _ _ small ∙ cond-true _ _ _ utf8 ∙ read.0)
-    ∙ ap (λ (v : List Entry). Ok v) read.1
+    ∙ ap (λ (v : List FieldText). Ok v) read.1

@@ -1,7 +1,7 @@
 pub mod BlankLemmas
 pub mod LineLemmas
 pub mod RunLemmas
-pub mod FeedLemmas
+pub mod LineFeedLemmas
 pub mod FieldLemmas
 pub mod NameLemmas
 pub mod ReadLemmas

@@ -10,23 +10,23 @@ use Rattle.std.specs.List.{before_first, after_first}
 use Rattle.std.proofs.lemmas.Bool.{cases_Bool, cond-true, cond-false, false_from_ne_true}
 use Rattle.std.proofs.lemmas.List.{append-nil, map-append}
 use Rattle.deb_control.specs.declared.fault.ControlFaultKind.{ControlFaultKind}
-use Rattle.deb_control.specs.Lines.{is_feed, is_continuation, lines_of, body_of, lines_in}
+use Rattle.deb_control.specs.Lines.{is_line_feed, is_continuation, lines_of, body_of, lines_in}
 use Rattle.std.specs.Str.{str_to_ascii_lowercase}
-use Rattle.deb_control.specs.Fields.{Entry, field_of, fields_of, fields_at, names_in, names_after, line_fault, first_fault, largest_paragraph, fault_of, outcome, reading_of}
+use Rattle.deb_control.specs.Fields.{FieldText, field_of, fields_of, fields_at, names_in, names_after, line_fault, first_fault, largest_paragraph, fault_of, outcome, reading_of}
 use Rattle.deb_control.proofs.LineLemmas.{lines_in-front, concat-lines_of}
 
 -- the lines of a text that is not empty
-pub lines_in-split : (text line rest : List ℕ) → 0 < length text → line ≡ before_first is_feed text → rest ≡ after_first is_feed text → lines_in text ≡ line ∷ lines_in rest
+pub lines_in-split : (text line rest : List ℕ) → 0 < length text → line ≡ before_first is_line_feed text → rest ≡ after_first is_line_feed text → lines_in text ≡ line ∷ lines_in rest
 lines_in-split [] line rest some front behind = absurd (omega arith)
 lines_in-split (c ∷ cs) line rest some front behind =
-    lines_in-front c cs ∙ ap (λ (v : List ℕ). v ∷ lines_in (after_first is_feed (c ∷ cs))) (sym front) ∙ ap (λ (v : List ℕ). line ∷ lines_in v) (sym behind)
+    lines_in-front c cs ∙ ap (λ (v : List ℕ). v ∷ lines_in (after_first is_line_feed (c ∷ cs))) (sym front) ∙ ap (λ (v : List ℕ). line ∷ lines_in v) (sym behind)
 
 -- the names once the field at a line was added
-names_in-fields_at : (fields : List Entry) (line rest : List ℕ) → names_in (fields ++ fields_at line rest) ≡ names_after (names_in fields) line
+names_in-fields_at : (fields : List FieldText) (line rest : List ℕ) → names_in (fields ++ fields_at line rest) ≡ names_after (names_in fields) line
 unfolding fields_at names_after field_of
 names_in-fields_at fields line rest = elim (cases_Bool (is_continuation line)) [
   | inl is ↦ rw is (ap names_in (append-nil fields))
-  | inr other ↦ rw other (map-append (λ (field : Entry). str_to_ascii_lowercase field.name) fields (field_of line (lines_in rest) ∷ []))
+  | inr other ↦ rw other (map-append (λ (field : FieldText). str_to_ascii_lowercase field.name) fields (field_of line (lines_in rest) ∷ []))
 ]
 
 -- the fields of lines, by the first line
@@ -38,14 +38,14 @@ fields_of-fields_at line rest = elim (cases_Bool (is_continuation line)) [
 ]
 
 -- a bad first line is the fault of the text
-pub first_fault-line : (names : List (List ℕ)) (text line rest : List ℕ) (kind : ControlFaultKind) → 0 < length text → line ≡ before_first is_feed text → rest ≡ after_first is_feed text
+pub first_fault-line : (names : List (List ℕ)) (text line rest : List ℕ) (kind : ControlFaultKind) → 0 < length text → line ≡ before_first is_line_feed text → rest ≡ after_first is_line_feed text
     → line_fault names line ≡ Some kind → first_fault names (lines_in text) ≡ Some kind
 first_fault-line names text line rest kind some front behind fault =
     ap (first_fault names) (lines_in-split text line rest some front behind)
     ∙ ap (λ (v : Option ControlFaultKind). option_or v (first_fault (names_after names line) (lines_in rest))) fault
 
 -- a good first line leaves the fault to what stands behind it
-pub first_fault-behind : (fields after : List Entry) (text line rest : List ℕ) → 0 < length text → line ≡ before_first is_feed text → rest ≡ after_first is_feed text
+pub first_fault-behind : (fields after : List FieldText) (text line rest : List ℕ) → 0 < length text → line ≡ before_first is_line_feed text → rest ≡ after_first is_line_feed text
     → line_fault (names_in fields) line ≡ None → after ≡ fields ++ fields_at line rest
     → first_fault (names_in after) (lines_in rest) ≡ first_fault (names_in fields) (lines_in text)
 first_fault-behind fields after text line rest some front behind good is =
@@ -53,13 +53,13 @@ first_fault-behind fields after text line rest some front behind good is =
     ∙ sym (ap (first_fault (names_in fields)) (lines_in-split text line rest some front behind)
     ∙ ap (λ (v : Option ControlFaultKind). option_or v (first_fault (names_after (names_in fields) line) (lines_in rest))) good)
 
-pub fields_of-behind : (fields after : List Entry) (text line rest : List ℕ) → 0 < length text → line ≡ before_first is_feed text → rest ≡ after_first is_feed text
+pub fields_of-behind : (fields after : List FieldText) (text line rest : List ℕ) → 0 < length text → line ≡ before_first is_line_feed text → rest ≡ after_first is_line_feed text
     → after ≡ fields ++ fields_at line rest
     → after ++ fields_of (lines_in rest) ≡ fields ++ fields_of (lines_in text)
 fields_of-behind fields after text line rest some front behind is =
-    ap (λ (v : List Entry). v ++ fields_of (lines_in rest)) is
+    ap (λ (v : List FieldText). v ++ fields_of (lines_in rest)) is
     ∙ append_assoc fields (fields_at line rest) (fields_of (lines_in rest))
-    ∙ ap (λ (v : List Entry). fields ++ v) (sym (fields_of-fields_at line rest))
+    ∙ ap (λ (v : List FieldText). fields ++ v) (sym (fields_of-fields_at line rest))
     ∙ ap (λ (v : List (List ℕ)). fields ++ fields_of v) (sym (lines_in-split text line rest some front behind))
 
 -- nothing is left of the empty text
@@ -68,7 +68,7 @@ unfolding lines_in
 first_fault-end names [] none = refl
 first_fault-end names (c ∷ cs) none = absurd (omega arith)
 
-pub fields_of-end : (fields : List Entry) (text : List ℕ) → length text ≡ 0 → fields ++ fields_of (lines_in text) ≡ fields
+pub fields_of-end : (fields : List FieldText) (text : List ℕ) → length text ≡ 0 → fields ++ fields_of (lines_in text) ≡ fields
 unfolding lines_in
 fields_of-end fields [] none = append-nil fields
 fields_of-end fields (c ∷ cs) none = absurd (omega arith)
@@ -115,8 +115,8 @@ reading_of-fault bytes text kind small utf8 fault =
     reading_of-small bytes small utf8.1
     ∙ ap (λ (v : Option ControlFaultKind). outcome v (fields_of (lines_in bytes))) (ap (λ (v : List ℕ). first_fault [] (lines_in v)) (sym utf8.0) ∙ fault)
 
-pub reading_of-fields : (bytes text : List ℕ) (fields : List Entry) → length bytes ≤ largest_paragraph → (text ≡ bytes) × IsUtf8 bytes → first_fault [] (lines_in text) ≡ None → fields ≡ fields_of (lines_in text) → reading_of (lines_of bytes) ≡ Ok fields
+pub reading_of-fields : (bytes text : List ℕ) (fields : List FieldText) → length bytes ≤ largest_paragraph → (text ≡ bytes) × IsUtf8 bytes → first_fault [] (lines_in text) ≡ None → fields ≡ fields_of (lines_in text) → reading_of (lines_of bytes) ≡ Ok fields
 reading_of-fields bytes text fields small utf8 good is =
     reading_of-small bytes small utf8.1
     ∙ ap (λ (v : Option ControlFaultKind). outcome v (fields_of (lines_in bytes))) (ap (λ (v : List ℕ). first_fault [] (lines_in v)) (sym utf8.0) ∙ good)
-    ∙ ap (λ (v : List Entry). Ok v) (ap (λ (v : List ℕ). fields_of (lines_in v)) (sym utf8.0) ∙ sym is)
+    ∙ ap (λ (v : List FieldText). Ok v) (ap (λ (v : List ℕ). fields_of (lines_in v)) (sym utf8.0) ∙ sym is)

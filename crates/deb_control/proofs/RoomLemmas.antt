@@ -6,17 +6,17 @@ use Rattle.std.specs.Str.{is_utf8}
 use Rattle.std.proofs.lemmas.Str.{is_utf8-from_IsUtf8}
 use Rattle.std.proofs.lemmas.Bool.Decides.{nat_tests}
 use Rattle.std.proofs.lemmas.Bool.{and_from}
-use Rattle.deb_control.specs.Lines.{is_feed, lines_of, body_of, lines_in}
-use Rattle.deb_control.specs.Fields.{Entry, names_in, line_fault, largest_paragraph, begin_with_field, takes_memory}
+use Rattle.deb_control.specs.Lines.{is_line_feed, lines_of, body_of, lines_in}
+use Rattle.deb_control.specs.Fields.{FieldText, names_in, line_fault, largest_paragraph, begin_with_field, takes_memory}
 use Rattle.deb_control.proofs.LineLemmas.{concat-lines_of}
 use Rattle.deb_control.proofs.ReadLemmas.{lines_in-split}
 
 -- no line was read yet, or the text begins with a field
-abbrev pub HasBegun : List Entry → List ℕ → List ℕ → Type 0
+abbrev pub HasBegun : List FieldText → List ℕ → List ℕ → Type 0
 HasBegun fields left text = ((fields ≡ []) × (left ≡ text)) ⊎ (begin_with_field (lines_in text) ≡ true)
 
-pub begins-at : (fields : List Entry) (left text line rest : List ℕ) → HasBegun fields left text → 0 < length left
-    → line ≡ before_first is_feed left → rest ≡ after_first is_feed left → line_fault [] line ≡ None → begin_with_field (lines_in text) ≡ true
+pub begins-at : (fields : List FieldText) (left text line rest : List ℕ) → HasBegun fields left text → 0 < length left
+    → line ≡ before_first is_line_feed left → rest ≡ after_first is_line_feed left → line_fault [] line ≡ None → begin_with_field (lines_in text) ≡ true
 unfolding begin_with_field
 begins-at fields left text line rest (inl first) some front behind good =
     ap (λ xs. begin_with_field (lines_in xs)) (sym first.1)
@@ -24,8 +24,8 @@ begins-at fields left text line rest (inl first) some front behind good =
     ∙ ap is_none good
 begins-at fields left text line rest (inr begun) some front behind good = begun
 
-pub begins-behind : (fields : List Entry) (left text line rest : List ℕ) → HasBegun fields left text → 0 < length left
-    → line ≡ before_first is_feed left → rest ≡ after_first is_feed left → line_fault (names_in fields) line ≡ None → begin_with_field (lines_in text) ≡ true
+pub begins-behind : (fields : List FieldText) (left text line rest : List ℕ) → HasBegun fields left text → 0 < length left
+    → line ≡ before_first is_line_feed left → rest ≡ after_first is_line_feed left → line_fault (names_in fields) line ≡ None → begin_with_field (lines_in text) ≡ true
 begins-behind fields left text line rest (inl first) some front behind good =
     begins-at fields left text line rest (inl first) some front behind (ap (λ xs. line_fault (names_in xs) line) (sym first.0) ∙ good)
 begins-behind fields left text line rest (inr begun) some front behind good = begun

@@ -3,17 +3,17 @@ use Rattle.std.proofs.Common.{◌≡◌, ◌∙◌, sym, ap, refl, ℕ, ◌<◌,
 use Rattle.std.proofs.lemmas.Bool.{cases_Bool, not-true, not-false}
 use Rattle.std.proofs.lemmas.List.{length-append, take_at, append-nil}
 use Rattle.std.specs.List.{before_first, after_first, slice_split, onto_first, list_any, list_all, filter}
-use Rattle.deb_control.specs.Lines.{is_feed, is_blank, lines_of, is_separator, front_line, paragraphs_in, begin_no_paragraph, begins_separator, begins_paragraph, IsFirstParagraph, is_filled}
+use Rattle.deb_control.specs.Lines.{is_line_feed, is_blank, lines_of, is_separator, front_line, paragraphs_in, begin_no_paragraph, begins_separator, begins_paragraph, IsFirstParagraph, is_nonempty}
 use Rattle.deb_control.proofs.LineLemmas.{lines_of-front, lines_of-front_line, lines_of-behind, front_line-rest, length-after_line, body_of-front}
 
 -- whether a text begins with a separator is a test of its first line
-pub begins_separator-test : (text line : List ℕ) (b : Bool) → 0 < length text → line ≡ before_first is_feed text → b ≡ list_all is_blank line → begins_separator text ≡ b
+pub begins_separator-test : (text line : List ℕ) (b : Bool) → 0 < length text → line ≡ before_first is_line_feed text → b ≡ list_all is_blank line → begins_separator text ≡ b
 unfolding begins_separator is_separator
 begins_separator-test [] line b some is test = absurd (omega arith)
 begins_separator-test (c ∷ cs) line b some is test =
     ap (list_all is_blank) (body_of-front (c ∷ cs) ∙ sym is) ∙ sym test
 
-pub begins_paragraph-test : (text line : List ℕ) (b : Bool) → 0 < length text → line ≡ before_first is_feed text → b ≡ list_all is_blank line → begins_paragraph text ≡ not b
+pub begins_paragraph-test : (text line : List ℕ) (b : Bool) → 0 < length text → line ≡ before_first is_line_feed text → b ≡ list_all is_blank line → begins_paragraph text ≡ not b
 unfolding begins_paragraph is_separator
 begins_paragraph-test [] line b some is test = absurd (omega arith)
 begins_paragraph-test (c ∷ cs) line b some is test =
@@ -48,18 +48,18 @@ unfolding paragraphs_in
 paragraphs_in-separator line lines separator = rw separator refl
 
 -- the paragraphs of a text that begins with a separator are those of what stands behind it
-pub paragraphs_in-behind : (text : List ℕ) → begins_separator text ≡ true → paragraphs_in (lines_of (after_first is_feed text)) ≡ paragraphs_in (lines_of text)
+pub paragraphs_in-behind : (text : List ℕ) → begins_separator text ≡ true → paragraphs_in (lines_of (after_first is_line_feed text)) ≡ paragraphs_in (lines_of text)
 unfolding begins_separator
 paragraphs_in-behind [] begins = cc
 paragraphs_in-behind (c ∷ cs) begins =
-    sym (ap paragraphs_in (lines_of-front c cs) ∙ paragraphs_in-separator (front_line (c ∷ cs)) (lines_of (after_first is_feed (c ∷ cs))) begins)
+    sym (ap paragraphs_in (lines_of-front c cs) ∙ paragraphs_in-separator (front_line (c ∷ cs)) (lines_of (after_first is_line_feed (c ∷ cs))) begins)
 
-pub length-behind_separator : (text : List ℕ) → begins_separator text ≡ true → length (after_first is_feed text) < length text
+pub length-behind_separator : (text : List ℕ) → begins_separator text ≡ true → length (after_first is_line_feed text) < length text
 unfolding begins_separator
 length-behind_separator [] begins = cc
 length-behind_separator (c ∷ cs) begins = length-after_line (c ∷ cs) (omega arith)
 
-pub length-behind_line : (text : List ℕ) → begins_paragraph text ≡ true → length (after_first is_feed text) < length text
+pub length-behind_line : (text : List ℕ) → begins_paragraph text ≡ true → length (after_first is_line_feed text) < length text
 length-behind_line text begins = length-after_line text (length-begins_paragraph text begins)
 
 -- the lines in front of what is left, none of which is a separator
@@ -81,12 +81,12 @@ list_any-push (y ∷ ys) x none plain = elim (cases_Bool (is_separator y)) [
 ]
 
 -- one more line of the paragraph
-pub passed_more : (start left : List ℕ) → Passed start left → begins_paragraph left ≡ true → Passed start (after_first is_feed left)
+pub passed_more : (start left : List ℕ) → Passed start left → begins_paragraph left ≡ true → Passed start (after_first is_line_feed left)
 unfolding begins_paragraph
 passed_more start [] p begins = cc
 passed_more start (c ∷ cs) p begins =
     let line : List ℕ = front_line (c ∷ cs) in
-    let rest : List ℕ = after_first is_feed (c ∷ cs) in
+    let rest : List ℕ = after_first is_line_feed (c ∷ cs) in
     let some : 0 < length (c ∷ cs) = omega arith in
     let pushed : lines_of (p.front ++ line) ≡ lines_of p.front ++ line ∷ [] =
     p.whole some line ∙ ap (λ (v : List (List ℕ)). lines_of p.front ++ v) (lines_of-front_line c cs) in
@@ -124,15 +124,15 @@ slice_split-end test (x ∷ xs) none = elim (cases_Bool (test x)) [
 ]
 
 -- the paragraphs where a run of lines comes first
-pub paragraphs_in-run : (run after : List (List ℕ)) → is_filled run ≡ true → list_any is_separator run ≡ false → begin_no_paragraph after ≡ true
+pub paragraphs_in-run : (run after : List (List ℕ)) → is_nonempty run ≡ true → list_any is_separator run ≡ false → begin_no_paragraph after ≡ true
     → paragraphs_in (run ++ after) ≡ run ∷ paragraphs_in after
 unfolding paragraphs_in
 paragraphs_in-run run [] some plain stops =
-    ap (λ (v : List (List ℕ)). filter is_filled (slice_split is_separator v)) (append-nil run)
-    ∙ ap (filter is_filled) (slice_split-end is_separator run plain)
+    ap (λ (v : List (List ℕ)). filter is_nonempty (slice_split is_separator v)) (append-nil run)
+    ∙ ap (filter is_nonempty) (slice_split-end is_separator run plain)
     ∙ rw some refl
 paragraphs_in-run run (line ∷ lines) some plain stops =
-    ap (filter is_filled) (slice_split-run is_separator run line lines plain stops)
+    ap (filter is_nonempty) (slice_split-run is_separator run line lines plain stops)
     ∙ rw some refl
     ∙ ap (λ (v : List (List (List ℕ))). run ∷ v) (sym (paragraphs_in-separator line lines stops))
 
@@ -143,8 +143,8 @@ begin_no_paragraph-lines_of [] stops = refl
 begin_no_paragraph-lines_of (c ∷ cs) stops = ap begin_no_paragraph (lines_of-front c cs) ∙ not-false (is_separator (front_line (c ∷ cs))) stops
 
 -- a text with characters has a line
-is_filled-lines_of : (c : ℕ) (cs : List ℕ) → is_filled (lines_of (c ∷ cs)) ≡ true
-is_filled-lines_of c cs = ap is_filled (lines_of-front c cs)
+is_nonempty-lines_of : (c : ℕ) (cs : List ℕ) → is_nonempty (lines_of (c ∷ cs)) ≡ true
+is_nonempty-lines_of c cs = ap is_nonempty (lines_of-front c cs)
 
 front_is : (start left front : List ℕ) → front ++ left ≡ start → take (length start - length left) start ≡ front
 front_is start left front joined =
@@ -161,7 +161,7 @@ first_paragraph start left begins stops p = from p.front p.joined p.lines p.plai
     from [] joined lines plain = absurd (cc (sym begins ∙ ap begins_paragraph (sym joined) ∙ stops))
     from (c ∷ cs) joined lines plain =
         ap paragraphs_in lines
-        ∙ paragraphs_in-run (lines_of (c ∷ cs)) (lines_of left) (is_filled-lines_of c cs) plain (begin_no_paragraph-lines_of left stops)
+        ∙ paragraphs_in-run (lines_of (c ∷ cs)) (lines_of left) (is_nonempty-lines_of c cs) plain (begin_no_paragraph-lines_of left stops)
         ∙ ap (λ (v : List ℕ). lines_of v ∷ paragraphs_in (lines_of left)) (sym (front_is start left (c ∷ cs) joined))
 
 -- where a paragraph was passed, less is left

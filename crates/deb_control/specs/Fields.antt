@@ -6,10 +6,10 @@ use Rattle.std.specs.Str.{is_utf8, bytes_eq, str_to_ascii_lowercase, str_eq_igno
 use Rattle.std.specs.Option.{option_or, option_map_or}
 use Rattle.deb_control.specs.declared.fault.ControlFaultKind.{ControlFaultKind}
 use Rattle.deb_control.specs.declared.fault.ControlFaultKind.TheVariants.{TooLarge, NotUtf8, Orphan, NoColon, BadName, Duplicate}
-use Rattle.deb_control.specs.Lines.{is_continuation, body_of, lines_in, trim_end, trim, is_filled}
+use Rattle.deb_control.specs.Lines.{is_continuation, body_of, lines_in, trim_end, trim, is_nonempty}
 
 -- a field with its name, what stands behind the colon, and its continuation lines (Policy 5.1)
-pub record Entry : Type 0 where
+pub record FieldText : Type 0 where
   pub name : List ℕ
   pub first : List ℕ
   pub lines : List (List ℕ)
@@ -47,11 +47,11 @@ unfoldable pub is_name : List ℕ → Bool
 is_name name = begins_name name && list_all is_name_char name
 
 -- the field of a line that is no continuation and of the lines behind it (Policy 5.1)
-unfoldable pub field_of : List ℕ → List (List ℕ) → Entry
+unfoldable pub field_of : List ℕ → List (List ℕ) → FieldText
 field_of line lines = record { name = name_of line; first = first_of line; lines = map continued (take_while is_continuation lines) }
 
 -- the fields of lines: one for each line that is no continuation (Policy 5.1)
-abbrev pub fields_of : List (List ℕ) → List Entry
+abbrev pub fields_of : List (List ℕ) → List FieldText
 fields_of [] = []
 fields_of (line ∷ lines) = if is_continuation line then fields_of lines else field_of line lines ∷ fields_of lines
 
@@ -64,7 +64,7 @@ abbrev pub is_among : List ℕ → List (List ℕ) → Bool
 is_among name names = list_any (λ other. bytes_eq other name) names
 
 -- the names of fields, in lower case (Policy 5.1)
-abbrev pub names_in : List Entry → List (List ℕ)
+abbrev pub names_in : List FieldText → List (List ℕ)
 names_in fields = map (λ field. str_to_ascii_lowercase field.name) fields
 
 -- what is wrong with a line behind lines that gave these names (Policy 5.1)
@@ -78,11 +78,11 @@ unfoldable pub names_after : List (List ℕ) → List ℕ → List (List ℕ)
 names_after names line = if is_continuation line then names else names ++ str_to_ascii_lowercase (name_of line) ∷ []
 
 -- whether a test tells which names in lower case are among these (this project's own)
-abbrev pub Knows : (List ℕ → Bool) → List (List ℕ) → Type 0
-Knows test names = (name : List ℕ) → test name ≡ is_among name names
+abbrev pub IsNameSet : (List ℕ → Bool) → List (List ℕ) → Type 0
+IsNameSet test names = (name : List ℕ) → test name ≡ is_among name names
 
 -- the field that begins at a line, if one does, where this text stands behind the line (Policy 5.1)
-unfoldable pub fields_at : List ℕ → List ℕ → List Entry
+unfoldable pub fields_at : List ℕ → List ℕ → List FieldText
 fields_at line rest = if is_continuation line then [] else field_of line (lines_in rest) ∷ []
 
 -- what is wrong with the first bad line, behind lines that gave these names (this project's own order)
@@ -101,12 +101,12 @@ fault_of lines =
     else if is_utf8 (concat lines) then first_fault [] (map body_of lines) else Some NotUtf8
 
 -- the fault where there is one, or else the fields (this project's own)
-abbrev pub outcome : Option ControlFaultKind → List Entry → Result (List Entry) ControlFaultKind
+abbrev pub outcome : Option ControlFaultKind → List FieldText → Result (List FieldText) ControlFaultKind
 outcome None fields = Ok fields
 outcome (Some kind) fields = Err kind
 
 -- the fields of a paragraph, or its fault (Policy 5.1)
-unfoldable pub reading_of : List (List ℕ) → Result (List Entry) ControlFaultKind
+unfoldable pub reading_of : List (List ℕ) → Result (List FieldText) ControlFaultKind
 reading_of lines = outcome (fault_of lines) (fields_of (map body_of lines))
 
 -- whether lines begin with the first line of a field (Policy 5.1)
@@ -119,11 +119,11 @@ takes_memory lines =
     not (nat_lt largest_paragraph (length (concat lines))) && (is_utf8 (concat lines) && begin_with_field (map body_of lines))
 
 -- whether two names are the same but for case (Policy 5.1)
-abbrev pub has_name : List ℕ → Entry → Bool
+abbrev pub has_name : List ℕ → FieldText → Bool
 has_name name field = str_eq_ignore_ascii_case field.name name
 
 -- the field of a name, without regard to case (Policy 5.1)
-unfoldable pub field_named : List ℕ → List Entry → Option Entry
+unfoldable pub field_named : List ℕ → List FieldText → Option FieldText
 field_named name fields = find (has_name name) fields
 
 -- the continuation lines that a text begins with, as a field has them (Policy 5.1)
@@ -131,7 +131,7 @@ unfoldable pub continuations : List ℕ → List (List ℕ)
 continuations text = map continued (take_while is_continuation (lines_in text))
 
 -- the field of a name and a first value, behind whose line this text stands (Policy 5.1)
-abbrev pub entry : List ℕ → List ℕ → List ℕ → Entry
+abbrev pub entry : List ℕ → List ℕ → List ℕ → FieldText
 entry name first rest = record { name = name; first = first; lines = continuations rest }
 
 -- a folded text with one more line behind it, parted by a space where both have a character (Policy 5.1)
@@ -141,11 +141,11 @@ folded_onto [] line = line
 folded_onto text line = text ++ (32 ∷ line)
 
 -- the folded value: the lines that are not blank, trimmed and joined by one space (Policy 5.1)
-unfoldable pub folded_of : Entry → List ℕ
-folded_of field = join_with_byte 32 (filter is_filled (map trim (field.first ∷ field.lines)))
+unfoldable pub folded_of : FieldText → List ℕ
+folded_of field = join_with_byte 32 (filter is_nonempty (map trim (field.first ∷ field.lines)))
 
 -- a line and continuation lines that are a field: a name, a colon and a value, and what the others add (Policy 5.1)
-pub record IsField (field : Entry) (line : List ℕ) (more : List (List ℕ)) : Type 0 where
+pub record IsField (field : FieldText) (line : List ℕ) (more : List (List ℕ)) : Type 0 where
   pub value : List ℕ
   pub begins : line ≡ field.name ++ (58 ∷ value)
   pub form : is_name field.name ≡ true
@@ -154,25 +154,25 @@ pub record IsField (field : Entry) (line : List ℕ) (more : List (List ℕ)) : 
   pub added : field.lines ≡ map continued more
 
 -- lines that are these fields, one behind the other (Policy 5.1)
-abbrev pub Reads : List (List ℕ) → List Entry → Type 0
+abbrev pub Reads : List (List ℕ) → List FieldText → Type 0
 Reads lines [] = lines ≡ []
 Reads lines (field ∷ fields) =
     (line : List ℕ) × (more : List (List ℕ)) × (rest : List (List ℕ)) × (lines ≡ line ∷ (more ++ rest)) × IsField field line more × Reads rest fields
 
 -- no two fields have one name, without regard to case (Policy 5.1)
-abbrev pub HaveDistinctNames : List Entry → Type 0
+abbrev pub HaveDistinctNames : List FieldText → Type 0
 HaveDistinctNames [] = ⊤
 HaveDistinctNames (field ∷ fields) = (list_any (λ later. has_name later.name field) fields ≡ false) × HaveDistinctNames fields
 
 -- a paragraph of these lines has these fields: it is small enough, is UTF-8, and its lines are the fields (Policy 5.1)
-pub record IsReading (lines : List (List ℕ)) (fields : List Entry) : Type 0 where
+pub record IsReading (lines : List (List ℕ)) (fields : List FieldText) : Type 0 where
   pub size : length (concat lines) ≤ largest_paragraph
   pub text : IsUtf8 (concat lines)
   pub is : Reads (map body_of lines) fields
   pub names : HaveDistinctNames fields
 
 -- what is wrong with a line behind lines that are these fields (Policy 5.1)
-abbrev pub IsLineFault : ControlFaultKind → List Entry → List ℕ → Type 0
+abbrev pub IsLineFault : ControlFaultKind → List FieldText → List ℕ → Type 0
 IsLineFault Orphan fields line = (is_continuation line ≡ true) × (fields ≡ [])
 IsLineFault NoColon fields line = (is_continuation line ≡ false) × (has_colon line ≡ false)
 IsLineFault BadName fields line = (is_continuation line ≡ false) × (has_colon line ≡ true) × (is_name (name_of line) ≡ false)
@@ -185,7 +185,7 @@ pub record HasBadLine (kind : ControlFaultKind) (lines : List (List ℕ)) : Type
   pub good : List (List ℕ)
   pub bad : List ℕ
   pub rest : List (List ℕ)
-  pub fields : List Entry
+  pub fields : List FieldText
   pub cut : lines ≡ good ++ (bad ∷ rest)
   pub read : Reads good fields
   pub names : HaveDistinctNames fields

@@ -4,8 +4,8 @@ use Rattle.std.specs.List.{before_first, position_or_len, prefix_len, slice_spli
 use Rattle.std.specs.Option.{option_map_or}
 
 -- a line feed (Policy 5.1)
-abbrev pub is_feed : ℕ → Bool
-is_feed c = c == 10
+abbrev pub is_line_feed : ℕ → Bool
+is_line_feed c = c == 10
 
 -- a space or a tab (Policy 5.1)
 abbrev pub is_blank : ℕ → Bool
@@ -18,12 +18,12 @@ is_continuation line = option_map_or is_blank (slice_get line 0) false
 -- the lines of a text, each with its line feed, which the last may lack (Policy 5.1)
 abbrev pub lines_of : List ℕ → List (List ℕ)
 lines_of [] = []
-lines_of (c ∷ cs) = if is_feed c then (c ∷ []) ∷ lines_of cs else onto_first c (lines_of cs)
+lines_of (c ∷ cs) = if is_line_feed c then (c ∷ []) ∷ lines_of cs else onto_first c (lines_of cs)
 
 -- a line, behind which this text stands: no line feed but one at its end, which a line that is not empty may lack where nothing stands behind it (Policy 5.1)
 pub record IsLine (line rest : List ℕ) : Type 0 where
   pub body : List ℕ
-  pub free : list_any is_feed body ≡ false
+  pub free : list_any is_line_feed body ≡ false
   pub ended : (line ≡ body ++ 10 ∷ []) ⊎ ((line ≡ body) × (0 < length body) × (rest ≡ []))
 
 -- a text that is these lines, one behind the other (Policy 5.1)
@@ -33,7 +33,7 @@ HaveLines text (line ∷ lines) = (rest : List ℕ) × (text ≡ line ++ rest) �
 
 -- a line without its line feed (Policy 5.1)
 unfoldable pub body_of : List ℕ → List ℕ
-body_of line = before_first is_feed line
+body_of line = before_first is_line_feed line
 
 -- the lines of a text, each without its line feed (Policy 5.1)
 unfoldable pub lines_in : List ℕ → List (List ℕ)
@@ -41,20 +41,20 @@ lines_in text = map body_of (lines_of text)
 
 -- the first line of a text, with its line feed (Policy 5.1)
 unfoldable pub front_line : List ℕ → List ℕ
-front_line text = take (position_or_len is_feed text + 1) text
+front_line text = take (position_or_len is_line_feed text + 1) text
 
 -- whether a line parts paragraphs, being empty or of spaces and tabs alone (Policy 5.1)
 unfoldable pub is_separator : List ℕ → Bool
 is_separator line = list_all is_blank (body_of line)
 
 -- whether a list has an item, or a text a character (this project's own)
-abbrev pub is_filled : {X : Type 0} → List X → Bool
-is_filled [] = false
-is_filled (_ ∷ _) = true
+abbrev pub is_nonempty : {X : Type 0} → List X → Bool
+is_nonempty [] = false
+is_nonempty (_ ∷ _) = true
 
 -- the paragraphs, which are the longest runs of lines that are no separators (Policy 5.1)
 unfoldable pub paragraphs_in : List (List ℕ) → List (List (List ℕ))
-paragraphs_in lines = filter is_filled (slice_split is_separator lines)
+paragraphs_in lines = filter is_nonempty (slice_split is_separator lines)
 
 -- whether a text begins with a separator (Policy 5.1)
 unfoldable pub begins_separator : List ℕ → Bool
@@ -80,7 +80,7 @@ abbrev pub HaveParagraphs : List (List ℕ) → List (List (List ℕ)) → Type 
 HaveParagraphs lines [] = list_all is_separator lines ≡ true
 HaveParagraphs lines (paragraph ∷ paragraphs) =
     (before : List (List ℕ)) × (after : List (List ℕ)) × (lines ≡ before ++ (paragraph ++ after)) × (list_all is_separator before ≡ true)
-    × (is_filled paragraph ≡ true) × (list_any is_separator paragraph ≡ false) × (begin_no_paragraph after ≡ true) × HaveParagraphs after paragraphs
+    × (is_nonempty paragraph ≡ true) × (list_any is_separator paragraph ≡ false) × (begin_no_paragraph after ≡ true) × HaveParagraphs after paragraphs
 
 -- a text without the spaces and tabs at its start (Policy 5.1)
 abbrev pub trim_start : List ℕ → List ℕ

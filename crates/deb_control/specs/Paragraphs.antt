@@ -3,38 +3,38 @@ use Rattle.std.specs.Prelude.{◌≡◌, ℕ, zero, suc, ◌+◌, Bool, false, I
 use Rattle.deb_control.specs.declared.fault.ControlFault.{ControlFault}
 use Rattle.deb_control.specs.declared.fault.ControlFaultKind.{ControlFaultKind}
 use Rattle.deb_control.specs.declared.fault.ControlFaultKind.TheVariants.{Ended}
-use Rattle.deb_control.specs.Fields.{Entry, reading_of, takes_memory}
+use Rattle.deb_control.specs.Fields.{FieldText, reading_of, takes_memory}
 
 -- where a reader stands: how many paragraphs it went through, and those ahead, or none once it has refused (this project's own)
-pub record Place : Type 0 where
+pub record ReaderState : Type 0 where
   pub passed : ℕ
   pub ahead : Option (List (List (List ℕ)))
 
 -- what one call answers: the fields of a paragraph, none at the end, or a fault (this project's own)
 abbrev pub Answer : Type 0
-Answer = Result (Option (List Entry)) ControlFault
+Answer = Result (Option (List FieldText)) ControlFault
 
 -- the place before the first of these paragraphs (this project's own)
-abbrev pub begun : List (List (List ℕ)) → Place
+abbrev pub begun : List (List (List ℕ)) → ReaderState
 begun paragraphs = record { passed = 0; ahead = Some paragraphs }
 
 -- the place of a reader that ended at the paragraph of this number (this project's own)
-abbrev pub ended_at : ℕ → Place
+abbrev pub ended_at : ℕ → ReaderState
 ended_at number = record { passed = number; ahead = None }
 
 -- the answer for the paragraph of this number, by its reading, and the place behind it (Policy 5.1)
-abbrev pub answered : ℕ → List (List (List ℕ)) → Result (List Entry) ControlFaultKind → Answer × Place
+abbrev pub answered : ℕ → List (List (List ℕ)) → Result (List FieldText) ControlFaultKind → Answer × ReaderState
 answered number later (Ok fields) = (Ok (Some fields), record { passed = number; ahead = Some later })
 answered number later (Err kind) = (Err (record { paragraph = number; kind = kind }), ended_at number)
 
 -- the answer behind so many paragraphs where these are ahead, and the place then (this project's own)
-abbrev pub step_over : ℕ → Option (List (List (List ℕ))) → Answer × Place
+abbrev pub step_over : ℕ → Option (List (List (List ℕ))) → Answer × ReaderState
 step_over passed None = (Err (record { paragraph = passed; kind = Ended }), ended_at passed)
 step_over passed (Some []) = (Ok None, record { passed = passed; ahead = Some [] })
 step_over passed (Some (lines ∷ later)) = answered (passed + 1) later (reading_of lines)
 
 -- what one call answers at a place, and the place then, memory aside (this project's own)
-abbrev pub step : Place → Answer × Place
+abbrev pub step : ReaderState → Answer × ReaderState
 step place = step_over place.passed place.ahead
 
 -- whether a paragraph is ahead for which memory is taken (this project's own)
@@ -44,18 +44,18 @@ wants_memory (Some []) = false
 wants_memory (Some (lines ∷ _)) = takes_memory lines
 
 -- a call that wanted memory ends the reader at the paragraph that was next, and for which memory is taken (this project's own)
-pub record MemoryEnds (old : Place) (fault : ControlFault) (new : Place) : Type 0 where
+pub record MemoryEnds (old : ReaderState) (fault : ControlFault) (new : ReaderState) : Type 0 where
   pub next : IsTrue (wants_memory old.ahead)
   pub paragraph : fault.paragraph ≡ old.passed + 1
   pub ended : new ≡ ended_at (old.passed + 1)
 
 -- the place after so many calls, memory aside (this project's own)
-abbrev pub after_calls : ℕ → Place → Place
+abbrev pub after_calls : ℕ → ReaderState → ReaderState
 after_calls zero place = place
 after_calls (suc n) place = after_calls n (step place).1
 
 -- what the next call answers after so many calls, memory aside (this project's own)
-abbrev pub answer_after : ℕ → Place → Answer
+abbrev pub answer_after : ℕ → ReaderState → Answer
 answer_after n place = (step (after_calls n place)).0
 
 -- the answer for the paragraph of this number: its fields or its fault (Policy 5.1)

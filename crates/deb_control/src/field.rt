@@ -2,7 +2,7 @@
 ghost use Rattle.std.specs.Prelude.{◌≡◌, ◌∷◌, [], true, false, OnOk, OnErr, IfOk, IfNone, IfSome, OnSome, string_bytes};
 ghost use Rattle.std.specs.Iterator.{YieldsFirstRef, item_count};
 ghost use Rattle.std.specs.List.{list_all};
-ghost use Rattle.deb_control.specs.Lines.{is_filled};
+ghost use Rattle.deb_control.specs.Lines.{is_nonempty};
 ghost use Rattle.deb_control.specs.Fields.{continuations, has_colon, name_of, first_of, is_name_char, is_name, entry, folded_onto, folded_of};
 
 use crate::lines::{after_blank, split_text, without_blank_end, without_blanks};
@@ -56,7 +56,7 @@ fn next_continuation(text: &str) -> Option<(&str, &str)>
 /// A text as a string of its own; the empty one takes no memory.
 fn copied(alloc: Global, text: &str) -> Result<String, AllocError>
     ensures value { IfOk result (λ copy. string_bytes copy ≡ text.now) }
-    ensures memory { OnErr result (is_filled text.now ≡ true) }
+    ensures memory { OnErr result (is_nonempty text.now ≡ true) }
 {
     if text.is_empty() {
         return Ok(String::new(alloc));
@@ -69,7 +69,7 @@ fn copied(alloc: Global, text: &str) -> Result<String, AllocError>
 fn fold_line(text: &mut String, line: &str) -> Result<(), AllocError>
     ensures value { OnOk result (
         string_bytes text.new ≡ folded_onto (string_bytes text.old) line.now) }
-    ensures memory { OnErr result (is_filled line.now ≡ true) }
+    ensures memory { OnErr result (is_nonempty line.now ≡ true) }
 {
     if line.is_empty() {
         return Ok(());
@@ -90,9 +90,9 @@ pub struct Field<'a> {
 }
 
 impl<'a> Model for Field<'a> {
-    ghost use Rattle.deb_control.specs.Fields.{Entry, entry};
+    ghost use Rattle.deb_control.specs.Fields.{FieldText, entry};
 
-    ghost Value = { Entry };
+    ghost Value = { FieldText };
 
     ghost view = { λ f. entry f.name.now f.first.now f.rest.now };
 }
@@ -134,7 +134,7 @@ impl<'a> Field<'a> {
     /// An error says that memory ran out; an empty value takes none.
     pub fn folded(&self, alloc: Global) -> Result<String, AllocError>
         ensures value { IfOk result (λ text. string_bytes text ≡ folded_of self.now) }
-        ensures memory { OnErr result (is_filled (folded_of self.now) ≡ true) }
+        ensures memory { OnErr result (is_nonempty (folded_of self.now) ≡ true) }
     {
         let mut text = copied(alloc, without_blanks(self.first()))?;
         for line in self.lines() {

@@ -5,7 +5,7 @@ ghost use Rattle.deb_control.specs.declared.fault.ControlFaultKind.{ControlFault
 ghost use Rattle.deb_control.specs.declared.fault.ControlFaultKind.TheVariants.{Memory, Ended};
 ghost use Rattle.deb_control.specs.Lines.{lines_of, HaveLines, paragraphs_in, HaveParagraphs};
 ghost use Rattle.std.specs.Str.{str_to_ascii_lowercase};
-ghost use Rattle.deb_control.specs.Fields.{Entry, field_named, reading_of, IsReading, IsFault};
+ghost use Rattle.deb_control.specs.Fields.{FieldText, field_named, reading_of, IsReading, IsFault};
 ghost use Rattle.deb_control.specs.Paragraphs.{begun, has_reading, answer_after, answer_for};
 
 /// The lines of a text are its pieces, each with the line feed that ends it,
@@ -27,9 +27,9 @@ pub fn paragraphs_are_runs()
 /// A paragraph has the reading of the fields that its lines are, and has one
 /// where its lines are fields (Debian Policy 5.1).
 pub fn paragraph_is_fields()
-    ensures is { (lines : List (List ℕ)) (fields : List Entry) →
+    ensures is { (lines : List (List ℕ)) (fields : List FieldText) →
         reading_of lines ≡ Ok fields → IsReading lines fields }
-    ensures only { (lines : List (List ℕ)) (fields : List Entry) →
+    ensures only { (lines : List (List ℕ)) (fields : List FieldText) →
         IsReading lines fields → reading_of lines ≡ Ok fields }
 {}
 
@@ -45,7 +45,7 @@ pub fn paragraph_has_fault()
 /// Each field of a paragraph is found by its name, without regard to case
 /// (Debian Policy 5.1).
 pub fn fields_are_found()
-    ensures { (lines : List (List ℕ)) (before after : List Entry) (field : Entry)
+    ensures { (lines : List (List ℕ)) (before after : List FieldText) (field : FieldText)
         (name : List ℕ) → reading_of lines ≡ Ok (before ++ field ∷ after) →
         str_to_ascii_lowercase name ≡ str_to_ascii_lowercase field.name →
         field_named name (before ++ field ∷ after) ≡ Some field }

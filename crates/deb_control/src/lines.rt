@@ -1,23 +1,23 @@
 //! Lines, the blanks round them, and the runs of lines that are paragraphs.
 ghost use Rattle.std.specs.Prelude.{◌≡◌, ◌≤◌, ◌<◌, [], true, false, length, drop, position, IfNone, OnSome, IfSome};
 ghost use Rattle.std.specs.List.{before_first, after_first, list_all};
-ghost use Rattle.deb_control.specs.Lines.{is_feed, is_blank, is_continuation, lines_of, paragraphs_in, begins_separator, begins_paragraph, IsFirstParagraph, trim_start, trim_end, trim};
+ghost use Rattle.deb_control.specs.Lines.{is_line_feed, is_blank, is_continuation, lines_of, paragraphs_in, begins_separator, begins_paragraph, IsFirstParagraph, trim_start, trim_end, trim};
 
 use memchr::memchr;
 
 /// The place of the first line feed.
-fn feed_place(bytes: &[u8]) -> Option<usize>
-    ensures { result ≡ position is_feed bytes.now }
+fn line_feed_place(bytes: &[u8]) -> Option<usize>
+    ensures { result ≡ position is_line_feed bytes.now }
 {
     memchr(b'\n', bytes)
 }
 
 /// The first line, without its line feed, and what stands after it.
 pub(crate) fn split_line(bytes: &[u8]) -> (&[u8], &[u8])
-    ensures line { result.0.now ≡ before_first is_feed bytes.now }
-    ensures rest { result.1.now ≡ after_first is_feed bytes.now }
+    ensures line { result.0.now ≡ before_first is_line_feed bytes.now }
+    ensures rest { result.1.now ≡ after_first is_line_feed bytes.now }
 {
-    match feed_place(bytes) {
+    match line_feed_place(bytes) {
         Some(at) => (&bytes[..at], &bytes[at + 1..]),
         None => (bytes, &[]),
     }
@@ -25,8 +25,8 @@ pub(crate) fn split_line(bytes: &[u8]) -> (&[u8], &[u8])
 
 /// The first line of a text, without its line feed, and what stands after.
 pub(crate) fn split_text(text: &str) -> (&str, &str)
-    ensures line { result.0.now ≡ before_first is_feed text.now }
-    ensures rest { result.1.now ≡ after_first is_feed text.now }
+    ensures line { result.0.now ≡ before_first is_line_feed text.now }
+    ensures rest { result.1.now ≡ after_first is_line_feed text.now }
 {
     match text.split_once('\n') {
         Some(parts) => parts,
@@ -46,7 +46,7 @@ fn is_blank_line(line: &[u8]) -> bool
 fn after_separator(bytes: &[u8]) -> Option<&[u8]>
     ensures none { IfNone result (begins_separator bytes.now ≡ false) }
     ensures some { OnSome result (begins_separator bytes.now ≡ true) }
-    ensures rest { IfSome result (λ rest. rest.now ≡ after_first is_feed bytes.now) }
+    ensures rest { IfSome result (λ rest. rest.now ≡ after_first is_line_feed bytes.now) }
 {
     if bytes.is_empty() {
         return None;
@@ -62,7 +62,7 @@ fn after_separator(bytes: &[u8]) -> Option<&[u8]>
 fn after_line(bytes: &[u8]) -> Option<&[u8]>
     ensures none { IfNone result (begins_paragraph bytes.now ≡ false) }
     ensures some { OnSome result (begins_paragraph bytes.now ≡ true) }
-    ensures rest { IfSome result (λ rest. rest.now ≡ after_first is_feed bytes.now) }
+    ensures rest { IfSome result (λ rest. rest.now ≡ after_first is_line_feed bytes.now) }
 {
     if bytes.is_empty() {
         return None;

@@ -6,7 +6,7 @@ ghost use Rattle.std.specs.BTreeSet.{contains_text};
 ghost use Rattle.deb_control.specs.declared.fault.ControlFaultKind.TheVariants.{Memory};
 ghost use Rattle.deb_control.specs.Lines.{is_continuation, lines_of, lines_in};
 ghost use Rattle.std.specs.Str.{str_eq_ignore_ascii_case, str_to_ascii_lowercase};
-ghost use Rattle.deb_control.specs.Fields.{has_name, is_among, names_in, Knows, fields_at, line_fault, name_of, first_fault, fields_of, field_named, reading_of, begin_with_field, takes_memory};
+ghost use Rattle.deb_control.specs.Fields.{has_name, is_among, names_in, IsNameSet, fields_at, line_fault, name_of, first_fault, fields_of, field_named, reading_of, begin_with_field, takes_memory};
 
 use crate::ControlFaultKind;
 use crate::field::{Field, colon_parts, is_name};
@@ -51,10 +51,10 @@ fn add_name(
     later: &mut BTreeSet<String>,
     name: &str,
 ) -> Result<bool, AllocError>
-    requires { Knows (contains_text later.old) (drop FEW (names_in fields.now)) }
+    requires { IsNameSet (contains_text later.old) (drop FEW (names_in fields.now)) }
     ensures value { IfOk result (λ new.
         new ≡ not (is_among (str_to_ascii_lowercase name.now) (names_in fields.now))) }
-    ensures known { IfOk result (λ new. OnTrue new (Knows (contains_text later.new)
+    ensures known { IfOk result (λ new. OnTrue new (IsNameSet (contains_text later.new)
         (drop FEW (names_in fields.now ++ str_to_ascii_lowercase name.now ∷ [])))) }
     ensures memory { IfErr result (λ _.
         is_among (str_to_ascii_lowercase name.now) (take FEW (names_in fields.now)) ≡ false) }
@@ -78,7 +78,7 @@ fn read_line<'a>(
     line: &'a str,
     rest: &'a str,
 ) -> Result<(), ControlFaultKind>
-    requires { Knows (contains_text later.old) (drop FEW (names_in fields.old.items)) }
+    requires { IsNameSet (contains_text later.old) (drop FEW (names_in fields.old.items)) }
     // of the line
     ensures ok { OnOk result (line_fault (names_in fields.old.items) line.now ≡ None) }
     ensures refused { IfErr result (λ kind. kind ≢ Memory →
@@ -90,7 +90,7 @@ fn read_line<'a>(
     ensures fields { OnOk result (
         fields.new.items ≡ fields.old.items ++ fields_at line.now rest.now) }
     ensures known { OnOk result (
-        Knows (contains_text later.new) (drop FEW (names_in fields.new.items))) }
+        IsNameSet (contains_text later.new) (drop FEW (names_in fields.new.items))) }
 {
     if is_continuation_line(line) {
         if fields.is_empty() {
@@ -140,9 +140,9 @@ pub struct Paragraph<'a> {
 
 impl<'a> Model for Paragraph<'a> {
     ghost use Rattle.std.specs.Prelude.{List};
-    ghost use Rattle.deb_control.specs.Fields.{Entry};
+    ghost use Rattle.deb_control.specs.Fields.{FieldText};
 
-    ghost Value = { List Entry };
+    ghost Value = { List FieldText };
 
     ghost view = { λ p. p.fields.items };
 }

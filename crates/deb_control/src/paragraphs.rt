@@ -20,9 +20,9 @@ pub struct Paragraphs<'a> {
 impl<'a> Model for Paragraphs<'a> {
     ghost use Rattle.std.specs.Prelude.{◌+◌, ◌<◌, ◌^◌, length, option_map, IfSome};
     ghost use Rattle.deb_control.specs.Lines.{lines_of, paragraphs_in};
-    ghost use Rattle.deb_control.specs.Paragraphs.{Place};
+    ghost use Rattle.deb_control.specs.Paragraphs.{ReaderState};
 
-    ghost Value = { Place };
+    ghost Value = { ReaderState };
 
     ghost view = { λ p. record {
       passed = p.passed;

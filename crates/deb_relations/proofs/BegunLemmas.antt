@@ -12,7 +12,7 @@ use Rattle.deb_relations.specs.declared.relations.Kind.{Kind}
 use Rattle.deb_relations.specs.declared.relations.Kind.TheVariants.{Profile}
 use Rattle.deb_relations.specs.declared.relations.Term.{Term}
 use Rattle.deb_relations.specs.Grammar.{is_not_blank, is_white, is_op_char, op_of, words}
-use Rattle.deb_text.specs.Lists.{is_filled, begins}
+use Rattle.deb_text.specs.Lists.{is_nonempty, begins}
 use Rattle.deb_relations.specs.Reader.{cut, skip, strip, is_solid, filled_only, term_of, terms_of, profile_behind, profile_of, push_group, with_group, read_name, read_alternative, with_name, read_group}
 use Rattle.deb_text.specs.Options.{both, all_some}
 use Rattle.deb_relations.specs.Reading.{place_of, list_fault, begins_with_name, is_group_begun, takes_memory, begins_asked, begins_with_term, begins_profile}
@@ -51,7 +51,7 @@ both-first : (o : Option Alternative) (more : Option (List Alternative)) (group 
 both-first None more group e = cc
 both-first (Some a) more group e = (a, refl)
 
-pieces-begun : (pieces : List (List ℕ)) (group : List Alternative) → is_filled pieces ≡ true → all_some read_alternative pieces ≡ Some group
+pieces-begun : (pieces : List (List ℕ)) (group : List Alternative) → is_nonempty pieces ≡ true → all_some read_alternative pieces ≡ Some group
     → begins begins_with_name pieces ≡ true
 pieces-begun [] group some e = cc
 pieces-begun (piece ∷ pieces) group some e =
@@ -107,7 +107,7 @@ groups-behind made next rest text p begun e h = behind-by (is_not_blank p.0) mad
 abbrev pub HasTerm : Kind → List ℕ → List ℕ → Type 0
 HasTerm kind rest inside = (words rest ≡ words inside) ⊎ (begins_with_term kind inside ≡ true)
 
-pub term-begun : (kind : Kind) (rest inside : List ℕ) → HasTerm kind rest inside → is_filled rest ≡ true → stops is_white rest
+pub term-begun : (kind : Kind) (rest inside : List ℕ) → HasTerm kind rest inside → is_nonempty rest ≡ true → stops is_white rest
     → is_some (term_of kind (take_while is_solid rest)) ≡ true → begins_with_term kind inside ≡ true
 unfolding begins_with_term
 term-begun kind rest inside (inl same) filled starts good =

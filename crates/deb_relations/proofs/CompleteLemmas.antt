@@ -14,7 +14,7 @@ use Rattle.deb_relations.specs.declared.relations.Term.{Term}
 use Rattle.deb_relations.specs.declared.relations.Restriction.{Restriction}
 use Rattle.deb_relations.specs.declared.relations.Alternative.{Alternative}
 use Rattle.deb_relations.specs.Printing.{term_text}
-use Rattle.deb_text.specs.Lists.{is_filled}
+use Rattle.deb_text.specs.Lists.{is_nonempty}
 use Rattle.deb_relations.specs.Grammar.{is_white, is_blank_text, is_profile_char, is_op_char, is_qualifier, is_word, is_not_blank, op_of, words, TakesName, TakesQualifier, InBrackets, IsRestriction, TakesRestriction, ReadsTerms, TakesArchs, ReadsProfiles, ReadsAlternative, ReadsGroup, Reads}
 use Rattle.deb_relations.specs.Names.{is_lower_or_digit, is_package_char, is_arch_char, begins_with_lower_or_digit, is_package_name, is_arch_word}
 use Rattle.deb_relations.specs.Reader.{skip, strip, is_solid, between, between_opened, read_between, with_rest, read_name, read_behind_colon, read_qualifier, asked_of, asked_behind, asked_from, restriction_of, asked_inside, read_restriction, term_behind, term_of, filled_only, terms_of, alike_only, archs_of, read_archs, profile_behind, profile_of, lists_of, read_profiles, with_profiles, with_archs, with_asked, with_qualifier, with_name, read_alternative, read_group, read_groups}
@@ -130,7 +130,7 @@ qualifier-complete t None rest h o =
     let none : strip 58 t ≡ None = ap (strip 58) h ∙ strip-not is_next 58 rest o colon-not-next in
     ap (read_behind_colon t) none ∙ ap (λ x. Some (None, x)) h
 qualifier-complete t (Some word) rest h o =
-    let two : (is_filled word ≡ true) × (list_all is_arch_char word ≡ true) = and_parts _ _ h.1 in
+    let two : (is_nonempty word ≡ true) × (list_all is_arch_char word ≡ true) = and_parts _ _ h.1 in
     let end : stops is_arch_char rest = opens-stops is_next is_arch_char rest next-no-arch o in
     let some : strip 58 t ≡ Some (word ++ rest) = ap (strip 58) h.0 ∙ strip-here 58 (word ++ rest) in
     let one : take_while is_arch_char (word ++ rest) ≡ word = take_while-all is_arch_char word rest two.1 end in
@@ -192,11 +192,11 @@ front-stops : (p q : ℕ → Bool) (xs rest : List ℕ) → ((c : ℕ) → p c �
 front-stops p q [] rest f h s = s
 front-stops p q (x ∷ xs) rest f h s = f x (and_parts (p x) (list_all p xs) h).0
 
-filled-stops : (p q : ℕ → Bool) (xs rest : List ℕ) → ((c : ℕ) → p c ≡ true → q c ≡ false) → list_all p xs ≡ true → is_filled xs ≡ true → stops q (xs ++ rest)
+filled-stops : (p q : ℕ → Bool) (xs rest : List ℕ) → ((c : ℕ) → p c ≡ true → q c ≡ false) → list_all p xs ≡ true → is_nonempty xs ≡ true → stops q (xs ++ rest)
 filled-stops p q [] rest f h k = absurd (cc)
 filled-stops p q (x ∷ xs) rest f h k = f x (and_parts (p x) (list_all p xs) h).0
 
-op-filled : (t : List ℕ) (op : Op) → op_of t ≡ Some op → is_filled t ≡ true
+op-filled : (t : List ℕ) (op : Op) → op_of t ≡ Some op → is_nonempty t ≡ true
 unfolding op_of
 op-filled [] op h = absurd (cc)
 op-filled (c ∷ cs) op h = refl
@@ -236,7 +236,7 @@ asked-complete inside asked h =
     let v : List ℕ = asked.version in
     let last : List ℕ = v ++ h.back in
     let chars : list_all is_upstream_char v ≡ true = version-form v h.version in
-    let filled : is_filled v ≡ true = version-filled v h.version in
+    let filled : is_nonempty v ≡ true = version-filled v h.version in
     let ops : list_all is_op_char h.operator.operator ≡ true = op-chars h.operator.operator asked.op h.operator.means in
     let s1 : stops is_white (h.operator.operator ++ (h.operator.middle ++ last)) = filled-stops is_op_char is_white h.operator.operator (h.operator.middle ++ last) op-not-white ops (op-filled h.operator.operator asked.op h.operator.means) in
     let s2 : stops is_white last = filled-stops is_upstream_char is_white v h.back version-not-white chars filled in
@@ -266,7 +266,7 @@ restriction-complete t (Some asked) rest h o =
     ap (read_between asked_inside None t) found ∙ ap (λ x. with_rest rest (option_map Some x)) (asked-complete h.0 asked h.1.1)
 
 module _ (p : ℕ → Bool) (white : (c : ℕ) → is_white c ≡ true → p c ≡ true) where
-  onto-all : (c : ℕ) (ps : List (List ℕ)) → list_all (list_all p) (onto_first c ps) ≡ true → (list_all (list_all p) ps ≡ true) × ((is_filled ps ≡ true) → p c ≡ true)
+  onto-all : (c : ℕ) (ps : List (List ℕ)) → list_all (list_all p) (onto_first c ps) ≡ true → (list_all (list_all p) ps ≡ true) × ((is_nonempty ps ≡ true) → p c ≡ true)
   onto-all c [] h = (refl, λ k. absurd (cc))
   onto-all c (x ∷ ps) h =
       let two = and_parts (p c && list_all p x) (list_all (list_all p) ps) h in
@@ -281,10 +281,10 @@ module _ (p : ℕ → Bool) (white : (c : ℕ) → is_white c ≡ true → p c �
         | false ↦ λ e k. let two = onto-all c (slice_split is_white cs) k in and_from (p c) (list_all p cs) (two.1 (split-has is_white cs)) (parts-all cs two.0)
       ] refl h
 
-  filter-all : (ps : List (List ℕ)) → list_all (list_all p) (filter is_filled ps) ≡ true → list_all (list_all p) ps ≡ true
+  filter-all : (ps : List (List ℕ)) → list_all (list_all p) (filter is_nonempty ps) ≡ true → list_all (list_all p) ps ≡ true
   filter-all [] h = refl
   filter-all ([] ∷ ps) h = filter-all ps h
-  filter-all ((x ∷ xs) ∷ ps) h = let two = and_parts (list_all p (x ∷ xs)) (list_all (list_all p) (filter is_filled ps)) h in and_from (list_all p (x ∷ xs)) (list_all (list_all p) ps) two.0 (filter-all ps two.1)
+  filter-all ((x ∷ xs) ∷ ps) h = let two = and_parts (list_all p (x ∷ xs)) (list_all (list_all p) (filter is_nonempty ps)) h in and_from (list_all p (x ∷ xs)) (list_all (list_all p) ps) two.0 (filter-all ps two.1)
 
   words-all : (t : List ℕ) → list_all (list_all p) (words t) ≡ true → list_all p t ≡ true
   unfolding words
@@ -341,7 +341,7 @@ terms-at kind (term ∷ terms) h =
     ap (λ o. both o (all_some (term_of kind) (map term_text terms))) (term-at kind term.negated term.word two.0)
     ∙ ap (both (Some term)) (terms-at kind terms two.1)
 
-filled-kept : (terms : List Term) → is_filled terms ≡ true → filled_only (Some terms) ≡ Some terms
+filled-kept : (terms : List Term) → is_nonempty terms ≡ true → filled_only (Some terms) ≡ Some terms
 filled-kept [] h = absurd (cc)
 filled-kept (x ∷ xs) h = refl
 

@@ -11,7 +11,7 @@ use Rattle.deb_relations.specs.declared.fault.RelationFault.TheVariants.{BadName
 use Rattle.deb_relations.specs.declared.relations.Restriction.{Restriction}
 use Rattle.deb_relations.specs.declared.relations.Kind.TheVariants.{Arch}
 use Rattle.deb_relations.specs.declared.relations.Term.{Term}
-use Rattle.deb_text.specs.Lists.{is_filled}
+use Rattle.deb_text.specs.Lists.{is_nonempty}
 use Rattle.deb_relations.specs.Grammar.{is_white, is_op_char, op_of, TakesName, TakesQualifier, InBrackets}
 use Rattle.deb_relations.specs.Reader.{skip, strip, cut, is_solid, between_opened, between, read_name, read_qualifier, read_restriction, terms_of, read_archs, profile_of}
 use Rattle.deb_relations.specs.Reading.{place_of, end_before, span, name_fault, version_fault, fault_behind_operator, operator_fault, asked_fault, bracket_fault, restriction_fault, words_fault, archs_fault, list_fault, lists_fault, profiles_fault, or_behind, fault_behind_restriction, fault_behind_qualifier, fault_behind_name, alternative_fault, first_fault, is_alternative, group_fault, is_group_or_blank, groups_fault, is_asked_char, ends_asked, HasBadVersion}
@@ -106,7 +106,7 @@ tells-in part text s _ h = tt
 
 name-plain : (t : List ℕ) → IsPlain (name_fault t)
 unfolding name_fault
-name-plain t = elim (is_filled (skip is_white t)) as (λ b. IsPlain (cond b BadName EmptyAlternative)) [ true ↦ tt | false ↦ tt ]
+name-plain t = elim (is_nonempty (skip is_white t)) as (λ b. IsPlain (cond b BadName EmptyAlternative)) [ true ↦ tt | false ↦ tt ]
 
 module _ (text inside rest : List ℕ) (b : InBrackets 40 41 text inside rest) (clear : list_all (λ c. not (eqb c 41)) inside ≡ true) where
   abbrev front : List ℕ

@@ -5,14 +5,14 @@ use Rattle.deb_relations.specs.declared.fault.RelationFault.{RelationFault}
 use Rattle.deb_relations.specs.declared.fault.RelationFault.TheVariants.{BadName, Unclosed}
 use Rattle.deb_relations.specs.declared.relations.Term.{Term}
 use Rattle.deb_relations.specs.declared.relations.Alternative.{Alternative}
-use Rattle.deb_text.specs.Lists.{is_filled}
+use Rattle.deb_text.specs.Lists.{is_nonempty}
 use Rattle.deb_relations.specs.Grammar.{is_blank_text, is_not_blank}
 use Rattle.deb_relations.specs.Reader.{cut, profile_of, read_alternative, read_group, push_group, with_group}
 use Rattle.deb_relations.specs.Reading.{end_before, span, list_fault, lists_fault, first_fault, is_alternative, is_group_or_blank}
 use Rattle.deb_relations.proofs.CutLemmas.{Halves, cut-is, split-last}
 use Rattle.deb_relations.proofs.TurnLemmas.{Groups, split-has}
 
-span-onto : (x : ℕ) (ps : List (List ℕ)) → is_filled ps ≡ true → span (onto_first x ps) ≡ suc (span ps)
+span-onto : (x : ℕ) (ps : List (List ℕ)) → is_nonempty ps ≡ true → span (onto_first x ps) ≡ suc (span ps)
 span-onto x [] h = absurd (cc)
 span-onto x (p ∷ ps) h = omega arith
 
@@ -85,7 +85,7 @@ no-group made piece h =
       | false ↦ λ k. pushed-none made (read_group piece) k
     ] h
 
-lists-fault-cons : (end : ℕ) (piece : List ℕ) (ps : List (List ℕ)) → is_filled ps ≡ true
+lists-fault-cons : (end : ℕ) (piece : List ℕ) (ps : List (List ℕ)) → is_nonempty ps ≡ true
     → lists_fault end (piece ∷ ps) ≡ cond (is_some (profile_of piece)) (lists_fault end ps) (list_fault BadName (end - span ps) piece)
 lists-fault-cons end piece [] h = absurd (cc)
 lists-fault-cons end piece (p ∷ ps) h = refl

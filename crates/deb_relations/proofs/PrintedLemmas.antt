@@ -18,7 +18,7 @@ use Rattle.deb_relations.specs.declared.relations.Restriction.{Restriction}
 use Rattle.deb_relations.specs.declared.relations.Alternative.{Alternative}
 use Rattle.deb_relations.specs.Printing.{term_text, op_text, qualifier_text, restriction_text, terms_text, archs_text, profile_text, profiles_text, alternative_text, group_text, printed}
 use Rattle.deb_relations.specs.Reduction.{reduced}
-use Rattle.deb_text.specs.Lists.{is_filled}
+use Rattle.deb_text.specs.Lists.{is_nonempty}
 use Rattle.deb_relations.specs.Grammar.{is_profile_char, is_qualifier, is_word, Reads}
 use Rattle.deb_relations.specs.Names.{is_lower_or_digit, is_package_char, is_arch_char, is_package_name, begins_with_lower_or_digit}
 use Rattle.deb_relations.specs.Reading.{reading_of}
@@ -73,7 +73,7 @@ HasQualifier (Some word) = is_qualifier word ≡ true
 qualifier-low : (qualifier : Option (List ℕ)) → HasQualifier qualifier → IsLow (qualifier_text qualifier)
 unfolding is_qualifier
 qualifier-low None h = refl
-qualifier-low (Some word) h = all-weaker is_arch_char is_low arch-low word (and_parts (is_filled word) _ h).1
+qualifier-low (Some word) h = all-weaker is_arch_char is_low arch-low word (and_parts (is_nonempty word) _ h).1
 
 abbrev HasRestriction : Option Restriction → Type 0
 HasRestriction None = Unit {0}
@@ -128,7 +128,7 @@ archs-low (term ∷ terms) h = all-both is_low (terms_text (term ∷ terms)) (co
 
 abbrev HasProfiles : List (List Term) → Type 0
 HasProfiles [] = Unit {0}
-HasProfiles (terms ∷ more) = (is_filled terms ≡ true) × ((list_all (λ term. is_word Profile term.word) terms ≡ true) × HasProfiles more)
+HasProfiles (terms ∷ more) = (is_nonempty terms ≡ true) × ((list_all (λ term. is_word Profile term.word) terms ≡ true) × HasProfiles more)
 
 profiles-low : (lists : List (List Term)) → HasProfiles lists → IsLow (profiles_text lists)
 profiles-low [] h = refl

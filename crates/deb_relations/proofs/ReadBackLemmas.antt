@@ -15,7 +15,7 @@ use Rattle.deb_relations.specs.declared.relations.Restriction.{Restriction}
 use Rattle.deb_relations.specs.declared.relations.Alternative.{Alternative}
 use Rattle.deb_relations.specs.Printing.{term_text, op_text, qualifier_text, restriction_text, terms_text, archs_text, profile_text, profiles_text, alternative_text, group_text, printed}
 use Rattle.deb_relations.specs.Reduction.{is_kept, without_lists, reduced_group, reduced}
-use Rattle.deb_text.specs.Lists.{is_filled}
+use Rattle.deb_text.specs.Lists.{is_nonempty}
 use Rattle.deb_relations.specs.Grammar.{is_white, is_blank_text, is_profile_char, is_qualifier, is_word, is_not_blank, op_of, words, are_alike, TakesQualifier, TakesRestriction, ReadsTerms, TakesArchs, ReadsProfiles, ReadsAlternative, ReadsGroup, Reads, relations_limit}
 use Rattle.deb_relations.specs.Names.{is_lower_or_digit, is_package_char, is_arch_char, begins_with_lower_or_digit, is_package_name, is_arch_word}
 use Rattle.deb_relations.specs.Reader.{skip, is_solid}
@@ -39,7 +39,7 @@ AreWords kind terms = list_all (λ term. is_word kind term.word) terms ≡ true
 
 abbrev GoodProfiles : List (List Term) → Type 0
 GoodProfiles [] = Unit {0}
-GoodProfiles (terms ∷ more) = (is_filled terms ≡ true) × (AreWords Profile terms × GoodProfiles more)
+GoodProfiles (terms ∷ more) = (is_nonempty terms ≡ true) × (AreWords Profile terms × GoodProfiles more)
 
 pub record Good (a : Alternative) : Type 0 where
   pub name : is_package_name a.name ≡ true
@@ -55,7 +55,7 @@ AllGood (a ∷ more) = Good a × AllGood more
 
 abbrev pub AllGroups : List (List Alternative) → Type 0
 AllGroups [] = Unit {0}
-AllGroups (g ∷ gs) = (is_filled g ≡ true) × (AllGood g × AllGroups gs)
+AllGroups (g ∷ gs) = (is_nonempty g ≡ true) × (AllGood g × AllGroups gs)
 
 good-qualifier : (t rest : List ℕ) (q : Option (List ℕ)) → TakesQualifier t q rest → GoodQualifier q
 good-qualifier t rest None h = tt
@@ -91,7 +91,7 @@ good-each [] (a ∷ more) h = absurd h
 good-each (p ∷ ps) [] h = absurd h
 good-each (p ∷ ps) (a ∷ more) h = (good-alternative p a h.0, good-each ps more h.1)
 
-each-filled : (pieces : List (List ℕ)) (group : List Alternative) → is_filled pieces ≡ true → AllZip ReadsAlternative pieces group → is_filled group ≡ true
+each-filled : (pieces : List (List ℕ)) (group : List Alternative) → is_nonempty pieces ≡ true → AllZip ReadsAlternative pieces group → is_nonempty group ≡ true
 each-filled [] group f h = absurd (cc)
 each-filled (p ∷ ps) [] f h = absurd h
 each-filled (p ∷ ps) (a ∷ more) f h = refl
@@ -119,7 +119,7 @@ kept-good arch (a ∷ more) h =
       | false ↦ kept-good arch more h.1
     ]
 
-filled-good : (g : List Alternative) (gs : List (List Alternative)) → AllGood g → AllGroups (filter is_filled gs) → AllGroups (filter is_filled (g ∷ gs))
+filled-good : (g : List Alternative) (gs : List (List Alternative)) → AllGood g → AllGroups (filter is_nonempty gs) → AllGroups (filter is_nonempty (g ∷ gs))
 filled-good [] gs h k = k
 filled-good (a ∷ more) gs h k = (refl, (h, k))
 
@@ -139,15 +139,15 @@ term-solid kind term h =
     let chars : list_all is_solid term.word ≡ true = all-weaker is_profile_char is_solid solid-profile term.word (word-chars kind term.word h) in
     elim term.negated as (λ v. list_all is_solid (cond v (33 ∷ term.word) term.word) ≡ true) [ true ↦ chars | false ↦ chars ]
 
-word-filled : (kind : Kind) (word : List ℕ) → is_word kind word ≡ true → is_filled word ≡ true
+word-filled : (kind : Kind) (word : List ℕ) → is_word kind word ≡ true → is_nonempty word ≡ true
 unfolding is_word is_arch_word
 word-filled Arch [] h = absurd (cc)
 word-filled Profile [] h = absurd (cc)
 word-filled kind (c ∷ cs) h = refl
 
-term-filled : (kind : Kind) (term : Term) → is_word kind term.word ≡ true → is_filled (term_text term) ≡ true
+term-filled : (kind : Kind) (term : Term) → is_word kind term.word ≡ true → is_nonempty (term_text term) ≡ true
 term-filled kind term h =
-    elim term.negated as (λ v. is_filled (cond v (33 ∷ term.word) term.word) ≡ true) [ true ↦ refl | false ↦ word-filled kind term.word h ]
+    elim term.negated as (λ v. is_nonempty (cond v (33 ∷ term.word) term.word) ≡ true) [ true ↦ refl | false ↦ word-filled kind term.word h ]
 
 abbrev behind_terms : List Term → List ℕ
 behind_terms terms = flat_map (λ y. codes " " ++ term_text y) terms
@@ -162,7 +162,7 @@ words-one kind term rest h s =
     let solid : list_all is_solid (term_text term) ≡ true = term-solid kind term h in
     let one : take_while is_solid (term_text term ++ rest) ≡ term_text term = take_while-all is_solid (term_text term) rest solid s in
     let two : skip is_solid (term_text term ++ rest) ≡ rest = skip-all is_solid (term_text term) rest solid s in
-    words-first (term_text term ++ rest) (ap is_filled one ∙ term-filled kind term h)
+    words-first (term_text term ++ rest) (ap is_nonempty one ∙ term-filled kind term h)
     ∙ ap (λ x. x ∷ words (skip is_white (skip is_solid (term_text term ++ rest)))) one
     ∙ ap (λ x. term_text term ∷ words (skip is_white x)) two
     ∙ ap (λ x. term_text term ∷ x) (words-skip rest)
@@ -187,7 +187,7 @@ words-terms : (kind : Kind) (term : Term) (terms : List Term) → is_word kind t
 words-terms kind term terms h k =
     words-one kind term (behind_terms terms) h (behind-stops terms) ∙ ap (λ x. term_text term ∷ x) (words-behind kind terms k)
 
-terms-read : (kind : Kind) (terms : List Term) → is_filled terms ≡ true → AreWords kind terms → ReadsTerms kind (terms_text terms) terms
+terms-read : (kind : Kind) (terms : List Term) → is_nonempty terms ≡ true → AreWords kind terms → ReadsTerms kind (terms_text terms) terms
 unfolding terms_text
 terms-read kind [] f h = absurd (cc)
 terms-read kind (term ∷ terms) f h =
@@ -336,7 +336,7 @@ inner-terms kind (term ∷ terms) h =
 inner-qualifier : (q : Option (List ℕ)) → GoodQualifier q → list_all is_inner (qualifier_text q) ≡ true
 unfolding is_inner is_qualifier
 inner-qualifier None h = refl
-inner-qualifier (Some word) h = all-weaker is_arch_char is_inner inner-arch word (and_parts (is_filled word) (list_all is_arch_char word) h).1
+inner-qualifier (Some word) h = all-weaker is_arch_char is_inner inner-arch word (and_parts (is_nonempty word) (list_all is_arch_char word) h).1
 
 inner-op : (op : Op) → list_all is_inner (op_text op) ≡ true
 unfolding is_inner
@@ -407,7 +407,7 @@ alternatives-printed gap a (y ∷ ys) g h k =
     subst (λ (ps : List (List ℕ)). AllZip ReadsAlternative ps (a ∷ (y ∷ ys))) (sym (ap (slice_split (λ c. eqb c 124)) text ∙ split-here 124 piece rest bars))
     (alternative-printed gap (32 ∷ []) a g refl h, alternatives-printed (32 ∷ []) y ys refl k.0 k.1)
 
-group-printed : (gap : List ℕ) (group : List Alternative) → is_blank_text gap ≡ true → is_filled group ≡ true → AllGood group → ReadsGroup (gap ++ group_text group) group
+group-printed : (gap : List ℕ) (group : List Alternative) → is_blank_text gap ≡ true → is_nonempty group ≡ true → AllGood group → ReadsGroup (gap ++ group_text group) group
 unfolding group_text
 group-printed gap [] g f h = absurd (cc)
 group-printed gap (a ∷ more) g f h = alternatives-printed gap a more g h.0 h.1
@@ -438,7 +438,7 @@ not_blank-alternative gap rest a h =
     let tail : List ℕ = qualifier_text a.qualifier ++ (restriction_text a.restriction ++ (archs_text a.archs ++ profiles_text a.profiles)) in
     ap (λ x. is_blank_text (gap ++ x)) (append_assoc a.name tail rest) ∙ not-blank gap a.name (tail ++ rest) (and_parts (begins_with_lower_or_digit a.name) _ h.name).0
 
-not_blank-group : (gap : List ℕ) (group : List Alternative) → is_filled group ≡ true → AllGood group → is_not_blank (gap ++ group_text group) ≡ true
+not_blank-group : (gap : List ℕ) (group : List Alternative) → is_nonempty group ≡ true → AllGood group → is_not_blank (gap ++ group_text group) ≡ true
 unfolding is_not_blank group_text
 not_blank-group gap [] f h = absurd (cc)
 not_blank-group gap (a ∷ more) f h = ap not (not_blank-alternative gap (behind_alternatives more) a h.0)

@@ -13,7 +13,7 @@ use Rattle.deb_relations.specs.declared.relations.Term.{Term}
 use Rattle.deb_relations.specs.declared.relations.Restriction.{Restriction}
 use Rattle.deb_relations.specs.declared.relations.Alternative.{Alternative}
 use Rattle.deb_relations.specs.Printing.{term_text}
-use Rattle.deb_text.specs.Lists.{is_filled}
+use Rattle.deb_text.specs.Lists.{is_nonempty}
 use Rattle.deb_relations.specs.Grammar.{is_white, is_blank_text, is_op_char, is_qualifier, is_word, is_not_blank, op_of, words, are_alike, TakesName, TakesQualifier, InBrackets, IsRestriction, TakesRestriction, ReadsTerms, TakesArchs, ReadsProfiles, ReadsAlternative, ReadsGroup, Reads, relations_limit}
 use Rattle.deb_relations.specs.Names.{is_package_char, is_arch_char, is_package_name}
 use Rattle.deb_relations.specs.Reader.{skip, strip, cut, is_solid, between, between_opened, read_between, with_rest, read_name, read_behind_colon, read_qualifier, asked_of, restriction_of, asked_inside, read_restriction, term_behind, term_of, filled_only, terms_of, alike_only, archs_of, read_archs, profile_behind, profile_of, lists_of, read_profiles, with_profiles, with_archs, with_asked, with_qualifier, with_name, read_alternative, read_group, read_groups}
@@ -42,7 +42,7 @@ name-sound t p h = name-at t (is_package_name (take_while is_package_char (skip 
 abbrev pub Qualified : Type 0
 Qualified = Option (List ℕ) × List ℕ
 
-qualifier-at : (t behind : List ℕ) → t ≡ 58 ∷ behind → (b : Bool) → is_filled (take_while is_arch_char behind) ≡ b → (p : Qualified)
+qualifier-at : (t behind : List ℕ) → t ≡ 58 ∷ behind → (b : Bool) → is_nonempty (take_while is_arch_char behind) ≡ b → (p : Qualified)
     → cond b (Some (Some (take_while is_arch_char behind), skip is_arch_char behind)) None ≡ Some p
     → TakesQualifier t p.0 p.1
 unfolding is_qualifier
@@ -56,7 +56,7 @@ qualifier-by : (t : List ℕ) (o : Option (List ℕ)) → strip 58 t ≡ o → (
 qualifier-by t None e p h =
     let made : ◌≡◌ {A = Qualified} (None, t) p = cc in
     subst (λ (q : Qualified). TakesQualifier t q.0 q.1) made refl
-qualifier-by t (Some behind) e p h = qualifier-at t behind (strip-join 58 t behind e) (is_filled (take_while is_arch_char behind)) refl p h
+qualifier-by t (Some behind) e p h = qualifier-at t behind (strip-join 58 t behind e) (is_nonempty (take_while is_arch_char behind)) refl p h
 
 pub qualifier-sound : (t : List ℕ) (p : Qualified) → read_qualifier t ≡ Some p → TakesQualifier t p.0 p.1
 unfolding read_qualifier

@@ -14,7 +14,7 @@ use Rattle.deb_relations.specs.declared.relations.Restriction.{Restriction}
 use Rattle.deb_relations.specs.declared.relations.Kind.TheVariants.{Arch}
 use Rattle.deb_relations.specs.declared.relations.Term.{Term}
 use Rattle.deb_relations.specs.declared.relations.Alternative.{Alternative}
-use Rattle.deb_text.specs.Lists.{is_filled}
+use Rattle.deb_text.specs.Lists.{is_nonempty}
 use Rattle.deb_relations.specs.Grammar.{is_white, is_blank_text, is_op_char, op_of, TakesQualifier, TakesRestriction, TakesArchs, InBrackets, relations_limit}
 use Rattle.deb_relations.specs.Reader.{skip, strip, is_solid, asked_inside, with_rest, read_between, read_groups, restriction_of, asked_of, between, lists_of, with_qualifier, with_name, with_asked, with_archs, with_profiles, read_name, read_qualifier, read_restriction, terms_of, read_archs, read_profiles, profile_of, read_alternative}
 use Rattle.deb_text.specs.Options.{both}
@@ -51,19 +51,19 @@ ends-skipped : (test : ℕ → Bool) (whole part : List ℕ) (end : ℕ) → End
 ends-skipped test whole part end at = ends-behind whole part (take_while test part) (skip test part) end at (take_while-skip test part)
 
 -- behind white space, of a text that has more than that
-skipped-by : (whole part : List ℕ) (end : ℕ) (left : List ℕ) → EndsAt whole left end → stops is_white left → is_filled left ≡ true → StraysIn whole (Stray (place_of end left))
+skipped-by : (whole part : List ℕ) (end : ℕ) (left : List ℕ) → EndsAt whole left end → stops is_white left → is_nonempty left ≡ true → StraysIn whole (Stray (place_of end left))
 skipped-by whole part end [] at stop some = cc
 skipped-by whole part end (c ∷ cs) at stop some =
     stands-at whole at.front (cs ++ at.back) c (end - length (c ∷ cs)) at.split (omega (arith, at.place)) stop
 
-blank-by : (b : Bool) (c : ℕ) (cs : List ℕ) → (list_all is_white cs ≡ false → is_filled (skip is_white cs) ≡ true) → (b && list_all is_white cs) ≡ false
-    → is_filled (cond b (skip is_white cs) (c ∷ cs)) ≡ true
+blank-by : (b : Bool) (c : ℕ) (cs : List ℕ) → (list_all is_white cs ≡ false → is_nonempty (skip is_white cs) ≡ true) → (b && list_all is_white cs) ≡ false
+    → is_nonempty (cond b (skip is_white cs) (c ∷ cs)) ≡ true
 blank-by true c cs f h = f h
 blank-by false c cs f h = refl
 
-blank-or : (part : List ℕ) → is_blank_text part ≡ false → is_filled (skip is_white part) ≡ true
+blank-or : (part : List ℕ) → is_blank_text part ≡ false → is_nonempty (skip is_white part) ≡ true
 blank-or [] h = cc
-blank-or (c ∷ cs) h = ap is_filled (skip-cons is_white c cs) ∙ blank-by (is_white c) c cs (blank-or cs) h
+blank-or (c ∷ cs) h = ap is_nonempty (skip-cons is_white c cs) ∙ blank-by (is_white c) c cs (blank-or cs) h
 
 pub skipped : (whole part : List ℕ) (end : ℕ) → EndsAt whole part end → is_blank_text part ≡ false → StraysIn whole (Stray (place_of end (skip is_white part)))
 skipped whole part end at some =
@@ -256,7 +256,7 @@ behind-name whole end t name (Some p) at h e =
 
 name-none : (whole t : List ℕ) → StraysIn whole (name_fault t)
 unfolding name_fault
-name-none whole t = list-by whole (is_filled (skip is_white t)) BadName EmptyAlternative tt tt
+name-none whole t = list-by whole (is_nonempty (skip is_white t)) BadName EmptyAlternative tt tt
 
 alternative-by : (whole : List ℕ) (end : ℕ) (t : List ℕ) (o : Option (List ℕ × List ℕ)) → EndsAt whole t end → read_name t ≡ o → with_name o ≡ None
     → StraysIn whole (or_behind (name_fault t) (fault_behind_name end) o)

@@ -5,7 +5,7 @@ use Rattle.std.proofs.lemmas.Bool.Decides.{nat_tests}
 use Rattle.deb_relations.specs.declared.relations.Kind.{Kind}
 use Rattle.deb_relations.specs.declared.relations.Term.{Term}
 use Rattle.deb_relations.specs.declared.relations.Alternative.{Alternative}
-use Rattle.deb_text.specs.Lists.{is_filled}
+use Rattle.deb_text.specs.Lists.{is_nonempty}
 use Rattle.deb_relations.specs.Grammar.{is_white, is_blank_text, is_not_blank, words}
 use Rattle.deb_relations.specs.Reader.{skip, cut, is_solid, term_of, profile_of, lists_of, read_group, push_group, with_group}
 use Rattle.deb_text.specs.Options.{both, all_some}
@@ -23,11 +23,11 @@ no_pair = None
 length-not : (n : ℕ) → eqb (suc n) 0 ≡ false
 length-not n = grind (arith, nat_tests)
 
-pub filled-from : (t : List ℕ) (b : Bool) → b ≡ eqb (length t) 0 → b ≡ false → is_filled t ≡ true
+pub filled-from : (t : List ℕ) (b : Bool) → b ≡ eqb (length t) 0 → b ≡ false → is_nonempty t ≡ true
 filled-from [] b e h = absurd (cc)
 filled-from (c ∷ cs) b e h = refl
 
-pub not-filled : (t : List ℕ) (b : Bool) → b ≡ eqb (length t) 0 → b ≡ true → is_filled t ≡ false
+pub not-filled : (t : List ℕ) (b : Bool) → b ≡ eqb (length t) 0 → b ≡ true → is_nonempty t ≡ false
 not-filled [] b e h = refl
 not-filled (c ∷ cs) b e h = let no : false ≡ true = sym (length-not (length cs)) ∙ sym e ∙ h in absurd (cc)
 
@@ -65,7 +65,7 @@ split-first (c ∷ cs) =
 
 pub words-white : (c : ℕ) (cs : List ℕ) → is_white c ≡ true → words (c ∷ cs) ≡ words cs
 unfolding words
-words-white c cs h = ap (λ v. filter is_filled (cond v ([] ∷ slice_split is_white cs) (onto_first c (slice_split is_white cs)))) h
+words-white c cs h = ap (λ v. filter is_nonempty (cond v ([] ∷ slice_split is_white cs) (onto_first c (slice_split is_white cs)))) h
 
 pub words-skip : (t : List ℕ) → words (skip is_white t) ≡ words t
 words-skip [] = refl
@@ -80,28 +80,28 @@ not-solid : (c : ℕ) → is_solid c ≡ false → is_white c ≡ true
 unfolding is_solid
 not-solid c h = elim (is_white c) as (λ v. not v ≡ false → v ≡ true) [ true ↦ λ e. refl | false ↦ λ e. absurd (cc) ] h
 
-later-words : (s : List ℕ) → stops is_solid s → filter is_filled (later s) ≡ words s
+later-words : (s : List ℕ) → stops is_solid s → filter is_nonempty (later s) ≡ words s
 unfolding words
 later-words [] h = refl
 later-words (c ∷ cs) h = sym (words-white c cs (not-solid c h))
 
 -- a text that begins with a word
-pub words-first : (t : List ℕ) → is_filled (take_while is_solid t) ≡ true → words t ≡ take_while is_solid t ∷ words (skip is_white (skip is_solid t))
+pub words-first : (t : List ℕ) → is_nonempty (take_while is_solid t) ≡ true → words t ≡ take_while is_solid t ∷ words (skip is_white (skip is_solid t))
 unfolding words
 words-first t h =
-    ap (filter is_filled) (split-first t)
-    ∙ ap (λ v. cond v (take_while is_solid t ∷ filter is_filled (later (skip is_solid t))) (filter is_filled (later (skip is_solid t)))) h
+    ap (filter is_nonempty) (split-first t)
+    ∙ ap (λ v. cond v (take_while is_solid t ∷ filter is_nonempty (later (skip is_solid t))) (filter is_nonempty (later (skip is_solid t)))) h
     ∙ ap (λ ws. take_while is_solid t ∷ ws) (later-words (skip is_solid t) (skip-stops is_solid t) ∙ sym (words-skip (skip is_solid t)))
 
-pub word-filled : (t : List ℕ) → is_filled t ≡ true → stops is_white t → is_filled (take_while is_solid t) ≡ true
+pub word-filled : (t : List ℕ) → is_nonempty t ≡ true → stops is_white t → is_nonempty (take_while is_solid t) ≡ true
 unfolding is_solid
 word-filled [] h s = absurd (cc)
-word-filled (c ∷ cs) h s = ap is_filled (take_while-cons is_solid c cs) ∙ ap (λ v. is_filled (cond (not v) (c ∷ take_while is_solid cs) [])) s
+word-filled (c ∷ cs) h s = ap is_nonempty (take_while-cons is_solid c cs) ∙ ap (λ v. is_nonempty (cond (not v) (c ∷ take_while is_solid cs) [])) s
 
 skip-shorter : (p : ℕ → Bool) (t : List ℕ) → length (skip p t) ≤ length t
 skip-shorter p t = omega (arith, length-drop (prefix_len p t) t)
 
-pub turn-shorter : (t : List ℕ) → is_filled t ≡ true → stops is_white t → length (skip is_white (skip is_solid t)) < length t
+pub turn-shorter : (t : List ℕ) → is_nonempty t ≡ true → stops is_white t → length (skip is_white (skip is_solid t)) < length t
 unfolding is_solid
 turn-shorter [] h s = absurd (cc)
 turn-shorter (c ∷ cs) h s =
@@ -111,33 +111,33 @@ turn-shorter (c ∷ cs) h s =
     (subst (λ (v : Bool). length (skip is_white (cond (not v) (skip is_solid cs) (c ∷ cs))) < length (c ∷ cs)) (sym s) (omega arith))
 
 -- a word is read, or has no reading
-pub term-turn : (kind : Kind) (made : List Term) (t : List ℕ) (term : Term) → is_filled t ≡ true → stops is_white t → term_of kind (take_while is_solid t) ≡ Some term
+pub term-turn : (kind : Kind) (made : List Term) (t : List ℕ) (term : Term) → is_nonempty t ≡ true → stops is_white t → term_of kind (take_while is_solid t) ≡ Some term
     → onto (made ++ term ∷ []) (all_some (term_of kind) (words (skip is_white (skip is_solid t)))) ≡ onto made (all_some (term_of kind) (words t))
 term-turn kind made t term h s e =
     onto-push made term (all_some (term_of kind) (words (skip is_white (skip is_solid t))))
     ∙ ap (λ o. onto made (both o (all_some (term_of kind) (words (skip is_white (skip is_solid t)))))) (sym e)
     ∙ ap (λ ws. onto made (all_some (term_of kind) ws)) (sym (words-first t (word-filled t h s)))
 
-pub term-refused : (kind : Kind) (made : List Term) (t : List ℕ) → is_filled t ≡ true → stops is_white t → term_of kind (take_while is_solid t) ≡ None
+pub term-refused : (kind : Kind) (made : List Term) (t : List ℕ) → is_nonempty t ≡ true → stops is_white t → term_of kind (take_while is_solid t) ≡ None
     → onto made (all_some (term_of kind) (words t)) ≡ None
 term-refused kind made t h s e =
     ap (λ ws. onto made (all_some (term_of kind) ws)) (words-first t (word-filled t h s))
     ∙ ap (λ o. onto made (both o (all_some (term_of kind) (words (skip is_white (skip is_solid t)))))) e
 
-pub terms-end : (kind : Kind) (made : List Term) (t : List ℕ) → is_filled t ≡ false → onto made (all_some (term_of kind) (words t)) ≡ Some made
+pub terms-end : (kind : Kind) (made : List Term) (t : List ℕ) → is_nonempty t ≡ false → onto made (all_some (term_of kind) (words t)) ≡ Some made
 unfolding words
 terms-end kind made [] h = onto-end made
 terms-end kind made (c ∷ cs) h = absurd (cc)
 
-onto-has : (c : ℕ) (ps : List (List ℕ)) → is_filled ps ≡ true → is_filled (onto_first c ps) ≡ true
+onto-has : (c : ℕ) (ps : List (List ℕ)) → is_nonempty ps ≡ true → is_nonempty (onto_first c ps) ≡ true
 onto-has c [] h = absurd (cc)
 onto-has c (x ∷ ps) h = refl
 
-pub split-has : (q : ℕ → Bool) (t : List ℕ) → is_filled (slice_split q t) ≡ true
+pub split-has : (q : ℕ → Bool) (t : List ℕ) → is_nonempty (slice_split q t) ≡ true
 split-has q [] = refl
-split-has q (c ∷ cs) = elim (q c) as (λ v. is_filled (cond v ([] ∷ slice_split q cs) (onto_first c (slice_split q cs))) ≡ true) [ true ↦ refl | false ↦ onto-has c (slice_split q cs) (split-has q cs) ]
+split-has q (c ∷ cs) = elim (q c) as (λ v. is_nonempty (cond v ([] ∷ slice_split q cs) (onto_first c (slice_split q cs))) ≡ true) [ true ↦ refl | false ↦ onto-has c (slice_split q cs) (split-has q cs) ]
 
-pub lists-cons : (piece : List ℕ) (ps : List (List ℕ)) → is_filled ps ≡ true → lists_of (piece ∷ ps) ≡ both (profile_of piece) (lists_of ps)
+pub lists-cons : (piece : List ℕ) (ps : List (List ℕ)) → is_nonempty ps ≡ true → lists_of (piece ∷ ps) ≡ both (profile_of piece) (lists_of ps)
 lists-cons piece [] h = absurd (cc)
 lists-cons piece (p ∷ ps) h = refl
 

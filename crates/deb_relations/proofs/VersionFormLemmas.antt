@@ -9,7 +9,7 @@ use Rattle.deb_version.specs.declared.fault.VersionFault.{VersionFault}
 use Rattle.deb_version.specs.declared.fault.VersionFault.TheVariants.{EpochEmpty, EpochNotNumber, UpstreamEmpty, UpstreamBad, RevisionEmpty, RevisionBad}
 use Rattle.deb_version.specs.Syntax.{is_revision_char, is_upstream_char, has_epoch, epoch_text, has_revision, upstream_text, revision_text, upstream_start, upstream_end, fault_of, length_fault, number_fault, epoch_fault, upstream_fault, revision_fault, upstream_part_fault, revision_part_fault, rest_fault}
 use Rattle.deb_version.proofs.LawLemmas.{text_parts}
-use Rattle.deb_text.specs.Lists.{is_filled}
+use Rattle.deb_text.specs.Lists.{is_nonempty}
 use Rattle.deb_relations.proofs.FrontLemmas.{all-both, all-weaker}
 
 abbrev pub Fault : Type 0
@@ -93,12 +93,12 @@ version-form v h =
     (all-both is_upstream_char (upstream_text v) _ (upstream-chars (upstream_start v) (upstream_text v) three.0)
     (revision-by (has_revision v) (upstream_end v + 1) (revision_text v) three.1)))
 
-length-none : (v : List ℕ) → length_fault v ≡ None → is_filled v ≡ true
+length-none : (v : List ℕ) → length_fault v ≡ None → is_nonempty v ≡ true
 unfolding length_fault
 length-none [] h = absurd (cc)
 length-none (c ∷ cs) h = refl
 
 -- and at least one of them
-pub version-filled : (v : List ℕ) → fault_of v ≡ None → is_filled v ≡ true
+pub version-filled : (v : List ℕ) → fault_of v ≡ None → is_nonempty v ≡ true
 unfolding fault_of
 version-filled v h = length-none v (or-none (length_fault v) _ h).0

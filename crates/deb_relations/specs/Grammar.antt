@@ -13,7 +13,7 @@ use Rattle.deb_relations.specs.declared.relations.Restriction.{Restriction}
 use Rattle.deb_relations.specs.declared.relations.Alternative.{Alternative}
 use Rattle.deb_relations.specs.Names.{is_arch_char, is_arch_word, is_package_name}
 use Rattle.deb_relations.specs.Printing.{term_text}
-use Rattle.deb_text.specs.Lists.{is_filled}
+use Rattle.deb_text.specs.Lists.{is_nonempty}
 
 -- a space, a tab, a line feed or a carriage return (Policy 7.1)
 unfoldable pub is_white : ℕ → Bool
@@ -45,12 +45,12 @@ is_op_char c = c == 60 || (c == 61 || c == 62)
 
 -- a qualifier (deb-src-control(5))
 unfoldable pub is_qualifier : List ℕ → Bool
-is_qualifier word = is_filled word && list_all is_arch_char word
+is_qualifier word = is_nonempty word && list_all is_arch_char word
 
 -- a word of a list of either kind (Policy 7.1)
 unfoldable pub is_word : Kind → List ℕ → Bool
 is_word Arch word = is_arch_word word
-is_word Profile word = is_filled word && list_all is_profile_char word
+is_word Profile word = is_nonempty word && list_all is_profile_char word
 
 -- the operator that a text writes, where `<` and `>` are read as `<=` and `>=` (Policy 7.1, the reading of `<` and `>` this project's own, as dpkg's)
 unfoldable pub op_of : List ℕ → Option Op
@@ -105,12 +105,12 @@ TakesRestriction text (Some asked) rest = (inside : List ℕ) × (InBrackets 40 
 
 -- the words of a text, which white space parts (Policy 7.1)
 unfoldable pub words : List ℕ → List (List ℕ)
-words text = filter is_filled (slice_split is_white text)
+words text = filter is_nonempty (slice_split is_white text)
 
 -- words of one kind, each perhaps after `!`, and at least one of them (Policy 7.1)
 pub record ReadsTerms (kind : Kind) (inside : List ℕ) (terms : List Term) : Type 0 where
   pub written : words inside ≡ map term_text terms
-  pub filled : is_filled terms ≡ true
+  pub filled : is_nonempty terms ≡ true
   pub forms : list_all (λ term. is_word kind term.word) terms ≡ true
 
 -- whether all words of a list are negated, or none is (Policy 7.1)

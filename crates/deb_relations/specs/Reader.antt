@@ -10,7 +10,7 @@ use Rattle.deb_relations.specs.declared.relations.Kind.TheVariants.{Arch, Profil
 use Rattle.deb_relations.specs.declared.relations.Term.{Term}
 use Rattle.deb_relations.specs.declared.relations.Restriction.{Restriction}
 use Rattle.deb_relations.specs.declared.relations.Alternative.{Alternative}
-use Rattle.deb_text.specs.Lists.{is_filled}
+use Rattle.deb_text.specs.Lists.{is_nonempty}
 use Rattle.deb_relations.specs.Grammar.{is_white, is_blank_text, is_comma, is_bar, is_right_angle, is_op_char, is_word, is_not_blank, op_of, words, are_alike}
 use Rattle.deb_relations.specs.Names.{is_package_char, is_arch_char, is_package_name}
 use Rattle.deb_text.specs.Options.{both, all_some}
@@ -66,7 +66,7 @@ read_name text =
 abbrev pub read_behind_colon : List ℕ → Option (List ℕ) → Option (Option (List ℕ) × List ℕ)
 read_behind_colon text None = Some (None, text)
 read_behind_colon text (Some behind) =
-    if is_filled (take_while is_arch_char behind) then Some (Some (take_while is_arch_char behind), skip is_arch_char behind) else None
+    if is_nonempty (take_while is_arch_char behind) then Some (Some (take_while is_arch_char behind), skip is_arch_char behind) else None
 
 -- a qualifier, where a colon stands first, and what is left (deb-src-control(5))
 unfoldable pub read_qualifier : List ℕ → Option (Option (List ℕ) × List ℕ)

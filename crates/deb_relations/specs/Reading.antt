@@ -11,7 +11,7 @@ use Rattle.deb_relations.specs.declared.fault.RelationFault.TheVariants.{BadName
 use Rattle.deb_relations.specs.declared.relations.Kind.{Kind}
 use Rattle.deb_relations.specs.declared.relations.Kind.TheVariants.{Arch, Profile}
 use Rattle.deb_relations.specs.declared.relations.Alternative.{Alternative}
-use Rattle.deb_text.specs.Lists.{is_filled, begins}
+use Rattle.deb_text.specs.Lists.{is_nonempty, begins}
 use Rattle.deb_relations.specs.Grammar.{is_white, is_blank_text, is_comma, is_bar, is_right_angle, is_not_blank, is_op_char, op_of, words, relations_limit, TakesOperator}
 use Rattle.deb_relations.specs.Reader.{skip, strip, is_solid, between, read_name, read_qualifier, read_restriction, term_of, terms_of, read_archs, profile_of, read_alternative, read_group, read_groups}
 
@@ -30,7 +30,7 @@ span (piece ∷ more) = 1 + (length piece + span more)
 
 -- the fault of a name: none stands there, or no good one (Policy 7.1)
 unfoldable pub name_fault : List ℕ → RelationFault
-name_fault text = if is_filled (skip is_white text) then BadName else EmptyAlternative
+name_fault text = if is_nonempty (skip is_white text) then BadName else EmptyAlternative
 
 -- the fault of a version, else that of what stands at a place behind it (Policy 7.1)
 abbrev pub version_fault : Option VersionFault → ℕ → RelationFault

@@ -5,7 +5,7 @@ use Rattle.deb_relations.specs.declared.arch.ArchWords.{ArchWords}
 use Rattle.deb_relations.specs.declared.relations.Term.{Term}
 use Rattle.deb_relations.specs.declared.relations.Alternative.{Alternative}
 use Rattle.deb_relations.specs.Arch.{arch_matches}
-use Rattle.deb_text.specs.Lists.{is_filled}
+use Rattle.deb_text.specs.Lists.{is_nonempty}
 
 -- whether a word of the list matches the architecture (Policy 7.1)
 unfoldable pub has_match : ArchWords → List Term → Bool
@@ -35,7 +35,7 @@ without_lists a = record a { archs = []; profiles = [] }
 
 -- whether an alternative is asked for on any architecture and under any build profile (this project's own)
 abbrev pub has_no_lists : Alternative → Bool
-has_no_lists a = not (is_filled a.archs) && not (is_filled a.profiles)
+has_no_lists a = not (is_nonempty a.archs) && not (is_nonempty a.profiles)
 
 -- the alternatives that are asked for, without their lists (this project's own)
 unfoldable pub reduced_group : ArchWords → List Alternative → List Alternative
@@ -43,4 +43,4 @@ reduced_group arch group = map without_lists (filter (is_kept arch) group)
 
 -- the groups of which an alternative is left (this project's own)
 unfoldable pub reduced : ArchWords → List (List Alternative) → List (List Alternative)
-reduced arch groups = filter is_filled (map (reduced_group arch) groups)
+reduced arch groups = filter is_nonempty (map (reduced_group arch) groups)

@@ -1,7 +1,7 @@
 //! The words of an architecture, and which architecture words match it.
 
 ghost use Rattle.std.specs.Prelude.{◌≡◌, ◌++◌, ◌||◌, true, bytes_eq, IfOk, OnErr};
-ghost use Rattle.deb_text.specs.Lists.{is_filled};
+ghost use Rattle.deb_text.specs.Lists.{is_nonempty};
 ghost use Rattle.deb_relations.specs.Arch.{arch_matches};
 
 use deb_text::Text;
@@ -27,7 +27,7 @@ impl ArchWords {
         ensures value { IfOk result (λ a.
             a ≡ record { name = name.now; os = os.now; cpu = cpu.now }) }
         ensures memory { OnErr result
-            ((is_filled name.now || (is_filled os.now || is_filled cpu.now)) ≡ true) }
+            ((is_nonempty name.now || (is_nonempty os.now || is_nonempty cpu.now)) ≡ true) }
     {
         Ok(ArchWords {
             name: Text::copied(alloc, name)?,

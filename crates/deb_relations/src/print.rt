@@ -3,7 +3,7 @@
 ghost use Rattle.std.specs.Prelude.{◌≡◌, ◌++◌, ◌∷◌, true, IfOk, OnOk, OnErr, codes};
 ghost use Rattle.std.specs.String.{string_bytes};
 ghost use Rattle.std.specs.List.{flat_map};
-ghost use Rattle.deb_text.specs.Lists.{is_filled};
+ghost use Rattle.deb_text.specs.Lists.{is_nonempty};
 ghost use Rattle.deb_relations.specs.Printing.{term_text, terms_text, op_text, qualifier_text, restriction_text, archs_text, profile_text, profiles_text, alternative_text, group_text, printed};
 
 use crate::relations::{Alternative, Relations, Restriction, Term};
@@ -127,7 +127,7 @@ fn write_group(out: &mut String, group: &[Alternative]) -> Result<(), AllocError
 #[tactic(auto, unfolding(crate::specs::Printing::printed))]
 fn write_groups(out: &mut String, groups: &[Items<Alternative>]) -> Result<(), AllocError>
     ensures value { OnOk result (string_bytes out.new ≡ string_bytes out.old ++ printed groups.now) }
-    ensures memory { OnErr result (is_filled groups.now ≡ true) }
+    ensures memory { OnErr result (is_nonempty groups.now ≡ true) }
 {
     if let [first, others @ ..] = groups {
         write_group(out, first.as_slice())?;
@@ -146,7 +146,7 @@ impl Relations {
     /// Source: Debian Policy 7.1, and of qualifiers and build profiles dpkg's deb-src-control(5).
     pub fn print(&self, alloc: Global) -> Result<String, AllocError>
         ensures value { IfOk result (λ text. string_bytes text ≡ printed self.now) }
-        ensures memory { OnErr result (is_filled self.now ≡ true) }
+        ensures memory { OnErr result (is_nonempty self.now ≡ true) }
     {
         let mut out = String::new(alloc);
         write_groups(&mut out, self.groups.as_slice())?;

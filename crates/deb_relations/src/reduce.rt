@@ -2,7 +2,7 @@
 
 ghost use Rattle.std.specs.Prelude.{◌≡◌, ◌++◌, [], true, map, filter, IfOk, OnErr};
 ghost use Rattle.std.specs.List.{list_any, list_all};
-ghost use Rattle.deb_text.specs.Lists.{is_filled};
+ghost use Rattle.deb_text.specs.Lists.{is_nonempty};
 ghost use Rattle.deb_relations.specs.Reduction.{has_match, is_for_arch, holds_without_profiles, is_for_no_profile, is_kept, without_lists, reduced_group, reduced};
 
 use crate::arch::{ArchWords, arch_matches};
@@ -107,7 +107,7 @@ fn reduce_group(
     arch: &ArchWords,
 ) -> Result<Items<Alternative>, AllocError>
     ensures value { IfOk result (λ made. made ≡ reduced_group arch.now group.now) }
-    ensures memory { OnErr result (is_filled (reduced_group arch.now group.now) ≡ true) }
+    ensures memory { OnErr result (is_nonempty (reduced_group arch.now group.now) ≡ true) }
 {
     let mut made = Items::new(alloc);
     for a in group {
@@ -128,7 +128,7 @@ impl Relations {
     #[tactic(auto, unfolding(crate::specs::Reduction::reduced))]
     pub fn reduce(&self, alloc: Global, arch: &ArchWords) -> Result<Relations, AllocError>
         ensures value { IfOk result (λ left. left ≡ reduced arch.now self.now) }
-        ensures memory { OnErr result (is_filled (reduced arch.now self.now) ≡ true) }
+        ensures memory { OnErr result (is_nonempty (reduced arch.now self.now) ≡ true) }
     {
         let mut made = Items::new(alloc);
         for group in self.groups.as_slice() {

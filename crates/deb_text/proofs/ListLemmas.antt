@@ -4,7 +4,7 @@ use Rattle.std.proofs.lemmas.Bool.{cases_Bool, and_from}
 use Rattle.std.proofs.lemmas.List.Folds.{list_any-append}
 use Rattle.std.proofs.lemmas.List.Sums.{take_while-cons}
 use Rattle.std.specs.List.{slice_split, onto_first, list_any, list_all, take_while}
-use Rattle.deb_text.specs.Lines.{is_feed, IsOneLine}
+use Rattle.deb_text.specs.Lines.{is_line_feed, IsOneLine}
 
 -- items that do not pass, and then one that does or the end
 pub slice_split-run : {X : Type 0} (test : X → Bool) (xs : List X) (y : X) (ys : List X) → list_any test xs ≡ false → test y ≡ true
@@ -34,4 +34,4 @@ take_while-passes t (c ∷ cs) = ap (list_all t) (take_while-cons t c cs) ∙ ta
 
 -- a text behind another
 pub IsOneLine-append : (xs ys : List ℕ) → IsOneLine xs → IsOneLine ys → IsOneLine (xs ++ ys)
-IsOneLine-append xs ys h k = list_any-append is_feed xs ys ∙ ap₂ (λ a b. a || b) h k
+IsOneLine-append xs ys h k = list_any-append is_line_feed xs ys ∙ ap₂ (λ a b. a || b) h k

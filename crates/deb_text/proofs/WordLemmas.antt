@@ -3,7 +3,7 @@ use Rattle.std.proofs.Common.{◌≡◌, ℕ, ◌<◌, Bool, true, false, not, e
 use Rattle.std.specs.List.{slice_split, flat_map, onto_first}
 use Rattle.std.proofs.lemmas.List.Splits.{length-slice_split, slice_split-cons_yes, slice_split-cons_no}
 use Rattle.deb_text.specs.Lines.{is_blank}
-use Rattle.deb_text.specs.Lists.{is_filled}
+use Rattle.deb_text.specs.Lists.{is_nonempty}
 
 -- the parts of a text between spaces
 abbrev pub spaces : List ℕ → List (List ℕ)
@@ -44,6 +44,6 @@ tabs-spaces [] = refl
 tabs-spaces (c ∷ cs) = cut_one c cs (eqb c 32) (eqb c 9) refl refl (tabs-spaces cs)
 
 -- a text that is not empty has a character
-pub is_filled-length : (text : List ℕ) → not (eqb (length text) 0) ≡ is_filled text
-is_filled-length [] = refl
-is_filled-length (c ∷ cs) = ap not (ne_eqb (length (c ∷ cs)) 0 (λ h. omega (arith, h)))
+pub is_nonempty-length : (text : List ℕ) → not (eqb (length text) 0) ≡ is_nonempty text
+is_nonempty-length [] = refl
+is_nonempty-length (c ∷ cs) = ap not (ne_eqb (length (c ∷ cs)) 0 (λ h. omega (arith, h)))

@@ -1,11 +1,11 @@
 -- Lines, the blanks in them, and the words that blanks part (this project's own).
 use Rattle.std.specs.Prelude.{◌≡◌, ℕ, Bool, false, ◌||◌, ◌==◌, List, filter}
 use Rattle.std.specs.List.{list_all, list_any, slice_split}
-use Rattle.deb_text.specs.Lists.{is_filled}
+use Rattle.deb_text.specs.Lists.{is_nonempty}
 
 -- a line feed
-abbrev pub is_feed : ℕ → Bool
-is_feed c = c == 10
+abbrev pub is_line_feed : ℕ → Bool
+is_line_feed c = c == 10
 
 -- a space or a tab
 abbrev pub is_blank : ℕ → Bool
@@ -17,8 +17,8 @@ is_blank_line line = list_all is_blank line
 
 -- a text without a line feed
 abbrev pub IsOneLine : List ℕ → Type 0
-IsOneLine text = list_any is_feed text ≡ false
+IsOneLine text = list_any is_line_feed text ≡ false
 
 -- the words of a text, parted by spaces and tabs
 unfoldable pub words_in : List ℕ → List (List ℕ)
-words_in text = filter is_filled (slice_split is_blank text)
+words_in text = filter is_nonempty (slice_split is_blank text)

@@ -5,9 +5,9 @@ use Rattle.std.specs.Ordering.{is_lt}
 use Rattle.std.specs.List.{slice_get}
 
 -- whether a list has an item
-abbrev pub is_filled : {X : Type 0} → List X → Bool
-is_filled [] = false
-is_filled (x ∷ xs) = true
+abbrev pub is_nonempty : {X : Type 0} → List X → Bool
+is_nonempty [] = false
+is_nonempty (x ∷ xs) = true
 
 -- whether the first item of a list passes a test
 abbrev pub begins : {X : Type 0} → (X → Bool) → List X → Bool

@@ -5,7 +5,7 @@ use Rattle.std.specs.Str.{IsUtf8}
 use Rattle.std.specs.declared.cmp.Ordering.{Ordering}
 use Rattle.std.specs.Ordering.{nat_cmp, on, then_cmp}
 use Rattle.std.specs.Cmp.Lexicographic.{slice_cmp}
-use Rattle.deb_text.specs.Lists.{is_filled}
+use Rattle.deb_text.specs.Lists.{is_nonempty}
 
 -- the order of two texts by their bytes (this project's own)
 abbrev pub text_cmp : List ℕ → List ℕ → Ordering
@@ -21,7 +21,7 @@ coded_text = coded_list coded_ℕ
 
 -- whether a text is empty
 abbrev pub is_empty_text : List ℕ → Bool
-is_empty_text text = not (is_filled text)
+is_empty_text text = not (is_nonempty text)
 
 -- a UTF-8 text of at most this many bytes
 pub record IsTextWithin (limit : ℕ) (text : List ℕ) : Type 0 where

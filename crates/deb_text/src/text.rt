@@ -5,7 +5,7 @@ ghost use Rattle.std.specs.Ordering.{as_partial_cmp};
 ghost use Rattle.std.specs.Cmp.{partial_order_from_own_ties};
 ghost use Rattle.std.specs.Cmp.Rules.{comparing};
 ghost use Rattle.std.proofs.Common.{rules, refl};
-ghost use Rattle.deb_text.specs.Lists.{is_filled};
+ghost use Rattle.deb_text.specs.Lists.{is_nonempty};
 ghost use Rattle.deb_text.specs.Text.{text_cmp};
 
 use std::alloc::{AllocError, Global};
@@ -41,7 +41,7 @@ impl Text {
     /// Source: this project's own.
     pub fn copied(alloc: Global, text: &str) -> Result<Text, AllocError>
         ensures value { IfOk result (λ made. made ≡ text.now) }
-        ensures memory { OnErr result (is_filled text.now ≡ true) }
+        ensures memory { OnErr result (is_nonempty text.now ≡ true) }
     {
         if text.is_empty() {
             return Ok(Text::new(alloc));

@@ -161,7 +161,7 @@ TextIsItsParts = (text : List ℕ)
     ++ (upstream_text text ++ (if has_revision text then 45 ∷ revision_text text else []))
 
 -- a number and two places that are a text's epoch and the ends of its upstream version, of a text with a reading (this project's own)
-pub record Remembers (text : List ℕ) (epoch start end : ℕ) : Type 0 where
+pub record HasCuts (text : List ℕ) (epoch start end : ℕ) : Type 0 where
   pub faultless : fault_of text ≡ None
   pub number : epoch ≡ epoch_of text
   pub from : start ≡ upstream_start text

@@ -3,7 +3,7 @@
 ghost use Rattle.std.specs.Prelude.{◌≡◌, ◌+◌, ◌-◌, ◌<◌, ◌≤◌, ◌^◌, length, not, true, false, IfOk, IfErr, IfSome, IfNone, MatchOption};
 ghost use Rattle.std.specs.List.{list_any, list_all, position, position_or_len, suffix_len};
 ghost use Rattle.std.specs.Char.{is_ascii_digit};
-ghost use Rattle.deb_version.specs.Syntax.{is_upstream_char, is_revision_char, is_colon, is_hyphen, all_digits, value_of, value_after, epoch_limit, number_fault, epoch_of, upstream_start, upstream_end, rest_of, epoch_fault, rest_fault, upstream_part_fault, revision_part_fault, fault_of, Remembers};
+ghost use Rattle.deb_version.specs.Syntax.{is_upstream_char, is_revision_char, is_colon, is_hyphen, all_digits, value_of, value_after, epoch_limit, number_fault, epoch_of, upstream_start, upstream_end, rest_of, epoch_fault, rest_fault, upstream_part_fault, revision_part_fault, fault_of, HasCuts};
 
 use crate::fault::VersionFault;
 
@@ -180,7 +180,7 @@ fn upstream_cut(text: &[u8], start: usize) -> Result<usize, VersionFault>
 /// The cuts of a text of bytes, or its first fault.
 #[tactic(auto, unfolding(crate::specs::Syntax::fault_of, crate::specs::Syntax::length_fault))]
 pub(crate) fn cut_of(text: &[u8]) -> Result<Cut, VersionFault>
-    ensures ok { IfOk result (λ cut. Remembers text.now cut.epoch cut.start cut.end) }
+    ensures ok { IfOk result (λ cut. HasCuts text.now cut.epoch cut.start cut.end) }
     ensures refused { IfErr result (λ fault. fault_of text.now ≡ Some fault) }
 {
     if text.is_empty() {

@@ -25,14 +25,14 @@ pub struct Version {
 impl Model for Version {
     ghost use Rattle.std.specs.Prelude.{List, ℕ};
     ghost use Rattle.std.specs.String.{string_bytes};
-    ghost use Rattle.deb_version.specs.Syntax.{Remembers};
+    ghost use Rattle.deb_version.specs.Syntax.{HasCuts};
 
     ghost Value = { List ℕ };
 
     ghost view = { λ v. string_bytes v.text };
 
     ghost invariant = { λ v.
-        Remembers (string_bytes v.text) v.epoch v.upstream_start v.upstream_end };
+        HasCuts (string_bytes v.text) v.epoch v.upstream_start v.upstream_end };
 }
 
 impl Version {

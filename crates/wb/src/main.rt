@@ -63,9 +63,9 @@ fn say(rt: &impl Eprint, message: Message<'_>) {
 /// reading, writing or memory failed before the end of the input.
 fn main(rt: HostRuntime) -> ExitCode {
     let status = match start(&rt) {
-        Some(Asked::Start(Start::Run)) => run(&rt),
-        Some(Asked::Start(Start::Help)) => said(rt.print(HELP), status::ACCEPTED),
-        Some(Asked::Version) => said(rt.println(VERSION), status::ACCEPTED),
+        Some(Invocation::Start(Start::Run)) => run(&rt),
+        Some(Invocation::Start(Start::Help)) => said(rt.print(HELP), status::ACCEPTED),
+        Some(Invocation::Version) => said(rt.println(VERSION), status::ACCEPTED),
         None => said(rt.println(line_fault_json()), status::LINE_FAULT),
     };
     ExitCode::from(status)
@@ -73,24 +73,24 @@ fn main(rt: HostRuntime) -> ExitCode {
 
 /// What the program's words ask for.
 #[derive(Clone, Copy)]
-enum Asked {
+enum Invocation {
     Start(Start),
     /// To name the program and its kit: the one word `--version`.
     Version,
 }
 
 /// What the program's words ask for, or none where they ask for nothing that there is.
-fn start(rt: &(impl Env + AllocGlobal + Eprint)) -> Option<Asked> {
+fn start(rt: &(impl Env + AllocGlobal + Eprint)) -> Option<Invocation> {
     let arguments: Vec<String> = env::args(rt).ok()?.skip(1).collect(rt.alloc()).ok()?;
     let mut words: Vec<&str> = Vec::new(rt.alloc());
     for argument in &arguments {
         words.push(argument.as_str()).ok()?;
     }
     if let ["--version"] = words.as_slice() {
-        return Some(Asked::Version);
+        return Some(Invocation::Version);
     }
     match start_of(rt.alloc(), &words) {
-        Ok(start) => Some(Asked::Start(start)),
+        Ok(start) => Some(Invocation::Start(start)),
         Err(error) => {
             let _ = rt.eprintln(error);
             None

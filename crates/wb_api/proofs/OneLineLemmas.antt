@@ -6,7 +6,7 @@ use Rattle.std.specs.List.{list_any}
 use Rattle.std.specs.Fmt.{digits, digits_onto, digit_glyph}
 use Rattle.json.specs.Print.{quoted, escape, escape_byte}
 use Rattle.deb_control.specs.Faults.{fault_name}
-use Rattle.deb_text.specs.Lines.{is_feed, IsOneLine}
+use Rattle.deb_text.specs.Lines.{is_line_feed, IsOneLine}
 use Rattle.deb_version.specs.Faults.{fault_name as name_of_fault}
 use Rattle.wb_states.specs.Refusals.{name_of_list, name_of_field}
 use Rattle.wb_states.specs.State.{name_of}
@@ -24,8 +24,8 @@ use Rattle.wb_api.specs.Encoding.{name_of_relations_fault, reply_text, assignmen
 use Rattle.deb_text.proofs.ListLemmas.{IsOneLine-append}
 
 -- what stands behind a text of one line
-behind : (xs ys : List ℕ) → IsOneLine xs → list_any is_feed (xs ++ ys) ≡ list_any is_feed ys
-behind xs ys h = list_any-append is_feed xs ys ∙ ap (λ a. a || list_any is_feed ys) h
+behind : (xs ys : List ℕ) → IsOneLine xs → list_any is_line_feed (xs ++ ys) ≡ list_any is_line_feed ys
+behind xs ys h = list_any-append is_line_feed xs ys ∙ ap (λ a. a || list_any is_line_feed ys) h
 
 -- a digit of a number
 digit-one : (d : ℕ) → (digit_glyph false d == 10) ≡ false

@@ -9,48 +9,48 @@ use Rattle.wb_states.specs.declared.reply.Reply.{Reply}
 use Rattle.wb_office.proofs.CountedLemmas.{step-accepted}
 use Rattle.wb_office.proofs.PassLemmas.{step-either}
 use Rattle.wb_office.specs.Step.{step, Outcome}
-use Rattle.wb_words.specs.Words.{asked_in}
-use Rattle.wb_words.specs.declared.words.Asked.{Asked}
-use Rattle.wb_words.specs.declared.words.Asked.TheVariants.{Command as asked_Command, Merge as asked_Merge}
+use Rattle.wb_words.specs.Words.{invocation_in}
+use Rattle.wb_words.specs.declared.words.Invocation.{Invocation}
+use Rattle.wb_words.specs.declared.words.Invocation.TheVariants.{Command as invocation_Command, Merge as invocation_Merge}
 use Rattle.wb_words.specs.declared.words.PartNames.{PartNames}
 use Rattle.wb_api.specs.Encoding.{line_fault_text}
 use Rattle.deb_text.specs.Lines.{words_in, is_blank_line}
-use Rattle.wb_daemon.specs.Line.{is_long, with_feed}
-use Rattle.wb_daemon.specs.Lists.{Gives, GivesMerge, GivesNoMore}
-use Rattle.wb_daemon.specs.Run.{Said, Says, Accepts, AsksFor, LineAsks, SaysOfKind, LineKind, Blank, Fault, Request, kind_of_line, kind_of_asked, asked_of_line, fault_said, memory_said, needs_memory}
+use Rattle.wb_daemon.specs.Line.{is_long, with_line_feed}
+use Rattle.wb_daemon.specs.Lists.{MayRead, MayReadMerge, MayReadLess}
+use Rattle.wb_daemon.specs.Run.{LineResponse, IsLineResponse, Accepts, InvokesAs, LineInvokes, IsResponseOfKind, LineKind, Blank, Fault, Request, kind_of_line, kind_of_invocation, invocation_of_line, line_fault_response, memory_response, needs_memory}
 use Rattle.wb_daemon.specs.declared.answer.Answer.{Answer}
-use Rattle.wb_daemon.specs.Turn.{said_by, Answers, SaysCommandOrMemory, SaysAskedOrMemory, AnswersInPart, AppendsFront, TookEndedLine, TookLastLine, LacksAnswer, StopsTurn, Turns}
+use Rattle.wb_daemon.specs.Turn.{response_of_answer, Answers, IsCommandResponseOrMemory, IsInvocationResponseOrMemory, AnswersInPart, AppendsFront, TookEndedLine, TookLastLine, LacksAnswer, StopsTurn, Turns}
 use Rattle.wb_daemon.specs.declared.message.Cause.{Cause}
 use Rattle.wb_daemon.specs.declared.message.Cause.TheVariants as why
 use Rattle.wb_daemon.specs.declared.run.Turn.{Turn}
 use Rattle.wb_daemon.specs.declared.run.Turn.TheVariants.{More, End, Stop}
 use Rattle.wb_daemon.proofs.LineLemmas.{Appends-same}
-use Rattle.wb_daemon.proofs.ListLemmas.{GivesParts-more, LacksMerge-more}
+use Rattle.wb_daemon.proofs.ListLemmas.{MayReadParts-more, LacksMerge-more}
 
 -- ---- the kind of a line
 
 kind_of_line-long : (line : List ℕ) → is_long line ≡ true → kind_of_line line ≡ Fault
 unfolding kind_of_line
 kind_of_line-long line h =
-    ap (λ b. cond b Fault (cond (is_blank_line line) Blank (kind_of_asked (asked_of_line line)))) h
+    ap (λ b. cond b Fault (cond (is_blank_line line) Blank (kind_of_invocation (invocation_of_line line)))) h
 
 kind_of_line-blank : (line : List ℕ) → is_long line ≡ false → is_blank_line line ≡ true → kind_of_line line ≡ Blank
 unfolding kind_of_line
 kind_of_line-blank line h k =
-    ap (λ b. cond b Fault (cond (is_blank_line line) Blank (kind_of_asked (asked_of_line line)))) h
-    ∙ ap (λ b. cond b Blank (kind_of_asked (asked_of_line line))) k
+    ap (λ b. cond b Fault (cond (is_blank_line line) Blank (kind_of_invocation (invocation_of_line line)))) h
+    ∙ ap (λ b. cond b Blank (kind_of_invocation (invocation_of_line line))) k
 
 kind_of_line-read : (line : List ℕ) → is_long line ≡ false → is_blank_line line ≡ false
-    → kind_of_line line ≡ kind_of_asked (asked_of_line line)
+    → kind_of_line line ≡ kind_of_invocation (invocation_of_line line)
 unfolding kind_of_line
 kind_of_line-read line h k =
-    ap (λ b. cond b Fault (cond (is_blank_line line) Blank (kind_of_asked (asked_of_line line)))) h
-    ∙ ap (λ b. cond b Blank (kind_of_asked (asked_of_line line))) k
+    ap (λ b. cond b Fault (cond (is_blank_line line) Blank (kind_of_invocation (invocation_of_line line)))) h
+    ∙ ap (λ b. cond b Blank (kind_of_invocation (invocation_of_line line))) k
 
 -- what may be said to a line of its kind may be said to the line
-Says-kind : (gives : Gives) (machine : Machine) (line : List ℕ) (kind : LineKind) (said : Said) → kind_of_line line ≡ kind
-    → SaysOfKind gives machine kind said → Says gives machine line said
-Says-kind gives machine line kind said e h = inl (subst (λ (x : LineKind). SaysOfKind gives machine x said) (sym e) h)
+IsLineResponse-kind : (may_read : MayRead) (machine : Machine) (line : List ℕ) (kind : LineKind) (response : LineResponse) → kind_of_line line ≡ kind
+    → IsResponseOfKind may_read machine kind response → IsLineResponse may_read machine line response
+IsLineResponse-kind may_read machine line kind response e h = inl (subst (λ (x : LineKind). IsResponseOfKind may_read machine x response) (sym e) h)
 
 needs_memory-read : (line : List ℕ) → is_long line ≡ false → is_blank_line line ≡ false → is_utf8 line ≡ true → IsTrue (needs_memory line)
 needs_memory-read line h k u =
@@ -62,82 +62,82 @@ needs_memory-long : (line : List ℕ) → is_long line ≡ true → needs_memory
 needs_memory-long line h = ap (λ b. not b && (not (is_blank_line line) && is_utf8 line)) h
 
 -- what may be said to a line that is too long may be said to every such line
-pub Says-long : (gives : Gives) (machine : Machine) (line other : List ℕ) (said : Said) → is_long line ≡ true → is_long other ≡ true
-    → Says gives machine line said → Says gives machine other said
-Says-long gives machine line other said h k (inl e) =
-    inl (subst (λ (x : LineKind). SaysOfKind gives machine x said) (kind_of_line-long line h ∙ sym (kind_of_line-long other k)) e)
-Says-long gives machine line other said h k (inr p) = absurd (false≢true (sym (needs_memory-long line h) ∙ p.0))
+pub IsLineResponse-long : (may_read : MayRead) (machine : Machine) (line other : List ℕ) (response : LineResponse) → is_long line ≡ true → is_long other ≡ true
+    → IsLineResponse may_read machine line response → IsLineResponse may_read machine other response
+IsLineResponse-long may_read machine line other response h k (inl e) =
+    inl (subst (λ (x : LineKind). IsResponseOfKind may_read machine x response) (kind_of_line-long line h ∙ sym (kind_of_line-long other k)) e)
+IsLineResponse-long may_read machine line other response h k (inr p) = absurd (false≢true (sym (needs_memory-long line h) ∙ p.0))
 
-utf8-asked : (line : List ℕ) (asked : Asked) (b : Bool) → is_utf8 line ≡ b → asked_of_line line ≡ Some asked → b ≡ true
-unfolding asked_of_line
-utf8-asked line asked true u e = refl
-utf8-asked line asked false u e =
-    let none : asked_of_line line ≡ None = ap (λ b. cond b (asked_in (words_in line)) None) u in
-    let differ : Some asked ≡ None = sym e ∙ none in
+utf8-invocation : (line : List ℕ) (invocation : Invocation) (b : Bool) → is_utf8 line ≡ b → invocation_of_line line ≡ Some invocation → b ≡ true
+unfolding invocation_of_line
+utf8-invocation line invocation true u e = refl
+utf8-invocation line invocation false u e =
+    let none : invocation_of_line line ≡ None = ap (λ b. cond b (invocation_in (words_in line)) None) u in
+    let differ : Some invocation ≡ None = sym e ∙ none in
     cc
 
 -- what may be said to what a line asks for may be said to the line
-pub Says-asked : (gives : Gives) (machine : Machine) (line : List ℕ) (asked : Asked) (said : Said) → is_long line ≡ false → is_blank_line line ≡ false
-    → asked_of_line line ≡ Some asked → SaysAskedOrMemory gives machine asked said → Says gives machine line said
-Says-asked gives machine line asked said h k e (inl p) =
-    Says-kind gives machine line (Request asked) said (kind_of_line-read line h k ∙ ap kind_of_asked e) p
-Says-asked gives machine line asked said h k e (inr p) =
-    inr (needs_memory-read line h k (utf8-asked line asked (is_utf8 line) refl e), p.1)
+pub IsLineResponse-invocation : (may_read : MayRead) (machine : Machine) (line : List ℕ) (invocation : Invocation) (response : LineResponse) → is_long line ≡ false → is_blank_line line ≡ false
+    → invocation_of_line line ≡ Some invocation → IsInvocationResponseOrMemory may_read machine invocation response → IsLineResponse may_read machine line response
+IsLineResponse-invocation may_read machine line invocation response h k e (inl p) =
+    IsLineResponse-kind may_read machine line (Request invocation) response (kind_of_line-read line h k ∙ ap kind_of_invocation e) p
+IsLineResponse-invocation may_read machine line invocation response h k e (inr p) =
+    inr (needs_memory-read line h k (utf8-invocation line invocation (is_utf8 line) refl e), p.1)
 
-pub Says-fault : (gives : Gives) (machine : Machine) (line : List ℕ) (said : Said) → is_long line ≡ false → is_blank_line line ≡ false
-    → asked_of_line line ≡ None → said ≡ fault_said machine → Says gives machine line said
-Says-fault gives machine line said h k e p = Says-kind gives machine line Fault said (kind_of_line-read line h k ∙ ap kind_of_asked e) p
+pub IsLineResponse-fault : (may_read : MayRead) (machine : Machine) (line : List ℕ) (response : LineResponse) → is_long line ≡ false → is_blank_line line ≡ false
+    → invocation_of_line line ≡ None → response ≡ line_fault_response machine → IsLineResponse may_read machine line response
+IsLineResponse-fault may_read machine line response h k e p = IsLineResponse-kind may_read machine line Fault response (kind_of_line-read line h k ∙ ap kind_of_invocation e) p
 
-pub Says-memory : (gives : Gives) (machine : Machine) (line : List ℕ) (said : Said) → is_long line ≡ false → is_blank_line line ≡ false
-    → IsTrue (is_utf8 line) → said ≡ memory_said machine → Says gives machine line said
-Says-memory gives machine line said h k u p = inr (needs_memory-read line h k u, p)
+pub IsLineResponse-memory : (may_read : MayRead) (machine : Machine) (line : List ℕ) (response : LineResponse) → is_long line ≡ false → is_blank_line line ≡ false
+    → IsTrue (is_utf8 line) → response ≡ memory_response machine → IsLineResponse may_read machine line response
+IsLineResponse-memory may_read machine line response h k u p = inr (needs_memory-read line h k u, p)
 
 -- ---- lists that gave no more than they might
 
-GivesMerge-more : (old new : Gives) → GivesNoMore old new → (sources : List ℕ) (names : List PartNames) (command : Command)
-    → GivesMerge new sources names command → GivesMerge old sources names command
-GivesMerge-more old new m sources names command g =
-    (g.0, g.1, (m.0 sources g.0 g.2.0, g.2.1), GivesParts-more old new m names g.1 g.3, g.4)
+MayReadMerge-more : (old new : MayRead) → MayReadLess old new → (sources : List ℕ) (names : List PartNames) (command : Command)
+    → MayReadMerge new sources names command → MayReadMerge old sources names command
+MayReadMerge-more old new m sources names command g =
+    (g.0, g.1, (m.0 sources g.0 g.2.0, g.2.1), MayReadParts-more old new m names g.1 g.3, g.4)
 
-SaysOfKind-more : (old new : Gives) → GivesNoMore old new → (machine : Machine) (kind : LineKind) (said : Said)
-    → SaysOfKind new machine kind said → SaysOfKind old machine kind said
-SaysOfKind-more old new m machine Blank said h = h
-SaysOfKind-more old new m machine Fault said h = h
-SaysOfKind-more old new m machine (Request (asked_Command command)) said h = h
-SaysOfKind-more old new m machine (Request (asked_Merge sources parts)) said (inl h) =
-    inl (h.0, GivesMerge-more old new m sources parts h.0 h.1, h.2)
-SaysOfKind-more old new m machine (Request (asked_Merge sources parts)) said (inr h) =
+IsResponseOfKind-more : (old new : MayRead) → MayReadLess old new → (machine : Machine) (kind : LineKind) (response : LineResponse)
+    → IsResponseOfKind new machine kind response → IsResponseOfKind old machine kind response
+IsResponseOfKind-more old new m machine Blank response h = h
+IsResponseOfKind-more old new m machine Fault response h = h
+IsResponseOfKind-more old new m machine (Request (invocation_Command command)) response h = h
+IsResponseOfKind-more old new m machine (Request (invocation_Merge sources parts)) response (inl h) =
+    inl (h.0, MayReadMerge-more old new m sources parts h.0 h.1, h.2)
+IsResponseOfKind-more old new m machine (Request (invocation_Merge sources parts)) response (inr h) =
     inr (LacksMerge-more old new m sources parts h.0, h.1)
 
-Says-more : (old new : Gives) → GivesNoMore old new → (machine : Machine) (line : List ℕ) (said : Said)
-    → Says new machine line said → Says old machine line said
-Says-more old new m machine line said (inl h) = inl (SaysOfKind-more old new m machine (kind_of_line line) said h)
-Says-more old new m machine line said (inr h) = inr h
+IsLineResponse-more : (old new : MayRead) → MayReadLess old new → (machine : Machine) (line : List ℕ) (response : LineResponse)
+    → IsLineResponse new machine line response → IsLineResponse old machine line response
+IsLineResponse-more old new m machine line response (inl h) = inl (IsResponseOfKind-more old new m machine (kind_of_line line) response h)
+IsLineResponse-more old new m machine line response (inr h) = inr h
 
-Answers-more : (old new : Gives) → GivesNoMore old new → (line : List ℕ) (before after : Machine) (a b : Option (List ℕ)) (status : ℕ)
+Answers-more : (old new : MayRead) → MayReadLess old new → (line : List ℕ) (before after : Machine) (a b : Option (List ℕ)) (status : ℕ)
     → Answers new line before after a b status → Answers old line before after a b status
-Answers-more old new m line before after a b status h = (h.0, h.1, Says-more old new m before line _ h.2, h.3)
+Answers-more old new m line before after a b status h = (h.0, h.1, IsLineResponse-more old new m before line _ h.2, h.3)
 
-AnswersInPart-more : (old new : Gives) → GivesNoMore old new → (line : List ℕ) (before after : Machine) (a b : Option (List ℕ))
+AnswersInPart-more : (old new : MayRead) → MayReadLess old new → (line : List ℕ) (before after : Machine) (a b : Option (List ℕ))
     → AnswersInPart new line before after a b → AnswersInPart old line before after a b
-AnswersInPart-more old new m line before after a b h = (h.0, Says-more old new m before line h.0 h.1, h.2, h.3)
+AnswersInPart-more old new m line before after a b h = (h.0, IsLineResponse-more old new m before line h.0 h.1, h.2, h.3)
 
-AsksFor-more : (old new : Gives) → GivesNoMore old new → (asked : Asked) (command : Command) → AsksFor new asked command → AsksFor old asked command
-AsksFor-more old new m (asked_Command asked) command h = h
-AsksFor-more old new m (asked_Merge sources parts) command h = GivesMerge-more old new m sources parts command h
+InvokesAs-more : (old new : MayRead) → MayReadLess old new → (invocation : Invocation) (command : Command) → InvokesAs new invocation command → InvokesAs old invocation command
+InvokesAs-more old new m (invocation_Command invocation) command h = h
+InvokesAs-more old new m (invocation_Merge sources parts) command h = MayReadMerge-more old new m sources parts command h
 
-LineAsks-more : (old new : Gives) → GivesNoMore old new → (line : List ℕ) (command : Command) → LineAsks new line command → LineAsks old line command
-LineAsks-more old new m line command h = (h.0, h.1, AsksFor-more old new m h.0 command h.2)
+LineInvokes-more : (old new : MayRead) → MayReadLess old new → (line : List ℕ) (command : Command) → LineInvokes new line command → LineInvokes old line command
+LineInvokes-more old new m line command h = (h.0, h.1, InvokesAs-more old new m h.0 command h.2)
 
-LacksAnswer-more : (old new : Gives) → GivesNoMore old new → (line : List ℕ) (before after : Machine) (a b : Option (List ℕ)) (cause : Cause)
+LacksAnswer-more : (old new : MayRead) → MayReadLess old new → (line : List ℕ) (before after : Machine) (a b : Option (List ℕ)) (cause : Cause)
     → LacksAnswer new line before after a b cause → LacksAnswer old line before after a b cause
 LacksAnswer-more old new m line before after a b why.Read h = absurd h
 LacksAnswer-more old new m line before after a b why.Write h = AnswersInPart-more old new m line before after a b h
-LacksAnswer-more old new m line before after a b why.Reply h = (h.0, LineAsks-more old new m line h.0 h.1, h.2, h.3)
+LacksAnswer-more old new m line before after a b why.Reply h = (h.0, LineInvokes-more old new m line h.0 h.1, h.2, h.3)
 LacksAnswer-more old new m line before after a b why.Lines h = absurd h
 LacksAnswer-more old new m line before after a b why.Room h = absurd h
 
-StopsTurn-more : (old new : Gives) → GivesNoMore old new → (cause : Cause) (before after : Machine) (i j a b : Option (List ℕ))
+StopsTurn-more : (old new : MayRead) → MayReadLess old new → (cause : Cause) (before after : Machine) (i j a b : Option (List ℕ))
     → StopsTurn new cause before after i j a b → StopsTurn old cause before after i j a b
 StopsTurn-more old new m why.Read before after i j a b t = t
 StopsTurn-more old new m why.Write before after i j a b t = (t.0, t.1, LacksAnswer-more old new m t.0 before after a b why.Write t.2)
@@ -146,7 +146,7 @@ StopsTurn-more old new m why.Lines before after i j a b t = absurd t.2
 StopsTurn-more old new m why.Room before after i j a b t = absurd t.2
 
 -- what a turn did with lists that gave no more than those of the run's start
-pub Turns-more : (old new : Gives) → GivesNoMore old new → (turn : Turn) (before after : Machine) (i j a b : Option (List ℕ))
+pub Turns-more : (old new : MayRead) → MayReadLess old new → (turn : Turn) (before after : Machine) (i j a b : Option (List ℕ))
     → Turns new turn before after i j a b → Turns old turn before after i j a b
 Turns-more old new m (More status) before after i j a b t = (t.0, t.1, Answers-more old new m t.0 before after a b status t.2)
 Turns-more old new m (End status) before after i j a b t = (t.0, t.1, Answers-more old new m t.0 before after a b status t.2)
@@ -175,47 +175,47 @@ reply-repeats machine after command reply e same =
     sym is ∙ step-repeats machine command (ap (λ (m : Machine). m.accepted) is ∙ same)
 
 -- a line that is neither long nor blank asks for what its words ask for
-pub LineAsks-asked : (gives : Gives) (line : List ℕ) (asked : Asked) (command : Command) → is_long line ≡ false → is_blank_line line ≡ false
-    → asked_of_line line ≡ Some asked → AsksFor gives asked command → LineAsks gives line command
-LineAsks-asked gives line asked command h k e a = (asked, kind_of_line-read line h k ∙ ap kind_of_asked e, a)
+pub LineInvokes-invocation : (may_read : MayRead) (line : List ℕ) (invocation : Invocation) (command : Command) → is_long line ≡ false → is_blank_line line ≡ false
+    → invocation_of_line line ≡ Some invocation → InvokesAs may_read invocation command → LineInvokes may_read line command
+LineInvokes-invocation may_read line invocation command h k e a = (invocation, kind_of_line-read line h k ∙ ap kind_of_invocation e, a)
 
 -- a line that was not answered stops the turn
-pub stops_turn : (gives : Gives) (cause : Cause) (line : List ℕ) (before after : Machine) (i j a b : Option (List ℕ))
-    → TookEndedLine line i j ⊎ TookLastLine line i j → LacksAnswer gives line before after a b cause → StopsTurn gives cause before after i j a b
-stops_turn gives why.Read line before after i j a b g h = absurd h
-stops_turn gives why.Write line before after i j a b g h = (line, g, h)
-stops_turn gives why.Reply line before after i j a b g h = (line, g, h)
-stops_turn gives why.Lines line before after i j a b g h = absurd h
-stops_turn gives why.Room line before after i j a b g h = absurd h
+pub stops_turn : (may_read : MayRead) (cause : Cause) (line : List ℕ) (before after : Machine) (i j a b : Option (List ℕ))
+    → TookEndedLine line i j ⊎ TookLastLine line i j → LacksAnswer may_read line before after a b cause → StopsTurn may_read cause before after i j a b
+stops_turn may_read why.Read line before after i j a b g h = absurd h
+stops_turn may_read why.Write line before after i j a b g h = (line, g, h)
+stops_turn may_read why.Reply line before after i j a b g h = (line, g, h)
+stops_turn may_read why.Lines line before after i j a b g h = absurd h
+stops_turn may_read why.Room line before after i j a b g h = absurd h
 
-pub answers-blank : (gives : Gives) (machine : Machine) (line : List ℕ) (written : Option (List ℕ)) → is_long line ≡ false → is_blank_line line ≡ true
-    → Answers gives line machine machine written written 0
-answers-blank gives machine line written h k =
-    ([], omega arith, Says-kind gives machine line Blank _ (kind_of_line-blank line h k) refl, Appends-same written)
+pub answers-blank : (may_read : MayRead) (machine : Machine) (line : List ℕ) (written : Option (List ℕ)) → is_long line ≡ false → is_blank_line line ≡ true
+    → Answers may_read line machine machine written written 0
+answers-blank may_read machine line written h k =
+    ([], omega arith, IsLineResponse-kind may_read machine line Blank _ (kind_of_line-blank line h k) refl, Appends-same written)
 
-pub answers-long : (gives : Gives) (line : List ℕ) (machine : Machine) (old new : Option (List ℕ)) → is_long line ≡ true
-    → Appends old new (with_feed line_fault_text) → Answers gives line machine machine old new 2
-answers-long gives line machine old new h p =
-    (with_feed line_fault_text, omega arith, Says-kind gives machine line Fault _ (kind_of_line-long line h) refl, p)
+pub answers-long : (may_read : MayRead) (line : List ℕ) (machine : Machine) (old new : Option (List ℕ)) → is_long line ≡ true
+    → Appends old new (with_line_feed line_fault_text) → Answers may_read line machine machine old new 2
+answers-long may_read line machine old new h p =
+    (with_line_feed line_fault_text, omega arith, IsLineResponse-kind may_read machine line Fault _ (kind_of_line-long line h) refl, p)
 
-pub answers-long_cut : (gives : Gives) (line : List ℕ) (machine : Machine) (old new : Option (List ℕ)) → is_long line ≡ true
-    → AppendsFront old new (with_feed line_fault_text) → AnswersInPart gives line machine machine old new
-answers-long_cut gives line machine old new h p =
-    (fault_said machine, Says-kind gives machine line Fault _ (kind_of_line-long line h) refl, refl, p)
+pub answers-long_cut : (may_read : MayRead) (line : List ℕ) (machine : Machine) (old new : Option (List ℕ)) → is_long line ≡ true
+    → AppendsFront old new (with_line_feed line_fault_text) → AnswersInPart may_read line machine machine old new
+answers-long_cut may_read line machine old new h p =
+    (line_fault_response machine, IsLineResponse-kind may_read machine line Fault _ (kind_of_line-long line h) refl, refl, p)
 
 -- what may be said to the command of a merge may be said to the merge
-merge-said : (gives : Gives) (machine : Machine) (asked : Asked) (sources : List ℕ) (parts : List PartNames) (command : Command) (said : Said)
-    → asked ≡ asked_Merge sources parts → GivesMerge gives sources parts command → SaysCommandOrMemory machine command said → SaysAskedOrMemory gives machine asked said
-merge-said gives machine asked sources parts command said is given (inl same) =
-    subst (λ a. SaysAskedOrMemory gives machine a said) (sym is) (inl (inl (command, given, same)))
-merge-said gives machine asked sources parts command said is given (inr short) =
-    subst (λ a. SaysAskedOrMemory gives machine a said) (sym is) (inr (tt, short.1))
+merge-response : (may_read : MayRead) (machine : Machine) (invocation : Invocation) (sources : List ℕ) (parts : List PartNames) (command : Command) (response : LineResponse)
+    → invocation ≡ invocation_Merge sources parts → MayReadMerge may_read sources parts command → IsCommandResponseOrMemory machine command response → IsInvocationResponseOrMemory may_read machine invocation response
+merge-response may_read machine invocation sources parts command response is given (inl same) =
+    subst (λ a. IsInvocationResponseOrMemory may_read machine a response) (sym is) (inl (inl (command, given, same)))
+merge-response may_read machine invocation sources parts command response is given (inr short) =
+    subst (λ a. IsInvocationResponseOrMemory may_read machine a response) (sym is) (inr (tt, short.1))
 
 -- the same of an answer, if there is one
-pub merge-answered : (gives : Gives) (machine after : Machine) (asked : Asked) (sources : List ℕ) (parts : List PartNames) (command : Command) (answer : Option Answer)
-    → asked ≡ asked_Merge sources parts → GivesMerge gives sources parts command
-    → IfSome answer (λ a. (a.status ≤ 3) × SaysCommandOrMemory machine command (said_by a after))
-    → IfSome answer (λ a. (a.status ≤ 3) × SaysAskedOrMemory gives machine asked (said_by a after))
-merge-answered gives machine after asked sources parts command None is given known = tt
-merge-answered gives machine after asked sources parts command (Some answer) is given known =
-    (known.0, merge-said gives machine asked sources parts command (said_by answer after) is given known.1)
+pub merge-answered : (may_read : MayRead) (machine after : Machine) (invocation : Invocation) (sources : List ℕ) (parts : List PartNames) (command : Command) (answer : Option Answer)
+    → invocation ≡ invocation_Merge sources parts → MayReadMerge may_read sources parts command
+    → IfSome answer (λ a. (a.status ≤ 3) × IsCommandResponseOrMemory machine command (response_of_answer a after))
+    → IfSome answer (λ a. (a.status ≤ 3) × IsInvocationResponseOrMemory may_read machine invocation (response_of_answer a after))
+merge-answered may_read machine after invocation sources parts command None is given known = tt
+merge-answered may_read machine after invocation sources parts command (Some answer) is given known =
+    (known.0, merge-response may_read machine invocation sources parts command (response_of_answer answer after) is given known.1)

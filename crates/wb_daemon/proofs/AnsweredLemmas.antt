@@ -8,71 +8,71 @@ use Rattle.wb_states.specs.declared.command.Command.{Command}
 use Rattle.wb_states.specs.declared.refusal.Refusal.{Refusal}
 use Rattle.wb_states.specs.declared.reply.Reply.{Reply}
 use Rattle.wb_office.specs.Step.{step}
-use Rattle.wb_words.specs.declared.words.Asked.{Asked}
-use Rattle.wb_words.specs.declared.words.Asked.TheVariants.{Command as asked_Command, Merge as asked_Merge}
+use Rattle.wb_words.specs.declared.words.Invocation.{Invocation}
+use Rattle.wb_words.specs.declared.words.Invocation.TheVariants.{Command as invocation_Command, Merge as invocation_Merge}
 use Rattle.wb_api.specs.Encoding.{reply_text, refusal_text, memory_text, line_fault_text, file_fault_text}
 use Rattle.wb_api.proofs.OneLineLemmas.{reply_text-one, refusal_text-one}
 use Rattle.wb_daemon.specs.Answered.{HasLines, is_answered}
-use Rattle.wb_daemon.specs.Line.{is_long, with_feed}
-use Rattle.wb_daemon.specs.Lists.{Gives}
-use Rattle.wb_daemon.specs.Run.{Fault, Runs, Said, Says, SaysAsked, SaysOfKind, Blank, answer_said, asked_of_line, command_said, kind_of_line, kind_of_asked}
+use Rattle.wb_daemon.specs.Line.{is_long, with_line_feed}
+use Rattle.wb_daemon.specs.Lists.{MayRead}
+use Rattle.wb_daemon.specs.Run.{Fault, Runs, LineResponse, IsLineResponse, IsInvocationResponse, IsResponseOfKind, Blank, answer_response, invocation_of_line, command_response, kind_of_line, kind_of_invocation}
 
 -- what is said to a line: nothing where it is not answered, else one line
-abbrev SaidTo : Bool → Said → Type 0
-SaidTo false said = said.text ≡ []
-SaidTo true said = (answer : List ℕ) × (said.text ≡ with_feed answer) × IsOneLine answer
+abbrev IsResponseTo : Bool → LineResponse → Type 0
+IsResponseTo false response = response.text ≡ []
+IsResponseTo true response = (answer : List ℕ) × (response.text ≡ with_line_feed answer) × IsOneLine answer
 
-answer-one : (name : List ℕ) (result : Result Reply Refusal) (after : Machine) → SaidTo true (answer_said name result after)
+answer-one : (name : List ℕ) (result : Result Reply Refusal) (after : Machine) → IsResponseTo true (answer_response name result after)
 answer-one name (Ok reply) after = (reply_text name reply, refl, reply_text-one name reply)
 answer-one name (Err refusal) after = (refusal_text refusal, refl, refusal_text-one refusal)
 
-same-one : (b : Bool) (one said : Said) → said ≡ one → SaidTo b one → SaidTo b said
-same-one b one said e = subst (SaidTo b) (sym e)
+same-one : (b : Bool) (one response : LineResponse) → response ≡ one → IsResponseTo b one → IsResponseTo b response
+same-one b one response e = subst (IsResponseTo b) (sym e)
 
-command-one : (machine : Machine) (command : Command) (said : Said) → said ≡ command_said machine command → SaidTo true said
-command-one machine command said e =
-    same-one true (command_said machine command) said e
+command-one : (machine : Machine) (command : Command) (response : LineResponse) → response ≡ command_response machine command → IsResponseTo true response
+command-one machine command response e =
+    same-one true (command_response machine command) response e
     (answer-one (name_of_command command) (step machine command).0 (step machine command).1)
 
-fixed-one : (text : List ℕ) (said : Said) → said.text ≡ with_feed text → IsOneLine text → SaidTo true said
-fixed-one text said e one = (text, e, one)
+fixed-one : (text : List ℕ) (response : LineResponse) → response.text ≡ with_line_feed text → IsOneLine text → IsResponseTo true response
+fixed-one text response e one = (text, e, one)
 
-asked-one : (gives : Gives) (machine : Machine) (asked : Asked) (said : Said) → SaysAsked gives machine asked said → SaidTo true said
-asked-one gives machine (asked_Command command) said e = command-one machine command said e
-asked-one gives machine (asked_Merge sources parts) said (inl h) = command-one machine h.0 said h.2
-asked-one gives machine (asked_Merge sources parts) said (inr h) = fixed-one file_fault_text said (ap (λ (s : Said). s.text) h.1) refl
+invocation-one : (may_read : MayRead) (machine : Machine) (invocation : Invocation) (response : LineResponse) → IsInvocationResponse may_read machine invocation response → IsResponseTo true response
+invocation-one may_read machine (invocation_Command command) response e = command-one machine command response e
+invocation-one may_read machine (invocation_Merge sources parts) response (inl h) = command-one machine h.0 response h.2
+invocation-one may_read machine (invocation_Merge sources parts) response (inr h) = fixed-one file_fault_text response (ap (λ (s : LineResponse). s.text) h.1) refl
 
-kind-one : (gives : Gives) (machine : Machine) (long blank : Bool) (asked : Option Asked) (said : Said)
-    → SaysOfKind gives machine (cond long Fault (cond blank Blank (kind_of_asked asked))) said → SaidTo (long || not blank) said
-kind-one gives machine true blank asked said e = fixed-one line_fault_text said (ap (λ (s : Said). s.text) e) refl
-kind-one gives machine false true asked said e = ap (λ (s : Said). s.text) e
-kind-one gives machine false false None said e = fixed-one line_fault_text said (ap (λ (s : Said). s.text) e) refl
-kind-one gives machine false false (Some asked) said h = asked-one gives machine asked said h
+kind-one : (may_read : MayRead) (machine : Machine) (long blank : Bool) (invocation : Option Invocation) (response : LineResponse)
+    → IsResponseOfKind may_read machine (cond long Fault (cond blank Blank (kind_of_invocation invocation))) response → IsResponseTo (long || not blank) response
+kind-one may_read machine true blank invocation response e = fixed-one line_fault_text response (ap (λ (s : LineResponse). s.text) e) refl
+kind-one may_read machine false true invocation response e = ap (λ (s : LineResponse). s.text) e
+kind-one may_read machine false false None response e = fixed-one line_fault_text response (ap (λ (s : LineResponse). s.text) e) refl
+kind-one may_read machine false false (Some invocation) response h = invocation-one may_read machine invocation response h
 
-wanted-one : (long blank utf8 : Bool) (said : Said) → (not long && (not blank && utf8)) ≡ true → said.text ≡ with_feed memory_text
-    → SaidTo (long || not blank) said
-wanted-one true blank utf8 said n e = cc
-wanted-one false true utf8 said n e = cc
-wanted-one false false utf8 said n e = fixed-one memory_text said e refl
+wanted-one : (long blank utf8 : Bool) (response : LineResponse) → (not long && (not blank && utf8)) ≡ true → response.text ≡ with_line_feed memory_text
+    → IsResponseTo (long || not blank) response
+wanted-one true blank utf8 response n e = cc
+wanted-one false true utf8 response n e = cc
+wanted-one false false utf8 response n e = fixed-one memory_text response e refl
 
-says-one : (gives : Gives) (machine : Machine) (line : List ℕ) (said : Said) → Says gives machine line said → SaidTo (is_answered line) said
+responds-one : (may_read : MayRead) (machine : Machine) (line : List ℕ) (response : LineResponse) → IsLineResponse may_read machine line response → IsResponseTo (is_answered line) response
 unfolding kind_of_line
-says-one gives machine line said (inl h) = kind-one gives machine (is_long line) (is_blank_line line) (asked_of_line line) said h
-says-one gives machine line said (inr h) =
-    wanted-one (is_long line) (is_blank_line line) (is_utf8 line) said h.0 (ap (λ (s : Said). s.text) h.1)
+responds-one may_read machine line response (inl h) = kind-one may_read machine (is_long line) (is_blank_line line) (invocation_of_line line) response h
+responds-one may_read machine line response (inr h) =
+    wanted-one (is_long line) (is_blank_line line) (is_utf8 line) response h.0 (ap (λ (s : LineResponse). s.text) h.1)
 
 -- ---- lines in their order
 
-one-more : (b : Bool) (said : Said) (n : ℕ) (rest : List ℕ) → SaidTo b said → HasLines n rest → HasLines (cond b (suc n) n) (said.text ++ rest)
-one-more false said n rest e has = record {
+one-more : (b : Bool) (response : LineResponse) (n : ℕ) (rest : List ℕ) → IsResponseTo b response → HasLines n rest → HasLines (cond b (suc n) n) (response.text ++ rest)
+one-more false response n rest e has = record {
   lines = has.lines;
   joined = ap (λ t. t ++ rest) e ∙ has.joined;
   each = has.each;
   count = has.count;
 }
-one-more true said n rest one has = record {
+one-more true response n rest one has = record {
   lines = one.0 ∷ has.lines;
-  joined = ap (λ t. t ++ rest) one.1 ∙ ap (λ t. with_feed one.0 ++ t) has.joined;
+  joined = ap (λ t. t ++ rest) one.1 ∙ ap (λ t. with_line_feed one.0 ++ t) has.joined;
   each = (one.2, has.each);
   count = ap suc has.count;
 }
@@ -82,14 +82,14 @@ length-filtered true line lines = refl
 length-filtered false line lines = refl
 
 -- a run over lines has one line of output for each that is answered
-pub runs-answer : (gives : Gives) (machine : Machine) (lines : List (List ℕ)) (whole : Said) → Runs gives machine lines whole
+pub runs-answer : (may_read : MayRead) (machine : Machine) (lines : List (List ℕ)) (whole : LineResponse) → Runs may_read machine lines whole
     → HasLines (length (filter is_answered lines)) whole.text
-runs-answer gives machine [] whole e = record { lines = []; joined = ap (λ (s : Said). s.text) e; each = tt; count = refl }
-runs-answer gives machine (line ∷ lines) whole h =
-    let said : Said = h.0 in
-    let later : Said = h.1 in
-    let rest : HasLines (length (filter is_answered lines)) later.text = runs-answer gives said.machine lines later h.3 in
-    let both = one-more (is_answered line) said (length (filter is_answered lines)) later.text (says-one gives machine line said h.2) rest in
+runs-answer may_read machine [] whole e = record { lines = []; joined = ap (λ (s : LineResponse). s.text) e; each = tt; count = refl }
+runs-answer may_read machine (line ∷ lines) whole h =
+    let response : LineResponse = h.0 in
+    let later : LineResponse = h.1 in
+    let rest : HasLines (length (filter is_answered lines)) later.text = runs-answer may_read response.machine lines later h.3 in
+    let both = one-more (is_answered line) response (length (filter is_answered lines)) later.text (responds-one may_read machine line response h.2) rest in
     subst (λ n. HasLines n whole.text) (length-filtered (is_answered line) line (filter is_answered lines))
     (subst (λ t. HasLines (cond (is_answered line) (suc (length (filter is_answered lines))) (length (filter is_answered lines))) t)
-    (sym (ap (λ (s : Said). s.text) h.4)) both)
+    (sym (ap (λ (s : LineResponse). s.text) h.4)) both)

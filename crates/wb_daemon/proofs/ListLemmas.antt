@@ -3,40 +3,40 @@ use Rattle.std.proofs.Common.{ℕ, ◌<◌, inl, inr, List, [], ◌∷◌, lengt
 use Rattle.std.specs.Io.KnownBytes.{Consumes}
 use Rattle.wb_states.specs.declared.command.Part.{Part}
 use Rattle.wb_words.specs.declared.words.PartNames.{PartNames}
-use Rattle.wb_daemon.specs.Lists.{Gives, GivesNoMore, GivesParts, IsAllOf, LacksList, LacksMerge, LacksPart, list_limit}
+use Rattle.wb_daemon.specs.Lists.{MayRead, MayReadLess, MayReadParts, IsAllOf, LacksList, LacksMerge, LacksPart, list_limit}
 
-pub GivesNoMore-then : (a b c : Gives) → GivesNoMore a b → GivesNoMore b c → GivesNoMore a c
-GivesNoMore-then a b c m n = (λ name bytes h. m.0 name bytes (n.0 name bytes h), λ name h. m.1 name (n.1 name h))
+pub MayReadLess-then : (a b c : MayRead) → MayReadLess a b → MayReadLess b c → MayReadLess a c
+MayReadLess-then a b c m n = (λ name bytes h. m.0 name bytes (n.0 name bytes h), λ name h. m.1 name (n.1 name h))
 
-pub GivesNoMore-same : (a : Gives) → GivesNoMore a a
-GivesNoMore-same a = (λ name bytes h. h, λ name h. h)
+pub MayReadLess-same : (a : MayRead) → MayReadLess a a
+MayReadLess-same a = (λ name bytes h. h, λ name h. h)
 
 -- what parts may be read as later they might be read as before
-pub GivesParts-more : (old new : Gives) → GivesNoMore old new → (names : List PartNames) (parts : List Part)
-    → GivesParts new names parts → GivesParts old names parts
-GivesParts-more old new m [] [] g = g
-GivesParts-more old new m [] (part ∷ parts) g = g
-GivesParts-more old new m (name ∷ names) [] g = g
-GivesParts-more old new m (name ∷ names) (part ∷ parts) g =
-    ((g.0.0, (m.0 name.packages part.packages g.0.1.0, g.0.1.1)), GivesParts-more old new m names parts g.1)
+pub MayReadParts-more : (old new : MayRead) → MayReadLess old new → (names : List PartNames) (parts : List Part)
+    → MayReadParts new names parts → MayReadParts old names parts
+MayReadParts-more old new m [] [] g = g
+MayReadParts-more old new m [] (part ∷ parts) g = g
+MayReadParts-more old new m (name ∷ names) [] g = g
+MayReadParts-more old new m (name ∷ names) (part ∷ parts) g =
+    ((g.0.0, (m.0 name.packages part.packages g.0.1.0, g.0.1.1)), MayReadParts-more old new m names parts g.1)
 
 -- a list that is at fault later might be at fault before
-pub LacksList-more : (old new : Gives) → GivesNoMore old new → (name : List ℕ) → LacksList new name → LacksList old name
+pub LacksList-more : (old new : MayRead) → MayReadLess old new → (name : List ℕ) → LacksList new name → LacksList old name
 LacksList-more old new m name (inl h) = inl (m.1 name h)
 LacksList-more old new m name (inr h) = inr (h.0, m.0 name h.0 h.1, h.2)
 
-pub LacksPart-more : (old new : Gives) → GivesNoMore old new → (names : List PartNames) → LacksPart new names → LacksPart old names
+pub LacksPart-more : (old new : MayRead) → MayReadLess old new → (names : List PartNames) → LacksPart new names → LacksPart old names
 LacksPart-more old new m names h = record {
   before = h.before;
   name = h.name;
   after = h.after;
   parts = h.parts;
   is = h.is;
-  given = GivesParts-more old new m h.before h.parts h.given;
+  given = MayReadParts-more old new m h.before h.parts h.given;
   lacks = LacksList-more old new m h.name.packages h.lacks;
 }
 
-pub LacksMerge-more : (old new : Gives) → GivesNoMore old new → (sources : List ℕ) (names : List PartNames)
+pub LacksMerge-more : (old new : MayRead) → MayReadLess old new → (sources : List ℕ) (names : List PartNames)
     → LacksMerge new sources names → LacksMerge old sources names
 LacksMerge-more old new m sources names (inl h) = inl (LacksList-more old new m sources h)
 LacksMerge-more old new m sources names (inr h) =

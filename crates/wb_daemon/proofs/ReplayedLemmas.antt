@@ -7,138 +7,138 @@ use Rattle.wb_states.specs.declared.refusal.Refusal.{Refusal}
 use Rattle.wb_states.specs.declared.reply.Reply.{Reply}
 use Rattle.wb_office.specs.Replay.{replay}
 use Rattle.wb_office.specs.Step.{step}
-use Rattle.wb_words.specs.declared.words.Asked.{Asked}
-use Rattle.wb_words.specs.declared.words.Asked.TheVariants.{Command as asked_Command, Merge as asked_Merge}
+use Rattle.wb_words.specs.declared.words.Invocation.{Invocation}
+use Rattle.wb_words.specs.declared.words.Invocation.TheVariants.{Command as invocation_Command, Merge as invocation_Merge}
 use Rattle.wb_daemon.specs.Line.{ended_in, input_lines}
-use Rattle.wb_daemon.specs.Lists.{Gives}
-use Rattle.wb_daemon.specs.Replays.{IsReplay, IsReplayCut, LeavesReplay, SaysNoReply}
-use Rattle.wb_daemon.specs.Run.{Request, AsksFor, EndsInput, Fault, LineKind, LineAsks, Runs, Said, Says, SaysAsked, SaysOfKind, Blank, RunStopsFor, StopsInLine, answer_said, command_said, followed, kind_of_line, nothing_said}
+use Rattle.wb_daemon.specs.Lists.{MayRead}
+use Rattle.wb_daemon.specs.Replays.{IsReplay, IsReplayCut, LeavesReplay, IsResponseWithoutReply}
+use Rattle.wb_daemon.specs.Run.{Request, InvokesAs, EndsInput, Fault, LineKind, LineInvokes, Runs, LineResponse, IsLineResponse, IsInvocationResponse, IsResponseOfKind, Blank, RunStopsFor, StopsInLine, answer_response, command_response, followed, kind_of_line, no_response}
 use Rattle.wb_daemon.specs.declared.message.Cause.{Cause}
 use Rattle.wb_daemon.specs.declared.message.Cause.TheVariants as why
 use Rattle.wb_daemon.proofs.RunLemmas.{Runs-snoc}
 
-answer_said-machine : (name : List ℕ) (result : Result Reply Refusal) (after : Machine) → (answer_said name result after).machine ≡ after
-answer_said-machine name (Ok reply) after = refl
-answer_said-machine name (Err refusal) after = refl
+answer_response-machine : (name : List ℕ) (result : Result Reply Refusal) (after : Machine) → (answer_response name result after).machine ≡ after
+answer_response-machine name (Ok reply) after = refl
+answer_response-machine name (Err refusal) after = refl
 
-command_said-machine : (machine : Machine) (command : Command) → (command_said machine command).machine ≡ (step machine command).1
-command_said-machine machine command = answer_said-machine (name_of_command command) (step machine command).0 (step machine command).1
+command_response-machine : (machine : Machine) (command : Command) → (command_response machine command).machine ≡ (step machine command).1
+command_response-machine machine command = answer_response-machine (name_of_command command) (step machine command).0 (step machine command).1
 
 -- ---- one line
 
 -- what is said to a line is the answer to a command that it asks for, or nothing was carried out
-abbrev Carries : Gives → Machine → List ℕ → Said → Type 0
-Carries gives machine line said =
-    SaysNoReply machine said ⊎ ((command : Command) × LineAsks gives line command × (said ≡ command_said machine command))
+abbrev Carries : MayRead → Machine → List ℕ → LineResponse → Type 0
+Carries may_read machine line response =
+    IsResponseWithoutReply machine response ⊎ ((command : Command) × LineInvokes may_read line command × (response ≡ command_response machine command))
 
-kind-carries : (gives : Gives) (machine : Machine) (line : List ℕ) (said : Said) (kind : LineKind) → kind_of_line line ≡ kind
-    → SaysOfKind gives machine kind said → Carries gives machine line said
-kind-carries gives machine line said Blank e h = inl (inl (inl h))
-kind-carries gives machine line said Fault e h = inl (inl (inr h))
-kind-carries gives machine line said (Request (asked_Command command)) e h = inr (command, (asked_Command command, e, refl), h)
-kind-carries gives machine line said (Request (asked_Merge sources parts)) e (inl h) = inr (h.0, (asked_Merge sources parts, e, h.1), h.2)
-kind-carries gives machine line said (Request (asked_Merge sources parts)) e (inr h) = inl (inr (inl h.1))
+kind-carries : (may_read : MayRead) (machine : Machine) (line : List ℕ) (response : LineResponse) (kind : LineKind) → kind_of_line line ≡ kind
+    → IsResponseOfKind may_read machine kind response → Carries may_read machine line response
+kind-carries may_read machine line response Blank e h = inl (inl (inl h))
+kind-carries may_read machine line response Fault e h = inl (inl (inr h))
+kind-carries may_read machine line response (Request (invocation_Command command)) e h = inr (command, (invocation_Command command, e, refl), h)
+kind-carries may_read machine line response (Request (invocation_Merge sources parts)) e (inl h) = inr (h.0, (invocation_Merge sources parts, e, h.1), h.2)
+kind-carries may_read machine line response (Request (invocation_Merge sources parts)) e (inr h) = inl (inr (inl h.1))
 
-Says-carries : (gives : Gives) (machine : Machine) (line : List ℕ) (said : Said) → Says gives machine line said → Carries gives machine line said
-Says-carries gives machine line said (inl h) = kind-carries gives machine line said (kind_of_line line) refl h
-Says-carries gives machine line said (inr h) = inl (inr (inr h.1))
+IsLineResponse-carries : (may_read : MayRead) (machine : Machine) (line : List ℕ) (response : LineResponse) → IsLineResponse may_read machine line response → Carries may_read machine line response
+IsLineResponse-carries may_read machine line response (inl h) = kind-carries may_read machine line response (kind_of_line line) refl h
+IsLineResponse-carries may_read machine line response (inr h) = inl (inr (inr h.1))
 
-unmoved : (machine : Machine) (said : Said) → SaysNoReply machine said → said.machine ≡ machine
-unmoved machine said (inl (inl e)) = ap (λ (s : Said). s.machine) e
-unmoved machine said (inl (inr e)) = ap (λ (s : Said). s.machine) e
-unmoved machine said (inr (inl e)) = ap (λ (s : Said). s.machine) e
-unmoved machine said (inr (inr e)) = ap (λ (s : Said). s.machine) e
+unmoved : (machine : Machine) (response : LineResponse) → IsResponseWithoutReply machine response → response.machine ≡ machine
+unmoved machine response (inl (inl e)) = ap (λ (s : LineResponse). s.machine) e
+unmoved machine response (inl (inr e)) = ap (λ (s : LineResponse). s.machine) e
+unmoved machine response (inr (inl e)) = ap (λ (s : LineResponse). s.machine) e
+unmoved machine response (inr (inr e)) = ap (λ (s : LineResponse). s.machine) e
 
 -- ---- lines in their order
 
-no_command_more : (gives : Gives) (machine : Machine) (line : List ℕ) (lines : List (List ℕ)) (whole said later : Said) → whole ≡ followed said later
-    → SaysNoReply machine said → IsReplay gives machine lines later → IsReplay gives machine (line ∷ lines) whole
-no_command_more gives machine line lines whole said later e none rest =
-    (rest.0, (said, later, e, inl (none, rest.1)), ap (λ (s : Said). s.machine) e ∙ rest.2)
+no_command_more : (may_read : MayRead) (machine : Machine) (line : List ℕ) (lines : List (List ℕ)) (whole response later : LineResponse) → whole ≡ followed response later
+    → IsResponseWithoutReply machine response → IsReplay may_read machine lines later → IsReplay may_read machine (line ∷ lines) whole
+no_command_more may_read machine line lines whole response later e none rest =
+    (rest.0, (response, later, e, inl (none, rest.1)), ap (λ (s : LineResponse). s.machine) e ∙ rest.2)
 
-command_more : (gives : Gives) (machine : Machine) (line : List ℕ) (lines : List (List ℕ)) (whole said later : Said) → whole ≡ followed said later
-    → (command : Command) → LineAsks gives line command → said ≡ command_said machine command
-    → IsReplay gives said.machine lines later → IsReplay gives machine (line ∷ lines) whole
-command_more gives machine line lines whole said later e command asks same rest = (
+command_more : (may_read : MayRead) (machine : Machine) (line : List ℕ) (lines : List (List ℕ)) (whole response later : LineResponse) → whole ≡ followed response later
+    → (command : Command) → LineInvokes may_read line command → response ≡ command_response machine command
+    → IsReplay may_read response.machine lines later → IsReplay may_read machine (line ∷ lines) whole
+command_more may_read machine line lines whole response later e command invokes same rest = (
   command ∷ rest.0,
-  (said, later, e, inr (command, rest.0, refl, asks, same, rest.1)),
-  ap (λ (s : Said). s.machine) e ∙ rest.2
-      ∙ ap (λ m. replay m rest.0) (ap (λ (s : Said). s.machine) same ∙ command_said-machine machine command),
+  (response, later, e, inr (command, rest.0, refl, invokes, same, rest.1)),
+  ap (λ (s : LineResponse). s.machine) e ∙ rest.2
+      ∙ ap (λ m. replay m rest.0) (ap (λ (s : LineResponse). s.machine) same ∙ command_response-machine machine command),
 )
 
 -- what lines are answered with, and what they leave, comes of the commands that they ask for
-pub Runs-replay : (gives : Gives) (lines : List (List ℕ)) (machine : Machine) (whole : Said) → Runs gives machine lines whole → IsReplay gives machine lines whole
-Runs-replay gives [] machine whole h = ([], (h, refl), ap (λ (s : Said). s.machine) h)
-Runs-replay gives (line ∷ lines) machine whole h = elim (Says-carries gives machine line h.0 h.2) [
-  | inl none ↦ no_command_more gives machine line lines whole h.0 h.1 h.4 none
-      (Runs-replay gives lines machine h.1 (subst (λ m. Runs gives m lines h.1) (unmoved machine h.0 none) h.3))
-  | inr k ↦ command_more gives machine line lines whole h.0 h.1 h.4 k.0 k.1 k.2 (Runs-replay gives lines h.0.machine h.1 h.3)
+pub Runs-replay : (may_read : MayRead) (lines : List (List ℕ)) (machine : Machine) (whole : LineResponse) → Runs may_read machine lines whole → IsReplay may_read machine lines whole
+Runs-replay may_read [] machine whole h = ([], (h, refl), ap (λ (s : LineResponse). s.machine) h)
+Runs-replay may_read (line ∷ lines) machine whole h = elim (IsLineResponse-carries may_read machine line h.0 h.2) [
+  | inl none ↦ no_command_more may_read machine line lines whole h.0 h.1 h.4 none
+      (Runs-replay may_read lines machine h.1 (subst (λ m. Runs may_read m lines h.1) (unmoved machine h.0 none) h.3))
+  | inr k ↦ command_more may_read machine line lines whole h.0 h.1 h.4 k.0 k.1 k.2 (Runs-replay may_read lines h.0.machine h.1 h.3)
 ]
 
 -- ---- a run that was cut off
 
-SaysAsked-command : (gives : Gives) (machine : Machine) (asked : Asked) (command : Command) → AsksFor gives asked command
-    → SaysAsked gives machine asked (command_said machine command)
-SaysAsked-command gives machine (asked_Command asked) command h = ap (command_said machine) h
-SaysAsked-command gives machine (asked_Merge sources parts) command h = inl (command, h, refl)
+IsInvocationResponse-command : (may_read : MayRead) (machine : Machine) (invocation : Invocation) (command : Command) → InvokesAs may_read invocation command
+    → IsInvocationResponse may_read machine invocation (command_response machine command)
+IsInvocationResponse-command may_read machine (invocation_Command invocation) command h = ap (command_response machine) h
+IsInvocationResponse-command may_read machine (invocation_Merge sources parts) command h = inl (command, h, refl)
 
-LineAsks-says : (gives : Gives) (machine : Machine) (line : List ℕ) (command : Command) → LineAsks gives line command
-    → Says gives machine line (command_said machine command)
-LineAsks-says gives machine line command h =
-    inl (subst (λ (x : LineKind). SaysOfKind gives machine x (command_said machine command)) (sym h.1) (SaysAsked-command gives machine h.0 command h.2))
+LineInvokes-responds : (may_read : MayRead) (machine : Machine) (line : List ℕ) (command : Command) → LineInvokes may_read line command
+    → IsLineResponse may_read machine line (command_response machine command)
+LineInvokes-responds may_read machine line command h =
+    inl (subst (λ (x : LineKind). IsResponseOfKind may_read machine x (command_response machine command)) (sym h.1) (IsInvocationResponse-command may_read machine h.0 command h.2))
 
 -- the lines that were acted on, with what is said to the last of them
-snoc-replay : (gives : Gives) (lines earlier : List (List ℕ)) (last : List ℕ) (machine : Machine) (answered said : Said) → lines ≡ earlier ++ last ∷ []
-    → Runs gives machine earlier answered → Says gives answered.machine last said → IsReplay gives machine lines (followed answered said)
-snoc-replay gives lines earlier last machine answered said e runs says =
-    subst (λ l. IsReplay gives machine l (followed answered said)) (sym e)
-    (Runs-replay gives (earlier ++ last ∷ []) machine (followed answered said) (Runs-snoc gives earlier machine answered last said runs says))
+snoc-replay : (may_read : MayRead) (lines earlier : List (List ℕ)) (last : List ℕ) (machine : Machine) (answered response : LineResponse) → lines ≡ earlier ++ last ∷ []
+    → Runs may_read machine earlier answered → IsLineResponse may_read answered.machine last response → IsReplay may_read machine lines (followed answered response)
+snoc-replay may_read lines earlier last machine answered response e runs responds =
+    subst (λ l. IsReplay may_read machine l (followed answered response)) (sym e)
+    (Runs-replay may_read (earlier ++ last ∷ []) machine (followed answered response) (Runs-snoc may_read earlier machine answered last response runs responds))
 
-pub StopsInLine-replay : (gives : Gives) (seen : List ℕ) (left : Option (List ℕ)) (machine : Machine) (text : List ℕ) (after : Machine)
-    → StopsInLine gives seen left machine text after → IsReplayCut gives seen left machine text after
-StopsInLine-replay gives seen left machine text after (inl (lines, acted, s)) = (
+pub StopsInLine-replay : (may_read : MayRead) (seen : List ℕ) (left : Option (List ℕ)) (machine : Machine) (text : List ℕ) (after : Machine)
+    → StopsInLine may_read seen left machine text after → IsReplayCut may_read seen left machine text after
+StopsInLine-replay may_read seen left machine text after (inl (lines, acted, s)) = (
   lines,
-  followed s.answered s.said,
-  drop s.written s.said.text,
+  followed s.answered s.response,
+  drop s.written s.response.text,
   acted,
-  snoc-replay gives lines s.earlier s.last machine s.answered s.said s.parts s.runs s.says,
+  snoc-replay may_read lines s.earlier s.last machine s.answered s.response s.parts s.runs s.responds,
   s.office,
-  ap (λ t. s.answered.text ++ t) (sym (take-append-drop s.written s.said.text))
-      ∙ sym (append_assoc s.answered.text (take s.written s.said.text) (drop s.written s.said.text))
-      ∙ ap (λ t. t ++ drop s.written s.said.text) (sym s.front),
+  ap (λ t. s.answered.text ++ t) (sym (take-append-drop s.written s.response.text))
+      ∙ sym (append_assoc s.answered.text (take s.written s.response.text) (drop s.written s.response.text))
+      ∙ ap (λ t. t ++ drop s.written s.response.text) (sym s.front),
 )
-StopsInLine-replay gives seen left machine text after (inr (lines, acted, s)) =
-    let said = command_said s.answered.machine s.command in (
+StopsInLine-replay may_read seen left machine text after (inr (lines, acted, s)) =
+    let response = command_response s.answered.machine s.command in (
       lines,
-      followed s.answered said,
-      said.text,
+      followed s.answered response,
+      response.text,
       acted,
-      snoc-replay gives lines s.earlier s.last machine s.answered said s.parts s.runs (LineAsks-says gives s.answered.machine s.last s.command s.asks),
-      s.accepted.1 ∙ sym (command_said-machine s.answered.machine s.command),
-      ap (λ t. t ++ said.text) (sym s.unwritten),
+      snoc-replay may_read lines s.earlier s.last machine s.answered response s.parts s.runs (LineInvokes-responds may_read s.answered.machine s.last s.command s.invokes),
+      s.accepted.1 ∙ sym (command_response-machine s.answered.machine s.command),
+      ap (λ t. t ++ response.text) (sym s.unwritten),
     )
 
 -- ---- a whole run
 
-Runs-leaves : (gives : Gives) (before after : Machine) (lines : List (List ℕ)) (text : List ℕ) (status : ℕ)
-    → Runs gives before lines (record { text = text; machine = after; status = status }) → LeavesReplay gives before after
-Runs-leaves gives before after lines text status h = (lines, _, Runs-replay gives lines before _ h, refl)
+Runs-leaves : (may_read : MayRead) (before after : Machine) (lines : List (List ℕ)) (text : List ℕ) (status : ℕ)
+    → Runs may_read before lines (record { text = text; machine = after; status = status }) → LeavesReplay may_read before after
+Runs-leaves may_read before after lines text status h = (lines, _, Runs-replay may_read lines before _ h, refl)
 
-pub EndsInput-leaves : (gives : Gives) (known old new : Option (List ℕ)) (before after : Machine) (status : ℕ)
-    → EndsInput gives known old new before after status → LeavesReplay gives before after
-EndsInput-leaves gives known old new before after status h = Runs-leaves gives before after (input_lines h.0) h.3.0 status h.3.1
+pub EndsInput-leaves : (may_read : MayRead) (known old new : Option (List ℕ)) (before after : Machine) (status : ℕ)
+    → EndsInput may_read known old new before after status → LeavesReplay may_read before after
+EndsInput-leaves may_read known old new before after status h = Runs-leaves may_read before after (input_lines h.0) h.3.0 status h.3.1
 
-StopsInLine-leaves : (gives : Gives) (seen : List ℕ) (left : Option (List ℕ)) (before : Machine) (text : List ℕ) (after : Machine)
-    → StopsInLine gives seen left before text after → LeavesReplay gives before after
-StopsInLine-leaves gives seen left before text after h =
-    let cut = StopsInLine-replay gives seen left before text after h in (cut.0, cut.1, cut.4, cut.5)
+StopsInLine-leaves : (may_read : MayRead) (seen : List ℕ) (left : Option (List ℕ)) (before : Machine) (text : List ℕ) (after : Machine)
+    → StopsInLine may_read seen left before text after → LeavesReplay may_read before after
+StopsInLine-leaves may_read seen left before text after h =
+    let cut = StopsInLine-replay may_read seen left before text after h in (cut.0, cut.1, cut.4, cut.5)
 
 -- what a run leaves that stopped, for whatever cause
-pub RunStopsFor-leaves : (gives : Gives) (cause : Cause) (input left old new : Option (List ℕ)) (before after : Machine)
-    → RunStopsFor gives cause input left old new before after → LeavesReplay gives before after
-RunStopsFor-leaves gives why.Read input left old new before after h = Runs-leaves gives before after (ended_in h.0) h.1 h.4.0 h.4.1
-RunStopsFor-leaves gives why.Write input left old new before after h = StopsInLine-leaves gives h.0 left before h.1 after (inl h.4)
-RunStopsFor-leaves gives why.Reply input left old new before after h = StopsInLine-leaves gives h.0 left before h.1 after (inr h.4)
-RunStopsFor-leaves gives why.Lines input left old new before after h = Runs-leaves gives before after (ended_in h.4.0) h.1 h.4.4.0 h.4.4.1
-RunStopsFor-leaves gives why.Room input left old new before after h =
-    ([], nothing_said before, Runs-replay gives [] before (nothing_said before) refl, h.4.2)
+pub RunStopsFor-leaves : (may_read : MayRead) (cause : Cause) (input left old new : Option (List ℕ)) (before after : Machine)
+    → RunStopsFor may_read cause input left old new before after → LeavesReplay may_read before after
+RunStopsFor-leaves may_read why.Read input left old new before after h = Runs-leaves may_read before after (ended_in h.0) h.1 h.4.0 h.4.1
+RunStopsFor-leaves may_read why.Write input left old new before after h = StopsInLine-leaves may_read h.0 left before h.1 after (inl h.4)
+RunStopsFor-leaves may_read why.Reply input left old new before after h = StopsInLine-leaves may_read h.0 left before h.1 after (inr h.4)
+RunStopsFor-leaves may_read why.Lines input left old new before after h = Runs-leaves may_read before after (ended_in h.4.0) h.1 h.4.4.0 h.4.4.1
+RunStopsFor-leaves may_read why.Room input left old new before after h =
+    ([], no_response before, Runs-replay may_read [] before (no_response before) refl, h.4.2)

@@ -2,7 +2,7 @@
 use Rattle.std.specs.Prelude.{◌≡◌, ◌⊎◌, ℕ, ◌-◌, ◌≤◌, Bool, true, false, nat_lt, if◌then◌else◌, List, [], ◌∷◌, ◌++◌, length, take, Option}
 use Rattle.std.specs.List.{flat_map, list_all, slice_split}
 use Rattle.std.specs.Io.KnownBytes.{Consumes, IsAtEnd}
-use Rattle.deb_text.specs.Lines.{is_feed, IsOneLine}
+use Rattle.deb_text.specs.Lines.{is_line_feed, IsOneLine}
 use Rattle.wb_daemon.specs.declared.line.LineRead.{LineRead}
 use Rattle.wb_daemon.specs.declared.line.LineRead.TheVariants.{Ended, Last, TooLong, Failed}
 use Rattle.wb_daemon.specs.declared.line.ByteRead.{ByteRead}
@@ -17,12 +17,12 @@ abbrev pub lines_limit : ℕ
 lines_limit = 1_000_000_000
 
 -- a text and the line feed after it
-abbrev pub with_feed : List ℕ → List ℕ
-with_feed text = text ++ 10 ∷ []
+abbrev pub with_line_feed : List ℕ → List ℕ
+with_line_feed text = text ++ 10 ∷ []
 
 -- texts, each with the line feed after it
-abbrev pub with_feeds : List (List ℕ) → List ℕ
-with_feeds texts = flat_map with_feed texts
+abbrev pub with_line_feeds : List (List ℕ) → List ℕ
+with_line_feeds texts = flat_map with_line_feed texts
 
 -- a line that is too long
 abbrev pub is_long : List ℕ → Bool
@@ -35,11 +35,11 @@ through_long (line ∷ lines) = line ∷ (if is_long line then [] else through_l
 
 -- the lines of an input: they are parted by line feeds, and one that is too long is the last
 unfoldable pub input_lines : List ℕ → List (List ℕ)
-input_lines input = through_long (slice_split is_feed input)
+input_lines input = through_long (slice_split is_line_feed input)
 
 -- the lines that are ended by a line feed
 unfoldable pub ended_in : List ℕ → List (List ℕ)
-ended_in text = take (length (slice_split is_feed text) - 1) (slice_split is_feed text)
+ended_in text = take (length (slice_split is_line_feed text) - 1) (slice_split is_line_feed text)
 
 -- at most the greatest number of lines, or one more that is empty, behind the last line feed
 abbrev pub AreWithinLimit : List (List ℕ) → Type 0
@@ -55,7 +55,7 @@ bytes_of byte.Failed = []
 
 -- what a read took from the reader: a line and its line feed, the last line, more than a line may have, or what came before a read that failed
 abbrev pub TookLine : List ℕ → Option (List ℕ) → Option (List ℕ) → LineRead → Type 0
-TookLine room old new (Ended len) = (len ≤ line_limit) × IsOneLine (take len room) × Consumes old new (with_feed (take len room))
+TookLine room old new (Ended len) = (len ≤ line_limit) × IsOneLine (take len room) × Consumes old new (with_line_feed (take len room))
 TookLine room old new (Last len) = (len ≤ line_limit) × IsOneLine (take len room) × Consumes old new (take len room) × IsAtEnd new
 TookLine room old new TooLong = (line : List ℕ) × (is_long line ≡ true) × IsOneLine line × Consumes old new line
 TookLine room old new Failed = (line : List ℕ) × IsOneLine line × Consumes old new line

@@ -9,12 +9,12 @@ use Rattle.wb_daemon.specs.declared.lists.ListRead.{ListRead}
 use Rattle.wb_daemon.specs.declared.lists.ListRead.TheVariants.{Whole, TooLong, Failed}
 
 -- what is known of the lists: which bytes the list of a name may be read as, and which names have a list that may not be opened or whose reading may fail
-pub record Gives : Type 1 where
+pub record MayRead : Type 1 where
   pub reads : List ℕ → List ℕ → Type 0
   pub fails : List ℕ → Type 0
 
 -- nothing is known: each list may be read as any bytes, and may fail
-abbrev pub any_lists : Gives
+abbrev pub any_lists : MayRead
 any_lists = record { reads = λ _ _. ⊤; fails = λ _. ⊤ }
 
 -- the greatest length of a list
@@ -32,48 +32,48 @@ ReadsList breaks known TooLong = (bytes : List ℕ) × IsAllOf known bytes × (l
 ReadsList breaks known (Failed error) = breaks
 
 -- a reader was opened over the list of this name: what it reads to its end is what the list may be read as
-abbrev pub OpensList : Gives → List ℕ → Option (List ℕ) → Type 0
-OpensList gives name known = (bytes : List ℕ) → IsAllOf known bytes → gives.reads name bytes
+abbrev pub OpensList : MayRead → List ℕ → Option (List ℕ) → Type 0
+OpensList may_read name known = (bytes : List ℕ) → IsAllOf known bytes → may_read.reads name bytes
 
 -- what a list may be read as later it might be read as before, and a list that may fail later might fail before
-abbrev pub GivesNoMore : Gives → Gives → Type 0
-GivesNoMore old new =
+abbrev pub MayReadLess : MayRead → MayRead → Type 0
+MayReadLess old new =
     ((name bytes : List ℕ) → new.reads name bytes → old.reads name bytes)
     × ((name : List ℕ) → new.fails name → old.fails name)
 
 -- the list of this name may be read as these bytes, and is not too long
-abbrev pub GivesList : Gives → List ℕ → List ℕ → Type 0
-GivesList gives name bytes = gives.reads name bytes × (length bytes ≤ list_limit)
+abbrev pub MayReadList : MayRead → List ℕ → List ℕ → Type 0
+MayReadList may_read name bytes = may_read.reads name bytes × (length bytes ≤ list_limit)
 
 -- the list of this name is at fault: it may not be opened, or its reading may fail, or it may be read as more bytes than a list may have
-abbrev pub LacksList : Gives → List ℕ → Type 0
-LacksList gives name = gives.fails name ⊎ ((bytes : List ℕ) × gives.reads name bytes × (list_limit < length bytes))
+abbrev pub LacksList : MayRead → List ℕ → Type 0
+LacksList may_read name = may_read.fails name ⊎ ((bytes : List ℕ) × may_read.reads name bytes × (list_limit < length bytes))
 
 -- a part of a merge, with the bytes that the list which the line names for it may be read as
-abbrev pub GivesPart : Gives → PartNames → Part → Type 0
-GivesPart gives names part = (part.arch ≡ names.arch) × GivesList gives names.packages part.packages
+abbrev pub MayReadPart : MayRead → PartNames → Part → Type 0
+MayReadPart may_read names part = (part.arch ≡ names.arch) × MayReadList may_read names.packages part.packages
 
 -- the parts of a merge, in the order in which the line names them
-abbrev pub GivesParts : Gives → List PartNames → List Part → Type 0
-GivesParts gives names parts = AllZip (GivesPart gives) names parts
+abbrev pub MayReadParts : MayRead → List PartNames → List Part → Type 0
+MayReadParts may_read names parts = AllZip (MayReadPart may_read) names parts
 
 -- the merge of what the lists that a line names may be read as
-abbrev pub GivesMerge : Gives → List ℕ → List PartNames → Command → Type 0
-GivesMerge gives sources names command =
-    (bytes : List ℕ) × (parts : List Part) × GivesList gives sources bytes × GivesParts gives names parts
+abbrev pub MayReadMerge : MayRead → List ℕ → List PartNames → Command → Type 0
+MayReadMerge may_read sources names command =
+    (bytes : List ℕ) × (parts : List Part) × MayReadList may_read sources bytes × MayReadParts may_read names parts
     × (command ≡ Merge bytes parts)
 
 -- a part of a merge has a list that is at fault, and those of the parts before it were read
-pub record LacksPart (gives : Gives) (names : List PartNames) : Type 0 where
+pub record LacksPart (may_read : MayRead) (names : List PartNames) : Type 0 where
   pub before : List PartNames
   pub name : PartNames
   pub after : List PartNames
   pub parts : List Part
   pub is : names ≡ before ++ name ∷ after
-  pub given : GivesParts gives before parts
-  pub lacks : LacksList gives name.packages
+  pub given : MayReadParts may_read before parts
+  pub lacks : LacksList may_read name.packages
 
 -- the first list that is at fault of those that a line names for a merge: its Sources list, or after that was read the list of a part
-abbrev pub LacksMerge : Gives → List ℕ → List PartNames → Type 0
-LacksMerge gives sources names =
-    LacksList gives sources ⊎ ((bytes : List ℕ) × GivesList gives sources bytes × LacksPart gives names)
+abbrev pub LacksMerge : MayRead → List ℕ → List PartNames → Type 0
+LacksMerge may_read sources names =
+    LacksList may_read sources ⊎ ((bytes : List ℕ) × MayReadList may_read sources bytes × LacksPart may_read names)

@@ -9,79 +9,79 @@ use Rattle.wb_states.specs.declared.command.Command.{Command}
 use Rattle.wb_states.specs.declared.refusal.Refusal.{Refusal}
 use Rattle.wb_states.specs.declared.reply.Reply.{Reply}
 use Rattle.wb_office.specs.Step.{step}
-use Rattle.wb_words.specs.Words.{asked_in}
-use Rattle.wb_words.specs.declared.words.Asked.{Asked}
-use Rattle.wb_words.specs.declared.words.Asked.TheVariants.{Command as asked_Command, Merge as asked_Merge}
+use Rattle.wb_words.specs.Words.{invocation_in}
+use Rattle.wb_words.specs.declared.words.Invocation.{Invocation}
+use Rattle.wb_words.specs.declared.words.Invocation.TheVariants.{Command as invocation_Command, Merge as invocation_Merge}
 use Rattle.wb_words.specs.declared.words.PartNames.{PartNames}
 use Rattle.wb_api.specs.Encoding.{reply_text, refusal_text, memory_text, line_fault_text, file_fault_text}
 use Rattle.deb_text.specs.Lines.{words_in, is_blank_line}
-use Rattle.wb_daemon.specs.Line.{is_long, input_lines, ended_in, lines_limit, with_feed, AreWithinLimit}
-use Rattle.wb_daemon.specs.Lists.{Gives, GivesMerge, IsAllOf, LacksMerge}
+use Rattle.wb_daemon.specs.Line.{is_long, input_lines, ended_in, lines_limit, with_line_feed, AreWithinLimit}
+use Rattle.wb_daemon.specs.Lists.{MayRead, MayReadMerge, IsAllOf, LacksMerge}
 use Rattle.wb_daemon.specs.Streams.{Stream}
 use Rattle.wb_daemon.specs.declared.message.Cause.{Cause}
 use Rattle.wb_daemon.specs.declared.message.Cause.TheVariants as why
 
 -- what is said to lines: the text, the office after it, and the status: 0 accepted, 1 refused, 2 no command, 3 a list that cannot be read
-pub record Said : Type 0 where
+pub record LineResponse : Type 0 where
   pub text : List ℕ
   pub machine : Machine
   pub status : ℕ
 
 -- nothing is said, and the office stays as it is
-abbrev pub nothing_said : Machine → Said
-nothing_said machine = record { text = []; machine = machine; status = 0 }
+abbrev pub no_response : Machine → LineResponse
+no_response machine = record { text = []; machine = machine; status = 0 }
 
 -- a line that is no command changes nothing
-abbrev pub fault_said : Machine → Said
-fault_said machine = record { text = with_feed line_fault_text; machine = machine; status = 2 }
+abbrev pub line_fault_response : Machine → LineResponse
+line_fault_response machine = record { text = with_line_feed line_fault_text; machine = machine; status = 2 }
 
 -- a list that a line names cannot be read, which changes nothing
-abbrev pub file_said : Machine → Said
-file_said machine = record { text = with_feed file_fault_text; machine = machine; status = 3 }
+abbrev pub file_fault_response : Machine → LineResponse
+file_fault_response machine = record { text = with_line_feed file_fault_text; machine = machine; status = 3 }
 
 -- there is no memory for the line, which changes nothing
-abbrev pub memory_said : Machine → Said
-memory_said machine = record { text = with_feed memory_text; machine = machine; status = 1 }
+abbrev pub memory_response : Machine → LineResponse
+memory_response machine = record { text = with_line_feed memory_text; machine = machine; status = 1 }
 
 -- the office answers a command of this name, and is then in this state
-abbrev pub answer_said : List ℕ → Result Reply Refusal → Machine → Said
-answer_said name (Ok reply) after = record { text = with_feed (reply_text name reply); machine = after; status = 0 }
-answer_said name (Err refusal) after = record { text = with_feed (refusal_text refusal); machine = after; status = 1 }
+abbrev pub answer_response : List ℕ → Result Reply Refusal → Machine → LineResponse
+answer_response name (Ok reply) after = record { text = with_line_feed (reply_text name reply); machine = after; status = 0 }
+answer_response name (Err refusal) after = record { text = with_line_feed (refusal_text refusal); machine = after; status = 1 }
 
 -- what is said to a command
-abbrev pub command_said : Machine → Command → Said
-command_said machine command =
-    answer_said (name_of_command command) (step machine command).0 (step machine command).1
+abbrev pub command_response : Machine → Command → LineResponse
+command_response machine command =
+    answer_response (name_of_command command) (step machine command).0 (step machine command).1
 
 -- what a line asks for: the line is UTF-8, and its words ask for it
-unfoldable pub asked_of_line : List ℕ → Option Asked
-asked_of_line line = if is_utf8 line then asked_in (words_in line) else None
+unfoldable pub invocation_of_line : List ℕ → Option Invocation
+invocation_of_line line = if is_utf8 line then invocation_in (words_in line) else None
 
 -- the kinds of lines: blank ones, ones at fault, and requests for what they ask for
 pub data LineKind : Type 0 where
   Blank : LineKind
   Fault : LineKind
-  Request : Asked → LineKind
+  Request : Invocation → LineKind
 
 -- the kind of a line whose words ask for this, or for nothing that there is
-abbrev pub kind_of_asked : Option Asked → LineKind
-kind_of_asked None = Fault
-kind_of_asked (Some asked) = Request asked
+abbrev pub kind_of_invocation : Option Invocation → LineKind
+kind_of_invocation None = Fault
+kind_of_invocation (Some invocation) = Request invocation
 
 -- the kind of a line: it is too long, or blank, or read as words
 unfoldable pub kind_of_line : List ℕ → LineKind
 kind_of_line line =
     if is_long line then Fault
-    else (if is_blank_line line then Blank else kind_of_asked (asked_of_line line))
+    else (if is_blank_line line then Blank else kind_of_invocation (invocation_of_line line))
 
 -- what a line asks for is this command, or the merge of what its lists may be read as
-abbrev pub AsksFor : Gives → Asked → Command → Type 0
-AsksFor gives (asked_Command asked) command = command ≡ asked
-AsksFor gives (asked_Merge sources parts) command = GivesMerge gives sources parts command
+abbrev pub InvokesAs : MayRead → Invocation → Command → Type 0
+InvokesAs may_read (invocation_Command invocation) command = command ≡ invocation
+InvokesAs may_read (invocation_Merge sources parts) command = MayReadMerge may_read sources parts command
 
 -- a line asks for a command
-abbrev pub LineAsks : Gives → List ℕ → Command → Type 0
-LineAsks gives line command = (asked : Asked) × (kind_of_line line ≡ Request asked) × AsksFor gives asked command
+abbrev pub LineInvokes : MayRead → List ℕ → Command → Type 0
+LineInvokes may_read line command = (invocation : Invocation) × (kind_of_line line ≡ Request invocation) × InvokesAs may_read invocation command
 
 -- a command is accepted, and the office is then in this state: it counts one more, which a repeated reply does not
 abbrev pub Accepts : Machine → Command → Machine → Type 0
@@ -89,33 +89,33 @@ Accepts before command after =
     IsOk (step before command).0 × (after ≡ (step before command).1) × (before.accepted < after.accepted)
 
 -- what may be said to a merge of these lists: what is said to the command with what the lists gave, or that one of them is at fault
-abbrev pub SaysMerge : Gives → Machine → List ℕ → List PartNames → Said → Type 0
-SaysMerge gives machine sources parts said =
-    ((command : Command) × GivesMerge gives sources parts command × (said ≡ command_said machine command))
-    ⊎ (LacksMerge gives sources parts × (said ≡ file_said machine))
+abbrev pub IsMergeResponse : MayRead → Machine → List ℕ → List PartNames → LineResponse → Type 0
+IsMergeResponse may_read machine sources parts response =
+    ((command : Command) × MayReadMerge may_read sources parts command × (response ≡ command_response machine command))
+    ⊎ (LacksMerge may_read sources parts × (response ≡ file_fault_response machine))
 
 -- what may be said to what a line asks for
-abbrev pub SaysAsked : Gives → Machine → Asked → Said → Type 0
-SaysAsked gives machine (asked_Command command) said = said ≡ command_said machine command
-SaysAsked gives machine (asked_Merge sources parts) said = SaysMerge gives machine sources parts said
+abbrev pub IsInvocationResponse : MayRead → Machine → Invocation → LineResponse → Type 0
+IsInvocationResponse may_read machine (invocation_Command command) response = response ≡ command_response machine command
+IsInvocationResponse may_read machine (invocation_Merge sources parts) response = IsMergeResponse may_read machine sources parts response
 
 -- what may be said to a line of this kind
-abbrev pub SaysOfKind : Gives → Machine → LineKind → Said → Type 0
-SaysOfKind gives machine Blank said = said ≡ nothing_said machine
-SaysOfKind gives machine Fault said = said ≡ fault_said machine
-SaysOfKind gives machine (Request asked) said = SaysAsked gives machine asked said
+abbrev pub IsResponseOfKind : MayRead → Machine → LineKind → LineResponse → Type 0
+IsResponseOfKind may_read machine Blank response = response ≡ no_response machine
+IsResponseOfKind may_read machine Fault response = response ≡ line_fault_response machine
+IsResponseOfKind may_read machine (Request invocation) response = IsInvocationResponse may_read machine invocation response
 
 -- a line for whose words memory is needed
 abbrev pub needs_memory : List ℕ → Bool
 needs_memory line = not (is_long line) && (not (is_blank_line line) && is_utf8 line)
 
 -- what may be said to a line: that there is no memory for it is possible at each line with words
-abbrev pub Says : Gives → Machine → List ℕ → Said → Type 0
-Says gives machine line said =
-    SaysOfKind gives machine (kind_of_line line) said ⊎ (IsTrue (needs_memory line) × (said ≡ memory_said machine))
+abbrev pub IsLineResponse : MayRead → Machine → List ℕ → LineResponse → Type 0
+IsLineResponse may_read machine line response =
+    IsResponseOfKind may_read machine (kind_of_line line) response ⊎ (IsTrue (needs_memory line) × (response ≡ memory_response machine))
 
 -- one thing is said, and then another; the greater status is that of both
-abbrev pub followed : Said → Said → Said
+abbrev pub followed : LineResponse → LineResponse → LineResponse
 followed first later = record {
   text = first.text ++ later.text;
   machine = later.machine;
@@ -123,33 +123,33 @@ followed first later = record {
 }
 
 -- what is said to lines in their order, from this state of the office on
-abbrev pub Runs : Gives → Machine → List (List ℕ) → Said → Type 0
-Runs gives machine [] whole = whole ≡ nothing_said machine
-Runs gives machine (line ∷ lines) whole =
-    (said later : Said) × Says gives machine line said × Runs gives said.machine lines later × (whole ≡ followed said later)
+abbrev pub Runs : MayRead → Machine → List (List ℕ) → LineResponse → Type 0
+Runs may_read machine [] whole = whole ≡ no_response machine
+Runs may_read machine (line ∷ lines) whole =
+    (response later : LineResponse) × IsLineResponse may_read machine line response × Runs may_read response.machine lines later × (whole ≡ followed response later)
 
 -- a run that ended with its input: to each line, in order, was written what is said to it, the office is as it is after them, and the status is the greatest
-abbrev pub RunEnds : Gives → List ℕ → Option (List ℕ) → Option (List ℕ) → Machine → Machine → ℕ → Type 0
-RunEnds gives input old_text new_text before after status =
-    (text : List ℕ) × Runs gives before (input_lines input) (record { text = text; machine = after; status = status })
+abbrev pub RunEnds : MayRead → List ℕ → Option (List ℕ) → Option (List ℕ) → Machine → Machine → ℕ → Type 0
+RunEnds may_read input old_text new_text before after status =
+    (text : List ℕ) × Runs may_read before (input_lines input) (record { text = text; machine = after; status = status })
     × Appends old_text new_text text
 
 -- a run that ended with its input: some input, which is what the reader had left where that is known
-abbrev pub EndsInput : Gives → Option (List ℕ) → Option (List ℕ) → Option (List ℕ) → Machine → Machine → ℕ → Type 0
-EndsInput gives known old_text new_text before after status =
+abbrev pub EndsInput : MayRead → Option (List ℕ) → Option (List ℕ) → Option (List ℕ) → Machine → Machine → ℕ → Type 0
+EndsInput may_read known old_text new_text before after status =
     (input : List ℕ) × IsAllOf known input × AreWithinLimit (input_lines input)
-    × RunEnds gives input old_text new_text before after status
+    × RunEnds may_read input old_text new_text before after status
 
 -- a run that stopped between two lines: every line that a line feed had ended was answered, and no more was acted on
-abbrev pub StopsBetween : Gives → List ℕ → Machine → List ℕ → Machine → Type 0
-StopsBetween gives seen before text after =
-    (status : ℕ) × Runs gives before (ended_in seen) (record { text = text; machine = after; status = status })
+abbrev pub StopsBetween : MayRead → List ℕ → Machine → List ℕ → Machine → Type 0
+StopsBetween may_read seen before text after =
+    (status : ℕ) × Runs may_read before (ended_in seen) (record { text = text; machine = after; status = status })
 
 -- a run that stopped since more follows its last line: the greatest number of lines was answered, and a byte more was read
-abbrev pub StopsAtLimit : Gives → List ℕ → Machine → List ℕ → Machine → Type 0
-StopsAtLimit gives seen before text after =
+abbrev pub StopsAtLimit : MayRead → List ℕ → Machine → List ℕ → Machine → Type 0
+StopsAtLimit may_read seen before text after =
     (acted : List ℕ) × (byte : ℕ) × (seen ≡ acted ++ byte ∷ []) × (length (ended_in acted) ≡ lines_limit)
-    × StopsBetween gives acted before text after
+    × StopsBetween may_read acted before text after
 
 -- a run that did not begin: nothing was read, written or done
 abbrev pub NeverBegins : List ℕ → Machine → List ℕ → Machine → Type 0
@@ -162,51 +162,51 @@ WereActedOn seen left lines =
     ⊎ ((lines ≡ input_lines seen) × (IsAtEnd left ⊎ IsTrue (list_any is_long lines)))
 
 -- a run that stopped within an answer: that to the last of these lines, of which a front alone was written; the office is as it is after that line
-pub record StopsWithin (gives : Gives) (lines : List (List ℕ)) (before : Machine) (text : List ℕ) (after : Machine) : Type 0 where
+pub record StopsWithin (may_read : MayRead) (lines : List (List ℕ)) (before : Machine) (text : List ℕ) (after : Machine) : Type 0 where
   pub earlier : List (List ℕ)
   pub last : List ℕ
-  pub answered : Said
-  pub said : Said
+  pub answered : LineResponse
+  pub response : LineResponse
   pub written : ℕ
   pub parts : lines ≡ earlier ++ last ∷ []
-  pub runs : Runs gives before earlier answered
-  pub says : Says gives answered.machine last said
-  pub cut : written < length said.text
-  pub front : text ≡ answered.text ++ take written said.text
-  pub office : after ≡ said.machine
+  pub runs : Runs may_read before earlier answered
+  pub responds : IsLineResponse may_read answered.machine last response
+  pub cut : written < length response.text
+  pub front : text ≡ answered.text ++ take written response.text
+  pub office : after ≡ response.machine
 
 -- a run that stopped for want of memory for the reply to the last of these lines: the command was accepted, and nothing of the reply was written
-pub record StopsBeforeReply (gives : Gives) (lines : List (List ℕ)) (before : Machine) (text : List ℕ) (after : Machine) : Type 0 where
+pub record StopsBeforeReply (may_read : MayRead) (lines : List (List ℕ)) (before : Machine) (text : List ℕ) (after : Machine) : Type 0 where
   pub earlier : List (List ℕ)
   pub last : List ℕ
-  pub answered : Said
+  pub answered : LineResponse
   pub command : Command
   pub parts : lines ≡ earlier ++ last ∷ []
-  pub runs : Runs gives before earlier answered
-  pub asks : LineAsks gives last command
+  pub runs : Runs may_read before earlier answered
+  pub invokes : LineInvokes may_read last command
   pub accepted : Accepts answered.machine command after
   pub unwritten : text ≡ answered.text
 
 -- a run that stopped for this cause: a read or a write failed, or there was no memory for a reply, or more follows its last line, or it has no room for a line
-abbrev pub StopsFor : Gives → Cause → List ℕ → Option (List ℕ) → Machine → List ℕ → Machine → Type 0
-StopsFor gives why.Read seen left before text after = StopsBetween gives seen before text after
-StopsFor gives why.Write seen left before text after =
-    (lines : List (List ℕ)) × WereActedOn seen left lines × StopsWithin gives lines before text after
-StopsFor gives why.Reply seen left before text after =
-    (lines : List (List ℕ)) × WereActedOn seen left lines × StopsBeforeReply gives lines before text after
-StopsFor gives why.Lines seen left before text after = StopsAtLimit gives seen before text after
-StopsFor gives why.Room seen left before text after = NeverBegins seen before text after
+abbrev pub StopsFor : MayRead → Cause → List ℕ → Option (List ℕ) → Machine → List ℕ → Machine → Type 0
+StopsFor may_read why.Read seen left before text after = StopsBetween may_read seen before text after
+StopsFor may_read why.Write seen left before text after =
+    (lines : List (List ℕ)) × WereActedOn seen left lines × StopsWithin may_read lines before text after
+StopsFor may_read why.Reply seen left before text after =
+    (lines : List (List ℕ)) × WereActedOn seen left lines × StopsBeforeReply may_read lines before text after
+StopsFor may_read why.Lines seen left before text after = StopsAtLimit may_read seen before text after
+StopsFor may_read why.Room seen left before text after = NeverBegins seen before text after
 
 -- a run that did not answer the last line that it acted on: the answer was not written whole, or there is no memory for the reply
-abbrev pub StopsInLine : Gives → List ℕ → Option (List ℕ) → Machine → List ℕ → Machine → Type 0
-StopsInLine gives seen left before text after =
-    StopsFor gives why.Write seen left before text after ⊎ StopsFor gives why.Reply seen left before text after
+abbrev pub StopsInLine : MayRead → List ℕ → Option (List ℕ) → Machine → List ℕ → Machine → Type 0
+StopsInLine may_read seen left before text after =
+    StopsFor may_read why.Write seen left before text after ⊎ StopsFor may_read why.Reply seen left before text after
 
 -- a run that stopped for this cause before its input ended: what it had read, and what it wrote
-abbrev pub RunStopsFor : Gives → Cause → Option (List ℕ) → Option (List ℕ) → Option (List ℕ) → Option (List ℕ) → Machine → Machine → Type 0
-RunStopsFor gives cause old_input new_input old_text new_text before after =
+abbrev pub RunStopsFor : MayRead → Cause → Option (List ℕ) → Option (List ℕ) → Option (List ℕ) → Option (List ℕ) → Machine → Machine → Type 0
+RunStopsFor may_read cause old_input new_input old_text new_text before after =
     (seen text : List ℕ) × Consumes old_input new_input seen × Appends old_text new_text text
-    × StopsFor gives cause seen new_input before text after
+    × StopsFor may_read cause seen new_input before text after
 
 -- the flags of the reader and the writer of a run, before and after: that of the reader is set where the run stopped for a failed read, that of the writer where for a failed write, and else they stay
 abbrev pub FailsFor : Option Cause → Stream → Stream → Stream → Stream → Type 0
@@ -218,12 +218,12 @@ FailsFor (Some why.Room) input left old new = (left.failed ≡ input.failed) × 
 FailsFor None input left old new = (left.failed ≡ input.failed) × (new.failed ≡ old.failed)
 
 -- a run ended with its input, and no read and no write of it failed
-abbrev pub RunEndsWell : Gives → Stream → Stream → Stream → Stream → Machine → Machine → ℕ → Type 0
-RunEndsWell gives input left old new before after status =
-    EndsInput gives input.bytes old.bytes new.bytes before after status × FailsFor None input left old new
+abbrev pub RunEndsWell : MayRead → Stream → Stream → Stream → Stream → Machine → Machine → ℕ → Type 0
+RunEndsWell may_read input left old new before after status =
+    EndsInput may_read input.bytes old.bytes new.bytes before after status × FailsFor None input left old new
 
 -- a run stopped before its input ended: what it had read, what it wrote and why, and the read or the write that is why did fail
-abbrev pub RunStops : Gives → Stream → Stream → Stream → Stream → Machine → Machine → Type 0
-RunStops gives input left old new before after =
-    (cause : Cause) × RunStopsFor gives cause input.bytes left.bytes old.bytes new.bytes before after
+abbrev pub RunStops : MayRead → Stream → Stream → Stream → Stream → Machine → Machine → Type 0
+RunStops may_read input left old new before after =
+    (cause : Cause) × RunStopsFor may_read cause input.bytes left.bytes old.bytes new.bytes before after
     × FailsFor (Some cause) input left old new

@@ -4,11 +4,11 @@ ghost use Rattle.std.specs.Str.{is_utf8};
 ghost use Rattle.wb_words.specs.declared.fault.WordsFault.TheVariants.{Memory};
 ghost use Rattle.wb_daemon.specs.Line.{is_long};
 ghost use Rattle.deb_text.specs.Lines.{is_blank_line};
-ghost use Rattle.wb_daemon.specs.Lists.{GivesNoMore};
-ghost use Rattle.wb_daemon.specs.Run.{asked_of_line, file_said, memory_said, Accepts, AsksFor, LineAsks, Says};
+ghost use Rattle.wb_daemon.specs.Lists.{MayReadLess};
+ghost use Rattle.wb_daemon.specs.Run.{invocation_of_line, file_fault_response, memory_response, Accepts, InvokesAs, LineInvokes, IsLineResponse};
 ghost use Rattle.wb_states.specs.Machine.{IsConsistent, Machine};
 ghost use Rattle.wb_states.specs.declared.command.Command.{Command};
-ghost use Rattle.wb_daemon.specs.Turn.{said_by, SaysAskedOrMemory, SaysCommandOrMemory};
+ghost use Rattle.wb_daemon.specs.Turn.{response_of_answer, IsInvocationResponseOrMemory, IsCommandResponseOrMemory};
 
 use crate::line::{text_of, words_in};
 use crate::lists::{Lists, merge_of};
@@ -19,7 +19,7 @@ use std::borrow::CowStr;
 use wb_api::{file_fault_json, line_fault_json, refusal_json, reply_json};
 use wb_office::Office;
 use wb_states::{Command, Refusal};
-use wb_words::{Asked, WordsFault, asked_of, fault_of};
+use wb_words::{Invocation, WordsFault, invocation_of, fault_of};
 
 /// What is written to a line, without its line feed, and the status of the line.
 #[derive(Drop)]
@@ -30,10 +30,10 @@ pub(crate) struct Answer {
 
 /// What the words of a line ask for. The errors are `NoCommand` where the line is not UTF-8 or its words
 /// ask for nothing that there is, and `Memory`, which may come at any line that is UTF-8.
-#[tactic(auto, unfolding(crate::specs::Run::asked_of_line))]
-fn asked_of_line(alloc: Global, line: &[u8]) -> Result<Asked, WordsFault>
-    ensures value { IfOk result (λ asked. asked_of_line line.now ≡ Some asked) }
-    ensures refused { IfErr result (λ fault. fault ≢ Memory → asked_of_line line.now ≡ None) }
+#[tactic(auto, unfolding(crate::specs::Run::invocation_of_line))]
+fn invocation_of_line(alloc: Global, line: &[u8]) -> Result<Invocation, WordsFault>
+    ensures value { IfOk result (λ invocation. invocation_of_line line.now ≡ Some invocation) }
+    ensures refused { IfErr result (λ fault. fault ≢ Memory → invocation_of_line line.now ≡ None) }
     ensures memory { result ≡ Err Memory → IsTrue (is_utf8 line.now) }
 {
     let Some(text) = text_of(line) else {
@@ -42,14 +42,14 @@ fn asked_of_line(alloc: Global, line: &[u8]) -> Result<Asked, WordsFault>
     let Ok(words) = words_in(alloc, text) else {
         return Err(WordsFault::Memory);
     };
-    asked_of(alloc, &words)
+    invocation_of(alloc, &words)
 }
 
 /// The reply or the refusal of the office to a command, with its status. It is `None` where the command
 /// was accepted and there is no memory for the reply; a reply that repeats an assignment accepts nothing.
 fn answer_to(alloc: Global, office: &mut Office, command: &Command) -> Option<Answer>
     ensures value { IfSome result (λ answer. (answer.status ≤ 3)
-        × SaysCommandOrMemory office.old command.now (said_by answer office.new)) }
+        × IsCommandResponseOrMemory office.old command.now (response_of_answer answer office.new)) }
     ensures memory { result ≡ None → Accepts office.old command.now office.new }
     ensures consistent { IsConsistent office.old → IsConsistent office.new }
 {
@@ -73,7 +73,7 @@ fn answer_to(alloc: Global, office: &mut Office, command: &Command) -> Option<An
 
 /// The answer for want of memory, which takes none.
 fn memory_answer(alloc: Global) -> Answer
-    ensures value { (machine : Machine) → said_by result machine ≡ memory_said machine }
+    ensures value { (machine : Machine) → response_of_answer result machine ≡ memory_response machine }
     ensures status { result.status ≤ 3 }
 {
     Answer {
@@ -84,7 +84,7 @@ fn memory_answer(alloc: Global) -> Answer
 
 /// The answer where a list cannot be read.
 fn file_answer() -> Answer
-    ensures value { (machine : Machine) → said_by result machine ≡ file_said machine }
+    ensures value { (machine : Machine) → response_of_answer result machine ≡ file_fault_response machine }
     ensures status { result.status ≤ 3 }
 {
     Answer {
@@ -96,22 +96,22 @@ fn file_answer() -> Answer
 /// The answer to what a line asks for. The lists of a merge are read first, and nothing is asked of the
 /// office where one of them is at fault. It is `None` where the command was accepted and there is no memory
 /// for the reply.
-fn answer_asked<L: Lists>(
+fn answer_invocation<L: Lists>(
     alloc: Global,
     office: &mut Office,
     lists: &mut L,
-    asked: &Asked,
+    invocation: &Invocation,
 ) -> Option<Answer>
     ensures value { IfSome result (λ answer. (answer.status ≤ 3)
-        × SaysAskedOrMemory (L.gives lists.old) office.old asked.now (said_by answer office.new)) }
+        × IsInvocationResponseOrMemory (L.may_read lists.old) office.old invocation.now (response_of_answer answer office.new)) }
     ensures memory { result ≡ None → (command : Command)
-        × AsksFor (L.gives lists.old) asked.now command × Accepts office.old command office.new }
-    ensures kept { GivesNoMore (L.gives lists.old) (L.gives lists.new) }
+        × InvokesAs (L.may_read lists.old) invocation.now command × Accepts office.old command office.new }
+    ensures kept { MayReadLess (L.may_read lists.old) (L.may_read lists.new) }
     ensures consistent { IsConsistent office.old → IsConsistent office.new }
 {
-    match asked {
-        Asked::Command { command } => answer_to(alloc, office, command),
-        Asked::Merge { sources, parts } => {
+    match invocation {
+        Invocation::Command { command } => answer_to(alloc, office, command),
+        Invocation::Merge { sources, parts } => {
             match merge_of(alloc, lists, sources, parts.as_slice()) {
                 Ok(Some(command)) => answer_to(alloc, office, &command),
                 Ok(None) => Some(file_answer()),
@@ -134,15 +134,15 @@ pub(crate) fn answer_of<L: Lists>(
     requires words { is_blank_line line.now ≡ false }
     // what is said to it
     ensures value { IfSome result (λ answer. (answer.status ≤ 3)
-        × Says (L.gives lists.old) office.old line.now (said_by answer office.new)) }
+        × IsLineResponse (L.may_read lists.old) office.old line.now (response_of_answer answer office.new)) }
     ensures memory { result ≡ None → (command : Command)
-        × LineAsks (L.gives lists.old) line.now command × Accepts office.old command office.new }
+        × LineInvokes (L.may_read lists.old) line.now command × Accepts office.old command office.new }
     // what is left of the lists and the office
-    ensures kept { GivesNoMore (L.gives lists.old) (L.gives lists.new) }
+    ensures kept { MayReadLess (L.may_read lists.old) (L.may_read lists.new) }
     ensures consistent { IsConsistent office.old → IsConsistent office.new }
 {
-    match asked_of_line(alloc, line) {
-        Ok(asked) => answer_asked(alloc, office, lists, &asked),
+    match invocation_of_line(alloc, line) {
+        Ok(invocation) => answer_invocation(alloc, office, lists, &invocation),
         Err(WordsFault::NoCommand) => Some(Answer {
             text: CowStr::Borrowed(line_fault_json()),
             status: LINE_FAULT,
@@ -153,7 +153,7 @@ pub(crate) fn answer_of<L: Lists>(
 
 /// Reports why the line of this number is a line fault; nothing where there is no memory for that.
 pub(crate) fn report_fault<L: Lists>(alloc: Global, lists: &mut L, number: u64, line: &[u8])
-    ensures kept { GivesNoMore (L.gives lists.old) (L.gives lists.new) }
+    ensures kept { MayReadLess (L.may_read lists.old) (L.may_read lists.new) }
 {
     let Some(text) = text_of(line) else {
         return lists.report(Message::LineFault {

@@ -3,7 +3,7 @@ ghost use Rattle.std.specs.Prelude.{ℕ, List, Option, filter, length};
 ghost use Rattle.wb_states.specs.Machine.{Machine};
 ghost use Rattle.wb_daemon.specs.Answered.{HasLines, is_answered};
 ghost use Rattle.wb_daemon.specs.Replays.{IsReplay, IsReplayCut};
-ghost use Rattle.wb_daemon.specs.Run.{Runs, Said, StopsInLine};
+ghost use Rattle.wb_daemon.specs.Run.{Runs, LineResponse, StopsInLine};
 
 use crate::lists::Lists;
 
@@ -11,18 +11,18 @@ use crate::lists::Lists;
 /// was cut off within or before the answer to a line. So what holds of every list of commands holds of
 /// every run.
 pub fn runs_are_replays<L: Lists>(lists: &L)
-    ensures state { (machine : Machine) (lines : List (List ℕ)) (whole : Said)
-        → Runs (L.gives lists.now) machine lines whole
-        → IsReplay (L.gives lists.now) machine lines whole }
+    ensures state { (machine : Machine) (lines : List (List ℕ)) (whole : LineResponse)
+        → Runs (L.may_read lists.now) machine lines whole
+        → IsReplay (L.may_read lists.now) machine lines whole }
     ensures stops { (seen : List ℕ) (left : Option (List ℕ)) (machine : Machine) (text : List ℕ)
-        (after : Machine) → StopsInLine (L.gives lists.now) seen left machine text after
-        → IsReplayCut (L.gives lists.now) seen left machine text after }
+        (after : Machine) → StopsInLine (L.may_read lists.now) seen left machine text after
+        → IsReplayCut (L.may_read lists.now) seen left machine text after }
 {}
 
 /// What is said to lines has one line, ended by its line feed, for each that is answered: for each but
 /// those of spaces and tabs alone.
 pub fn each_line_has_one_answer<L: Lists>(lists: &L)
-    ensures { (machine : Machine) (lines : List (List ℕ)) (whole : Said)
-        → Runs (L.gives lists.now) machine lines whole
+    ensures { (machine : Machine) (lines : List (List ℕ)) (whole : LineResponse)
+        → Runs (L.may_read lists.now) machine lines whole
         → HasLines (length (filter is_answered lines)) whole.text }
 {}

@@ -2,8 +2,8 @@
 ghost use Rattle.std.specs.Prelude.{◌≡◌, ⊤, IfErr, IfNone, IfOk, IfSome, OnErr};
 ghost use Rattle.std.specs.Io.{ReadsAtMost};
 ghost use Rattle.std.specs.Io.KnownBytes.{ReadConsumes};
-ghost use Rattle.wb_daemon.specs.Lists.{any_lists, Gives, GivesList, GivesMerge, GivesNoMore, GivesPart};
-ghost use Rattle.wb_daemon.specs.Lists.{GivesParts, LacksList, LacksMerge, LacksPart, OpensList, ReadsList};
+ghost use Rattle.wb_daemon.specs.Lists.{any_lists, MayRead, MayReadList, MayReadMerge, MayReadLess, MayReadPart};
+ghost use Rattle.wb_daemon.specs.Lists.{MayReadParts, LacksList, LacksMerge, LacksPart, OpensList, ReadsList};
 
 use crate::message::Message;
 use deb_text::{Items, Text};
@@ -21,7 +21,7 @@ pub trait Lists {
     type List: Read + Drop;
 
     // What is known of the lists: nothing, where an implementation does not say.
-    ghost gives: { Self → Gives } = { λ _. any_lists };
+    ghost may_read: { Self → MayRead } = { λ _. any_lists };
 
     // Whether a read of this opened list may fail: any may, where an implementation does not say.
     ghost breaks: { Self.List → Type 0 } = { λ _. ⊤ };
@@ -30,11 +30,11 @@ pub trait Lists {
     /// memory for it.
     fn open(&mut self, alloc: Global, name: &str) -> Result<Option<Self::List>, AllocError>
         ensures value { IfOk result (λ found. IfSome found (λ list.
-            OpensList (gives self.old) name.now (Self.List.remaining list))) }
+            OpensList (may_read self.old) name.now (Self.List.remaining list))) }
         ensures err { IfOk result (λ found. IfSome found (λ list.
-            breaks list → (gives self.old).fails name.now)) }
-        ensures refused { IfOk result (λ found. IfNone found ((gives self.old).fails name.now)) }
-        ensures kept { GivesNoMore (gives self.old) (gives self.new) };
+            breaks list → (may_read self.old).fails name.now)) }
+        ensures refused { IfOk result (λ found. IfNone found ((may_read self.old).fails name.now)) }
+        ensures kept { MayReadLess (may_read self.old) (may_read self.new) };
 
     /// Reads on in an opened list, as its `read` does.
     fn read(list: &mut Self::List, room: &mut [u8]) -> io::Result<usize>
@@ -46,7 +46,7 @@ pub trait Lists {
     /// Takes a message for a person, which no answer says. It is dropped where an implementation does not
     /// say what becomes of it.
     fn report(&mut self, _message: Message<'_>)
-        ensures kept { GivesNoMore (gives self.old) (gives self.new) }
+        ensures kept { MayReadLess (may_read self.old) (may_read self.new) }
     {}
 }
 
@@ -84,9 +84,9 @@ fn list_of<L: Lists>(
     name: &Text,
 ) -> Result<Option<Items<u8>>, AllocError>
     ensures value { IfOk result (λ found. IfSome found (λ bytes.
-        GivesList (L.gives lists.old) name.now bytes)) }
-    ensures refused { IfOk result (λ found. IfNone found (LacksList (L.gives lists.old) name.now)) }
-    ensures kept { GivesNoMore (L.gives lists.old) (L.gives lists.new) }
+        MayReadList (L.may_read lists.old) name.now bytes)) }
+    ensures refused { IfOk result (λ found. IfNone found (LacksList (L.may_read lists.old) name.now)) }
+    ensures kept { MayReadLess (L.may_read lists.old) (L.may_read lists.new) }
 {
     let Some(mut list) = lists.open(alloc, name.as_str())? else {
         return Ok(None);
@@ -111,9 +111,9 @@ fn part_of<L: Lists>(
     names: &PartNames,
 ) -> Result<Option<Part>, AllocError>
     ensures value { IfOk result (λ found. IfSome found (λ part.
-        GivesPart (L.gives lists.old) names.now part)) }
-    ensures refused { IfOk result (λ found. IfNone found (LacksList (L.gives lists.old) names.now.packages)) }
-    ensures kept { GivesNoMore (L.gives lists.old) (L.gives lists.new) }
+        MayReadPart (L.may_read lists.old) names.now part)) }
+    ensures refused { IfOk result (λ found. IfNone found (LacksList (L.may_read lists.old) names.now.packages)) }
+    ensures kept { MayReadLess (L.may_read lists.old) (L.may_read lists.new) }
 {
     let Some(packages) = list_of(alloc, lists, &names.packages)? else {
         return Ok(None);
@@ -131,9 +131,9 @@ fn parts_of<L: Lists>(
     names: &[PartNames],
 ) -> Result<Option<Items<Part>>, AllocError>
     ensures value { IfOk result (λ found. IfSome found (λ parts.
-        GivesParts (L.gives lists.old) names.now parts)) }
-    ensures refused { IfOk result (λ found. IfNone found (LacksPart (L.gives lists.old) names.now)) }
-    ensures kept { GivesNoMore (L.gives lists.old) (L.gives lists.new) }
+        MayReadParts (L.may_read lists.old) names.now parts)) }
+    ensures refused { IfOk result (λ found. IfNone found (LacksPart (L.may_read lists.old) names.now)) }
+    ensures kept { MayReadLess (L.may_read lists.old) (L.may_read lists.new) }
 {
     let mut parts = Items::new(alloc);
     for part_names in names {
@@ -155,10 +155,10 @@ pub(crate) fn merge_of<L: Lists>(
     parts: &[PartNames],
 ) -> Result<Option<Command>, AllocError>
     ensures value { IfOk result (λ found. IfSome found (λ command.
-        GivesMerge (L.gives lists.old) sources.now parts.now command)) }
+        MayReadMerge (L.may_read lists.old) sources.now parts.now command)) }
     ensures refused { IfOk result (λ found. IfNone found
-        (LacksMerge (L.gives lists.old) sources.now parts.now)) }
-    ensures kept { GivesNoMore (L.gives lists.old) (L.gives lists.new) }
+        (LacksMerge (L.may_read lists.old) sources.now parts.now)) }
+    ensures kept { MayReadLess (L.may_read lists.old) (L.may_read lists.new) }
 {
     let Some(sources) = list_of(alloc, lists, sources)? else {
         return Ok(None);

@@ -2,7 +2,7 @@
 ghost use Rattle.std.specs.Prelude.{◌≡◌, ◌⊎◌, ◌<◌, ◌≤◌, IfOk, IfErr, length, false};
 ghost use Rattle.wb_states.specs.Machine.{IsConsistent};
 ghost use Rattle.wb_daemon.specs.Line.{is_long, line_limit};
-ghost use Rattle.wb_daemon.specs.Lists.{GivesNoMore};
+ghost use Rattle.wb_daemon.specs.Lists.{MayReadLess};
 ghost use Rattle.wb_daemon.specs.Replays.{LeavesReplay};
 ghost use Rattle.wb_daemon.specs.Run.{FailsFor, RunEndsWell, RunStops};
 ghost use Rattle.wb_daemon.specs.Streams.{Flags};
@@ -45,7 +45,7 @@ pub(crate) enum RunEnd {
     Stopped(Cause),
 }
 
-/// Acts on the line of this number and writes what is said to it. Gives the status of the line. The errors
+/// Acts on the line of this number and writes what is said to it. Answers the status of the line. The errors
 /// are `Reply` and `Write`, and the run stops there.
 fn answer_line<W: Write + Drop, L: Lists>(
     alloc: Global,
@@ -56,12 +56,12 @@ fn answer_line<W: Write + Drop, L: Lists>(
     lists: &mut L,
 ) -> Result<u8, Cause>
     requires { is_long line.now ≡ false }
-    ensures value { IfOk result (Answers (L.gives lists.old) line.now office.old office.new
+    ensures value { IfOk result (Answers (L.may_read lists.old) line.now office.old office.new
         writer.old.bytes writer.new.bytes) }
-    ensures err { IfErr result (LacksAnswer (L.gives lists.old) line.now office.old office.new
+    ensures err { IfErr result (LacksAnswer (L.may_read lists.old) line.now office.old office.new
         writer.old.bytes writer.new.bytes) }
     ensures failed { Flags (fails_to_write result) writer.old writer.new }
-    ensures kept { GivesNoMore (L.gives lists.old) (L.gives lists.new) }
+    ensures kept { MayReadLess (L.may_read lists.old) (L.may_read lists.new) }
     ensures consistent { IsConsistent office.old → IsConsistent office.new }
 {
     if is_blank_line(line) {
@@ -92,11 +92,11 @@ fn take_turn<R: Read + Drop, W: Write + Drop, L: Lists>(
     room: &mut [u8],
 ) -> Turn
     requires { length room.old ≡ line_limit }
-    ensures value { Turns (L.gives lists.old) result office.old office.new
+    ensures value { Turns (L.may_read lists.old) result office.old office.new
         reader.old.bytes reader.new.bytes
         writer.old.bytes writer.new.bytes }
     ensures failed { FailsFor (cause_of_turn result) reader.old reader.new writer.old writer.new }
-    ensures kept { GivesNoMore (L.gives lists.old) (L.gives lists.new) }
+    ensures kept { MayReadLess (L.may_read lists.old) (L.may_read lists.new) }
     ensures consistent { IsConsistent office.old → IsConsistent office.new }
 {
     match read_line(reader, room) {
@@ -139,7 +139,7 @@ fn run_within<R: Read + Drop, W: Write + Drop, L: Lists>(
     room: &mut [u8],
 ) -> RunEnd
     requires { length room.old ≡ line_limit }
-    ensures value { Ran (L.gives lists.old) result office.old office.new
+    ensures value { Ran (L.may_read lists.old) result office.old office.new
         reader.old.bytes reader.new.bytes
         writer.old.bytes writer.new.bytes }
     ensures failed { FailsFor (cause_of_end result) reader.old reader.new writer.old writer.new }
@@ -168,7 +168,7 @@ fn run_in_room<R: Read + Drop, W: Write + Drop, L: Lists>(
     writer: &mut WatchedWriter<W>,
     lists: &mut L,
 ) -> RunEnd
-    ensures value { Ran (L.gives lists.old) result office.old office.new
+    ensures value { Ran (L.may_read lists.old) result office.old office.new
         reader.old.bytes reader.new.bytes
         writer.old.bytes writer.new.bytes }
     ensures failed { FailsFor (cause_of_end result) reader.old reader.new writer.old writer.new }
@@ -180,7 +180,7 @@ fn run_in_room<R: Read + Drop, W: Write + Drop, L: Lists>(
     run_within(alloc, office, reader, writer, lists, &mut room)
 }
 
-/// Acts on each line of the input in turn and answers it with one line of JSON. Gives the status of the run.
+/// Acts on each line of the input in turn and answers it with one line of JSON. Answers the status of the run.
 ///
 /// A line ends at a line feed, which the last may lack; its words are parted by spaces and tabs, without
 /// quoting. A line without words is not answered. A line that is not UTF-8, whose words ask for nothing that
@@ -204,12 +204,12 @@ pub fn run_lines<R: Read + Drop, W: Write + Drop, L: Lists>(
     lists: &mut L,
 ) -> u8
     ensures status { result ≤ 3 }
-    ensures value { result < 3 → RunEndsWell (L.gives lists.old) reader.old reader.new
+    ensures value { result < 3 → RunEndsWell (L.may_read lists.old) reader.old reader.new
         writer.old writer.new office.old office.new result }
-    ensures err { result ≡ 3 → RunEndsWell (L.gives lists.old) reader.old reader.new
+    ensures err { result ≡ 3 → RunEndsWell (L.may_read lists.old) reader.old reader.new
         writer.old writer.new office.old office.new 3
-        ⊎ RunStops (L.gives lists.old) reader.old reader.new writer.old writer.new office.old office.new }
-    ensures replay { LeavesReplay (L.gives lists.old) office.old office.new }
+        ⊎ RunStops (L.may_read lists.old) reader.old reader.new writer.old writer.new office.old office.new }
+    ensures replay { LeavesReplay (L.may_read lists.old) office.old office.new }
     ensures consistent { IsConsistent office.old → IsConsistent office.new }
 {
     match run_in_room(alloc, office, reader, writer, lists) {

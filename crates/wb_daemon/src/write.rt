@@ -4,7 +4,7 @@ ghost use Rattle.std.specs.Cow.{cow_str_bytes};
 ghost use Rattle.std.specs.String.{string_bytes};
 ghost use Rattle.std.specs.Io.KnownBytes.{Appends};
 ghost use Rattle.std.specs.Prelude.{true, false};
-ghost use Rattle.wb_daemon.specs.Line.{with_feed};
+ghost use Rattle.wb_daemon.specs.Line.{with_line_feed};
 ghost use Rattle.wb_daemon.specs.Streams.{Flags};
 ghost use Rattle.wb_daemon.specs.Turn.{AppendsFront};
 
@@ -12,7 +12,7 @@ use crate::watched::WatchedWriter;
 use std::alloc::{AllocError, Global};
 use std::io::Write;
 
-/// Writes the bytes. Gives whether all were written: a write that takes no byte or fails ends it, also one
+/// Writes the bytes. Says whether all were written: a write that takes no byte or fails ends it, also one
 /// that was interrupted, and then a front of the bytes was written.
 fn write_bytes<W: Write + Drop>(writer: &mut WatchedWriter<W>, bytes: &[u8]) -> bool
     ensures value { result ≡ true → Appends writer.old.bytes writer.new.bytes bytes.now }
@@ -32,7 +32,7 @@ fn write_bytes<W: Write + Drop>(writer: &mut WatchedWriter<W>, bytes: &[u8]) -> 
 
 /// The text and a line feed, for one write. The error is that there is no memory for them.
 fn line_of(alloc: Global, text: &str) -> Result<String, AllocError>
-    ensures value { IfOk result (λ line. string_bytes line ≡ with_feed text.now) }
+    ensures value { IfOk result (λ line. string_bytes line ≡ with_line_feed text.now) }
 {
     let mut line = String::with_capacity(alloc, text.len() + 1)?;
     line.push_str(text)?;
@@ -40,16 +40,16 @@ fn line_of(alloc: Global, text: &str) -> Result<String, AllocError>
     Ok(line)
 }
 
-/// Writes the text and a line feed, in one write where there is memory for both. Gives whether all was
+/// Writes the text and a line feed, in one write where there is memory for both. Says whether all was
 /// written; where not, a front of it was.
 pub(crate) fn write_line<W: Write + Drop>(
     alloc: Global,
     writer: &mut WatchedWriter<W>,
     text: &str,
 ) -> bool
-    ensures value { result ≡ true → Appends writer.old.bytes writer.new.bytes (with_feed text.now) }
+    ensures value { result ≡ true → Appends writer.old.bytes writer.new.bytes (with_line_feed text.now) }
     ensures err { result ≡ false
-        → AppendsFront writer.old.bytes writer.new.bytes (with_feed text.now) }
+        → AppendsFront writer.old.bytes writer.new.bytes (with_line_feed text.now) }
     ensures failed { Flags (not result) writer.old writer.new }
 {
     match line_of(alloc, text) {

@@ -18,7 +18,7 @@ use Rattle.wb_merge.specs.declared.listing.Built.{Built}
 use Rattle.wb_merge.specs.Merge.{covers, built_number, relisted, blank_record, new_state, new_number, new_record, newer_state, newer_number, newer_record, same_state, same_number, same_record, listed_record}
 use Rattle.wb_merge.proofs.ChosenLemmas.{new-chosen, newer-chosen, same-chosen}
 use Rattle.wb_merge.proofs.ListedLemmas.{IsGoodListed, IsSmallBuilt}
-use Rattle.wb_states.proofs.SettledLemmas.{HasFields, MayStand, empty_within, fields-of, if-kept, stands-free, stands-well, settled-well, kept-note}
+use Rattle.wb_states.proofs.InStateLemmas.{HasFields, MayStand, empty_within, fields-of, if-kept, stands-free, stands-well, settled-well, kept-note}
 
 -- ---- numbers
 

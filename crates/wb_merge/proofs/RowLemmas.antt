@@ -7,7 +7,7 @@ use Rattle.std.proofs.lemmas.Bool.Decides.{nat_tests}
 use Rattle.std.proofs.lemmas.List.{length-reverse}
 use Rattle.std.proofs.lemmas.Bool.{and_parts}
 use Rattle.deb_control.specs.declared.fault.ControlFaultKind.{ControlFaultKind}
-use Rattle.deb_control.specs.Fields.{Entry, reading_of}
+use Rattle.deb_control.specs.Fields.{FieldText, reading_of}
 use Rattle.deb_version.specs.declared.fault.VersionFault.{VersionFault}
 use Rattle.deb_version.specs.Syntax.{fault_of, is_version_text, value_of, with_digit}
 use Rattle.wb_states.specs.declared.refusal.ListField.{ListField}
@@ -20,7 +20,7 @@ use Rattle.deb_relations.specs.Names.{is_package_name}
 use Rattle.wb_states.specs.Names.{is_label_text}
 use Rattle.deb_text.specs.Text.{is_empty_text}
 use Rattle.wb_states.specs.Refusals.{name_of_field}
-use Rattle.wb_merge.specs.Rows.{SourceRow, BinaryRow, value_named, text_named, is_label_or_empty, has_source_version, last_digits, rebuild_number, wanted_fault, spare_fault, form_fault, spare_form_fault, source_fault, source_row, with_source, binary_row, source_row_of, binary_row_of, of_fields, refused_at, onto_rows, rows_behind, source_rows, binary_rows}
+use Rattle.wb_merge.specs.Rows.{SourceRow, BinaryRow, value_named, text_named, is_label_or_empty, has_source_version, last_digits, rebuild_number, required_fault, optional_fault, form_fault, spare_form_fault, source_fault, source_row, with_source, binary_row, source_row_of, binary_row_of, of_fields, refused_at, onto_rows, rows_behind, source_rows, binary_rows}
 use Rattle.deb_text.proofs.OptionLemmas.{first_some-None, ok_unless-Ok}
 use Rattle.deb_text.proofs.ListLemmas.{take_while-passes}
 
@@ -41,8 +41,8 @@ onto-is (Err refusal) behind rows is = cc
 onto-is (Ok row) (Err refusal) rows is = cc
 onto-is (Ok row) (Ok later) rows is = record { row = row; later = later; head = refl; tail = refl; whole = only-ok (row ∷ later) rows is }
 
-module _ {X : Type 0} (Q : X → Type 0) (read : List Entry → Result X ListingFault) (good : (fields : List Entry) (row : X) → read fields ≡ Ok row → Q row) (which : ListKind) where
-  fields-good : (reading : Result (List Entry) ControlFaultKind) (row : X) → of_fields read reading ≡ Ok row → Q row
+module _ {X : Type 0} (Q : X → Type 0) (read : List FieldText → Result X ListingFault) (good : (fields : List FieldText) (row : X) → read fields ≡ Ok row → Q row) (which : ListKind) where
+  fields-good : (reading : Result (List FieldText) ControlFaultKind) (row : X) → of_fields read reading ≡ Ok row → Q row
   fields-good (Ok fields) row is = good fields row is
   fields-good (Err kind) row is = cc
 
@@ -62,17 +62,17 @@ passed : (test : Bool) (fault : ListingFault) → cond test None (Some fault) �
 passed true fault is = refl
 passed false fault is = cc
 
-wanted-is : (field : ListField) (test : List ℕ → Bool) (fields : List Entry) → wanted_fault field test fields ≡ None
+wanted-is : (field : ListField) (test : List ℕ → Bool) (fields : List FieldText) → required_fault field test fields ≡ None
     → IsTrue (test (unwrap_or (value_named (name_of_field field) fields) []))
-unfolding wanted_fault
+unfolding required_fault
 wanted-is field test fields is = at (value_named (name_of_field field) fields) is where
   at : (found : Option (List ℕ)) → form_fault field test found ≡ None → IsTrue (test (unwrap_or found []))
   at None is = cc
   at (Some text) is = passed (test text) (BadValue field) is
 
-spare-is : (field : ListField) (test : List ℕ → Bool) (fields : List Entry) → IsTrue (test []) → spare_fault field test fields ≡ None
+spare-is : (field : ListField) (test : List ℕ → Bool) (fields : List FieldText) → IsTrue (test []) → optional_fault field test fields ≡ None
     → IsTrue (test (unwrap_or (value_named (name_of_field field) fields) []))
-unfolding spare_fault
+unfolding optional_fault
 spare-is field test fields empty is = at (value_named (name_of_field field) fields) is where
   at : (found : Option (List ℕ)) → spare_form_fault field test found ≡ None → IsTrue (test (unwrap_or found []))
   at None is = empty
@@ -102,16 +102,16 @@ empty-label : IsTrue (is_label_or_empty [])
 unfolding is_label_or_empty
 empty-label = refl
 
-source-good : (fields : List Entry) (row : SourceRow) → source_row_of fields ≡ Ok row → IsGoodSource row
+source-good : (fields : List FieldText) (row : SourceRow) → source_row_of fields ≡ Ok row → IsGoodSource row
 unfolding source_row_of source_fault
 source-good fields row is =
     let made = ok_unless-Ok (source_fault fields) (source_row fields) row is in
     let none = first_some-None (
-    wanted_fault Package is_package_name fields
-    ∷ wanted_fault Version is_version_text fields
-    ∷ wanted_fault Architecture (λ text. not (is_empty_text text)) fields
-    ∷ spare_fault Priority is_label_or_empty fields
-    ∷ spare_fault Section is_label_or_empty fields
+    required_fault Package is_package_name fields
+    ∷ required_fault Version is_version_text fields
+    ∷ required_fault Architecture (λ text. not (is_empty_text text)) fields
+    ∷ optional_fault Priority is_label_or_empty fields
+    ∷ optional_fault Section is_label_or_empty fields
     ∷ []) made.0 in
     let good : IsGoodSource (source_row fields) = record {
       name = wanted-is Package is_package_name fields none.0;
@@ -176,7 +176,7 @@ source-small : (name version arch : List ℕ) (text : Option (List ℕ)) → IsS
 source-small name version arch None = omega arith
 source-small name version arch (Some text) = chosen-small (has_source_version text) (rebuild_number version) (rebuild-small version)
 
-binary-small : (fields : List Entry) (row : BinaryRow) → binary_row_of fields ≡ Ok row → IsSmall row
+binary-small : (fields : List FieldText) (row : BinaryRow) → binary_row_of fields ≡ Ok row → IsSmall row
 unfolding binary_row_of
 binary-small fields row is =
     let made = ok_unless-Ok _ (binary_row fields) row is in

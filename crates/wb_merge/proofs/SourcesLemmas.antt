@@ -4,9 +4,9 @@ use Rattle.std.specs.List.{fold, list_any}
 use Rattle.std.proofs.lemmas.List.{append-nil, append_assoc}
 use Rattle.std.proofs.lemmas.Bool.{or_left, or_right}
 use Rattle.deb_control.specs.declared.fault.ControlFaultKind.{ControlFaultKind}
-use Rattle.deb_control.specs.Fields.{Entry, reading_of, takes_memory}
+use Rattle.deb_control.specs.Fields.{FieldText, reading_of, takes_memory}
 use Rattle.deb_control.specs.Lines.{lines_of, paragraphs_in}
-use Rattle.deb_control.specs.Paragraphs.{Place, begun}
+use Rattle.deb_control.specs.Paragraphs.{ReaderState, begun}
 use Rattle.deb_relations.specs.declared.arch.ArchWords.{ArchWords}
 use Rattle.wb_states.specs.declared.refusal.Refusal.{Refusal}
 use Rattle.wb_states.specs.declared.refusal.Refusal.TheVariants.{Memory}
@@ -36,12 +36,12 @@ rows-refused (Ok all) refusal e = cc
 -- ---- the memory that is taken
 
 -- a reader that stands before the first paragraph takes what the list takes
-pub first-takes : (text : List ℕ) (place : Place) → place ≡ begun (paragraphs_in (lines_of text)) → IsTrue (ahead_takes_memory place.ahead) → IsTrue (list_takes_memory text)
+pub first-takes : (text : List ℕ) (place : ReaderState) → place ≡ begun (paragraphs_in (lines_of text)) → IsTrue (ahead_takes_memory place.ahead) → IsTrue (list_takes_memory text)
 unfolding list_takes_memory
 first-takes text place is takes = ap (λ p. ahead_takes_memory p.ahead) (sym is) ∙ takes
 
 -- a paragraph that has a row can be read
-row-read : (reading : Result (List Entry) ControlFaultKind) (rows : Result (List SourceRow) Refusal) (row : SourceRow) (later : List SourceRow)
+row-read : (reading : Result (List FieldText) ControlFaultKind) (rows : Result (List SourceRow) Refusal) (row : SourceRow) (later : List SourceRow)
     → onto_rows (refused_at Sources 1 (of_fields source_row_of reading)) rows ≡ Ok (row ∷ later) → is_ok reading ≡ true
 row-read (Ok fields) rows row later e = refl
 row-read (Err kind) rows row later e = cc

@@ -9,7 +9,7 @@ use Rattle.deb_relations.specs.Satisfaction.{Pairs, satisfied}
 use Rattle.wb_states.specs.declared.record.Record.{Record}
 use Rattle.wb_states.specs.declared.state.State.{State}
 use Rattle.wb_states.specs.declared.state.State.TheVariants.{NeedsBuild, Installed, NotForUs}
-use Rattle.wb_states.specs.Moves.{settled_in, note_after}
+use Rattle.wb_states.specs.Moves.{in_state, note_after}
 use Rattle.wb_states.specs.State.{is_installed, is_dep_wait, is_not_for_us}
 use Rattle.wb_merge.specs.declared.listing.Listed.{Listed}
 use Rattle.wb_merge.specs.declared.listing.Built.{Built}
@@ -35,7 +35,7 @@ are_waits_met available waits = is_reading_met available (reading_of waits)
 
 -- a record brought in line with its listing, in a state and with a number
 unfoldable pub relisted : State → ℕ → Listed → Option Built → Record → Record
-relisted state number listed built current = record (settled_in state current) {
+relisted state number listed built current = record (in_state state current) {
   number = number;
   priority = listed.priority;
   section = listed.section;

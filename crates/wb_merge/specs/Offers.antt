@@ -4,7 +4,7 @@ use Rattle.std.specs.List.{fold}
 use Rattle.std.specs.Option.{option_map_or}
 use Rattle.std.specs.declared.cmp.Ordering.{Ordering}
 use Rattle.std.specs.FinMap as finite
-use Rattle.deb_control.specs.Paragraphs.{Place}
+use Rattle.deb_control.specs.Paragraphs.{ReaderState}
 use Rattle.deb_relations.specs.declared.arch.ArchWords.{ArchWords}
 use Rattle.deb_text.specs.Text.{text_cmp}
 use Rattle.deb_relations.specs.Satisfaction.{Pairs, with_pair}
@@ -50,7 +50,7 @@ after_rows add start (Ok rows) = Ok (fold add start rows)
 -- ---- where a reader stands
 
 -- the rows that a reader of paragraphs has ahead, or the refusal for the first faulty paragraph
-abbrev pub rows_at : {X : Type 0} → (List (List ℕ) → Result X ListingFault) → ListKind → Place → Result (List X) Refusal
+abbrev pub rows_at : {X : Type 0} → (List (List ℕ) → Result X ListingFault) → ListKind → ReaderState → Result (List X) Refusal
 rows_at row_of which place = option_map_or (rows_behind row_of which place.passed) place.ahead (Ok [])
 
 -- how many paragraphs are ahead
@@ -58,13 +58,13 @@ abbrev pub number_of : Option (List (List (List ℕ))) → ℕ
 number_of ahead = option_map_or length ahead 0
 
 -- a reader that went through so many paragraphs, and can count those ahead
-pub record HasPassed (place : Place) (passed : ℕ) : Type 0 where
+pub record HasPassed (place : ReaderState) (passed : ℕ) : Type 0 where
   pub count : passed ≡ place.passed
   pub goes_on : is_some place.ahead ≡ true
   pub fits : passed + number_of place.ahead < 2 ^ 64
 
 -- a reader that went on by one paragraph, of which this is the row
-pub record GivesRow {X : Type 0} (row_of : List (List ℕ) → Result X ListingFault) (which : ListKind) (old : Place) (row : X) (new : Place) : Type 0 where
+pub record GivesRow {X : Type 0} (row_of : List (List ℕ) → Result X ListingFault) (which : ListKind) (old : ReaderState) (row : X) (new : ReaderState) : Type 0 where
   pub rows : rows_at row_of which old ≡ onto_rows (Ok row) (rows_at row_of which new)
   pub count : new.passed ≡ old.passed + 1
   pub fewer : number_of old.ahead ≡ number_of new.ahead + 1

@@ -9,7 +9,7 @@ use Rattle.deb_text.specs.Options.{ok_unless, has_value, first_some}
 use Rattle.deb_control.specs.declared.fault.ControlFaultKind.{ControlFaultKind}
 use Rattle.deb_control.specs.Lines.{lines_of, paragraphs_in}
 use Rattle.deb_text.specs.Lines.{words_in}
-use Rattle.deb_control.specs.Fields.{Entry, field_named, folded_of, reading_of}
+use Rattle.deb_control.specs.Fields.{FieldText, field_named, folded_of, reading_of}
 use Rattle.wb_states.specs.declared.refusal.Refusal.{Refusal}
 use Rattle.wb_states.specs.declared.refusal.Refusal.TheVariants.{BadListing}
 use Rattle.wb_states.specs.declared.refusal.ListKind.{ListKind}
@@ -26,11 +26,11 @@ use Rattle.wb_states.specs.Refusals.{name_of_field}
 -- ---- the values of a paragraph
 
 -- the folded text of a field, where the paragraph has the field (Debian Policy 5.1)
-unfoldable pub value_named : List ℕ → List Entry → Option (List ℕ)
+unfoldable pub value_named : List ℕ → List FieldText → Option (List ℕ)
 value_named name fields = option_map folded_of (field_named name fields)
 
 -- the folded text of a field, empty where the paragraph lacks the field
-abbrev pub text_named : List ℕ → List Entry → List ℕ
+abbrev pub text_named : List ℕ → List FieldText → List ℕ
 text_named name fields = unwrap_or (value_named name fields) []
 
 -- whether a text is a priority or a section, which a list may leave empty (Debian Policy 2.5 and 2.4)
@@ -101,8 +101,8 @@ spare_form_fault field has_form None = None
 spare_form_fault field has_form (Some text) = if has_form text then None else Some (BadValue field)
 
 -- what is wrong with a field that may be missing
-unfoldable pub spare_fault : ListField → (List ℕ → Bool) → List Entry → Option ListingFault
-spare_fault field has_form fields = spare_form_fault field has_form (value_named (name_of_field field) fields)
+unfoldable pub optional_fault : ListField → (List ℕ → Bool) → List FieldText → Option ListingFault
+optional_fault field has_form fields = spare_form_fault field has_form (value_named (name_of_field field) fields)
 
 -- what is wrong with the value of a field that has to be there: it is missing, or has not its form
 abbrev pub form_fault : ListField → (List ℕ → Bool) → Option (List ℕ) → Option ListingFault
@@ -110,26 +110,26 @@ form_fault field has_form None = Some (Missing field)
 form_fault field has_form (Some text) = spare_form_fault field has_form (Some text)
 
 -- what is wrong with a field that has to be there
-unfoldable pub wanted_fault : ListField → (List ℕ → Bool) → List Entry → Option ListingFault
-wanted_fault field has_form fields = form_fault field has_form (value_named (name_of_field field) fields)
+unfoldable pub required_fault : ListField → (List ℕ → Bool) → List FieldText → Option ListingFault
+required_fault field has_form fields = form_fault field has_form (value_named (name_of_field field) fields)
 
 -- what is wrong with a paragraph of a Sources list: its fields in their order (Debian Policy 5.4)
-unfoldable pub source_fault : List Entry → Option ListingFault
+unfoldable pub source_fault : List FieldText → Option ListingFault
 source_fault fields = first_some (
-    wanted_fault Package is_package_name fields
-    ∷ wanted_fault Version is_version_text fields
-    ∷ wanted_fault Architecture (λ text. not (is_empty_text text)) fields
-    ∷ spare_fault Priority is_label_or_empty fields
-    ∷ spare_fault Section is_label_or_empty fields
+    required_fault Package is_package_name fields
+    ∷ required_fault Version is_version_text fields
+    ∷ required_fault Architecture (λ text. not (is_empty_text text)) fields
+    ∷ optional_fault Priority is_label_or_empty fields
+    ∷ optional_fault Section is_label_or_empty fields
     ∷ [])
 
 -- what is wrong with a paragraph of a Packages list: its fields in their order (Debian Policy 5.3)
-unfoldable pub binary_fault : List Entry → Option ListingFault
+unfoldable pub binary_fault : List FieldText → Option ListingFault
 binary_fault fields = first_some (
-    wanted_fault Package is_package_name fields
-    ∷ wanted_fault Version is_version_text fields
-    ∷ wanted_fault Architecture (λ text. not (is_empty_text text)) fields
-    ∷ spare_fault Source is_source_text fields
+    required_fault Package is_package_name fields
+    ∷ required_fault Version is_version_text fields
+    ∷ required_fault Architecture (λ text. not (is_empty_text text)) fields
+    ∷ optional_fault Source is_source_text fields
     ∷ [])
 
 -- ---- rows
@@ -155,7 +155,7 @@ pub record BinaryRow : Type 0 where
   pub number : ℕ
 
 -- the row of a paragraph of a Sources list
-abbrev pub source_row : List Entry → SourceRow
+abbrev pub source_row : List FieldText → SourceRow
 source_row fields = record {
   name = text_named (codes "Package") fields;
   version = text_named (codes "Version") fields;
@@ -188,21 +188,21 @@ with_source name version arch (Some text) = record (without_source name version 
 }
 
 -- the row of a paragraph of a Packages list
-abbrev pub binary_row : List Entry → BinaryRow
+abbrev pub binary_row : List FieldText → BinaryRow
 binary_row fields =
     with_source (text_named (codes "Package") fields) (text_named (codes "Version") fields)
     (text_named (codes "Architecture") fields) (value_named (codes "Source") fields)
 
 -- the row of a paragraph of a Sources list, or its fault
-unfoldable pub source_row_of : List Entry → Result SourceRow ListingFault
+unfoldable pub source_row_of : List FieldText → Result SourceRow ListingFault
 source_row_of fields = ok_unless (source_fault fields) (source_row fields)
 
 -- the row of a paragraph of a Packages list, or its fault
-unfoldable pub binary_row_of : List Entry → Result BinaryRow ListingFault
+unfoldable pub binary_row_of : List FieldText → Result BinaryRow ListingFault
 binary_row_of fields = ok_unless (binary_fault fields) (binary_row fields)
 
 -- what is read of a paragraph's fields, or the fault for which it has none
-abbrev pub of_fields : {X : Type 0} → (List Entry → Result X ListingFault) → Result (List Entry) ControlFaultKind → Result X ListingFault
+abbrev pub of_fields : {X : Type 0} → (List FieldText → Result X ListingFault) → Result (List FieldText) ControlFaultKind → Result X ListingFault
 of_fields read (Ok fields) = read fields
 of_fields read (Err kind) = Err (Control kind)
 

@@ -7,7 +7,7 @@ ghost use Rattle.wb_states.specs.declared.refusal.ListField.TheVariants.{Package
 ghost use Rattle.deb_relations.specs.Names.{is_package_name};
 ghost use Rattle.deb_text.specs.Text.{is_empty_text};
 ghost use Rattle.wb_states.specs.Refusals.{name_of_field};
-ghost use Rattle.wb_merge.specs.Rows.{value_named, text_named, is_label_or_empty, wanted_fault, spare_fault};
+ghost use Rattle.wb_merge.specs.Rows.{value_named, text_named, is_label_or_empty, required_fault, optional_fault};
 
 use deb_control::{ControlFaultKind, Paragraph};
 use deb_text::Text;
@@ -86,12 +86,12 @@ fn formed(text: Text, has_form: bool, field: ListField) -> Result<Text, ListingF
 }
 
 /// The name of the package.
-#[tactic(auto, unfolding(crate::specs::Rows::wanted_fault))]
+#[tactic(auto, unfolding(crate::specs::Rows::required_fault))]
 pub(crate) fn package_name(alloc: Global, paragraph: &Paragraph<'_>) -> Result<Text, ListingFault>
     ensures value { IfOk result (λ name. name ≡ text_named (codes "Package") paragraph.now) }
-    ensures ok { OnOk result (wanted_fault Package is_package_name paragraph.now ≡ None) }
+    ensures ok { OnOk result (required_fault Package is_package_name paragraph.now ≡ None) }
     ensures refused { IfErr result (λ fault. fault ≢ Control Memory
-        → wanted_fault Package is_package_name paragraph.now ≡ Some fault) }
+        → required_fault Package is_package_name paragraph.now ≡ Some fault) }
 {
     let field = ListField::Package;
     let name = wanted(alloc, paragraph, field)?;
@@ -122,15 +122,15 @@ pub(crate) fn parse_version(
 }
 
 /// The version of the package.
-#[tactic(auto, unfolding(crate::specs::Rows::wanted_fault))]
+#[tactic(auto, unfolding(crate::specs::Rows::required_fault))]
 pub(crate) fn package_version(
     alloc: Global,
     paragraph: &Paragraph<'_>,
 ) -> Result<Version, ListingFault>
     ensures value { IfOk result (λ version. version ≡ text_named (codes "Version") paragraph.now) }
-    ensures ok { OnOk result (wanted_fault VersionField is_version_text paragraph.now ≡ None) }
+    ensures ok { OnOk result (required_fault VersionField is_version_text paragraph.now ≡ None) }
     ensures refused { IfErr result (λ fault. fault ≢ Control Memory
-        → wanted_fault VersionField is_version_text paragraph.now ≡ Some fault) }
+        → required_fault VersionField is_version_text paragraph.now ≡ Some fault) }
 {
     let field = ListField::Version;
     let text = wanted(alloc, paragraph, field)?;
@@ -138,13 +138,13 @@ pub(crate) fn package_version(
 }
 
 /// The architectures of the package, which are not empty.
-#[tactic(auto, unfolding(crate::specs::Rows::wanted_fault))]
+#[tactic(auto, unfolding(crate::specs::Rows::required_fault))]
 pub(crate) fn architectures(alloc: Global, paragraph: &Paragraph<'_>) -> Result<Text, ListingFault>
     ensures value { IfOk result (λ archs. archs ≡ text_named (codes "Architecture") paragraph.now) }
     ensures ok { OnOk result (
-        wanted_fault Architecture (λ text. not (is_empty_text text)) paragraph.now ≡ None) }
+        required_fault Architecture (λ text. not (is_empty_text text)) paragraph.now ≡ None) }
     ensures refused { IfErr result (λ fault. fault ≢ Control Memory
-        → wanted_fault Architecture (λ text. not (is_empty_text text)) paragraph.now ≡ Some fault) }
+        → required_fault Architecture (λ text. not (is_empty_text text)) paragraph.now ≡ Some fault) }
 {
     let field = ListField::Architecture;
     let archs = wanted(alloc, paragraph, field)?;
@@ -160,16 +160,16 @@ fn is_label_or_empty(text: &str) -> bool
 }
 
 /// The priority or the section, which may be missing or empty.
-#[tactic(auto, unfolding(crate::specs::Rows::spare_fault))]
+#[tactic(auto, unfolding(crate::specs::Rows::optional_fault))]
 pub(crate) fn label(
     alloc: Global,
     paragraph: &Paragraph<'_>,
     field: ListField,
 ) -> Result<Text, ListingFault>
     ensures value { IfOk result (λ text. text ≡ text_named (name_of_field field) paragraph.now) }
-    ensures ok { OnOk result (spare_fault field is_label_or_empty paragraph.now ≡ None) }
+    ensures ok { OnOk result (optional_fault field is_label_or_empty paragraph.now ≡ None) }
     ensures refused { IfErr result (λ fault. fault ≢ Control Memory
-        → spare_fault field is_label_or_empty paragraph.now ≡ Some fault) }
+        → optional_fault field is_label_or_empty paragraph.now ≡ Some fault) }
 {
     let Some(label) = value(alloc, paragraph, field.name())? else {
         return Ok(Text::new(alloc));

@@ -54,7 +54,7 @@ fn are_waits_met(alloc: Global, available: &Available, waits: &Text) -> Result<b
 }
 
 /// Empties the note where the state of the record is another one.
-fn settle_note(alloc: Global, current: &mut Record, state: State)
+fn note_in_state(alloc: Global, current: &mut Record, state: State)
     ensures { current.new ≡ record current.old { note = note_after None state current.old } }
 {
     if current.state != state {
@@ -76,8 +76,8 @@ fn relist(
         after ≡ relisted state number listed.now (option_copied built.entry) current) }
     ensures refused { IfErr result (λ refusal. refusal ≡ Memory) }
 {
-    settle_note(alloc, &mut current, state);
-    current.settle(alloc, state);
+    note_in_state(alloc, &mut current, state);
+    current.enter_state(alloc, state);
     current.number = number;
     current.earlier = current.earlier || built.is_some() || matches!(state, State::Installed);
     current.priority = listed.priority.clone()?;

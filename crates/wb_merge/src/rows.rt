@@ -7,7 +7,7 @@ ghost use Rattle.deb_relations.specs.Arch.{arch_matches};
 ghost use Rattle.wb_states.specs.declared.refusal.ListingFault.TheVariants.{Control, BadValue};
 ghost use Rattle.wb_states.specs.declared.refusal.ListField.TheVariants.{Source};
 ghost use Rattle.deb_text.specs.Text.{is_empty_text};
-ghost use Rattle.wb_merge.specs.Rows.{value_named, is_source_text, spare_fault, source_row_of, binary_row_of, with_source};
+ghost use Rattle.wb_merge.specs.Rows.{value_named, is_source_text, optional_fault, source_row_of, binary_row_of, with_source};
 ghost use Rattle.wb_merge.specs.Listing.{is_listed};
 
 use crate::fields::{architectures, label, package_name, package_version, text, value};
@@ -161,7 +161,7 @@ fn with_source(
 
 impl BinaryRow {
     /// Reads a paragraph of a Packages list.
-    #[tactic(auto, unfolding(crate::specs::Rows::binary_row_of, crate::specs::Rows::binary_fault, crate::specs::Rows::spare_fault))]
+    #[tactic(auto, unfolding(crate::specs::Rows::binary_row_of, crate::specs::Rows::binary_fault, crate::specs::Rows::optional_fault))]
     pub(crate) fn read(alloc: Global, paragraph: &Paragraph<'_>) -> Result<BinaryRow, ListingFault>
         ensures value { IfOk result (λ row. binary_row_of paragraph.now ≡ Ok row) }
         ensures refused { IfErr result (λ fault. fault ≢ Control Memory

@@ -14,7 +14,7 @@ use Rattle.wb_merge.specs.Merge.{record_after}
 use Rattle.wb_merge.specs.Merged.{Records, record_after_at}
 use Rattle.wb_merge.proofs.MergeLemmas.{merged-get}
 use Rattle.wb_office.specs.Checks.{first_refusal, has_repeated_arch}
-use Rattle.wb_office.specs.Moving.{again_of}
+use Rattle.wb_office.specs.Targets.{again_of}
 use Rattle.wb_office.specs.Parts.{part_listing, records_after, records_with}
 use Rattle.wb_office.specs.Step.{state_after, counted, outcome, step}
 use Rattle.wb_office.proofs.FrameLemmas.{part-others, parts-others}

@@ -11,12 +11,12 @@ use Rattle.wb_states.specs.declared.reply.Reply.{Reply}
 use Rattle.wb_states.specs.declared.reply.Reply.TheVariants.{Job}
 use Rattle.wb_states.specs.Limits.{count_limit}
 use Rattle.wb_states.specs.Machine.{Machine}
-use Rattle.wb_states.specs.Moves.{move_refusal, moved, may_go}
+use Rattle.wb_states.specs.Moves.{move_refusal, record_after_move, may_go}
 use Rattle.wb_states.specs.Queue.{Entry}
 use Rattle.wb_store.specs.declared.keyed.KeyedRecord.{KeyedRecord}
 use Rattle.wb_store.specs.Lookups.{entry_of}
 use Rattle.wb_office.specs.Checks.{when}
-use Rattle.wb_office.specs.Found.{outcome_unless, assignment_step, take_move}
+use Rattle.wb_office.specs.Outcomes.{outcome_unless, assignment_step, take_move}
 use Rattle.wb_office.specs.Step.{assignment_of, counted, after_take, assignment_reply}
 
 -- whether a record can be taken does not depend on the take number
@@ -45,7 +45,7 @@ pub assignment_step-Ok : (machine new : Machine) (builder : List ℕ) (entry : E
     → assignment ≡ assignment_of entry (machine.handed + 1)
     → reply ≡ Job (machine.accepted + 1) assignment
     → new ≡ record machine {
-      records = map.insert machine.records entry.0 (moved (take_move machine builder) entry.1);
+      records = map.insert machine.records entry.0 (record_after_move (take_move machine builder) entry.1);
       handed = machine.handed + 1;
       accepted = machine.accepted + 1;
     }
@@ -60,7 +60,7 @@ assignment_step-Ok machine new builder entry assignment reply is room given repl
 -- a record that was handed out is written, and both counts are raised
 pub assignment_step-kept : (machine new : Machine) (builder : List ℕ) (entry : Entry) (made : KeyedRecord) (assignment : Assignment) (reply : Reply)
     → move_refusal (take_move machine builder) entry.1 ≡ None → (nat_le count_limit machine.accepted || nat_le count_limit machine.handed) ≡ false
-    → entry_of made ≡ (entry.0, moved (take_move machine builder) entry.1)
+    → entry_of made ≡ (entry.0, record_after_move (take_move machine builder) entry.1)
     → assignment ≡ assignment_of entry (machine.handed + 1)
     → reply ≡ Job (machine.accepted + 1) assignment
     → new ≡ record machine {

@@ -5,7 +5,7 @@ use Rattle.wb_states.specs.declared.reply.Reply.{Reply}
 use Rattle.wb_states.specs.declared.refusal.Refusal.{Refusal}
 use Rattle.wb_states.specs.Machine.{Machine}
 use Rattle.wb_office.specs.Checks.{first_refusal}
-use Rattle.wb_office.specs.Moving.{again_of}
+use Rattle.wb_office.specs.Targets.{again_of}
 use Rattle.wb_office.specs.Step.{outcome, step}
 use Rattle.wb_office.proofs.PassLemmas.{step-either}
 

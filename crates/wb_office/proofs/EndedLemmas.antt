@@ -14,7 +14,7 @@ use Rattle.wb_states.specs.declared.refusal.Refusal.TheVariants.{NotHeld}
 use Rattle.wb_states.specs.Holds.{is_taken_as, taken_as}
 use Rattle.deb_text.specs.Options.{has_value}
 use Rattle.wb_states.specs.Machine.{Machine}
-use Rattle.wb_states.specs.Moves.{moved}
+use Rattle.wb_states.specs.Moves.{record_after_move}
 use Rattle.wb_states.specs.Queue.{Entry}
 use Rattle.deb_text.specs.Lists.{first_of, IsIn}
 use Rattle.deb_text.proofs.KeyLemmas.{pair_cmp_total, pair_cmp-same, insert_all}
@@ -23,13 +23,13 @@ use Rattle.wb_merge.specs.declared.listing.Listed.{Listed}
 use Rattle.wb_merge.specs.declared.listing.Built.{Built as WasBuilt}
 use Rattle.wb_merge.specs.Merge.{record_after}
 use Rattle.wb_office.specs.Checks.{first_refusal, is_not_held, refused_move, take_named}
-use Rattle.wb_office.specs.Moving.{again_of, move_asked, moving}
+use Rattle.wb_office.specs.Targets.{again_of, move_of_command, transition_of}
 use Rattle.wb_office.specs.Replay.{replay}
 use Rattle.wb_office.specs.Step.{after_move, state_after, entered, outcome, step}
 use Rattle.wb_office.proofs.HandOutLemmas.{step-handed}
 use Rattle.wb_office.proofs.HeldLemmas.{step-Built, taken_step-NotHeld}
 use Rattle.wb_office.proofs.MergedLemmas.{records_after-keeps}
-use Rattle.wb_office.proofs.MovingLemmas.{moving-may, taken_as-stands}
+use Rattle.wb_office.proofs.TransitionLemmas.{transition_of-may, taken_as-stands}
 use Rattle.wb_office.proofs.PassLemmas.{passes, step-either}
 use Rattle.wb_merge.proofs.RelistedLemmas.{listed-left, new-left}
 
@@ -46,22 +46,22 @@ abbrev IsOther : ℕ → Move → Type 0
 IsOther take_number (to.Take holder given) = given ≢ take_number
 IsOther take_number _ = Unit {0}
 
-moved-free : (take_number : ℕ) (move : Move) (current : Record) → IsOther take_number move → IsNotTaken take_number current → IsNotTaken take_number (moved move current)
-unfolding moved
-moved-free take_number (to.Take holder given) current other old = other
-moved-free take_number to.Built current other old = old
-moved-free take_number to.Uploaded current other old = old
-moved-free take_number (to.Waits relations arch) current other old = tt
-moved-free take_number to.PutBack current other old = tt
-moved-free take_number to.GiveBack current other old = tt
-moved-free take_number (to.DepWait relations arch) current other old = tt
-moved-free take_number (to.Fail note) current other old = tt
-moved-free take_number (to.NotForUs note) current other old = tt
-moved-free take_number (to.Rebuild number message) current other old = tt
+record_after_move-free : (take_number : ℕ) (move : Move) (current : Record) → IsOther take_number move → IsNotTaken take_number current → IsNotTaken take_number (record_after_move move current)
+unfolding record_after_move
+record_after_move-free take_number (to.Take holder given) current other old = other
+record_after_move-free take_number to.Built current other old = old
+record_after_move-free take_number to.Uploaded current other old = old
+record_after_move-free take_number (to.Waits relations arch) current other old = tt
+record_after_move-free take_number to.PutBack current other old = tt
+record_after_move-free take_number to.GiveBack current other old = tt
+record_after_move-free take_number (to.DepWait relations arch) current other old = tt
+record_after_move-free take_number (to.Fail note) current other old = tt
+record_after_move-free take_number (to.NotForUs note) current other old = tt
+record_after_move-free take_number (to.Rebuild number message) current other old = tt
 
 -- the move of a command gives a take number above those that were given
 asked-other : (take_number : ℕ) (machine : Machine) (command : Command) (words : ArchWords) (move : Move) → take_number ≤ machine.handed
-    → move_asked machine command words ≡ Some move → IsOther take_number move
+    → move_of_command machine command words ≡ Some move → IsOther take_number move
 asked-other take_number machine command words move below is = at command is where
   made : (one : Move) → IsOther take_number one → Some one ≡ Some move → IsOther take_number move
   made one other e = let same : one ≡ move = cc in subst (IsOther take_number) same other
@@ -69,7 +69,7 @@ asked-other take_number machine command words move below is = at command is wher
   next : machine.handed + 1 ≢ take_number
   next e = absurd (omega arith)
 
-  at : (asks : Command) → move_asked machine asks words ≡ Some move → IsOther take_number move
+  at : (asks : Command) → move_of_command machine asks words ≡ Some move → IsOther take_number move
   at (of.AddArch fields) e = cc
   at (of.AddBuilder fields) e = cc
   at (of.Enter fields) e = cc
@@ -93,16 +93,16 @@ after-free take_number None (Some listed) built available old = let left = new-l
 after-free take_number (Some current) (Some listed) built available old =
     let left = listed-left listed built available current in left.take (λ taken. taken ≢ take_number) old
 
-moving-free : (take_number : ℕ) (machine : Machine) (command : Command) → take_number ≤ machine.handed → IsFree take_number machine → refused_move machine command ≡ None
-    → IsFree take_number (after_move machine (moving machine command))
-moving-free take_number machine command below old allowed =
-    (elim (moving machine command) as (λ asked. moving machine command ≡ asked → IsFree take_number (after_move machine asked)) [
+transition_of-free : (take_number : ℕ) (machine : Machine) (command : Command) → take_number ≤ machine.handed → IsFree take_number machine → refused_move machine command ≡ None
+    → IsFree take_number (after_move machine (transition_of machine command))
+transition_of-free take_number machine command below old allowed =
+    (elim (transition_of machine command) as (λ asked. transition_of machine command ≡ asked → IsFree take_number (after_move machine asked)) [
       | None ↦ λ _. old
       | Some asked ↦ λ is.
-          let may = moving-may machine command asked allowed is in
+          let may = transition_of-may machine command asked allowed is in
           let had : IfSome (Some asked.0.1) (IsNotTaken take_number) = subst (λ r. IfSome r (IsNotTaken take_number)) may.stands (old asked.0.0) in
-          insert_all pair_cmp_total pair_cmp-same (λ key. IsNotTaken take_number) machine.records asked.0.0 (moved asked.1 asked.0.1)
-          (moved-free take_number asked.1 asked.0.1 (asked-other take_number machine command _ asked.1 below may.asks) had) old
+          insert_all pair_cmp_total pair_cmp-same (λ key. IsNotTaken take_number) machine.records asked.0.0 (record_after_move asked.1 asked.0.1)
+          (record_after_move-free take_number asked.1 asked.0.1 (asked-other take_number machine command _ asked.1 below may.asks) had) old
     ]) refl
 
 state_after-free : (take_number : ℕ) (machine : Machine) (command : Command) → take_number ≤ machine.handed → IsFree take_number machine → refused_move machine command ≡ None
@@ -114,20 +114,20 @@ state_after-free take_number machine (of.Enter fields) below old allowed =
 state_after-free take_number machine (of.Merge fields) below old allowed =
     records_after-keeps (λ key. IsNotTaken take_number) machine fields.sources fields.parts
     (λ part listing is source found had. after-free take_number found (map.get listing.listed source) (map.get listing.built source) listing.available had) machine.records old
-state_after-free take_number machine (of.Next fields) below old allowed = moving-free take_number machine (of.Next fields) below old allowed
-state_after-free take_number machine (of.Take fields) below old allowed = moving-free take_number machine (of.Take fields) below old allowed
-state_after-free take_number machine (of.Built fields) below old allowed = moving-free take_number machine (of.Built fields) below old allowed
-state_after-free take_number machine (of.Uploaded fields) below old allowed = moving-free take_number machine (of.Uploaded fields) below old allowed
-state_after-free take_number machine (of.Waits fields) below old allowed = moving-free take_number machine (of.Waits fields) below old allowed
-state_after-free take_number machine (of.PutBack fields) below old allowed = moving-free take_number machine (of.PutBack fields) below old allowed
-state_after-free take_number machine (of.GiveBack fields) below old allowed = moving-free take_number machine (of.GiveBack fields) below old allowed
+state_after-free take_number machine (of.Next fields) below old allowed = transition_of-free take_number machine (of.Next fields) below old allowed
+state_after-free take_number machine (of.Take fields) below old allowed = transition_of-free take_number machine (of.Take fields) below old allowed
+state_after-free take_number machine (of.Built fields) below old allowed = transition_of-free take_number machine (of.Built fields) below old allowed
+state_after-free take_number machine (of.Uploaded fields) below old allowed = transition_of-free take_number machine (of.Uploaded fields) below old allowed
+state_after-free take_number machine (of.Waits fields) below old allowed = transition_of-free take_number machine (of.Waits fields) below old allowed
+state_after-free take_number machine (of.PutBack fields) below old allowed = transition_of-free take_number machine (of.PutBack fields) below old allowed
+state_after-free take_number machine (of.GiveBack fields) below old allowed = transition_of-free take_number machine (of.GiveBack fields) below old allowed
 state_after-free take_number machine (of.DepWait fields) below old allowed =
-    moving-free take_number machine (of.DepWait fields) below old allowed
-state_after-free take_number machine (of.Fail fields) below old allowed = moving-free take_number machine (of.Fail fields) below old allowed
+    transition_of-free take_number machine (of.DepWait fields) below old allowed
+state_after-free take_number machine (of.Fail fields) below old allowed = transition_of-free take_number machine (of.Fail fields) below old allowed
 state_after-free take_number machine (of.NotForUs fields) below old allowed =
-    moving-free take_number machine (of.NotForUs fields) below old allowed
+    transition_of-free take_number machine (of.NotForUs fields) below old allowed
 state_after-free take_number machine (of.Rebuild fields) below old allowed =
-    moving-free take_number machine (of.Rebuild fields) below old allowed
+    transition_of-free take_number machine (of.Rebuild fields) below old allowed
 
 step-free : (take_number : ℕ) (machine : Machine) (command : Command) → take_number ≤ machine.handed → IsFree take_number machine → IsFree take_number (step machine command).1
 step-free take_number machine command below old =

@@ -10,7 +10,7 @@ use Rattle.wb_states.specs.declared.record.Record.{Record}
 use Rattle.wb_states.specs.declared.refusal.Refusal.{Refusal}
 use Rattle.wb_states.specs.Machine.{Machine}
 use Rattle.deb_text.specs.Text.{pair_cmp}
-use Rattle.wb_states.specs.Moves.{moved}
+use Rattle.wb_states.specs.Moves.{record_after_move}
 use Rattle.wb_states.specs.Queue.{Entry}
 use Rattle.deb_text.proofs.KeyLemmas.{pair_cmp_total, pair_cmp-same, eq_by_cmp-same}
 use Rattle.wb_merge.specs.Listing.{ArchiveListing}
@@ -18,10 +18,10 @@ use Rattle.wb_merge.specs.Merge.{record_after}
 use Rattle.wb_merge.specs.Merged.{Records, record_after_at}
 use Rattle.wb_merge.proofs.MergeLemmas.{merged-get}
 use Rattle.wb_office.specs.Checks.{refused_move}
-use Rattle.wb_office.specs.Moving.{MayChange, moving, target_of}
+use Rattle.wb_office.specs.Targets.{MayChange, transition_of, target_of}
 use Rattle.wb_office.specs.Parts.{part_listing, records_after, records_with}
 use Rattle.wb_office.specs.Step.{after_move, state_after, entered, step}
-use Rattle.wb_office.proofs.MovingLemmas.{moving-may}
+use Rattle.wb_office.proofs.TransitionLemmas.{transition_of-may}
 use Rattle.wb_office.proofs.PassLemmas.{step-either}
 
 -- an insertion changes no other key
@@ -57,15 +57,15 @@ parts-others machine sources (part ∷ parts) records key apart =
     ∙ part-others records part.arch (part_listing machine sources part) key both.0
 
 -- a command changes no record but the one that it moves
-moving-others : (machine : Machine) (command : Command) (key : List ℕ × List ℕ) → refused_move machine command ≡ None
+transition_of-others : (machine : Machine) (command : Command) (key : List ℕ × List ℕ) → refused_move machine command ≡ None
     → ((entry : Entry) × ((target_of machine command ≡ Some entry) × (key ≡ entry.0)) → ⊥)
-    → map.get (after_move machine (moving machine command)).records key ≡ map.get machine.records key
-moving-others machine command key allowed apart =
-    (elim (moving machine command) as (λ asked. moving machine command ≡ asked → map.get (after_move machine asked).records key ≡ map.get machine.records key) [
+    → map.get (after_move machine (transition_of machine command)).records key ≡ map.get machine.records key
+transition_of-others machine command key allowed apart =
+    (elim (transition_of machine command) as (λ asked. transition_of machine command ≡ asked → map.get (after_move machine asked).records key ≡ map.get machine.records key) [
       | None ↦ λ _. refl
       | Some asked ↦ λ is.
-          let may = moving-may machine command asked allowed is in
-          insert-other machine.records asked.0.0 key (moved asked.1 asked.0.1) (λ same. apart (asked.0, (may.target, same)))
+          let may = transition_of-may machine command asked allowed is in
+          insert-other machine.records asked.0.0 key (record_after_move asked.1 asked.0.1) (λ same. apart (asked.0, (may.target, same)))
     ]) refl
 
 state_after-others : (machine : Machine) (command : Command) (key : List ℕ × List ℕ) → refused_move machine command ≡ None → (MayChange machine command key → ⊥)
@@ -75,18 +75,18 @@ state_after-others machine (of.AddBuilder fields) key allowed apart = refl
 state_after-others machine (of.Enter fields) key allowed apart =
     insert-other machine.records (fields.arch, fields.source) key (entered fields.version fields.priority fields.section) apart
 state_after-others machine (of.Merge fields) key allowed apart = parts-others machine fields.sources fields.parts machine.records key apart
-state_after-others machine (of.Next fields) key allowed apart = moving-others machine (of.Next fields) key allowed apart
-state_after-others machine (of.Take fields) key allowed apart = moving-others machine (of.Take fields) key allowed apart
-state_after-others machine (of.Built fields) key allowed apart = moving-others machine (of.Built fields) key allowed apart
-state_after-others machine (of.Uploaded fields) key allowed apart = moving-others machine (of.Uploaded fields) key allowed apart
-state_after-others machine (of.Waits fields) key allowed apart = moving-others machine (of.Waits fields) key allowed apart
-state_after-others machine (of.PutBack fields) key allowed apart = moving-others machine (of.PutBack fields) key allowed apart
-state_after-others machine (of.GiveBack fields) key allowed apart = moving-others machine (of.GiveBack fields) key allowed apart
-state_after-others machine (of.DepWait fields) key allowed apart = moving-others machine (of.DepWait fields) key allowed apart
-state_after-others machine (of.Fail fields) key allowed apart = moving-others machine (of.Fail fields) key allowed apart
-state_after-others machine (of.NotForUs fields) key allowed apart = moving-others machine (of.NotForUs fields) key allowed apart
+state_after-others machine (of.Next fields) key allowed apart = transition_of-others machine (of.Next fields) key allowed apart
+state_after-others machine (of.Take fields) key allowed apart = transition_of-others machine (of.Take fields) key allowed apart
+state_after-others machine (of.Built fields) key allowed apart = transition_of-others machine (of.Built fields) key allowed apart
+state_after-others machine (of.Uploaded fields) key allowed apart = transition_of-others machine (of.Uploaded fields) key allowed apart
+state_after-others machine (of.Waits fields) key allowed apart = transition_of-others machine (of.Waits fields) key allowed apart
+state_after-others machine (of.PutBack fields) key allowed apart = transition_of-others machine (of.PutBack fields) key allowed apart
+state_after-others machine (of.GiveBack fields) key allowed apart = transition_of-others machine (of.GiveBack fields) key allowed apart
+state_after-others machine (of.DepWait fields) key allowed apart = transition_of-others machine (of.DepWait fields) key allowed apart
+state_after-others machine (of.Fail fields) key allowed apart = transition_of-others machine (of.Fail fields) key allowed apart
+state_after-others machine (of.NotForUs fields) key allowed apart = transition_of-others machine (of.NotForUs fields) key allowed apart
 state_after-others machine (of.Rebuild fields) key allowed apart =
-    moving-others machine (of.Rebuild fields) key allowed apart
+    transition_of-others machine (of.Rebuild fields) key allowed apart
 
 pub step-others : (machine : Machine) (command : Command) (key : List ℕ × List ℕ) → (MayChange machine command key → ⊥)
     → map.get (step machine command).1.records key ≡ map.get machine.records key

@@ -14,16 +14,16 @@ use Rattle.wb_states.specs.declared.state.State.{State}
 use Rattle.wb_states.specs.declared.state.State.TheVariants.{NeedsBuild}
 use Rattle.deb_text.specs.Options.{has_value}
 use Rattle.wb_states.specs.Machine.{Machine}
-use Rattle.wb_states.specs.Moves.{moved, may_go}
+use Rattle.wb_states.specs.Moves.{record_after_move, may_go}
 use Rattle.wb_states.specs.Queue.{Entry}
 use Rattle.wb_states.specs.State.{is_held}
 use Rattle.deb_text.proofs.KeyLemmas.{pair_cmp_total}
 use Rattle.wb_office.specs.Checks.{first_refusal}
 use Rattle.wb_office.specs.HandOuts.{HandOut, IsBeingBuilt, HasTakeByState, HasTakesByState, Ends, Rise, given_by, hand_out, hand_outs, holds, is_held_as}
-use Rattle.wb_office.specs.Moving.{target_of, moving, with_move, again_of}
+use Rattle.wb_office.specs.Targets.{target_of, transition_of, with_move, again_of}
 use Rattle.wb_office.specs.Replay.{replay}
 use Rattle.wb_office.specs.Step.{outcome, step, state_after, counted, after_move, after_take, reply_to, assignment_reply}
-use Rattle.wb_office.proofs.MovingLemmas.{MayMove, moving-may}
+use Rattle.wb_office.proofs.TransitionLemmas.{MayMove, transition_of-may}
 use Rattle.wb_office.proofs.PassLemmas.{Passes, passes, step-either}
 use Rattle.wb_office.proofs.TakeStateLemmas.{allowed-from, replay-takes, step-takes}
 
@@ -37,7 +37,7 @@ record IsHandedOut (machine : Machine) (after : Machine) (given : HandOut) : Typ
   stands : map.get machine.records entry.0 ≡ Some entry.1
   waits : is_held entry.1.state ≡ false
   handed : after.handed ≡ machine.handed + 1
-  records : after.records ≡ map.insert machine.records entry.0 (moved (to.Take builder (machine.handed + 1)) entry.1)
+  records : after.records ≡ map.insert machine.records entry.0 (record_after_move (to.Take builder (machine.handed + 1)) entry.1)
 
 -- what is taken is not held
 taken-free : (holder : List ℕ) (take_number : ℕ) (state : State) → may_go (to.Take holder take_number) state ≡ true → is_held state ≡ false
@@ -50,7 +50,7 @@ abbrev AsksFor : Machine → Command → List ℕ → Type 0
 AsksFor machine command builder =
     ((entry : Entry) → with_move machine command entry ≡ Some (entry, to.Take builder (machine.handed + 1)))
     × (reply_to machine command ≡ assignment_reply machine (target_of machine command))
-    × (state_after machine command ≡ after_take machine (moving machine command))
+    × (state_after machine command ≡ after_take machine (transition_of machine command))
 
 assigned-given : (machine : Machine) (builder : List ℕ) (found : Option Entry) (given : HandOut) → given_by builder (Ok (assignment_reply machine found)) ≡ Some given
     → (entry : Entry) × ((found ≡ Some entry) × ((given.key ≡ entry.0) × ((given.take ≡ machine.handed + 1) × (given.builder ≡ builder))))
@@ -61,13 +61,13 @@ assigned-given machine builder (Some entry) given is =
 
 accepted-given : (machine : Machine) (command : Command) (builder : List ℕ) (given : HandOut) → AsksFor machine command builder → Passes machine command
     → given_by builder (Ok (reply_to machine command)) ≡ Some given → IsHandedOut machine (counted machine (state_after machine command)) given
-unfolding moving
+unfolding transition_of
 accepted-given machine command builder given asks pass is =
     let assigned = assigned-given machine builder (target_of machine command) given (sym (ap (λ reply. given_by builder (Ok reply)) asks.1) ∙ is) in
     let entry : Entry = assigned.0 in
     let move : Move = to.Take builder (machine.handed + 1) in
-    let found : moving machine command ≡ Some (entry, move) = ap (option_and_then (with_move machine command)) assigned.1.0 ∙ asks.0 entry in
-    let may : MayMove machine command (entry, move) = moving-may machine command (entry, move) pass.move found in
+    let found : transition_of machine command ≡ Some (entry, move) = ap (option_and_then (with_move machine command)) assigned.1.0 ∙ asks.0 entry in
+    let may : MayMove machine command (entry, move) = transition_of-may machine command (entry, move) pass.move found in
     let done : state_after machine command ≡ after_take machine (Some (entry, move)) = asks.2 ∙ ap (after_take machine) found in
     record {
       entry = entry;
@@ -118,15 +118,15 @@ state_after-handed machine (of.Enter fields) = omega arith
 state_after-handed machine (of.Next fields) = omega arith
 state_after-handed machine (of.Take fields) = omega arith
 state_after-handed machine (of.Merge fields) = omega arith
-state_after-handed machine (of.Built fields) = move-handed machine (moving machine (of.Built fields))
-state_after-handed machine (of.Uploaded fields) = move-handed machine (moving machine (of.Uploaded fields))
-state_after-handed machine (of.Waits fields) = move-handed machine (moving machine (of.Waits fields))
-state_after-handed machine (of.PutBack fields) = move-handed machine (moving machine (of.PutBack fields))
-state_after-handed machine (of.GiveBack fields) = move-handed machine (moving machine (of.GiveBack fields))
-state_after-handed machine (of.DepWait fields) = move-handed machine (moving machine (of.DepWait fields))
-state_after-handed machine (of.Fail fields) = move-handed machine (moving machine (of.Fail fields))
-state_after-handed machine (of.NotForUs fields) = move-handed machine (moving machine (of.NotForUs fields))
-state_after-handed machine (of.Rebuild fields) = move-handed machine (moving machine (of.Rebuild fields))
+state_after-handed machine (of.Built fields) = move-handed machine (transition_of machine (of.Built fields))
+state_after-handed machine (of.Uploaded fields) = move-handed machine (transition_of machine (of.Uploaded fields))
+state_after-handed machine (of.Waits fields) = move-handed machine (transition_of machine (of.Waits fields))
+state_after-handed machine (of.PutBack fields) = move-handed machine (transition_of machine (of.PutBack fields))
+state_after-handed machine (of.GiveBack fields) = move-handed machine (transition_of machine (of.GiveBack fields))
+state_after-handed machine (of.DepWait fields) = move-handed machine (transition_of machine (of.DepWait fields))
+state_after-handed machine (of.Fail fields) = move-handed machine (transition_of machine (of.Fail fields))
+state_after-handed machine (of.NotForUs fields) = move-handed machine (transition_of machine (of.NotForUs fields))
+state_after-handed machine (of.Rebuild fields) = move-handed machine (transition_of machine (of.Rebuild fields))
 
 pub step-handed : (machine : Machine) (command : Command) → machine.handed ≤ (step machine command).1.handed
 step-handed machine command = step-either (λ after. machine.handed ≤ after.handed) machine command (omega arith) (λ _ _. state_after-handed machine command)
@@ -153,9 +153,9 @@ rise machine (command ∷ commands) =
 
 -- the record of a hand-out is the one that was moved
 given-record : (machine after : Machine) (given : HandOut) (known : IsHandedOut machine after given)
-    → map.get after.records given.key ≡ Some (moved (to.Take known.builder (machine.handed + 1)) known.entry.1)
+    → map.get after.records given.key ≡ Some (record_after_move (to.Take known.builder (machine.handed + 1)) known.entry.1)
 given-record machine after given known =
-    let put : Record = moved (to.Take known.builder (machine.handed + 1)) known.entry.1 in
+    let put : Record = record_after_move (to.Take known.builder (machine.handed + 1)) known.entry.1 in
     ap (λ records. map.get records given.key) known.records
     ∙ ap (map.get (map.insert machine.records known.entry.0 put)) known.key
     ∙ map.get-insert pair_cmp_total machine.records known.entry.0 put known.entry.0
@@ -163,7 +163,7 @@ given-record machine after given known =
 
 -- after a hand-out its record is held under its take number
 given-holds : (machine after : Machine) (given : HandOut) → IsHandedOut machine after given → holds after given ≡ true
-unfolding holds moved
+unfolding holds record_after_move
 given-holds machine after given known =
     ap (is_held_as given.take) (given-record machine after given known) ∙ ap (λ n. nat_eq n (machine.handed + 1)) known.number
     ∙ eq-eqb (machine.handed + 1) (machine.handed + 1) refl
@@ -171,10 +171,10 @@ given-holds machine after given known =
 -- after a hand-out its record is being built by the builder that it was handed to
 pub hand_out-built : (machine : Machine) (command : Command) (given : HandOut) → hand_out machine command ≡ Some given
     → (current : Record) × ((map.get (step machine command).1.records given.key ≡ Some current) × IsBeingBuilt given current)
-unfolding moved
+unfolding record_after_move
 hand_out-built machine command given is =
     let known = hand_out-is machine command given is in
-    let put : Record = moved (to.Take known.builder (machine.handed + 1)) known.entry.1 in (
+    let put : Record = record_after_move (to.Take known.builder (machine.handed + 1)) known.entry.1 in (
       put,
       (
         given-record machine (step machine command).1 given known,

@@ -16,7 +16,7 @@ use Rattle.wb_states.specs.declared.reply.Reply.TheVariants.{Job}
 use Rattle.wb_states.specs.declared.state.State.TheVariants.{Building, NeedsBuild}
 use Rattle.wb_states.specs.Machine.{Machine}
 use Rattle.deb_text.specs.Text.{pair_cmp}
-use Rattle.wb_states.specs.Moves.{moved}
+use Rattle.wb_states.specs.Moves.{record_after_move}
 use Rattle.wb_states.specs.Queue.{Entry, IsWaitingAt, entry_cmp, head_of, place_cmp_total, place_of, queue_of}
 use Rattle.deb_text.specs.Lists.{IsIn, first_of}
 use Rattle.deb_text.proofs.KeyLemmas.{pair_cmp_total, pair_cmp-same, eq_by_cmp-same}
@@ -103,10 +103,10 @@ head-rest machine arch entry is = parts (queue_of machine arch) is where
 -- what was taken waits no more, and what waits otherwise waits as before
 rest-waits : (machine : Machine) (arch builder : List ℕ) (entry : Entry) (rest : List Entry) → queue_of machine arch ≡ entry ∷ rest → head_of machine arch ≡ Some entry
     → (other : Entry) → IsIn other rest ↔ IsWaitingAt (handed_to machine builder entry) arch other
-unfolding handed_to moved
+unfolding handed_to record_after_move
 rest-waits machine arch builder entry rest is head other = (there, back) where
   put : Record
-  put = moved (to.Take builder (machine.handed + 1)) entry.1
+  put = record_after_move (to.Take builder (machine.handed + 1)) entry.1
 
   sorted : IsStrictlySortedBy entry_cmp (entry ∷ rest)
   sorted = subst (IsStrictlySortedBy entry_cmp) is (sorted-queue_of machine arch)

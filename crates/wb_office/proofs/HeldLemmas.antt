@@ -18,8 +18,8 @@ use Rattle.wb_states.specs.Moves.{move_refusal}
 use Rattle.wb_states.specs.Queue.{Entry}
 use Rattle.deb_text.specs.Options.{first_some}
 use Rattle.wb_office.specs.Checks.{when, relations_refusal, text_refusal, state_refusal}
-use Rattle.wb_office.specs.Found.{outcome_unless, move_step, taken_at, taken_step}
-use Rattle.wb_office.specs.Moving.{moving}
+use Rattle.wb_office.specs.Outcomes.{outcome_unless, move_step, taken_at, taken_step}
+use Rattle.wb_office.specs.Targets.{transition_of}
 use Rattle.wb_office.specs.Step.{step, counted, after_move}
 use Rattle.wb_office.proofs.StepLemmas.{step-state, step-text}
 
@@ -36,17 +36,17 @@ taken-answer machine moves None = refl
 taken-answer machine moves (Some entry) = refl
 
 pub step-Built : (machine : Machine) (take_number : ℕ) → step machine (Built take_number) ≡ taken_step machine take_number (λ _. to.Built)
-unfolding text_refusal state_refusal moving taken_step
+unfolding text_refusal state_refusal transition_of taken_step
 step-Built machine take_number =
     step-state machine (Built take_number) refl refl ∙ taken-answer machine (λ _. to.Built) (taken_as machine take_number)
 
 pub step-Uploaded : (machine : Machine) (take_number : ℕ) → step machine (Uploaded take_number) ≡ taken_step machine take_number (λ _. to.Uploaded)
-unfolding text_refusal state_refusal moving taken_step
+unfolding text_refusal state_refusal transition_of taken_step
 step-Uploaded machine take_number =
     step-state machine (Uploaded take_number) refl refl ∙ taken-answer machine (λ _. to.Uploaded) (taken_as machine take_number)
 
 pub step-PutBack : (machine : Machine) (take_number : ℕ) → step machine (PutBack take_number) ≡ taken_step machine take_number (λ _. to.PutBack)
-unfolding text_refusal state_refusal moving taken_step
+unfolding text_refusal state_refusal transition_of taken_step
 step-PutBack machine take_number =
     step-state machine (PutBack take_number) refl refl ∙ taken-answer machine (λ _. to.PutBack) (taken_as machine take_number)
 
@@ -61,7 +61,7 @@ waits-text take_number relations groups reads =
 
 step-Waits : (machine : Machine) (take_number : ℕ) (relations : List ℕ) (groups : List (List Alternative)) → reading_of relations ≡ Ok groups
     → step machine (Waits take_number relations) ≡ taken_step machine take_number (waits_move machine relations)
-unfolding state_refusal moving taken_step waits_move
+unfolding state_refusal transition_of taken_step waits_move
 step-Waits machine take_number relations groups reads =
     step-state machine (Waits take_number relations) (waits-text take_number relations groups reads) refl
     ∙ taken-answer machine (λ entry. to.Waits (result_unwrap_or (reading_of relations) []) (arch_words machine entry.0.0)) (taken_as machine take_number)

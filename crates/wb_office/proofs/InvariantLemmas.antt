@@ -10,23 +10,23 @@ use Rattle.wb_states.specs.declared.moves.Move.{Move}
 use Rattle.wb_states.specs.declared.record.Record.{Record}
 use Rattle.wb_states.specs.Limits.{count_limit, note_limit, relations_limit}
 use Rattle.wb_states.specs.Machine.{Machine, arch_words, IsRecord, IsConsistent}
-use Rattle.wb_states.specs.Moves.{moved, move_refusal}
+use Rattle.wb_states.specs.Moves.{record_after_move, move_refusal}
 use Rattle.deb_relations.specs.Names.{is_package_name}
 use Rattle.wb_states.specs.Names.{is_arch_name, is_os_cpu_word, is_builder_name, is_label_text}
 use Rattle.wb_states.specs.Queue.{Entry}
 use Rattle.wb_states.specs.Record.{IsWellFormed}
 use Rattle.deb_text.specs.Text.{is_empty_text}
-use Rattle.wb_office.specs.Moving.{again_of, moving}
+use Rattle.wb_office.specs.Targets.{again_of, transition_of}
 use Rattle.wb_office.specs.Replay.{replay}
 use Rattle.wb_office.specs.Step.{step, state_after, counted, entered, after_move, after_take}
 use Rattle.wb_office.specs.Utf8.{HasUtf8Texts, HaveUtf8Texts}
-use Rattle.wb_office.proofs.AskedLemmas.{HasHanded, asked-good}
+use Rattle.wb_office.proofs.MoveOfCommandLemmas.{HasHanded, asked-good}
 use Rattle.wb_office.proofs.ConsistencyLemmas.{IsFreshOrKept, with_arch, with_builder, with_record, with_counts}
 use Rattle.wb_office.proofs.MergingLemmas.{merging-keeps}
-use Rattle.wb_office.proofs.MovedLemmas.{IsGoodMove, moved-well, moved-holder, moved-waits, moved-number}
-use Rattle.wb_office.proofs.MovingLemmas.{moving-may}
+use Rattle.wb_office.proofs.MovedRecordLemmas.{IsGoodMove, record_after_move-well, record_after_move-holder, record_after_move-waits, record_after_move-number}
+use Rattle.wb_office.proofs.TransitionLemmas.{transition_of-may}
 use Rattle.wb_office.proofs.PassLemmas.{Passes, step-either}
-use Rattle.wb_states.proofs.SettledLemmas.{empty_within}
+use Rattle.wb_states.proofs.InStateLemmas.{empty_within}
 
 -- ---- a source package that is entered
 
@@ -53,22 +53,22 @@ entered-well version priority section reads first second = record {
 
 put-keeps : (machine : Machine) (handed : ℕ) (entry : Entry) (move : Move) → IsConsistent machine → map.get machine.records entry.0 ≡ Some entry.1
     → move_refusal move entry.1 ≡ None → IsGoodMove machine handed entry.0.0 move → machine.handed ≤ handed → handed ≤ count_limit → machine.accepted < count_limit
-    → IsConsistent (record machine { records = map.insert machine.records entry.0 (moved move entry.1); handed = handed; accepted = machine.accepted + 1 })
+    → IsConsistent (record machine { records = map.insert machine.records entry.0 (record_after_move move entry.1); handed = handed; accepted = machine.accepted + 1 })
 unfolding arch_words
 put-keeps machine handed entry move old stands allowed good up within room =
     let arch : List ℕ = entry.0.0 in
     let current : Record = entry.1 in
     let had : IfSome (Some current) (IsRecord machine arch entry.0.1) = subst (λ r. IfSome r (IsRecord machine arch entry.0.1)) stands (old.records arch entry.0.1) in
-    let is : IsRecord (record machine { handed = handed }) arch entry.0.1 (moved move current) = record {
+    let is : IsRecord (record machine { handed = handed }) arch entry.0.1 (record_after_move move current) = record {
       name = had.name;
       known = had.known;
-      fields = moved-well machine handed arch current had.fields move good allowed;
-      holder = moved-holder machine handed arch current move good had.holder;
-      waits = moved-waits machine handed arch current move good;
-      given = moved-number machine handed arch current (λ n. (1 ≤ n) × (n ≤ handed)) move good (λ e. (omega arith, omega arith)) (given current.take had.given);
+      fields = record_after_move-well machine handed arch current had.fields move good allowed;
+      holder = record_after_move-holder machine handed arch current move good had.holder;
+      waits = record_after_move-waits machine handed arch current move good;
+      given = record_after_move-number machine handed arch current (λ n. (1 ≤ n) × (n ≤ handed)) move good (λ e. (omega arith, omega arith)) (given current.take had.given);
     } in
-    with_record machine entry.0 (moved move current) handed old is
-    (moved-number machine handed arch current (IsFreshOrKept machine entry.0) move good (λ e. inl (omega arith)) (kept current.take refl)) up within room
+    with_record machine entry.0 (record_after_move move current) handed old is
+    (record_after_move-number machine handed arch current (IsFreshOrKept machine entry.0) move good (λ e. inl (omega arith)) (kept current.take refl)) up within room
   where
     given : (taken : Option ℕ) → IfSome taken (λ n. (1 ≤ n) × (n ≤ machine.handed)) → IfSome taken (λ n. (1 ≤ n) × (n ≤ handed))
     given None is = tt
@@ -80,24 +80,24 @@ put-keeps machine handed entry move old stands allowed good up within room =
 
 -- a command that hands out
 taking-keeps : (machine : Machine) (command : Command) → IsConsistent machine → HasUtf8Texts command → HasHanded machine (machine.handed + 1) command → Passes machine command
-    → machine.handed < count_limit → machine.accepted < count_limit → IsConsistent (counted machine (after_take machine (moving machine command)))
+    → machine.handed < count_limit → machine.accepted < count_limit → IsConsistent (counted machine (after_take machine (transition_of machine command)))
 taking-keeps machine command old utf8 given pass last room =
-    (elim (moving machine command) as (λ asked. moving machine command ≡ asked → IsConsistent (counted machine (after_take machine asked))) [
+    (elim (transition_of machine command) as (λ asked. transition_of machine command ≡ asked → IsConsistent (counted machine (after_take machine asked))) [
       | None ↦ λ _. with_counts machine (machine.handed + 1) old (omega arith) (omega arith) room
       | Some asked ↦ λ is.
-          let may = moving-may machine command asked pass.move is in
+          let may = transition_of-may machine command asked pass.move is in
           let good = asked-good machine (machine.handed + 1) command asked.0 asked.1 utf8 given pass may.target may.asks in
           put-keeps machine (machine.handed + 1) asked.0 asked.1 old may.stands may.allowed good (omega arith) (omega arith) room
     ]) refl
 
 -- a command that moves a record under its number
-moving-keeps : (machine : Machine) (command : Command) → IsConsistent machine → HasUtf8Texts command → HasHanded machine machine.handed command → Passes machine command
-    → machine.accepted < count_limit → IsConsistent (counted machine (after_move machine (moving machine command)))
-moving-keeps machine command old utf8 given pass room =
-    (elim (moving machine command) as (λ asked. moving machine command ≡ asked → IsConsistent (counted machine (after_move machine asked))) [
+transition_of-keeps : (machine : Machine) (command : Command) → IsConsistent machine → HasUtf8Texts command → HasHanded machine machine.handed command → Passes machine command
+    → machine.accepted < count_limit → IsConsistent (counted machine (after_move machine (transition_of machine command)))
+transition_of-keeps machine command old utf8 given pass room =
+    (elim (transition_of machine command) as (λ asked. transition_of machine command ≡ asked → IsConsistent (counted machine (after_move machine asked))) [
       | None ↦ λ _. let within = old.handed in with_counts machine machine.handed old (omega arith) within room
       | Some asked ↦ λ is.
-          let may = moving-may machine command asked pass.move is in
+          let may = transition_of-may machine command asked pass.move is in
           let good = asked-good machine machine.handed command asked.0 asked.1 utf8 given pass may.target may.asks in
           let within = old.handed in
           put-keeps machine machine.handed asked.0 asked.1 old may.stands may.allowed good (omega arith) within room
@@ -139,21 +139,21 @@ state_after-keeps machine (of.Take fields) old utf8 pass again =
     let spent = or_parts (nat_le count_limit machine.accepted) (nat_le count_limit machine.handed) pass.room in
     taking-keeps machine (of.Take fields) old utf8 refl pass (leb-false count_limit machine.handed spent.1) (room-for machine spent.0)
 state_after-keeps machine (of.Merge fields) old utf8 pass again = merging-keeps machine fields.sources fields.parts old (room-for machine pass.room)
-state_after-keeps machine (of.Built fields) old utf8 pass again = moving-keeps machine (of.Built fields) old utf8 tt pass (room-for machine pass.room)
-state_after-keeps machine (of.Uploaded fields) old utf8 pass again = moving-keeps machine (of.Uploaded fields) old utf8 tt pass (room-for machine pass.room)
+state_after-keeps machine (of.Built fields) old utf8 pass again = transition_of-keeps machine (of.Built fields) old utf8 tt pass (room-for machine pass.room)
+state_after-keeps machine (of.Uploaded fields) old utf8 pass again = transition_of-keeps machine (of.Uploaded fields) old utf8 tt pass (room-for machine pass.room)
 state_after-keeps machine (of.Waits fields) old utf8 pass again =
-    moving-keeps machine (of.Waits fields) old utf8 tt pass (room-for machine pass.room)
-state_after-keeps machine (of.PutBack fields) old utf8 pass again = moving-keeps machine (of.PutBack fields) old utf8 tt pass (room-for machine pass.room)
+    transition_of-keeps machine (of.Waits fields) old utf8 tt pass (room-for machine pass.room)
+state_after-keeps machine (of.PutBack fields) old utf8 pass again = transition_of-keeps machine (of.PutBack fields) old utf8 tt pass (room-for machine pass.room)
 state_after-keeps machine (of.GiveBack fields) old utf8 pass again =
-    moving-keeps machine (of.GiveBack fields) old utf8 tt pass (room-for machine pass.room)
+    transition_of-keeps machine (of.GiveBack fields) old utf8 tt pass (room-for machine pass.room)
 state_after-keeps machine (of.DepWait fields) old utf8 pass again =
-    moving-keeps machine (of.DepWait fields) old utf8 tt pass (room-for machine pass.room)
+    transition_of-keeps machine (of.DepWait fields) old utf8 tt pass (room-for machine pass.room)
 state_after-keeps machine (of.Fail fields) old utf8 pass again =
-    moving-keeps machine (of.Fail fields) old utf8 tt pass (room-for machine pass.room)
+    transition_of-keeps machine (of.Fail fields) old utf8 tt pass (room-for machine pass.room)
 state_after-keeps machine (of.NotForUs fields) old utf8 pass again =
-    moving-keeps machine (of.NotForUs fields) old utf8 tt pass (room-for machine pass.room)
+    transition_of-keeps machine (of.NotForUs fields) old utf8 tt pass (room-for machine pass.room)
 state_after-keeps machine (of.Rebuild fields) old utf8 pass again =
-    moving-keeps machine (of.Rebuild fields) old utf8 tt pass (room-for machine pass.room)
+    transition_of-keeps machine (of.Rebuild fields) old utf8 tt pass (room-for machine pass.room)
 
 pub step-keeps : (machine : Machine) (command : Command) → HasUtf8Texts command → IsConsistent machine → IsConsistent (step machine command).1
 step-keeps machine command utf8 old = step-either IsConsistent machine command old (state_after-keeps machine command old utf8)

@@ -13,7 +13,7 @@ use Rattle.wb_states.specs.declared.refusal.Refusal.TheVariants.{BadName, BadVer
 use Rattle.wb_states.specs.Limits.{note_limit, rebuild_limit}
 use Rattle.wb_states.specs.Machine.{Machine, arch_words}
 use Rattle.wb_office.specs.Checks.{when, has_bad_key, relations_refusal, text_refusal, key_refusal}
-use Rattle.wb_office.specs.Found.{named_step}
+use Rattle.wb_office.specs.Outcomes.{named_step}
 use Rattle.wb_office.specs.Step.{step}
 use Rattle.wb_office.proofs.NamedLemmas.{step-GiveBack, step-DepWait, step-Fail, step-NotForUs, step-Rebuild}
 use Rattle.wb_office.proofs.StepLemmas.{step-text, two-None, two-Some, two-later}

@@ -1,6 +1,6 @@
 pub mod ApartPartLemmas
 pub mod AppliedLemmas
-pub mod AskedLemmas
+pub mod MoveOfCommandLemmas
 pub mod AssignmentLemmas
 pub mod ConsistencyLemmas
 pub mod CountedLemmas
@@ -14,8 +14,8 @@ pub mod KeyLemmas
 pub mod MergedLemmas
 pub mod MergingLemmas
 pub mod MoveLemmas
-pub mod MovedLemmas
-pub mod MovingLemmas
+pub mod MovedRecordLemmas
+pub mod TransitionLemmas
 pub mod NamedLemmas
 pub mod NextLemmas
 pub mod PartLemmas

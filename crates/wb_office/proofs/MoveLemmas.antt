@@ -11,24 +11,24 @@ use Rattle.wb_states.specs.declared.reply.Reply.{Reply}
 use Rattle.wb_states.specs.declared.reply.Reply.TheVariants.{Done}
 use Rattle.wb_states.specs.Limits.{count_limit}
 use Rattle.wb_states.specs.Machine.{Machine}
-use Rattle.wb_states.specs.Moves.{move_refusal, move_of, moved}
+use Rattle.wb_states.specs.Moves.{move_refusal, move_outcome, record_after_move}
 use Rattle.wb_states.specs.Queue.{Entry}
 use Rattle.wb_store.specs.declared.keyed.KeyedRecord.{KeyedRecord}
 use Rattle.wb_store.specs.Lookups.{entry_of}
 use Rattle.wb_office.specs.Checks.{when}
-use Rattle.wb_office.specs.Found.{outcome_unless, move_step}
+use Rattle.wb_office.specs.Outcomes.{outcome_unless, move_step}
 use Rattle.wb_office.specs.Step.{counted, after_move}
 
-pub move_of-Ok : (move : Move) (current after : Record) → move_of move current ≡ Ok after
-    → (move_refusal move current ≡ None) × (after ≡ moved move current)
-unfolding move_of
-move_of-Ok move current after is =
-    let parts = ok_unless-Ok (move_refusal move current) (moved move current) after is in (parts.0, sym parts.1)
+pub move_outcome-Ok : (move : Move) (current after : Record) → move_outcome move current ≡ Ok after
+    → (move_refusal move current ≡ None) × (after ≡ record_after_move move current)
+unfolding move_outcome
+move_outcome-Ok move current after is =
+    let parts = ok_unless-Ok (move_refusal move current) (record_after_move move current) after is in (parts.0, sym parts.1)
 
-pub move_of-Err : (move : Move) (current : Record) (refusal : Refusal) → move_of move current ≡ Err refusal
+pub move_outcome-Err : (move : Move) (current : Record) (refusal : Refusal) → move_outcome move current ≡ Err refusal
     → move_refusal move current ≡ Some refusal
-unfolding move_of
-move_of-Err move current refusal is = ok_unless-Err (move_refusal move current) (moved move current) refusal is
+unfolding move_outcome
+move_outcome-Err move current refusal is = ok_unless-Err (move_refusal move current) (record_after_move move current) refusal is
 
 pub move_step-refused : (machine : Machine) (entry : Entry) (move : Move) (refusal : Refusal)
     → move_refusal move entry.1 ≡ Some refusal → move_step machine entry move ≡ (Err refusal, machine)
@@ -47,7 +47,7 @@ move_step-Spent machine entry move is full =
 pub move_step-Ok : (machine new : Machine) (entry : Entry) (move : Move) (reply : Reply)
     → move_refusal move entry.1 ≡ None → nat_le count_limit machine.accepted ≡ false
     → reply ≡ Done (machine.accepted + 1)
-    → new ≡ counted machine (record machine { records = map.insert machine.records entry.0 (moved move entry.1) })
+    → new ≡ counted machine (record machine { records = map.insert machine.records entry.0 (record_after_move move entry.1) })
     → move_step machine entry move ≡ (Ok reply, new)
 unfolding move_step
 move_step-Ok machine new entry move reply is room replied left =
@@ -58,7 +58,7 @@ move_step-Ok machine new entry move reply is room replied left =
 -- a record after a move is written, and the command is counted
 pub move_step-made : (machine new : Machine) (entry : Entry) (move : Move) (made : KeyedRecord) (reply : Reply)
     → move_refusal move entry.1 ≡ None → nat_le count_limit machine.accepted ≡ false
-    → entry_of made ≡ (entry.0, moved move entry.1)
+    → entry_of made ≡ (entry.0, record_after_move move entry.1)
     → reply ≡ Done (machine.accepted + 1)
     → new ≡ counted machine (record machine { records = map.insert machine.records (made.arch, made.source) made.current })
     → move_step machine entry move ≡ (Ok reply, new)

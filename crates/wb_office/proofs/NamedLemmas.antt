@@ -16,8 +16,8 @@ use Rattle.wb_states.specs.Queue.{Entry}
 use Rattle.deb_relations.specs.Reading.{reading_of}
 use Rattle.deb_text.specs.Options.{first_some}
 use Rattle.wb_office.specs.Checks.{when, differing, text_refusal, state_refusal, found_refusal}
-use Rattle.wb_office.specs.Found.{outcome_unless, move_step, named_at, named_step}
-use Rattle.wb_office.specs.Moving.{moving, record_named, with_move}
+use Rattle.wb_office.specs.Outcomes.{outcome_unless, move_step, named_at, named_step}
+use Rattle.wb_office.specs.Targets.{transition_of, record_named, with_move}
 use Rattle.wb_office.specs.Step.{Outcome, step, counted, after_move}
 use Rattle.wb_office.proofs.StepLemmas.{step-state, outcome_unless-option_or, outcome_unless-last}
 
@@ -44,21 +44,21 @@ named-answer machine arch source version move is_unknown (Some current) =
 
 pub step-GiveBack : (machine : Machine) (arch source version : List ℕ) → text_refusal (GiveBack arch source version) ≡ None
     → step machine (GiveBack arch source version) ≡ named_step machine arch source version to.GiveBack
-unfolding state_refusal moving record_named named_step
+unfolding state_refusal transition_of record_named named_step
 step-GiveBack machine arch source version text =
     step-state machine (GiveBack arch source version) text refl
     ∙ named-answer machine arch source version to.GiveBack (not (map.contains_key machine.archs arch)) (map.get machine.records (arch, source))
 
 pub step-Fail : (machine : Machine) (arch source version note : List ℕ) → text_refusal (Fail arch source version note) ≡ None
     → step machine (Fail arch source version note) ≡ named_step machine arch source version (to.Fail note)
-unfolding state_refusal moving record_named named_step
+unfolding state_refusal transition_of record_named named_step
 step-Fail machine arch source version note text =
     step-state machine (Fail arch source version note) text refl
     ∙ named-answer machine arch source version (to.Fail note) (not (map.contains_key machine.archs arch)) (map.get machine.records (arch, source))
 
 pub step-NotForUs : (machine : Machine) (arch source version note : List ℕ) → text_refusal (NotForUs arch source version note) ≡ None
     → step machine (NotForUs arch source version note) ≡ named_step machine arch source version (to.NotForUs note)
-unfolding state_refusal moving record_named named_step
+unfolding state_refusal transition_of record_named named_step
 step-NotForUs machine arch source version note text =
     step-state machine (NotForUs arch source version note) text refl
     ∙ named-answer machine arch source version (to.NotForUs note) (not (map.contains_key machine.archs arch)) (map.get machine.records (arch, source))
@@ -66,7 +66,7 @@ step-NotForUs machine arch source version note text =
 pub step-Rebuild : (machine : Machine) (arch source version : List ℕ) (number : ℕ) (message : List ℕ)
     → text_refusal (Rebuild arch source version number message) ≡ None
     → step machine (Rebuild arch source version number message) ≡ named_step machine arch source version (to.Rebuild number message)
-unfolding state_refusal moving record_named named_step
+unfolding state_refusal transition_of record_named named_step
 step-Rebuild machine arch source version number message text =
     step-state machine (Rebuild arch source version number message) text refl
     ∙ named-answer machine arch source version (to.Rebuild number message) (not (map.contains_key machine.archs arch)) (map.get machine.records (arch, source))
@@ -95,7 +95,7 @@ depwait-answer machine arch source version relations (Some current) =
 pub step-DepWait : (machine : Machine) (arch source version relations : List ℕ) → text_refusal (DepWait arch source version relations) ≡ None
     → step machine (DepWait arch source version relations)
     ≡ named_step machine arch source version (to.DepWait (result_unwrap_or (reading_of relations) []) (arch_words machine arch))
-unfolding state_refusal moving record_named named_step
+unfolding state_refusal transition_of record_named named_step
 step-DepWait machine arch source version relations text =
     step-state machine (DepWait arch source version relations) text refl
     ∙ depwait-answer machine arch source version relations (map.get machine.records (arch, source))

@@ -16,8 +16,8 @@ use Rattle.wb_states.specs.Queue.{Entry, head_of}
 use Rattle.wb_states.proofs.QueueLemmas.{head_of-waits}
 use Rattle.deb_text.specs.Options.{first_some}
 use Rattle.wb_office.specs.Checks.{when, has_bad_name, is_ahead, is_for_other_archs, lacks_arch, lacks_builder, text_refusal, state_refusal, first_refusal, builder_refusal}
-use Rattle.wb_office.specs.Found.{outcome_unless, head_at, head_step, assignment_step, take_move, held_assignment}
-use Rattle.wb_office.specs.Moving.{again_of, moving}
+use Rattle.wb_office.specs.Outcomes.{outcome_unless, head_at, head_step, assignment_step, take_move, held_assignment}
+use Rattle.wb_office.specs.Targets.{again_of, transition_of}
 use Rattle.wb_office.specs.Step.{outcome, step, reply_to, state_after, counted, after_take, assignment_reply}
 use Rattle.wb_office.proofs.StepLemmas.{step-refused, outcome-None, three-None, three-Some}
 
@@ -57,7 +57,7 @@ next-checks : (machine : Machine) (arch builder : List ℕ) (after : Option ℕ)
     → again_of machine (Next arch builder after) ≡ again
     → first_refusal machine (Next arch builder after) ≡ option_or (first_some (when is_bad BadName ∷ [])) (builder_first machine arch builder after
     (option_or (when is_later (AfterAhead machine.handed)) (queue_checks machine builder (is_none again) (head_of machine arch))))
-unfolding first_refusal text_refusal state_refusal moving builder_first queue_checks
+unfolding first_refusal text_refusal state_refusal transition_of builder_first queue_checks
 next-checks machine arch builder after is_bad is_later again bad later again_is =
     λ i. option_or (first_some (when (bad i) BadName ∷ [])) (builder_first machine arch builder after
     (option_or (when (later i) (AfterAhead machine.handed)) (queue_checks machine builder (is_none (again_is i)) (head_of machine arch))))
@@ -113,7 +113,7 @@ head-answer : (machine : Machine) (arch builder : List ℕ) (after : Option ℕ)
     → outcome_unless (queue_checks machine builder true (head_of machine arch)) machine
     (Ok (reply_to machine (Next arch builder after)), counted machine (state_after machine (Next arch builder after)))
     ≡ head_at machine builder (head_of machine arch)
-unfolding queue_checks assignment_step moving
+unfolding queue_checks assignment_step transition_of
 head-answer machine arch builder after = found (head_of machine arch) where
   found : (head : Option Entry)
       → outcome_unless (option_or (option_and_then (λ (asked : Entry × Move). move_refusal asked.1 asked.0.1)

@@ -14,7 +14,7 @@ use Rattle.wb_states.specs.Machine.{Machine}
 use Rattle.wb_states.specs.Names.{is_arch_name}
 use Rattle.deb_text.specs.Options.{first_some}
 use Rattle.wb_office.specs.Checks.{first_refusal, has_repeated_arch, state_refusal, text_refusal, when}
-use Rattle.wb_office.specs.Moving.{moving}
+use Rattle.wb_office.specs.Targets.{transition_of}
 use Rattle.wb_office.specs.Parts.{is_good, is_known, listing_for, parts_refusal, part_listing}
 use Rattle.wb_merge.proofs.NameLemmas.{none-is}
 
@@ -33,7 +33,7 @@ pub first_refusal-Merge : (machine : Machine) (sources : List ℕ) (parts : List
     → list_any (λ part. not (is_arch_name part.arch)) parts ≡ is_bad → has_repeated_arch parts ≡ is_repeated
     → parts_refusal machine sources parts ≡ refused → nat_le count_limit machine.accepted ≡ is_full
     → first_refusal machine (Merge sources parts) ≡ first_some (when is_bad BadName ∷ when is_repeated RepeatedArch ∷ refused ∷ when is_full Spent ∷ [])
-unfolding first_refusal text_refusal state_refusal moving
+unfolding first_refusal text_refusal state_refusal transition_of
 first_refusal-Merge machine sources parts is_bad is_repeated refused is_full bad repeated why full =
     joined (list_any (λ part. not (is_arch_name part.arch)) parts) (has_repeated_arch parts) (parts_refusal machine sources parts)
     (nat_le count_limit machine.accepted) machine.handed

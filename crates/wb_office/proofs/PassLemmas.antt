@@ -6,7 +6,7 @@ use Rattle.wb_states.specs.declared.refusal.Refusal.TheVariants.{BadVersion, Bad
 use Rattle.wb_states.specs.Machine.{Machine}
 use Rattle.deb_text.proofs.OptionLemmas.{option_or-None, first_some-None}
 use Rattle.wb_office.specs.Checks.{when, text_refusal, state_refusal, first_refusal, has_bad_name, version_fault, relation_fault, has_bad_number, has_long_text, repeats_arch, lacks_arch, lacks_builder, is_for_other_archs, is_ahead, is_not_held, lacks_source, refused_move, is_there_already, is_spent, text_checks, state_checks}
-use Rattle.wb_office.specs.Moving.{again_of}
+use Rattle.wb_office.specs.Targets.{again_of}
 use Rattle.wb_office.specs.Step.{outcome, step, state_after, counted}
 
 pub when-None : (test : Bool) (refusal : Refusal) → when test refusal ≡ None → test ≡ false

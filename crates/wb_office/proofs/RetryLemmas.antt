@@ -15,7 +15,7 @@ use Rattle.wb_states.specs.declared.refusal.Refusal.{Refusal}
 use Rattle.wb_states.specs.declared.state.State.TheVariants.{Building}
 use Rattle.wb_states.specs.Holds.{building_after, held_of, is_building_after, is_held_by, take_cmp, take_of}
 use Rattle.wb_states.specs.Machine.{IsConsistent, IsRecord, Machine}
-use Rattle.wb_states.specs.Moves.{moved}
+use Rattle.wb_states.specs.Moves.{record_after_move}
 use Rattle.wb_states.specs.Queue.{Entry, head_of}
 use Rattle.deb_text.specs.Lists.{IsIn}
 use Rattle.wb_states.specs.State.{code_of}
@@ -23,10 +23,10 @@ use Rattle.deb_text.proofs.KeyLemmas.{pair_cmp_total, pair_cmp-same, insert_all}
 use Rattle.wb_states.proofs.QueueLemmas.{head_of-waits}
 use Rattle.deb_text.proofs.SortedLemmas.{IsIn-filter, IsIn-find, IsIn-sorted_by}
 use Rattle.wb_office.specs.Checks.{first_refusal}
-use Rattle.wb_office.specs.Found.{held_assignment}
-use Rattle.wb_office.specs.Moving.{again_of, moving, with_move}
+use Rattle.wb_office.specs.Outcomes.{held_assignment}
+use Rattle.wb_office.specs.Targets.{again_of, transition_of, with_move}
 use Rattle.wb_office.specs.Step.{after_take, assignment_of, counted, assignment_reply, outcome, step}
-use Rattle.wb_office.proofs.MovingLemmas.{Stands}
+use Rattle.wb_office.proofs.TransitionLemmas.{Stands}
 use Rattle.wb_office.proofs.NextLemmas.{next-Again}
 use Rattle.wb_office.proofs.PassLemmas.{Passes, passes}
 use Rattle.wb_office.proofs.RefusalLemmas.{builder_refusal-is}
@@ -104,12 +104,12 @@ one-later machine arch builder after entry stands held later only =
 
 -- a record that a builder took
 taken : List ℕ → ℕ → Entry → Entry
-taken builder take_number entry = (entry.0, moved (to.Take builder take_number) entry.1)
+taken builder take_number entry = (entry.0, record_after_move (to.Take builder take_number) entry.1)
 
 -- the state after the head of a queue was handed to a builder
 unfoldable pub handed_to : Machine → List ℕ → Entry → Machine
 handed_to machine builder entry = record machine {
-  records = map.insert machine.records entry.0 (moved (to.Take builder (machine.handed + 1)) entry.1);
+  records = map.insert machine.records entry.0 (record_after_move (to.Take builder (machine.handed + 1)) entry.1);
   handed = machine.handed + 1;
   accepted = machine.accepted + 1;
 }
@@ -126,8 +126,8 @@ pub record IsAssigned (machine : Machine) (arch builder : List ℕ) (after : Opt
 
 -- the state after the head of a queue was moved
 head-handed : (machine : Machine) (arch builder : List ℕ) (after : Option ℕ) (entry : Entry) → head_of machine arch ≡ Some entry
-    → counted machine (after_take machine (moving machine (Next arch builder after))) ≡ handed_to machine builder entry
-unfolding moving handed_to
+    → counted machine (after_take machine (transition_of machine (Next arch builder after))) ≡ handed_to machine builder entry
+unfolding transition_of handed_to
 head-handed machine arch builder after entry is =
     ap (λ head. counted machine (after_take machine (option_and_then (with_move machine (Next arch builder after)) head))) is
 
@@ -181,12 +181,12 @@ assigned-is machine arch builder after accepted given is =
 retried : (machine : Machine) (arch builder : List ℕ) (known : ℕ) (entry : Entry) → head_of machine arch ≡ Some entry → known ≤ machine.handed
     → ((other : Entry) → Stands machine other → is_held_by builder other ≡ true → is_building_after arch known other ≡ false)
     → building_after (handed_to machine builder entry) arch builder known ≡ Some (taken builder (machine.handed + 1) entry)
-unfolding handed_to taken moved
+unfolding handed_to taken record_after_move
 retried machine arch builder known entry head below none =
     one-later (handed_to machine builder entry) arch builder known (entry.0, put) stands (nat_list_eq_equiv.refl builder) later only
   where
     put : Record
-    put = moved (to.Take builder (machine.handed + 1)) entry.1
+    put = record_after_move (to.Take builder (machine.handed + 1)) entry.1
 
     stands : map.get (map.insert machine.records entry.0 put) entry.0 ≡ Some put
     stands = map.get-insert pair_cmp_total machine.records entry.0 put entry.0
@@ -220,7 +220,7 @@ assigned-again : (machine : Machine) (arch builder : List ℕ) (after : Option �
     → known ≤ machine.handed → ((other : Entry) → Stands machine other → is_held_by builder other ≡ true → is_building_after arch known other ≡ false)
     → step (step machine (Next arch builder after)).1 (Next arch builder (Some known))
     ≡ (Ok (Again accepted given), (step machine (Next arch builder after)).1)
-unfolding handed_to taken moved
+unfolding handed_to taken record_after_move
 assigned-again machine arch builder after known accepted given assigned below none =
     let entry : Entry = assigned.entry in
     let new : Machine = handed_to machine builder entry in

@@ -6,8 +6,8 @@ use Rattle.wb_states.specs.declared.refusal.Refusal.{Refusal}
 use Rattle.wb_states.specs.Machine.{Machine}
 use Rattle.deb_text.specs.Options.{first_some}
 use Rattle.wb_office.specs.Checks.{text_refusal, state_refusal, first_refusal}
-use Rattle.wb_office.specs.Found.{outcome_unless}
-use Rattle.wb_office.specs.Moving.{again_of}
+use Rattle.wb_office.specs.Outcomes.{outcome_unless}
+use Rattle.wb_office.specs.Targets.{again_of}
 use Rattle.wb_office.specs.Step.{Outcome, outcome, step, reply_to, state_after, counted}
 
 -- what is known of an answer, and what is known where there is one

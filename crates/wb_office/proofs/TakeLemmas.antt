@@ -14,8 +14,8 @@ use Rattle.wb_states.specs.Moves.{move_refusal}
 use Rattle.wb_states.specs.Queue.{Entry}
 use Rattle.deb_text.specs.Options.{first_some}
 use Rattle.wb_office.specs.Checks.{when, differing, has_bad_name, lacks_arch, lacks_builder, is_for_other_archs, text_refusal, state_refusal, builder_refusal, found_refusal}
-use Rattle.wb_office.specs.Found.{outcome_unless, assignment_step, named_at, take_move, take_step}
-use Rattle.wb_office.specs.Moving.{moving, record_named}
+use Rattle.wb_office.specs.Outcomes.{outcome_unless, assignment_step, named_at, take_move, take_step}
+use Rattle.wb_office.specs.Targets.{transition_of, record_named}
 use Rattle.wb_office.specs.Step.{Outcome, step, counted, after_take, assignment_reply}
 use Rattle.wb_office.proofs.NamedLemmas.{named_at-refused}
 use Rattle.wb_office.proofs.StepLemmas.{step-state, step-text, outcome_unless-option_or}
@@ -47,7 +47,7 @@ take-answer machine arch builder source version (Some current) = outcome_unless-
 
 step-Take : (machine : Machine) (arch builder source version : List ℕ) → text_refusal (Take arch builder source version) ≡ None
     → step machine (Take arch builder source version) ≡ take_step machine arch builder source version
-unfolding state_refusal moving record_named take_step builder_refusal
+unfolding state_refusal transition_of record_named take_step builder_refusal
 step-Take machine arch builder source version text =
     step-state machine (Take arch builder source version) text refl
     ∙ outcome_unless-three

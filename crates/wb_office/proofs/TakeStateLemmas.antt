@@ -16,7 +16,7 @@ use Rattle.wb_states.specs.declared.state.State.{State}
 use Rattle.wb_states.specs.declared.state.State.TheVariants.{NeedsBuild, Installed, NotForUs}
 use Rattle.wb_states.specs.Machine.{IsConsistent, IsRecord, Machine, empty_office}
 use Rattle.deb_text.specs.Text.{pair_cmp}
-use Rattle.wb_states.specs.Moves.{moved, settled_in, may_go, move_refusal, value_refusal}
+use Rattle.wb_states.specs.Moves.{record_after_move, in_state, may_go, move_refusal, value_refusal}
 use Rattle.wb_states.specs.State.{is_held}
 use Rattle.deb_text.proofs.KeyLemmas.{pair_cmp_total, pair_cmp-same, insert_all}
 use Rattle.wb_states.proofs.MoveFormLemmas.{held-before-built, held-before-uploaded}
@@ -25,12 +25,12 @@ use Rattle.wb_merge.specs.declared.listing.Built.{Built as WasBuilt}
 use Rattle.wb_merge.specs.Merge.{relisted, blank_record, new_state, new_record, newer_state, newer_record, same_state, same_record, listed_record, record_after}
 use Rattle.wb_office.specs.Checks.{refused_move}
 use Rattle.wb_office.specs.HandOuts.{HasTakeByState, HasTakesByState}
-use Rattle.wb_office.specs.Moving.{moving}
+use Rattle.wb_office.specs.Targets.{transition_of}
 use Rattle.wb_office.specs.Replay.{replay}
 use Rattle.wb_office.specs.Step.{step, state_after, entered, after_move}
 use Rattle.wb_merge.proofs.ChosenLemmas.{new-chosen, newer-chosen, same-chosen}
 use Rattle.wb_office.proofs.MergedLemmas.{records_after-keeps}
-use Rattle.wb_office.proofs.MovingLemmas.{moving-may}
+use Rattle.wb_office.proofs.TransitionLemmas.{transition_of-may}
 use Rattle.wb_office.proofs.PassLemmas.{step-either}
 
 -- a move that is allowed may go from the record's state
@@ -45,21 +45,21 @@ allowed-from move current is =
     clash : Some (WrongState current.state) ≡ None → ⊥
     clash e = cc
 
-pub moved-take : (move : Move) (current : Record) → may_go move current.state ≡ true → HasTakeByState current → HasTakeByState (moved move current)
-unfolding moved
-moved-take (to.Take holder take_number) current from old = refl
-moved-take to.Built current from old = old ∙ held-before-built current.state from
-moved-take to.Uploaded current from old = old ∙ held-before-uploaded current.state from
-moved-take (to.Waits relations arch) current from old = refl
-moved-take to.PutBack current from old = refl
-moved-take to.GiveBack current from old = refl
-moved-take (to.DepWait relations arch) current from old = refl
-moved-take (to.Fail note) current from old = refl
-moved-take (to.NotForUs note) current from old = refl
-moved-take (to.Rebuild number message) current from old = refl
+pub record_after_move-take : (move : Move) (current : Record) → may_go move current.state ≡ true → HasTakeByState current → HasTakeByState (record_after_move move current)
+unfolding record_after_move
+record_after_move-take (to.Take holder take_number) current from old = refl
+record_after_move-take to.Built current from old = old ∙ held-before-built current.state from
+record_after_move-take to.Uploaded current from old = old ∙ held-before-uploaded current.state from
+record_after_move-take (to.Waits relations arch) current from old = refl
+record_after_move-take to.PutBack current from old = refl
+record_after_move-take to.GiveBack current from old = refl
+record_after_move-take (to.DepWait relations arch) current from old = refl
+record_after_move-take (to.Fail note) current from old = refl
+record_after_move-take (to.NotForUs note) current from old = refl
+record_after_move-take (to.Rebuild number message) current from old = refl
 
 -- a record without a hold, or with the one that it had
-settled-take : (state : State) (current : Record) → (is_held state ≡ true → is_some current.take ≡ is_held state) → HasTakeByState (settled_in state current)
+settled-take : (state : State) (current : Record) → (is_held state ≡ true → is_some current.take ≡ is_held state) → HasTakeByState (in_state state current)
 settled-take state current held =
     (elim (is_held state) as (λ b. (b ≡ true → is_some current.take ≡ b) → is_some (cond b current.take None) ≡ b) [
       | true ↦ λ held. held refl
@@ -113,16 +113,16 @@ after-take None (Some listed) built available old = new-take listed built
 after-take (Some current) (Some listed) built available old = listed-take listed built available current old
 
 -- a command keeps it that moves a record
-moving-takes : (machine : Machine) (command : Command) → HasTakesByState machine → refused_move machine command ≡ None
-    → HasTakesByState (after_move machine (moving machine command))
-moving-takes machine command old allowed =
-    (elim (moving machine command) as (λ asked. moving machine command ≡ asked → HasTakesByState (after_move machine asked)) [
+transition_of-takes : (machine : Machine) (command : Command) → HasTakesByState machine → refused_move machine command ≡ None
+    → HasTakesByState (after_move machine (transition_of machine command))
+transition_of-takes machine command old allowed =
+    (elim (transition_of machine command) as (λ asked. transition_of machine command ≡ asked → HasTakesByState (after_move machine asked)) [
       | None ↦ λ _. old
       | Some asked ↦ λ is.
-          let may = moving-may machine command asked allowed is in
+          let may = transition_of-may machine command asked allowed is in
           let had : IfSome (Some asked.0.1) HasTakeByState = subst (λ r. IfSome r HasTakeByState) may.stands (old asked.0.0) in
-          insert_all pair_cmp_total pair_cmp-same (λ key. HasTakeByState) machine.records asked.0.0 (moved asked.1 asked.0.1)
-          (moved-take asked.1 asked.0.1 (allowed-from asked.1 asked.0.1 may.allowed) had) old
+          insert_all pair_cmp_total pair_cmp-same (λ key. HasTakeByState) machine.records asked.0.0 (record_after_move asked.1 asked.0.1)
+          (record_after_move-take asked.1 asked.0.1 (allowed-from asked.1 asked.0.1 may.allowed) had) old
     ]) refl
 
 state_after-takes : (machine : Machine) (command : Command) → HasTakesByState machine → refused_move machine command ≡ None → HasTakesByState (state_after machine command)
@@ -133,18 +133,18 @@ state_after-takes machine (of.Enter fields) old allowed =
 state_after-takes machine (of.Merge fields) old allowed =
     records_after-keeps (λ key. HasTakeByState) machine fields.sources fields.parts
     (λ part listing is source found had. after-take found (map.get listing.listed source) (map.get listing.built source) listing.available had) machine.records old
-state_after-takes machine (of.Next fields) old allowed = moving-takes machine (of.Next fields) old allowed
-state_after-takes machine (of.Take fields) old allowed = moving-takes machine (of.Take fields) old allowed
-state_after-takes machine (of.Built fields) old allowed = moving-takes machine (of.Built fields) old allowed
-state_after-takes machine (of.Uploaded fields) old allowed = moving-takes machine (of.Uploaded fields) old allowed
-state_after-takes machine (of.Waits fields) old allowed = moving-takes machine (of.Waits fields) old allowed
-state_after-takes machine (of.PutBack fields) old allowed = moving-takes machine (of.PutBack fields) old allowed
-state_after-takes machine (of.GiveBack fields) old allowed = moving-takes machine (of.GiveBack fields) old allowed
-state_after-takes machine (of.DepWait fields) old allowed = moving-takes machine (of.DepWait fields) old allowed
-state_after-takes machine (of.Fail fields) old allowed = moving-takes machine (of.Fail fields) old allowed
-state_after-takes machine (of.NotForUs fields) old allowed = moving-takes machine (of.NotForUs fields) old allowed
+state_after-takes machine (of.Next fields) old allowed = transition_of-takes machine (of.Next fields) old allowed
+state_after-takes machine (of.Take fields) old allowed = transition_of-takes machine (of.Take fields) old allowed
+state_after-takes machine (of.Built fields) old allowed = transition_of-takes machine (of.Built fields) old allowed
+state_after-takes machine (of.Uploaded fields) old allowed = transition_of-takes machine (of.Uploaded fields) old allowed
+state_after-takes machine (of.Waits fields) old allowed = transition_of-takes machine (of.Waits fields) old allowed
+state_after-takes machine (of.PutBack fields) old allowed = transition_of-takes machine (of.PutBack fields) old allowed
+state_after-takes machine (of.GiveBack fields) old allowed = transition_of-takes machine (of.GiveBack fields) old allowed
+state_after-takes machine (of.DepWait fields) old allowed = transition_of-takes machine (of.DepWait fields) old allowed
+state_after-takes machine (of.Fail fields) old allowed = transition_of-takes machine (of.Fail fields) old allowed
+state_after-takes machine (of.NotForUs fields) old allowed = transition_of-takes machine (of.NotForUs fields) old allowed
 state_after-takes machine (of.Rebuild fields) old allowed =
-    moving-takes machine (of.Rebuild fields) old allowed
+    transition_of-takes machine (of.Rebuild fields) old allowed
 
 pub empty-takes : HasTakesByState empty_office
 unfolding empty_office

@@ -12,7 +12,7 @@ use Rattle.deb_version.specs.Syntax.{fault_of}
 use Rattle.deb_version.specs.declared.fault.VersionFault.TheVariants.{Memory as NoMemory}
 use Rattle.deb_relations.specs.declared.fault.RelationFault.{RelationFault}
 use Rattle.deb_relations.specs.Reading.{reading_of}
-use Rattle.deb_text.specs.Lists.{is_filled}
+use Rattle.deb_text.specs.Lists.{is_nonempty}
 use Rattle.wb_states.specs.declared.command.Command.{Command}
 use Rattle.wb_states.specs.declared.command.Command.TheVariants as of
 use Rattle.wb_states.specs.declared.command.Next.{Next}
@@ -29,7 +29,7 @@ use Rattle.deb_relations.specs.Names.{is_package_name}
 use Rattle.wb_states.specs.Names.{is_arch_name, is_os_cpu_word, is_builder_name, is_label_text}
 use Rattle.wb_states.specs.Queue.{head_of}
 use Rattle.wb_office.specs.Arguments.{arguments_of}
-use Rattle.wb_office.specs.Moving.{again_of, moving}
+use Rattle.wb_office.specs.Targets.{again_of, transition_of}
 use Rattle.wb_office.specs.Parts.{parts_refusal}
 
 -- a refusal where a test holds
@@ -149,7 +149,7 @@ is_unknown_arch machine arch = not (map.contains_key machine.archs arch)
 
 -- the builder was added for no architecture
 abbrev pub is_unknown_builder : Machine → List ℕ → Bool
-is_unknown_builder machine builder = not (is_filled (archs_of machine builder))
+is_unknown_builder machine builder = not (is_nonempty (archs_of machine builder))
 
 -- the builder was not added for the architecture
 abbrev pub is_for_others : Machine → List ℕ → List ℕ → Bool
@@ -238,7 +238,7 @@ other_version machine command =
 
 -- the record that it moves is not in a state from which the move goes, or else the move's relations or number are refused
 abbrev pub refused_move : Machine → Command → Option Refusal
-refused_move machine command = option_and_then (λ asked. move_refusal asked.1 asked.0.1) (moving machine command)
+refused_move machine command = option_and_then (λ asked. move_refusal asked.1 asked.0.1) (transition_of machine command)
 
 -- it asks for the head of a queue that is empty, and is not told again of what its builder builds
 abbrev pub has_empty_queue : Machine → Command → Bool

@@ -1,8 +1,8 @@
 pub mod Arguments
 pub mod Checks
-pub mod Found
+pub mod Outcomes
 pub mod HandOuts
-pub mod Moving
+pub mod Targets
 pub mod Parts
 pub mod Replay
 pub mod Step

@@ -12,11 +12,11 @@ use Rattle.wb_states.specs.declared.reply.Reply.TheVariants.{Done, Job, Again, M
 use Rattle.wb_states.specs.declared.refusal.Refusal.{Refusal}
 use Rattle.wb_states.specs.Holds.{take_of}
 use Rattle.wb_states.specs.Machine.{Machine}
-use Rattle.wb_states.specs.Moves.{build_text_of, moved}
+use Rattle.wb_states.specs.Moves.{build_text_of, record_after_move}
 use Rattle.wb_states.specs.Queue.{Entry}
 use Rattle.wb_merge.specs.Merge.{blank_record}
 use Rattle.wb_office.specs.Checks.{first_refusal}
-use Rattle.wb_office.specs.Moving.{again_of, moving, target_of}
+use Rattle.wb_office.specs.Targets.{again_of, transition_of, target_of}
 use Rattle.wb_office.specs.Parts.{part_replies, records_after}
 
 -- the answer to a command, and the state after it
@@ -34,7 +34,7 @@ entered version priority section =
 abbrev pub after_move : Machine → Option (Entry × Move) → Machine
 after_move machine None = machine
 after_move machine (Some asked) =
-    record machine { records = map.insert machine.records asked.0.0 (moved asked.1 asked.0.1) }
+    record machine { records = map.insert machine.records asked.0.0 (record_after_move asked.1 asked.0.1) }
 
 -- a record is moved under a new take number
 abbrev pub after_take : Machine → Option (Entry × Move) → Machine
@@ -47,19 +47,19 @@ state_after machine (of.AddArch fields) =
 state_after machine (of.AddBuilder fields) = record machine { builders = set.insert machine.builders (fields.name, fields.arch) }
 state_after machine (of.Enter fields) =
     record machine { records = map.insert machine.records (fields.arch, fields.source) (entered fields.version fields.priority fields.section) }
-state_after machine (of.Next fields) = after_take machine (moving machine (of.Next fields))
-state_after machine (of.Take fields) = after_take machine (moving machine (of.Take fields))
+state_after machine (of.Next fields) = after_take machine (transition_of machine (of.Next fields))
+state_after machine (of.Take fields) = after_take machine (transition_of machine (of.Take fields))
 state_after machine (of.Merge fields) =
     record machine { records = records_after machine fields.sources fields.parts machine.records }
-state_after machine (of.Built fields) = after_move machine (moving machine (of.Built fields))
-state_after machine (of.Uploaded fields) = after_move machine (moving machine (of.Uploaded fields))
-state_after machine (of.Waits fields) = after_move machine (moving machine (of.Waits fields))
-state_after machine (of.PutBack fields) = after_move machine (moving machine (of.PutBack fields))
-state_after machine (of.GiveBack fields) = after_move machine (moving machine (of.GiveBack fields))
-state_after machine (of.DepWait fields) = after_move machine (moving machine (of.DepWait fields))
-state_after machine (of.Fail fields) = after_move machine (moving machine (of.Fail fields))
-state_after machine (of.NotForUs fields) = after_move machine (moving machine (of.NotForUs fields))
-state_after machine (of.Rebuild fields) = after_move machine (moving machine (of.Rebuild fields))
+state_after machine (of.Built fields) = after_move machine (transition_of machine (of.Built fields))
+state_after machine (of.Uploaded fields) = after_move machine (transition_of machine (of.Uploaded fields))
+state_after machine (of.Waits fields) = after_move machine (transition_of machine (of.Waits fields))
+state_after machine (of.PutBack fields) = after_move machine (transition_of machine (of.PutBack fields))
+state_after machine (of.GiveBack fields) = after_move machine (transition_of machine (of.GiveBack fields))
+state_after machine (of.DepWait fields) = after_move machine (transition_of machine (of.DepWait fields))
+state_after machine (of.Fail fields) = after_move machine (transition_of machine (of.Fail fields))
+state_after machine (of.NotForUs fields) = after_move machine (transition_of machine (of.NotForUs fields))
+state_after machine (of.Rebuild fields) = after_move machine (transition_of machine (of.Rebuild fields))
 
 -- ---- the reply to a command that is accepted
 

@@ -5,7 +5,7 @@ ghost use Rattle.std.specs.Option.{option_map};
 ghost use Rattle.wb_states.specs.declared.refusal.Refusal.TheVariants.{Memory};
 ghost use Rattle.wb_states.specs.Holds.{building_after, is_building_after};
 ghost use Rattle.wb_store.specs.Lookups.{entry_of};
-ghost use Rattle.wb_office.specs.Found.{held_assignment};
+ghost use Rattle.wb_office.specs.Outcomes.{held_assignment};
 
 use crate::builder::assignment;
 use deb_text::Text;

@@ -6,11 +6,11 @@ ghost use Rattle.wb_states.specs.declared.moves.Move.TheVariants as to;
 ghost use Rattle.wb_states.specs.declared.refusal.Refusal.TheVariants.{Memory};
 ghost use Rattle.wb_states.specs.declared.reply.Reply.TheVariants.{Job};
 ghost use Rattle.wb_states.specs.Limits.{count_limit};
-ghost use Rattle.wb_states.specs.Moves.{move_refusal, moved};
+ghost use Rattle.wb_states.specs.Moves.{move_refusal, record_after_move};
 ghost use Rattle.wb_states.specs.Refusals.{IsOfMachine};
 ghost use Rattle.wb_store.specs.Lookups.{entry_of};
 ghost use Rattle.wb_office.specs.Checks.{MayWantMemory, builder_refusal};
-ghost use Rattle.wb_office.specs.Found.{head_step, assignment_step, take_move, take_step};
+ghost use Rattle.wb_office.specs.Outcomes.{head_step, assignment_step, take_move, take_step};
 ghost use Rattle.wb_office.specs.Step.{step, assignment_of};
 
 use crate::again::assignment_again;
@@ -19,7 +19,7 @@ use crate::checks::{
     lacks_builder,
 };
 use crate::forms::{has_bad_request, has_bad_take};
-use crate::moved::move_checked;
+use crate::transition::move_checked;
 use crate::texts::read_version;
 use deb_text::Text;
 use deb_version::Version;
@@ -79,7 +79,7 @@ fn take_checked(
     take_number: u64,
 ) -> Result<Record, Refusal>
     ensures value { IfOk result (λ after.
-        after ≡ moved (to.Take builder.now take_number) current.now) }
+        after ≡ record_after_move (to.Take builder.now take_number) current.now) }
     ensures ok { OnOk result (move_refusal (to.Take builder.now take_number) current.now ≡ None) }
     ensures refused { IfErr result (λ refusal. IsOfMachine refusal
         → move_refusal (to.Take builder.now take_number) current.now ≡ Some refusal) }
@@ -101,7 +101,7 @@ pub(crate) fn prepare_assignment(
 ) -> Result<Assigned, Refusal>
     // what is handed out
     ensures value { IfOk result (λ given. entry_of given.made
-        ≡ ((row.arch, row.source), moved (take_move store.now builder.now) row.current)) }
+        ≡ ((row.arch, row.source), record_after_move (take_move store.now builder.now) row.current)) }
     ensures reply { IfOk result (λ given. given.assignment
         ≡ assignment_of (entry_of row) (store.now.handed + 1)) }
     // that nothing refuses it, or what does

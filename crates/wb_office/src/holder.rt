@@ -4,11 +4,11 @@ ghost use Rattle.wb_states.specs.declared.command.Command.TheVariants as of;
 ghost use Rattle.wb_states.specs.declared.refusal.Refusal.TheVariants.{Memory};
 ghost use Rattle.wb_states.specs.Refusals.{IsOfMachine};
 ghost use Rattle.wb_office.specs.Checks.{MayWantMemory};
-ghost use Rattle.wb_office.specs.Found.{taken_step};
+ghost use Rattle.wb_office.specs.Outcomes.{taken_step};
 ghost use Rattle.wb_office.specs.Step.{step};
 
 use crate::checks::words_of;
-use crate::moved::{keep_move, prepare_move};
+use crate::transition::{keep_move, prepare_move};
 use crate::texts::read_relations;
 use std::alloc::Global;
 use wb_states::{Move, Refusal, Reply, command};

@@ -13,7 +13,7 @@ ghost use Rattle.wb_states.specs.declared.reply.Reply.TheVariants.{Again, Job};
 ghost use Rattle.wb_states.specs.Queue.{queue_of};
 ghost use Rattle.wb_office.specs.Checks.{take_named};
 ghost use Rattle.wb_office.specs.HandOuts.{HandOut, IsBeingBuilt, HasTakesByState, Ends, Rise, hand_out, hand_outs};
-ghost use Rattle.wb_office.specs.Moving.{MayChange};
+ghost use Rattle.wb_office.specs.Targets.{MayChange};
 ghost use Rattle.wb_office.specs.Parts.{part_listing, records_with};
 ghost use Rattle.wb_office.specs.Replay.{replay};
 ghost use Rattle.wb_states.specs.Forms.{Built, Merge, Next};

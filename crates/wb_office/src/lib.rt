@@ -9,7 +9,7 @@ mod forms;
 mod holder;
 pub mod laws;
 mod merging;
-mod moved;
+mod transition;
 mod named;
 mod office;
 mod operator;

@@ -5,11 +5,11 @@ ghost use Rattle.wb_states.specs.declared.command.Command.TheVariants as of;
 ghost use Rattle.wb_states.specs.declared.refusal.Refusal.TheVariants.{Memory};
 ghost use Rattle.wb_states.specs.Refusals.{IsOfMachine};
 ghost use Rattle.wb_office.specs.Checks.{MayWantMemory};
-ghost use Rattle.wb_office.specs.Found.{named_step};
+ghost use Rattle.wb_office.specs.Outcomes.{named_step};
 ghost use Rattle.wb_office.specs.Step.{step};
 
 use crate::checks::{find_source, lacks_arch, words_of};
-use crate::moved::{keep_move, prepare_move};
+use crate::transition::{keep_move, prepare_move};
 use crate::texts::{is_long, read_key, read_refusal_or, read_relations, rebuild_number};
 use deb_text::Text;
 use deb_version::Version;

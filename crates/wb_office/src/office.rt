@@ -23,7 +23,7 @@ pub struct Office {
 
 impl Model for Office {
     ghost use Rattle.wb_states.specs.Machine.{Machine};
-    ghost use Rattle.wb_store.specs.Tables.{coded_machine};
+    ghost use Rattle.wb_store.specs.Coded.{coded_machine};
 
     ghost Value = { Machine };
 

@@ -19,7 +19,7 @@ use wb_states::{Counts, OsCpu, Record, Refusal, Reply, command};
 use wb_store::Store;
 
 /// Counts one more accepted command. Of tables in memory it cannot fail.
-pub(crate) fn count_done(store: &mut Store) -> Result<Reply, Refusal>
+pub(crate) fn accept_one(store: &mut Store) -> Result<Reply, Refusal>
     requires { nat_le count_limit store.old.accepted ≡ false }
     ensures reply { result ≡ Ok (Done (store.old.accepted + 1)) }
     ensures ok { store.new ≡ counted store.old store.old }
@@ -73,7 +73,7 @@ pub(crate) fn add_arch(store: &mut Store, command: &command::AddArch) -> Result<
         cpu: command.cpu.clone()?,
     };
     store.add_arch(command.name.clone()?, words)?;
-    count_done(store)
+    accept_one(store)
 }
 
 /// The checks of a command that lets a builder build for an architecture.
@@ -119,7 +119,7 @@ pub(crate) fn add_builder(
 {
     check_builder(store, command)?;
     store.add_builder(command.name.clone()?, command.arch.clone()?)?;
-    count_done(store)
+    accept_one(store)
 }
 
 /// The checks of a command that enters a source package, and its version as it is read.
@@ -176,7 +176,7 @@ pub(crate) fn enter(
     let read = check_entry(alloc, store, command)?;
     let waiting = entered_record(alloc, read, &command.priority, &command.section)?;
     store.put(command.arch.clone()?, command.source.clone()?, waiting)?;
-    count_done(store)
+    accept_one(store)
 }
 
 /// The record of a source package that waits for its first build.

@@ -3,5 +3,5 @@ pub mod HoldLemmas
 pub mod MoveFormLemmas
 pub mod MoveRowLemmas
 pub mod QueueLemmas
-pub mod SettledLemmas
+pub mod InStateLemmas
 pub mod WaitLemmas

@@ -14,14 +14,14 @@ use Rattle.wb_states.specs.declared.refusal.Refusal.TheVariants.{BadRelations}
 use Rattle.wb_states.specs.declared.state.State.{State}
 use Rattle.wb_states.specs.declared.state.State.TheVariants.{NeedsBuild, Building, Built, Uploaded, DepWait, Failed, NotForUs}
 use Rattle.wb_states.specs.Limits.{note_limit, relations_limit}
-use Rattle.wb_states.specs.Moves.{may_go, move_of, value_refusal, waits_for, waits_refusal}
+use Rattle.wb_states.specs.Moves.{may_go, move_outcome, value_refusal, waits_for, waits_refusal}
 use Rattle.wb_states.specs.Names.{is_builder_name}
 use Rattle.wb_states.specs.Record.{IsWellFormed}
 use Rattle.deb_text.specs.Text.{IsTextWithin, is_empty_text}
 use Rattle.wb_states.specs.State.{is_held, is_dep_wait}
 use Rattle.wb_states.specs.Table.{row_of, HasForm}
-use Rattle.wb_states.proofs.SettledLemmas.{empty_within}
-use Rattle.wb_states.proofs.MoveRowLemmas.{move_of-done, move_of-row, move_of-value, take-from, built-from, uploaded-from, put_back-from, rebuild-from, rebuild-free}
+use Rattle.wb_states.proofs.InStateLemmas.{empty_within}
+use Rattle.wb_states.proofs.MoveRowLemmas.{move_outcome-done, move_outcome-row, move_outcome-value, take-from, built-from, uploaded-from, put_back-from, rebuild-from, rebuild-free}
 
 -- ---- waits that are not refused
 
@@ -169,7 +169,7 @@ row-well (to.Rebuild number message) old well form may allowed = record {
   message = form.1;
 }
 
-pub move_of-well : (move : Move) (old new : Record) → IsWellFormed old → HasForm move → move_of move old ≡ Ok new → IsWellFormed new
-move_of-well move old new well form is =
-    subst IsWellFormed (sym (move_of-row move old new well is))
-    (row-well move old well form (move_of-done move old new is).0 (move_of-value move old new is))
+pub move_outcome-well : (move : Move) (old new : Record) → IsWellFormed old → HasForm move → move_outcome move old ≡ Ok new → IsWellFormed new
+move_outcome-well move old new well form is =
+    subst IsWellFormed (sym (move_outcome-row move old new well is))
+    (row-well move old well form (move_outcome-done move old new is).0 (move_outcome-value move old new is))

@@ -13,7 +13,7 @@ use Rattle.wb_states.specs.declared.state.State.TheVariants.{NeedsBuild, Buildin
 use Rattle.wb_states.specs.State.{code_of, is_held, is_dep_wait}
 use Rattle.wb_states.specs.Record.{IsWellFormed}
 use Rattle.deb_text.specs.Text.{is_empty_text}
-use Rattle.wb_states.specs.Moves.{may_go, note_after, move_refusal, value_refusal, moved, move_of}
+use Rattle.wb_states.specs.Moves.{may_go, note_after, move_refusal, value_refusal, record_after_move, move_outcome}
 use Rattle.wb_states.specs.Table.{row_of}
 
 -- ---- a move that is not refused
@@ -22,20 +22,20 @@ from-is : (may : Bool) (value : Option Refusal) (state : State) → cond may val
 from-is true value state is = refl
 from-is false value state is = absurd cc
 
-pub move_of-done : (move : Move) (old new : Record) → move_of move old ≡ Ok new → (may_go move old.state ≡ true) × (new ≡ moved move old)
-unfolding move_of move_refusal
-move_of-done move old new is =
-    let parts = ok_unless-Ok (move_refusal move old) (moved move old) new is in
+pub move_outcome-done : (move : Move) (old new : Record) → move_outcome move old ≡ Ok new → (may_go move old.state ≡ true) × (new ≡ record_after_move move old)
+unfolding move_outcome move_refusal
+move_outcome-done move old new is =
+    let parts = ok_unless-Ok (move_refusal move old) (record_after_move move old) new is in
     (from-is (may_go move old.state) (value_refusal move old) old.state parts.0, sym parts.1)
 
 value-none : (may : Bool) (value : Option Refusal) (state : State) → cond may value (Some (WrongState state)) ≡ None → value ≡ None
 value-none true value state is = is
 value-none false value state is = absurd cc
 
-pub move_of-value : (move : Move) (old new : Record) → move_of move old ≡ Ok new → value_refusal move old ≡ None
-unfolding move_of move_refusal
-move_of-value move old new is =
-    value-none (may_go move old.state) (value_refusal move old) old.state (ok_unless-Ok (move_refusal move old) (moved move old) new is).0
+pub move_outcome-value : (move : Move) (old new : Record) → move_outcome move old ≡ Ok new → value_refusal move old ≡ None
+unfolding move_outcome move_refusal
+move_outcome-value move old new is =
+    value-none (may_go move old.state) (value_refusal move old) old.state (ok_unless-Ok (move_refusal move old) (record_after_move move old) new is).0
 
 -- ---- what a record lacks in a state
 
@@ -118,32 +118,32 @@ give_back-from _ is = refl
 no_note : (goal : State) (old : Record) → nat_eq (code_of goal) (code_of old.state) ≡ false → note_after None goal old ≡ []
 no_note goal old is = ap (λ b. cond b old.note []) is
 
-pub moved-row : (move : Move) (old : Record) → IsWellFormed old → may_go move old.state ≡ true → moved move old ≡ row_of move old
-unfolding moved
-moved-row (to.Take holder take_number) old well may =
+pub record_after_move-row : (move : Move) (old : Record) → IsWellFormed old → may_go move old.state ≡ true → record_after_move move old ≡ row_of move old
+unfolding record_after_move
+record_after_move-row (to.Take holder take_number) old well may =
     let left = take-from holder take_number old.state may in
     λ i. record (row_of (to.Take holder take_number) old) {
       waits = sym (no_waits old well left.waits) i;
       note = no_note Building old left.other i;
     }
-moved-row to.Built old well may =
+record_after_move-row to.Built old well may =
     let left = built-from old.state may in
     λ i. record (row_of to.Built old) { waits = sym (no_waits old well left.waits) i; note = no_note Built old left.other i }
-moved-row to.Uploaded old well may =
+record_after_move-row to.Uploaded old well may =
     let left = uploaded-from old.state may in
     λ i. record (row_of to.Uploaded old) { waits = sym (no_waits old well left.waits) i; note = no_note Uploaded old left.other i }
-moved-row (to.Waits relations arch) old well may =
+record_after_move-row (to.Waits relations arch) old well may =
     λ i. record (row_of (to.Waits relations arch) old) { note = no_note DepWait old (waits-from relations arch old.state may) i }
-moved-row to.PutBack old well may =
+record_after_move-row to.PutBack old well may =
     let left = put_back-from old.state may in
     λ i. record (row_of to.PutBack old) { waits = sym (no_waits old well left.waits) i; note = no_note NeedsBuild old left.other i }
-moved-row to.GiveBack old well may =
+record_after_move-row to.GiveBack old well may =
     λ i. record (row_of to.GiveBack old) { note = no_note NeedsBuild old (give_back-from old.state may) i }
-moved-row (to.DepWait relations arch) old well may =
+record_after_move-row (to.DepWait relations arch) old well may =
     λ i. record (row_of (to.DepWait relations arch) old) { note = no_note DepWait old (dep_wait-from relations arch old.state may) i }
-moved-row (to.Fail note) old well may = refl
-moved-row (to.NotForUs note) old well may = refl
-moved-row (to.Rebuild number message) old well may =
+record_after_move-row (to.Fail note) old well may = refl
+record_after_move-row (to.NotForUs note) old well may = refl
+record_after_move-row (to.Rebuild number message) old well may =
     let left = rebuild-from number message old.state may in
     let free = rebuild-free number message old.state may in
     λ i. record (row_of (to.Rebuild number message) old) {
@@ -153,7 +153,7 @@ moved-row (to.Rebuild number message) old well may =
       note = no_note NeedsBuild old left.other i;
     }
 
-pub move_of-row : (move : Move) (old new : Record) → IsWellFormed old → move_of move old ≡ Ok new → new ≡ row_of move old
-move_of-row move old new well is =
-    let done = move_of-done move old new is in
-    done.1 ∙ moved-row move old well done.0
+pub move_outcome-row : (move : Move) (old new : Record) → IsWellFormed old → move_outcome move old ≡ Ok new → new ≡ row_of move old
+move_outcome-row move old new well is =
+    let done = move_outcome-done move old new is in
+    done.1 ∙ record_after_move-row move old well done.0

@@ -73,8 +73,8 @@ note_of (ToNotForUs note) = Some note
 note_of _ = None
 
 -- a record in a state, without what that state does not have: a holder and a take number, or waits
-abbrev pub settled_in : State → Record → Record
-settled_in state current = record current {
+abbrev pub in_state : State → Record → Record
+in_state state current = record current {
   state = state;
   holder = if is_held state then current.holder else None;
   take = if is_held state then current.take else None;
@@ -87,8 +87,8 @@ note_after (Some note) state current = note
 note_after None state current = if nat_eq (code_of state) (code_of current.state) then current.note else []
 
 -- the record after a move
-unfoldable pub moved : Move → Record → Record
-moved move current = record (settled_in (goal_of move) (set_by move current)) {
+unfoldable pub record_after_move : Move → Record → Record
+record_after_move move current = record (in_state (goal_of move) (set_by move current)) {
   note = note_after (note_of move) (goal_of move) current;
 }
 
@@ -120,8 +120,8 @@ move_refusal move current =
     if may_go move current.state then value_refusal move current else Some (WrongState current.state)
 
 -- the record after a move, or why it is refused
-unfoldable pub move_of : Move → Record → Result Record Refusal
-move_of move current = ok_unless (move_refusal move current) (moved move current)
+unfoldable pub move_outcome : Move → Record → Result Record Refusal
+move_outcome move current = ok_unless (move_refusal move current) (record_after_move move current)
 
 -- the version of the binaries: the source version, followed by `+bN` for a binary-only rebuild N
 abbrev pub build_text_of : Record → List ℕ

@@ -10,7 +10,7 @@ ghost use Rattle.wb_states.specs.declared.refusal.Refusal.{Refusal};
 ghost use Rattle.wb_states.specs.declared.state.State.{State};
 ghost use Rattle.wb_states.specs.Holds.{IsBuildingAfter, building_after, held_of, take_cmp, take_of, taken_as};
 ghost use Rattle.wb_states.specs.Machine.{AreRelations, HasDistinctTakes, IsConsistent, Machine, arch_words};
-ghost use Rattle.wb_states.specs.Moves.{may_go, move_of};
+ghost use Rattle.wb_states.specs.Moves.{may_go, move_outcome};
 ghost use Rattle.wb_states.specs.Queue.{Entry, IsWaitingAt, entry_cmp, head_of, queue_of, place_cmp, place_of};
 ghost use Rattle.deb_text.specs.Lists.{IsIn};
 ghost use Rattle.wb_states.specs.Record.{IsWellFormed};
@@ -61,11 +61,11 @@ pub fn kept_waits_are_read()
 /// terms).
 pub fn moves_follow_the_table()
     ensures from { (move : Move) (old new : Record)
-        → move_of move old ≡ Ok new → IsTrue (may_go move old.state) }
+        → move_outcome move old ≡ Ok new → IsTrue (may_go move old.state) }
     ensures row { (move : Move) (old new : Record)
-        → IsWellFormed old → move_of move old ≡ Ok new → new ≡ row_of move old }
+        → IsWellFormed old → move_outcome move old ≡ Ok new → new ≡ row_of move old }
     ensures form { (move : Move) (old new : Record) → IsWellFormed old → HasForm move
-        → move_of move old ≡ Ok new → IsWellFormed new }
+        → move_outcome move old ≡ Ok new → IsWellFormed new }
 {}
 
 /// A take number finds the record that is held under it: where no take number is held twice, that record

@@ -1,7 +1,7 @@
 //! The moves of a record from state to state.
 ghost use Rattle.std.specs.Prelude.{◌≡◌, ◌≢◌, None, Some, Ok, Err, IsTrue, IfOk, IfErr, OnOk, OnErr, if◌then◌else◌};
 ghost use Rattle.wb_states.specs.declared.refusal.Refusal.TheVariants.{Memory};
-ghost use Rattle.wb_states.specs.Moves.{may_go, goal_of, set_by, note_of, note_after, settled_in, waits_for, waits_refusal, value_refusal, has_higher_number, MayWantMemory, move_refusal, moved, move_of, build_text_of};
+ghost use Rattle.wb_states.specs.Moves.{may_go, goal_of, set_by, note_of, note_after, in_state, waits_for, waits_refusal, value_refusal, has_higher_number, MayWantMemory, move_refusal, record_after_move, move_outcome, build_text_of};
 
 use crate::{Record, Refusal, State};
 use deb_relations::{ArchWords, RELATIONS_LIMIT, RelationFault, Relations};
@@ -183,8 +183,8 @@ impl Record {
     /// Brings the record into a state, and clears what that state does not have: the holder and the
     /// take number where nobody holds it, and the waits where it does not wait. Takes no memory. The
     /// states are wanna-build's.
-    pub fn settle(&mut self, alloc: Global, state: State)
-        ensures value { self.new ≡ settled_in state self.old }
+    pub fn enter_state(&mut self, alloc: Global, state: State)
+        ensures value { self.new ≡ in_state state self.old }
     {
         self.state = state;
         if !matches!(state, State::Building | State::Built | State::Uploaded) {
@@ -203,11 +203,11 @@ impl Record {
 /// record's; and with `Memory`, which comes only behind `WrongState` and `BadNumber`, since neither takes
 /// any. The forms of notes and numbers are not looked at. The table of moves is this project's own, in
 /// wanna-build's terms.
-#[tactic(auto, unfolding(crate::specs::Moves::move_refusal, crate::specs::Moves::move_of))]
+#[tactic(auto, unfolding(crate::specs::Moves::move_refusal, crate::specs::Moves::move_outcome))]
 pub fn move_record(alloc: Global, current: &Record, change: &Move) -> Result<Record, Refusal>
-    ensures value { IfOk result (λ moved. move_of change.now current.now ≡ Ok moved) }
+    ensures value { IfOk result (λ record_after_move. move_outcome change.now current.now ≡ Ok record_after_move) }
     ensures refused { IfErr result (λ refusal. refusal ≢ Memory
-        → move_of change.now current.now ≡ Err refusal) }
+        → move_outcome change.now current.now ≡ Err refusal) }
     ensures memory { IfErr result (λ refusal. refusal ≡ Memory
         → MayWantMemory change.now current.now) }
 {
@@ -221,14 +221,14 @@ pub fn move_record(alloc: Global, current: &Record, change: &Move) -> Result<Rec
 }
 
 /// The record after a move that nothing refuses.
-#[tactic(auto, unfolding(crate::specs::Moves::moved))]
+#[tactic(auto, unfolding(crate::specs::Moves::record_after_move))]
 fn moved_record(alloc: Global, current: &Record, change: &Move) -> Result<Record, Refusal>
-    ensures value { IfOk result (λ after. after ≡ moved change.now current.now) }
+    ensures value { IfOk result (λ after. after ≡ record_after_move change.now current.now) }
     ensures refused { IfErr result (λ refusal. refusal ≡ Memory) }
 {
     let mut after = current.clone()?;
     change.set(alloc, &mut after)?;
-    after.settle(alloc, change.goal());
+    after.enter_state(alloc, change.goal());
     after.note = change.note(alloc, current)?;
     Ok(after)
 }

@@ -43,7 +43,7 @@ impl<'a> QueueKey<'a> {
         QueueKey {
             is_new: !current.earlier,
             priority: priority_place(current.priority.as_str()),
-            section: section_place(area_free(current.section.as_str())),
+            section: section_place(without_area(current.section.as_str())),
             name,
         }
     }
@@ -104,7 +104,7 @@ fn priority_place(priority: &str) -> u8
     }
 }
 
-fn area_free(section: &str) -> &str
+fn without_area(section: &str) -> &str
     ensures { result.now ≡ without_area section.now }
 {
     match section.split_once('/') {

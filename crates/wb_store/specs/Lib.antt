@@ -1,2 +1,2 @@
-pub mod Tables
+pub mod Coded
 pub mod Lookups

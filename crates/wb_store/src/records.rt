@@ -22,7 +22,7 @@ impl Model for Records {
     ghost use Rattle.std.specs.FinMap as map;
     ghost use Rattle.wb_states.specs.declared.record.Record.{Record};
     ghost use Rattle.deb_text.specs.Text.{pair_cmp};
-    ghost use Rattle.wb_store.specs.Tables.{coded_records};
+    ghost use Rattle.wb_store.specs.Coded.{coded_records};
 
     ghost Value = { map.FinMap pair_cmp Record };
 

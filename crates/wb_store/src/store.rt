@@ -24,7 +24,7 @@ impl Model for Store {
     ghost use Rattle.std.specs.FinMap as map;
     ghost use Rattle.std.specs.FinSet as set;
     ghost use Rattle.wb_states.specs.Machine.{Machine};
-    ghost use Rattle.wb_store.specs.Tables.{coded_machine};
+    ghost use Rattle.wb_store.specs.Coded.{coded_machine};
 
     ghost Value = { Machine };
 

@@ -1,5 +1,5 @@
 pub mod ArgumentLemmas
-pub mod AskedLemmas
+pub mod InvocationLemmas
 pub mod LiteralLemmas
 pub mod RowLemmas
 pub mod TreeLemmas

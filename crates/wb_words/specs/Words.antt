@@ -11,8 +11,8 @@ use Rattle.wb_states.specs.Forms.{Enter, Fail, GiveBack, Next, NotForUs}
 use Rattle.wb_states.specs.Forms.{PutBack, Rebuild, Take, Uploaded, Waits}
 use Rattle.wb_words.specs.Arguments.{number_of, optional_number_of, parts_of, subject_of, word_of, words_of}
 use Rattle.wb_words.specs.Usages.{wb_app}
-use Rattle.wb_words.specs.declared.words.Asked.{Asked}
-use Rattle.wb_words.specs.declared.words.Asked.TheVariants as asked
+use Rattle.wb_words.specs.declared.words.Invocation.{Invocation}
+use Rattle.wb_words.specs.declared.words.Invocation.TheVariants as invocation
 
 -- ---- the commands of operators
 
@@ -114,13 +114,13 @@ builder_command name rows = if bytes_eq name (codes "next") then next_of rows
 -- ---- what reads lists
 
 -- to merge the lists that stand in files
-unfoldable pub merge_of : List Row → Option Asked
-merge_of rows = option_and_then (λ sources. option_map (λ parts. asked.Merge sources parts)
+unfoldable pub merge_of : List Row → Option Invocation
+merge_of rows = option_and_then (λ sources. option_map (λ parts. invocation.Merge sources parts)
     (parts_of (codes "parts") rows)) (word_of (codes "sources") rows)
 
 -- what the subcommand of this name, one that reads lists, asks for with these arguments
-unfoldable pub list_asked : Text → List Row → Option Asked
-list_asked name rows = if bytes_eq name (codes "merge") then merge_of rows else None
+unfoldable pub list_invocation : Text → List Row → Option Invocation
+list_invocation name rows = if bytes_eq name (codes "merge") then merge_of rows else None
 
 -- ---- what a line asks for
 
@@ -129,24 +129,24 @@ unfoldable pub command_named : Text → List Row → Option Command
 command_named name rows = option_or (operator_command name rows) (builder_command name rows)
 
 -- a command, and where there is none what is asked else
-abbrev pub or_asked : Option Command → Option Asked → Option Asked
-or_asked (Some command) next = Some (asked.Command command)
+abbrev pub or_asked : Option Command → Option Invocation → Option Invocation
+or_asked (Some command) next = Some (invocation.Command command)
 or_asked None next = next
 
 -- what the subcommand of this name asks for with these arguments
-unfoldable pub asked_named : Text × List Row → Option Asked
-asked_named named = or_asked (command_named named.0 named.1) (list_asked named.0 named.1)
+unfoldable pub invocation_named : Text × List Row → Option Invocation
+invocation_named named = or_asked (command_named named.0 named.1) (list_invocation named.0 named.1)
 
 -- what is asked, where the words have no fault
-abbrev pub unless_faulty : Kinds → Option Asked → Option Asked
-unless_faulty [] asked = asked
-unless_faulty (kind ∷ kinds) asked = None
+abbrev pub unless_faulty : Kinds → Option Invocation → Option Invocation
+unless_faulty [] invocation = invocation
+unless_faulty (kind ∷ kinds) invocation = None
 
 -- what the words of a line ask for
-unfoldable pub asked_in : List Text → Option Asked
-asked_in words = unless_faulty (fault_of wb_app words)
-    (option_and_then asked_named (subcommand_of wb_app words))
+unfoldable pub invocation_in : List Text → Option Invocation
+invocation_in words = unless_faulty (fault_of wb_app words)
+    (option_and_then invocation_named (subcommand_of wb_app words))
 
 -- what a text asks for whose words are parted by one space each
-abbrev pub asked_by : Text → Option Asked
-asked_by text = asked_in (slice_split (λ c. c == 32) text)
+abbrev pub invocation_by : Text → Option Invocation
+invocation_by text = invocation_in (slice_split (λ c. c == 32) text)

@@ -12,153 +12,153 @@ ghost use Rattle.wb_states.specs.Forms.{PutBack, Rebuild, Take};
 ghost use Rattle.wb_states.specs.Forms.{Uploaded, Waits};
 ghost use Rattle.wb_words.specs.Arguments.{joined, number_in, parts_in};
 ghost use Rattle.wb_words.specs.Start.{IsNoStart, Starts};
-ghost use Rattle.wb_words.specs.Words.{asked_by, asked_in, command_named};
+ghost use Rattle.wb_words.specs.Words.{invocation_by, invocation_in, command_named};
 ghost use Rattle.wb_words.specs.declared.start.Start.TheVariants.{Help, Run};
-ghost use Rattle.wb_words.specs.declared.words.Asked.TheVariants.{Command, Merge};
+ghost use Rattle.wb_words.specs.declared.words.Invocation.TheVariants.{Command, Merge};
 
 /// Each subcommand of operators with its arguments is a command.
 pub fn operator_lines_are_commands()
     // of architectures and builders
-    ensures add_arch { asked_by (codes "add-arch amd64 linux x86")
+    ensures add_arch { invocation_by (codes "add-arch amd64 linux x86")
         ≡ Some (Command (AddArch (codes "amd64") (codes "linux") (codes "x86"))) }
-    ensures add_builder { asked_by (codes "add-builder b1 amd64")
+    ensures add_builder { invocation_by (codes "add-builder b1 amd64")
         ≡ Some (Command (AddBuilder (codes "b1") (codes "amd64"))) }
     // of a source package
-    ensures enter { asked_by (codes "enter amd64 hello 1.0-1 optional devel")
+    ensures enter { invocation_by (codes "enter amd64 hello 1.0-1 optional devel")
         ≡ Some (Command (Enter (codes "amd64") (codes "hello") (codes "1.0-1") (codes "optional")
         (codes "devel"))) }
-    ensures give_back { asked_by (codes "give-back amd64 hello 1.0-1")
+    ensures give_back { invocation_by (codes "give-back amd64 hello 1.0-1")
         ≡ Some (Command (GiveBack (codes "amd64") (codes "hello") (codes "1.0-1"))) }
-    ensures dep_wait { asked_by (codes "dep-wait amd64 hello 1.0-1 libc6")
+    ensures dep_wait { invocation_by (codes "dep-wait amd64 hello 1.0-1 libc6")
         ≡ Some (Command (DepWait (codes "amd64") (codes "hello") (codes "1.0-1")
         (codes "libc6"))) }
-    ensures fail { asked_by (codes "fail amd64 hello 1.0-1")
+    ensures fail { invocation_by (codes "fail amd64 hello 1.0-1")
         ≡ Some (Command (Fail (codes "amd64") (codes "hello") (codes "1.0-1") [])) }
-    ensures not_for_us { asked_by (codes "not-for-us amd64 hello 1.0-1")
+    ensures not_for_us { invocation_by (codes "not-for-us amd64 hello 1.0-1")
         ≡ Some (Command (NotForUs (codes "amd64") (codes "hello") (codes "1.0-1") [])) }
-    ensures rebuild { asked_by (codes "rebuild amd64 hello 1.0-1 2")
+    ensures rebuild { invocation_by (codes "rebuild amd64 hello 1.0-1 2")
         ≡ Some (Command (Rebuild (codes "amd64") (codes "hello") (codes "1.0-1") 2 [])) }
 {}
 
 /// Each subcommand of builders with its arguments is a command.
 pub fn builder_lines_are_commands()
     // of the queue
-    ensures next { asked_by (codes "next amd64 b1")
+    ensures next { invocation_by (codes "next amd64 b1")
         ≡ Some (Command (Next (codes "amd64") (codes "b1") None)) }
-    ensures take { asked_by (codes "take amd64 b1 hello 1.0-1")
+    ensures take { invocation_by (codes "take amd64 b1 hello 1.0-1")
         ≡ Some (Command (Take (codes "amd64") (codes "b1") (codes "hello") (codes "1.0-1"))) }
     // of what was taken
-    ensures built { asked_by (codes "built 1") ≡ Some (Command (Built 1)) }
-    ensures uploaded { asked_by (codes "uploaded 1") ≡ Some (Command (Uploaded 1)) }
-    ensures put_back { asked_by (codes "put-back 1") ≡ Some (Command (PutBack 1)) }
-    ensures waits { asked_by (codes "waits 1 libc6")
+    ensures built { invocation_by (codes "built 1") ≡ Some (Command (Built 1)) }
+    ensures uploaded { invocation_by (codes "uploaded 1") ≡ Some (Command (Uploaded 1)) }
+    ensures put_back { invocation_by (codes "put-back 1") ≡ Some (Command (PutBack 1)) }
+    ensures waits { invocation_by (codes "waits 1 libc6")
         ≡ Some (Command (Waits 1 (codes "libc6"))) }
 {}
 
 /// A merge names the file of the Sources list and then parts, each cut at its first `=`. A part may
 /// lack its architecture: the office refuses that.
 pub fn merge_lines_name_files()
-    ensures one { asked_by (codes "merge S amd64=P")
+    ensures one { invocation_by (codes "merge S amd64=P")
         ≡ Some (Merge (codes "S") (record { arch = codes "amd64"; packages = codes "P" } ∷ [])) }
-    ensures two { asked_by (codes "merge S a=P b=Q") ≡ Some (Merge (codes "S")
+    ensures two { invocation_by (codes "merge S a=P b=Q") ≡ Some (Merge (codes "S")
         (record { arch = codes "a"; packages = codes "P" }
         ∷ record { arch = codes "b"; packages = codes "Q" } ∷ [])) }
-    ensures no_arch { asked_by (codes "merge S =f")
+    ensures no_arch { invocation_by (codes "merge S =f")
         ≡ Some (Merge (codes "S") (record { arch = []; packages = codes "f" } ∷ [])) }
-    ensures first { asked_by (codes "merge S a=b=c")
+    ensures first { invocation_by (codes "merge S a=b=c")
         ≡ Some (Merge (codes "S") (record { arch = codes "a"; packages = codes "b=c" } ∷ [])) }
 {}
 
 /// Several words of a last argument are joined by one space, also where `--` comes before them or
 /// between them: the first `--` is no word, and a word behind it is no option.
 pub fn last_words_are_joined()
-    ensures relations { asked_by (codes "waits 1 libc6 (>= 2), gcc")
+    ensures relations { invocation_by (codes "waits 1 libc6 (>= 2), gcc")
         ≡ Some (Command (Waits 1 (codes "libc6 (>= 2), gcc"))) }
-    ensures dep_wait { asked_by (codes "dep-wait amd64 s 1 libc6 (>= 2)")
+    ensures dep_wait { invocation_by (codes "dep-wait amd64 s 1 libc6 (>= 2)")
         ≡ Some (Command (DepWait (codes "amd64") (codes "s") (codes "1") (codes "libc6 (>= 2)"))) }
-    ensures note { asked_by (codes "fail a s v a -- -h -- b")
+    ensures note { invocation_by (codes "fail a s v a -- -h -- b")
         ≡ Some (Command (Fail (codes "a") (codes "s") (codes "v") (codes "a -h -- b"))) }
-    ensures not_for_us { asked_by (codes "not-for-us a s v -- -x")
+    ensures not_for_us { invocation_by (codes "not-for-us a s v -- -x")
         ≡ Some (Command (NotForUs (codes "a") (codes "s") (codes "v") (codes "-x"))) }
-    ensures message { asked_by (codes "rebuild a s v 1 help - me")
+    ensures message { invocation_by (codes "rebuild a s v 1 help - me")
         ≡ Some (Command (Rebuild (codes "a") (codes "s") (codes "v") 1 (codes "help - me"))) }
 {}
 
 /// The option `--after` stands where it will before `--`, with its number behind a space or `=`.
 pub fn options_are_read()
-    ensures last { asked_by (codes "next a b --after 5")
+    ensures last { invocation_by (codes "next a b --after 5")
         ≡ Some (Command (Next (codes "a") (codes "b") (Some 5))) }
-    ensures first { asked_by (codes "next --after 5 a b")
+    ensures first { invocation_by (codes "next --after 5 a b")
         ≡ Some (Command (Next (codes "a") (codes "b") (Some 5))) }
-    ensures equals { asked_by (codes "next a --after=5 b")
+    ensures equals { invocation_by (codes "next a --after=5 b")
         ≡ Some (Command (Next (codes "a") (codes "b") (Some 5))) }
-    ensures escaped { asked_by (codes "next a -- -b1")
+    ensures escaped { invocation_by (codes "next a -- -b1")
         ≡ Some (Command (Next (codes "a") (codes "-b1") None)) }
-    ensures hyphen { asked_by (codes "next a -")
+    ensures hyphen { invocation_by (codes "next a -")
         ≡ Some (Command (Next (codes "a") (codes "-") None)) }
 {}
 
 /// Numbers are read with a plus sign and leading zeros, up to 2^64 - 1, and no others are.
 pub fn numbers_are_read()
     // numbers
-    ensures plus { asked_by (codes "built +7") ≡ Some (Command (Built 7)) }
-    ensures zeros { asked_by (codes "built 007") ≡ Some (Command (Built 7)) }
-    ensures greatest { asked_by (codes "built 18446744073709551615")
+    ensures plus { invocation_by (codes "built +7") ≡ Some (Command (Built 7)) }
+    ensures zeros { invocation_by (codes "built 007") ≡ Some (Command (Built 7)) }
+    ensures greatest { invocation_by (codes "built 18446744073709551615")
         ≡ Some (Command (Built 18446744073709551615)) }
     // other words
-    ensures too_great { asked_by (codes "built 18446744073709551616") ≡ None }
-    ensures negative { asked_by (codes "built -- -1") ≡ None }
-    ensures number { asked_by (codes "rebuild a s v 1x") ≡ None }
-    ensures after { asked_by (codes "next a b --after=") ≡ None }
+    ensures too_great { invocation_by (codes "built 18446744073709551616") ≡ None }
+    ensures negative { invocation_by (codes "built -- -1") ≡ None }
+    ensures number { invocation_by (codes "rebuild a s v 1x") ≡ None }
+    ensures after { invocation_by (codes "next a b --after=") ≡ None }
 {}
 
 /// Behind `--` each word is an argument as it stands, whatever its bytes are, and so is what stands behind
 /// `--after=`: these are all texts. A last argument of several words has two of them here.
 pub fn any_words_are_arguments()
     // of operators
-    ensures add_arch { (name os cpu : List ℕ) → asked_in (codes "add-arch" ∷ codes "--" ∷ name ∷ os
+    ensures add_arch { (name os cpu : List ℕ) → invocation_in (codes "add-arch" ∷ codes "--" ∷ name ∷ os
         ∷ cpu ∷ []) ≡ Some (Command (AddArch name os cpu)) }
-    ensures add_builder { (name arch : List ℕ) → asked_in (codes "add-builder" ∷ codes "--" ∷ name
+    ensures add_builder { (name arch : List ℕ) → invocation_in (codes "add-builder" ∷ codes "--" ∷ name
         ∷ arch ∷ []) ≡ Some (Command (AddBuilder name arch)) }
     ensures enter { (arch source version priority section : List ℕ)
-        → asked_in (codes "enter" ∷ codes "--" ∷ arch ∷ source ∷ version ∷ priority ∷ section ∷ [])
+        → invocation_in (codes "enter" ∷ codes "--" ∷ arch ∷ source ∷ version ∷ priority ∷ section ∷ [])
         ≡ Some (Command (Enter arch source version priority section)) }
-    ensures give_back { (arch source version : List ℕ) → asked_in (codes "give-back" ∷ codes "--"
+    ensures give_back { (arch source version : List ℕ) → invocation_in (codes "give-back" ∷ codes "--"
         ∷ arch ∷ source ∷ version ∷ []) ≡ Some (Command (GiveBack arch source version)) }
     ensures dep_wait { (arch source version first second : List ℕ)
-        → asked_in (codes "dep-wait" ∷ codes "--" ∷ arch ∷ source ∷ version ∷ first ∷ second ∷ [])
+        → invocation_in (codes "dep-wait" ∷ codes "--" ∷ arch ∷ source ∷ version ∷ first ∷ second ∷ [])
         ≡ Some (Command (DepWait arch source version (joined (first ∷ second ∷ [])))) }
     ensures fail { (arch source version first second : List ℕ)
-        → asked_in (codes "fail" ∷ codes "--" ∷ arch ∷ source ∷ version ∷ first ∷ second ∷ [])
+        → invocation_in (codes "fail" ∷ codes "--" ∷ arch ∷ source ∷ version ∷ first ∷ second ∷ [])
         ≡ Some (Command (Fail arch source version (joined (first ∷ second ∷ [])))) }
     ensures not_for_us { (arch source version first second : List ℕ)
-        → asked_in (codes "not-for-us" ∷ codes "--" ∷ arch ∷ source ∷ version ∷ first ∷ second ∷ [])
+        → invocation_in (codes "not-for-us" ∷ codes "--" ∷ arch ∷ source ∷ version ∷ first ∷ second ∷ [])
         ≡ Some (Command (NotForUs arch source version (joined (first ∷ second ∷ [])))) }
     ensures rebuild { (arch source version number first second : List ℕ)
-        → asked_in (codes "rebuild" ∷ codes "--" ∷ arch ∷ source ∷ version ∷ number ∷ first
+        → invocation_in (codes "rebuild" ∷ codes "--" ∷ arch ∷ source ∷ version ∷ number ∷ first
         ∷ second ∷ []) ≡ option_map (λ n. Command (Rebuild arch source version n
         (joined (first ∷ second ∷ [])))) (number_in number) }
     // of builders
-    ensures next { (arch builder : List ℕ) → asked_in (codes "next" ∷ codes "--" ∷ arch ∷ builder
+    ensures next { (arch builder : List ℕ) → invocation_in (codes "next" ∷ codes "--" ∷ arch ∷ builder
         ∷ []) ≡ Some (Command (Next arch builder None)) }
-    ensures after { (arch builder after : List ℕ) → asked_in (codes "next"
+    ensures after { (arch builder after : List ℕ) → invocation_in (codes "next"
         ∷ (codes "--after=" ++ after) ∷ codes "--" ∷ arch ∷ builder ∷ [])
         ≡ option_map (λ n. Command (Next arch builder (Some n))) (number_in after) }
-    ensures take { (arch builder source version : List ℕ) → asked_in (codes "take" ∷ codes "--"
+    ensures take { (arch builder source version : List ℕ) → invocation_in (codes "take" ∷ codes "--"
         ∷ arch ∷ builder ∷ source ∷ version ∷ [])
         ≡ Some (Command (Take arch builder source version)) }
-    ensures built { (take_number : List ℕ) → asked_in (codes "built" ∷ codes "--"
+    ensures built { (take_number : List ℕ) → invocation_in (codes "built" ∷ codes "--"
         ∷ take_number ∷ []) ≡ option_map (λ n. Command (Built n)) (number_in take_number) }
-    ensures uploaded { (take_number : List ℕ) → asked_in (codes "uploaded" ∷ codes "--"
+    ensures uploaded { (take_number : List ℕ) → invocation_in (codes "uploaded" ∷ codes "--"
         ∷ take_number ∷ []) ≡ option_map (λ n. Command (Uploaded n)) (number_in take_number) }
-    ensures put_back { (take_number : List ℕ) → asked_in (codes "put-back" ∷ codes "--"
+    ensures put_back { (take_number : List ℕ) → invocation_in (codes "put-back" ∷ codes "--"
         ∷ take_number ∷ []) ≡ option_map (λ n. Command (PutBack n)) (number_in take_number) }
-    ensures waits { (take_number first second : List ℕ) → asked_in (codes "waits" ∷ codes "--"
+    ensures waits { (take_number first second : List ℕ) → invocation_in (codes "waits" ∷ codes "--"
         ∷ take_number ∷ first ∷ second ∷ [])
         ≡ option_map (λ n. Command (Waits n (joined (first ∷ second ∷ []))))
         (number_in take_number) }
     // of lists
-    ensures merge { (sources first second : List ℕ) → asked_in (codes "merge" ∷ codes "--"
+    ensures merge { (sources first second : List ℕ) → invocation_in (codes "merge" ∷ codes "--"
         ∷ sources ∷ first ∷ second ∷ [])
         ≡ option_map (λ parts. Merge sources parts) (parts_in (first ∷ second ∷ [])) }
 {}
@@ -167,30 +167,30 @@ pub fn any_words_are_arguments()
 /// missing, a word too many, and an option.
 pub fn other_words_are_none()
     // the subcommand
-    ensures none { asked_in [] ≡ None }
-    ensures unknown { asked_by (codes "nexts amd64 b1") ≡ None }
+    ensures none { invocation_in [] ≡ None }
+    ensures unknown { invocation_by (codes "nexts amd64 b1") ≡ None }
     // help
-    ensures help { asked_by (codes "help") ≡ None }
-    ensures long_help { asked_by (codes "next --help") ≡ None }
-    ensures short_help { asked_by (codes "-h") ≡ None }
+    ensures help { invocation_by (codes "help") ≡ None }
+    ensures long_help { invocation_by (codes "next --help") ≡ None }
+    ensures short_help { invocation_by (codes "-h") ≡ None }
     // the arguments
-    ensures missing { asked_by (codes "next amd64") ≡ None }
-    ensures many { asked_by (codes "next amd64 b1 b2") ≡ None }
-    ensures option { asked_by (codes "next amd64 -b1") ≡ None }
+    ensures missing { invocation_by (codes "next amd64") ≡ None }
+    ensures many { invocation_by (codes "next amd64 b1 b2") ≡ None }
+    ensures option { invocation_by (codes "next amd64 -b1") ≡ None }
 {}
 
 /// Nothing ask for: no relations where they are wanted, an option in a note, no part, a part
 /// without `=`, and an option `--after` that comes twice or has no number.
 pub fn other_arguments_are_none()
     // the last words
-    ensures relations { asked_by (codes "waits 1") ≡ None }
-    ensures note { asked_by (codes "fail a s v a -h") ≡ None }
-    ensures no_part { asked_by (codes "merge S") ≡ None }
-    ensures part { asked_by (codes "merge S a=P b") ≡ None }
+    ensures relations { invocation_by (codes "waits 1") ≡ None }
+    ensures note { invocation_by (codes "fail a s v a -h") ≡ None }
+    ensures no_part { invocation_by (codes "merge S") ≡ None }
+    ensures part { invocation_by (codes "merge S a=P b") ≡ None }
     // the option
-    ensures twice { asked_by (codes "next a b --after 5 --after 5") ≡ None }
-    ensures lacking { asked_by (codes "next a b --after") ≡ None }
-    ensures other { asked_by (codes "next a b --aft 5") ≡ None }
+    ensures twice { invocation_by (codes "next a b --after 5 --after 5") ≡ None }
+    ensures lacking { invocation_by (codes "next a b --after") ≡ None }
+    ensures other { invocation_by (codes "next a b --aft 5") ≡ None }
 {}
 
 /// What the program is started for: `run`, help in its three forms, and words that ask for nothing.

@@ -2,11 +2,11 @@
 ghost use Rattle.std.specs.Prelude.{◌≡◌, IfOk, map};
 ghost use Rattle.clap.specs.Words.{found_of, rows_of};
 ghost use Rattle.wb_words.specs.Arguments.{part_in, parts_in, parts_of};
-ghost use Rattle.wb_words.specs.Words.{list_asked, merge_of};
+ghost use Rattle.wb_words.specs.Words.{list_invocation, merge_of};
 
 use crate::argument::word;
 use crate::usage::ArgumentKind;
-use crate::words::{Asked, PartNames};
+use crate::words::{Invocation, PartNames};
 use clap::ArgMatches;
 use deb_text::{Items, Text};
 use std::alloc::{AllocError, Global};
@@ -23,14 +23,14 @@ pub static USAGES: [(&str, &[(&str, ArgumentKind)]); 1] = [(
 /// What the subcommand `name` asks for with these arguments; `None` where `name` is no subcommand
 /// that reads lists, an argument is missing, or a word names no part. The only error is that there
 /// is no memory for the names.
-#[tactic(auto, unfolding(crate::specs::Words::list_asked))]
-pub(crate) fn list_asked(
+#[tactic(auto, unfolding(crate::specs::Words::list_invocation))]
+pub(crate) fn list_invocation(
     alloc: Global,
     name: &str,
     arguments: &ArgMatches<'_>,
-) -> Result<Option<Asked>, AllocError>
-    ensures value { IfOk result (λ asked.
-        asked ≡ list_asked name.now (rows_of (found_of arguments.now))) }
+) -> Result<Option<Invocation>, AllocError>
+    ensures value { IfOk result (λ invocation.
+        invocation ≡ list_invocation name.now (rows_of (found_of arguments.now))) }
 {
     match name {
         "merge" => merge(alloc, arguments),
@@ -39,8 +39,8 @@ pub(crate) fn list_asked(
 }
 
 #[tactic(auto, unfolding(crate::specs::Words::merge_of))]
-fn merge(alloc: Global, arguments: &ArgMatches<'_>) -> Result<Option<Asked>, AllocError>
-    ensures value { IfOk result (λ asked. asked ≡ merge_of (rows_of (found_of arguments.now))) }
+fn merge(alloc: Global, arguments: &ArgMatches<'_>) -> Result<Option<Invocation>, AllocError>
+    ensures value { IfOk result (λ invocation. invocation ≡ merge_of (rows_of (found_of arguments.now))) }
 {
     let Some(sources) = word(alloc, arguments, "sources")? else {
         return Ok(None);
@@ -48,7 +48,7 @@ fn merge(alloc: Global, arguments: &ArgMatches<'_>) -> Result<Option<Asked>, All
     let Some(parts) = parts(alloc, arguments, "parts")? else {
         return Ok(None);
     };
-    Ok(Some(Asked::Merge { sources, parts }))
+    Ok(Some(Invocation::Merge { sources, parts }))
 }
 
 /// The parts that were given for the argument `id`; `None` where a word names no part.

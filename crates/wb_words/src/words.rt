@@ -2,7 +2,7 @@
 ghost use Rattle.std.specs.Prelude.{◌≡◌, ◌≢◌, None, Some, map, IfErr, IfOk};
 ghost use Rattle.clap.specs.Words.{found_of, rows_of};
 ghost use Rattle.wb_words.specs.declared.fault.WordsFault.TheVariants.{Memory};
-ghost use Rattle.wb_words.specs.Words.{asked_in, asked_named, command_named};
+ghost use Rattle.wb_words.specs.Words.{invocation_in, invocation_named, command_named};
 
 use crate::tree::wb_app;
 use crate::{WordsFault, builder, lists, operator};
@@ -22,7 +22,7 @@ pub struct PartNames {
 
 /// What the words of a line ask for.
 #[derive(Debug, Drop)]
-pub enum Asked {
+pub enum Invocation {
     /// A command that is whole.
     Command {
         command: Command,
@@ -55,18 +55,18 @@ fn command_named(
 /// What the subcommand `name` asks for with these arguments; `None` where `name` is no subcommand,
 /// or an argument is missing or of another form. The only error is that there is no memory for its
 /// texts.
-#[tactic(auto, unfolding(crate::specs::Words::asked_named))]
-fn asked_named(
+#[tactic(auto, unfolding(crate::specs::Words::invocation_named))]
+fn invocation_named(
     alloc: Global,
     name: &str,
     arguments: &ArgMatches<'_>,
-) -> Result<Option<Asked>, AllocError>
-    ensures value { IfOk result (λ asked.
-        asked ≡ asked_named (name.now, rows_of (found_of arguments.now))) }
+) -> Result<Option<Invocation>, AllocError>
+    ensures value { IfOk result (λ invocation.
+        invocation ≡ invocation_named (name.now, rows_of (found_of arguments.now))) }
 {
     match command_named(alloc, name, arguments)? {
-        Some(command) => Ok(Some(Asked::Command { command })),
-        None => lists::list_asked(alloc, name, arguments),
+        Some(command) => Ok(Some(Invocation::Command { command })),
+        None => lists::list_invocation(alloc, name, arguments),
     }
 }
 
@@ -78,18 +78,18 @@ fn asked_named(
 /// `--after` of `next`. Numbers are whole, from 0 to 2^64 - 1, in decimal digits; one plus sign may
 /// stand before them. The errors are `NoCommand` where the words are no command, and `Memory`, which
 /// may come at any words. The grammar is this project's own.
-pub fn asked_of<'a>(alloc: Global, words: &'a [&'a str]) -> Result<Asked, WordsFault>
-    ensures value { IfOk result (λ asked.
-        asked_in (map (λ word. word.now) words.entry.now) ≡ Some asked) }
+pub fn invocation_of<'a>(alloc: Global, words: &'a [&'a str]) -> Result<Invocation, WordsFault>
+    ensures value { IfOk result (λ invocation.
+        invocation_in (map (λ word. word.now) words.entry.now) ≡ Some invocation) }
     ensures refused { IfErr result (λ fault. fault ≢ Memory
-        → asked_in (map (λ word. word.now) words.entry.now) ≡ None) }
+        → invocation_in (map (λ word. word.now) words.entry.now) ≡ None) }
 {
     let matches = wb_app(alloc)?.try_get_matches_from(words)?;
     let Some((name, arguments)) = matches.subcommand() else {
         return Err(WordsFault::NoCommand);
     };
-    match asked_named(alloc, name, arguments)? {
-        Some(asked) => Ok(asked),
+    match invocation_named(alloc, name, arguments)? {
+        Some(invocation) => Ok(invocation),
         None => Err(WordsFault::NoCommand),
     }
 }

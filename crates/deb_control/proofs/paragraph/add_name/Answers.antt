@@ -6,8 +6,8 @@ use Rattle.std.proofs.lemmas.Bool.{OnTrue_from}
 use Rattle.std.proofs.lemmas.List.{length-map}
 use Rattle.std.proofs.lemmas.Map.Text.{btree_set_updates_text}
 use Rattle.std.specs.Str.{str_to_ascii_lowercase}
-use Rattle.deb_control.specs.Fields.{Entry, has_name, names_in}
-use Rattle.deb_control.proofs.NameLemmas.{is_among-names_in, is_among-take, is_among-first, is_among-later, Knows-few, Knows-later, where-any}
+use Rattle.deb_control.specs.Fields.{FieldText, has_name, names_in}
+use Rattle.deb_control.proofs.NameLemmas.{is_among-names_in, is_among-take, is_among-first, is_among-later, IsNameSet-few, IsNameSet-later, where-any}
 use Rattle.deb_control.proofs.paragraph.add_name.Goals as goal
 
 pub returns-then-fields-lt-FEW-clause-value : goal.returns-then-fields-lt-FEW-clause-value
@@ -15,8 +15,8 @@ returns-then-fields-lt-FEW-clause-value c = ap not (c.is_name_of_any.ensures ∙
 
 pub returns-then-fields-lt-FEW-clause-known : goal.returns-then-fields-lt-FEW-clause-known
 returns-then-fields-lt-FEW-clause-known c =
-    let fewer : length (names_in c.args.fields.now) < 32 = omega (arith, length-map c.args.fields.now (λ (field : Entry). str_to_ascii_lowercase field.name)) in
-    OnTrue_from _ _ (λ _. Knows-few 32 (contains_text c.args.later.now) (names_in c.args.fields.now) (str_to_ascii_lowercase c.args.name.now) fewer c.requires)
+    let fewer : length (names_in c.args.fields.now) < 32 = omega (arith, length-map c.args.fields.now (λ (field : FieldText). str_to_ascii_lowercase field.name)) in
+    OnTrue_from _ _ (λ _. IsNameSet-few 32 (contains_text c.args.later.now) (names_in c.args.fields.now) (str_to_ascii_lowercase c.args.name.now) fewer c.requires)
 
 pub returns-then-is_name_of_any-clause-value : goal.returns-then-is_name_of_any-clause-value
 returns-then-is_name_of_any-clause-value c =
@@ -32,9 +32,9 @@ returns-clause-value c =
 
 pub returns-clause-known : goal.returns-clause-known
 returns-clause-known c =
-    let more : 32 ≤ length (names_in c.args.fields.now) = omega (arith, length-map c.args.fields.now (λ (field : Entry). str_to_ascii_lowercase field.name)) in
+    let more : 32 ≤ length (names_in c.args.fields.now) = omega (arith, length-map c.args.fields.now (λ (field : FieldText). str_to_ascii_lowercase field.name)) in
     OnTrue_from _ _ (λ _.
-    Knows-later 32 (contains_text c.args.later.now) (contains_text c.insert.new.self) (names_in c.args.fields.now) (str_to_ascii_lowercase c.args.name.now)
+    IsNameSet-later 32 (contains_text c.args.later.now) (contains_text c.insert.new.self) (names_in c.args.fields.now) (str_to_ascii_lowercase c.args.name.now)
     (string_bytes c.in_ok-lower_name.field-0) more c.in_ok-lower_name.ensures c.requires
     (btree_set_updates_text (string_bytes c.in_ok-lower_name.field-0) c.args.later.now c.insert.new.self true c.in_ok-new.ensures.updates))
 

@@ -1,5 +1,5 @@
 use Rattle.std.proofs.Common.{◌≡◌, ◌<◌, ◌∙◌, ap, sym, subst, rules, ℕ, false, true, List, [], ◌∷◌, ◌++◌, length, None}
-use Rattle.deb_text.specs.Lists.{is_filled}
+use Rattle.deb_text.specs.Lists.{is_nonempty}
 use Rattle.deb_relations.specs.Grammar.{is_white, words}
 use Rattle.deb_relations.specs.Reader.{skip, term_of}
 use Rattle.deb_text.specs.Options.{all_some}
@@ -26,7 +26,7 @@ pub returns-in_err-term_of-clause-none : goal.returns-in_err-term_of-clause-none
 returns-in_err-term_of-clause-none c =
     let t : List ℕ = c.loop-rest.rest.now in
     let empty : c.is_empty.result ≡ false = search rules in
-    let filled : is_filled t ≡ true = filled-from t c.is_empty.result c.is_empty.ensures empty in
+    let filled : is_nonempty t ≡ true = filled-from t c.is_empty.result c.is_empty.ensures empty in
     let stop : term_of c.args.kind c.split_leading.result.0.now ≡ None → all_some (term_of c.args.kind) (words c.args.inside.now) ≡ None =
     λ e. sym c.loop-rest.invariant.2 ∙ term-refused c.args.kind c.loop-rest.made t filled c.loop-rest.invariant.1 (ap (term_of c.args.kind) (sym c.split_leading.ensures.front) ∙ e) in
     search (rules, stop)
@@ -35,14 +35,14 @@ pub loop-rest-smaller : goal.loop-rest-smaller
 loop-rest-smaller c =
     let t : List ℕ = c.loop-rest.rest.now in
     let empty : c.is_empty.result ≡ false = search rules in
-    let filled : is_filled t ≡ true = filled-from t c.is_empty.result c.is_empty.ensures empty in
+    let filled : is_nonempty t ≡ true = filled-from t c.is_empty.result c.is_empty.ensures empty in
     subst (λ (x : List ℕ). length x < length t) (sym (c.skip_white-rest-in-loop-rest.ensures ∙ ap (skip is_white) c.split_leading.ensures.back)) (turn-shorter t filled c.loop-rest.invariant.1)
 
 pub loop-rest-preserved : goal.loop-rest-preserved
 loop-rest-preserved c =
     let t : List ℕ = c.loop-rest.rest.now in
     let empty : c.is_empty.result ≡ false = search rules in
-    let filled : is_filled t ≡ true = filled-from t c.is_empty.result c.is_empty.ensures empty in
+    let filled : is_nonempty t ≡ true = filled-from t c.is_empty.result c.is_empty.ensures empty in
     let term = c.in_ok-term_of.field-0 in (
       search rules,
       subst (stops is_white) (sym c.skip_white-rest-in-loop-rest.ensures) (skip-stops is_white c.split_leading.result.1.now),
@@ -64,7 +64,7 @@ pub returns-in_err-term_of-clause-memory : goal.returns-in_err-term_of-clause-me
 returns-in_err-term_of-clause-memory c =
     let t : List ℕ = c.loop-rest.rest.now in
     let empty : c.is_empty.result ≡ false = search rules in
-    let filled : is_filled t ≡ true = filled-from t c.is_empty.result c.is_empty.ensures empty in
+    let filled : is_nonempty t ≡ true = filled-from t c.is_empty.result c.is_empty.ensures empty in
     let p = err_from_is_err_and c.from_residual.result c.from_residual.ensures.1 in
     rw (p.1, p.2) (λ memory.
     term-begun c.args.kind t c.args.inside.now c.loop-rest.invariant.3 filled c.loop-rest.invariant.1
@@ -74,7 +74,7 @@ pub returns-in_err-push-clause-memory : goal.returns-in_err-push-clause-memory
 returns-in_err-push-clause-memory c =
     let t : List ℕ = c.loop-rest.rest.now in
     let empty : c.is_empty.result ≡ false = search rules in
-    let filled : is_filled t ≡ true = filled-from t c.is_empty.result c.is_empty.ensures empty in
+    let filled : is_nonempty t ≡ true = filled-from t c.is_empty.result c.is_empty.ensures empty in
     where-wanted _
     (term-begun c.args.kind t c.args.inside.now c.loop-rest.invariant.3 filled c.loop-rest.invariant.1
     (ap (λ word. is_some (term_of c.args.kind word)) (sym c.split_leading.ensures.front) ∙ ap is_some c.in_ok-term_of.ensures.ok))

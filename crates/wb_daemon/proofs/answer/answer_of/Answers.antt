@@ -2,32 +2,32 @@
 use Rattle.std.proofs.Common.{◌≡◌, ap, refl, arith}
 use Rattle.std.proofs.lemmas.Option.{IfSome_then}
 use Rattle.wb_words.specs.declared.fault.WordsFault.TheVariants.{NoCommand, Memory}
-use Rattle.wb_daemon.specs.Line.{with_feed}
-use Rattle.wb_daemon.proofs.AnswerLemmas.{LineAsks-asked, Says-asked, Says-fault, Says-memory}
+use Rattle.wb_daemon.specs.Line.{with_line_feed}
+use Rattle.wb_daemon.proofs.AnswerLemmas.{LineInvokes-invocation, IsLineResponse-invocation, IsLineResponse-fault, IsLineResponse-memory}
 use Rattle.wb_daemon.proofs.answer.answer_of.Goals as goal
 
 pub returns-in-Ok-clause-value : goal.returns-in-Ok-clause-value
 returns-in-Ok-clause-value g c =
-    IfSome_then c.answer_asked.result c.answer_asked.ensures.value
-    (λ answer h. (h.0, Says-asked (g.L.Lists.gives c.args.lists.now) c.args.office.now c.args.line.now c.in-Ok.asked _ c.requires.short c.requires.words c.in-Ok.ensures.value h.1))
+    IfSome_then c.answer_invocation.result c.answer_invocation.ensures.value
+    (λ answer h. (h.0, IsLineResponse-invocation (g.L.Lists.may_read c.args.lists.now) c.args.office.now c.args.line.now c.in-Ok.invocation _ c.requires.short c.requires.words c.in-Ok.ensures.value h.1))
 
 pub returns-in-Ok-clause-memory : goal.returns-in-Ok-clause-memory
 returns-in-Ok-clause-memory g c = λ e.
-    let h = c.answer_asked.ensures.memory e in
-    (h.0, LineAsks-asked (g.L.Lists.gives c.args.lists.now) c.args.line.now c.in-Ok.asked h.0 c.requires.short c.requires.words c.in-Ok.ensures.value h.1, h.2)
+    let h = c.answer_invocation.ensures.memory e in
+    (h.0, LineInvokes-invocation (g.L.Lists.may_read c.args.lists.now) c.args.line.now c.in-Ok.invocation h.0 c.requires.short c.requires.words c.in-Ok.ensures.value h.1, h.2)
 
 pub returns-in-Err-NoCommand-clause-value : goal.returns-in-Err-NoCommand-clause-value
 returns-in-Err-NoCommand-clause-value g c =
     let none = (rw c.in-Err-NoCommand.field-0-is at c.in-Err-NoCommand.ensures.refused) (λ (e : NoCommand ≡ Memory). cc) in (
       omega arith,
-      Says-fault (g.L.Lists.gives c.args.lists.now) c.args.office.now c.args.line.now _ c.requires.short c.requires.words none
-          (ap (λ t. record { text = with_feed t; machine = c.args.office.now; status = 2 }) c.line_fault_json.ensures.value),
+      IsLineResponse-fault (g.L.Lists.may_read c.args.lists.now) c.args.office.now c.args.line.now _ c.requires.short c.requires.words none
+          (ap (λ t. record { text = with_line_feed t; machine = c.args.office.now; status = 2 }) c.line_fault_json.ensures.value),
     )
 
 pub returns-in-Err-Memory-clause-value : goal.returns-in-Err-Memory-clause-value
 returns-in-Err-Memory-clause-value g c =
     let utf8 = (rw c.in-Err-Memory.field-0-is at c.in-Err-Memory.ensures.memory) refl in (
       c.memory_answer.ensures.status,
-      Says-memory (g.L.Lists.gives c.args.lists.now) c.args.office.now c.args.line.now _ c.requires.short c.requires.words utf8
+      IsLineResponse-memory (g.L.Lists.may_read c.args.lists.now) c.args.office.now c.args.line.now _ c.requires.short c.requires.words utf8
           (c.memory_answer.ensures.value c.args.office.now),
     )

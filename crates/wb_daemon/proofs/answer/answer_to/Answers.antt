@@ -1,7 +1,7 @@
 -- A reply that finds no memory is to an accepted command, or repeats an assignment and changed nothing.
 use Rattle.std.proofs.Common.{◌∙◌, IsOk, ap, inl, inr, refl, subst, sym}
 use Rattle.wb_office.specs.Step.{Outcome}
-use Rattle.wb_daemon.specs.Turn.{said_by, SaysCommandOrMemory}
+use Rattle.wb_daemon.specs.Turn.{response_of_answer, IsCommandResponseOrMemory}
 use Rattle.wb_daemon.proofs.AnswerLemmas.{reply-accepted, reply-repeats}
 use Rattle.wb_daemon.proofs.answer.answer_to.Goals as goal
 
@@ -15,7 +15,7 @@ returns-in-Err-reply_json-clause-value c =
     let same = reply-repeats c.args.office.now c.apply.new.self c.args.command.now c.in-Ok.reply c.in-Ok.ensures.reply
     (sym c.accepted.ensures.value ∙ c.if-accepted.true ∙ c.accepted-accepted.ensures.value) in (
       c.memory_answer.ensures.status,
-      subst (λ machine. SaysCommandOrMemory c.args.office.now c.args.command.now (said_by c.memory_answer.result machine))
+      subst (λ machine. IsCommandResponseOrMemory c.args.office.now c.args.command.now (response_of_answer c.memory_answer.result machine))
           (sym same) (inr (
             inr (
               subst (λ (outcome : Outcome). IsOk outcome.0) (sym c.in-Ok.ensures.reply) refl,
@@ -29,6 +29,6 @@ pub returns-in-Err-Memory-clause-value : goal.returns-in-Err-Memory-clause-value
 returns-in-Err-Memory-clause-value c =
     let wants = c.in-Err-Memory.ensures.memory c.in-Err-Memory.field-0-is in (
       c.memory_answer-in-Err-Memory.ensures.status,
-      subst (λ machine. SaysCommandOrMemory c.args.office.now c.args.command.now (said_by c.memory_answer-in-Err-Memory.result machine))
+      subst (λ machine. IsCommandResponseOrMemory c.args.office.now c.args.command.now (response_of_answer c.memory_answer-in-Err-Memory.result machine))
           (sym c.in-Err-Memory.ensures.unchanged) (inr (inl (inl wants), c.memory_answer-in-Err-Memory.ensures.value c.args.office.now)),
     )

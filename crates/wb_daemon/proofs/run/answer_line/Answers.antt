@@ -1,13 +1,13 @@
 -- What was written of what is said to the line.
 use Rattle.std.proofs.Common.{◌∙◌, sym, refl, subst}
-use Rattle.wb_daemon.specs.Line.{with_feed}
-use Rattle.wb_daemon.specs.Turn.{AppendsFront, said_by}
+use Rattle.wb_daemon.specs.Line.{with_line_feed}
+use Rattle.wb_daemon.specs.Turn.{AppendsFront, response_of_answer}
 use Rattle.wb_daemon.proofs.AnswerLemmas.{answers-blank}
 use Rattle.wb_daemon.proofs.run.answer_line.Goals as goal
 
 pub returns-then-is_blank_line-clause-value : goal.returns-then-is_blank_line-clause-value
 returns-then-is_blank_line-clause-value g c =
-    answers-blank (g.L.Lists.gives c.args.lists.now) c.args.office.now c.args.line.now c.args.writer.now.bytes c.requires
+    answers-blank (g.L.Lists.may_read c.args.lists.now) c.args.office.now c.args.line.now c.args.writer.now.bytes c.requires
     (sym c.is_blank_line.ensures ∙ c.if-is_blank_line.true)
 
 pub returns-in_default-clause-err : goal.returns-in_default-clause-err
@@ -15,9 +15,9 @@ returns-in_default-clause-err g c = let h = c.answer_of.ensures.memory c.in_defa
 
 pub returns-clause-err : goal.returns-clause-err
 returns-clause-err g c = (
-  said_by c.in-Some.answer c.answer_of.new.office,
+  response_of_answer c.in-Some.answer c.answer_of.new.office,
   c.in-Some.ensures.value.1,
   refl,
-  subst (λ t. AppendsFront c.args.writer.now.bytes c.write_line.new.writer.bytes (with_feed t))
+  subst (λ t. AppendsFront c.args.writer.now.bytes c.write_line.new.writer.bytes (with_line_feed t))
       c.as_str.ensures.value (c.write_line.ensures.err c.if-write_line.false),
 )

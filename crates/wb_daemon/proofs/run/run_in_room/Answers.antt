@@ -7,6 +7,6 @@ pub returns-in_default : goal.returns-in_default
 returns-in_default g c = record {
   consistent = λ h. h;
   failed = (refl, refl);
-  value = stops-at_once (g.L.Lists.gives c.args.lists.now)
+  value = stops-at_once (g.L.Lists.may_read c.args.lists.now)
       c.args.reader.now.bytes c.args.writer.now.bytes c.args.office.now;
 }

@@ -1,7 +1,7 @@
 -- Each line that was read was answered, and no read or write failed.
 use Rattle.std.proofs.Common.{None}
 use Rattle.wb_states.specs.Machine.{IsConsistent}
-use Rattle.wb_daemon.specs.Lists.{GivesNoMore}
+use Rattle.wb_daemon.specs.Lists.{MayReadLess}
 use Rattle.wb_daemon.specs.Run.{FailsFor}
 use Rattle.wb_daemon.proofs.RunLemmas.{SoFar}
 use Rattle.wb_daemon.proofs.run.run_within.Given as goal
@@ -9,8 +9,8 @@ use Rattle.wb_daemon.proofs.run.run_within.Given as goal
 abbrev pub invariant-lines : goal.invariant-lines
 invariant-lines g l = record {
   consistent : IsConsistent l.initial.office → IsConsistent l.office;
-  kept : GivesNoMore (g.L.Lists.gives l.initial.lists) (g.L.Lists.gives l.lists);
+  kept : MayReadLess (g.L.Lists.may_read l.initial.lists) (g.L.Lists.may_read l.lists);
   failed : FailsFor None l.initial.reader l.reader l.initial.writer l.writer;
-  far : SoFar (g.L.Lists.gives l.initial.lists) l.initial.reader.bytes l.reader.bytes
+  far : SoFar (g.L.Lists.may_read l.initial.lists) l.initial.reader.bytes l.reader.bytes
       l.initial.writer.bytes l.writer.bytes l.initial.office l.office l.greatest l.count;
 }

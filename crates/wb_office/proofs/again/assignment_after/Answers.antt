@@ -2,7 +2,7 @@ use Rattle.std.proofs.Common.{◌∙◌, Some, ap, option_map}
 use Rattle.std.specs.List.{find}
 use Rattle.wb_states.specs.Holds.{building_after, is_building_after}
 use Rattle.wb_store.specs.Lookups.{entry_of}
-use Rattle.wb_office.specs.Found.{held_assignment}
+use Rattle.wb_office.specs.Outcomes.{held_assignment}
 use Rattle.wb_office.specs.Step.{assignment_of}
 use Rattle.wb_office.proofs.again.assignment_after.Goals as goal
 

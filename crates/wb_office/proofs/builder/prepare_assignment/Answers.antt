@@ -3,7 +3,7 @@ use Rattle.std.proofs.lemmas.Result.{err_from_is_err_and}
 use Rattle.std.proofs.lemmas.Bool.{or_parts}
 use Rattle.wb_states.specs.declared.moves.Move.TheVariants as to
 use Rattle.wb_states.specs.Limits.{count_limit}
-use Rattle.wb_states.specs.Moves.{moved}
+use Rattle.wb_states.specs.Moves.{record_after_move}
 use Rattle.wb_store.specs.Lookups.{entry_of}
 use Rattle.wb_office.specs.Step.{assignment_of}
 use Rattle.wb_office.proofs.AssignmentLemmas.{assignment_step-refused, assignment_step-Spent, take-any}
@@ -27,7 +27,7 @@ returns-clause-value c =
     sym c.in_ok-is_full.ensures.value ∙ c.if-is_full.false in
     ap (λ after. ((c.args.row.arch, c.args.row.source), after))
     (c.in_ok-after.ensures.value
-    ∙ ap (λ (k : ℕ). moved (to.Take c.args.builder.now k) c.args.row.current) (c.in_ok-take_number.ensures.value (or_parts _ _ room).1))
+    ∙ ap (λ (k : ℕ). record_after_move (to.Take c.args.builder.now k) c.args.row.current) (c.in_ok-take_number.ensures.value (or_parts _ _ room).1))
 
 pub returns-clause-reply : goal.returns-clause-reply
 returns-clause-reply c =

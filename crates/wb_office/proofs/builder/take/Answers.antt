@@ -1,6 +1,6 @@
 use Rattle.std.proofs.Common.{◌∙◌, sym}
 use Rattle.std.proofs.lemmas.Result.{IfErr-weaker, IfOk-weaker, err_from_is_err_and}
-use Rattle.wb_office.specs.Found.{take_step}
+use Rattle.wb_office.specs.Outcomes.{take_step}
 use Rattle.wb_office.proofs.TakeLemmas.{take-BadName, take-BadVersion, take-is}
 use Rattle.wb_office.proofs.builder.take.Goals as goal
 

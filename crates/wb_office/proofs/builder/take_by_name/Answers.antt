@@ -1,7 +1,7 @@
 use Rattle.std.proofs.Common.{◌∙◌, sym}
 use Rattle.std.proofs.lemmas.Result.{IfOk-weaker, err_from_is_err_and}
 use Rattle.wb_store.specs.Lookups.{entry_of}
-use Rattle.wb_office.specs.Found.{assignment_step}
+use Rattle.wb_office.specs.Outcomes.{assignment_step}
 use Rattle.wb_office.proofs.TakeLemmas.{take_step-builder, take_step-found, take_step-assignment}
 use Rattle.wb_office.proofs.AssignmentLemmas.{assignment_step-kept}
 use Rattle.wb_office.proofs.StepLemmas.{with-known}

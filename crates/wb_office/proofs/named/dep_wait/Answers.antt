@@ -1,7 +1,7 @@
 use Rattle.std.proofs.Common.{◌∙◌, sym}
 use Rattle.std.proofs.lemmas.Result.{IfErr-weaker, IfOk-weaker, err_from_is_err_and}
 use Rattle.wb_states.specs.declared.moves.Move.TheVariants as to
-use Rattle.wb_office.specs.Found.{named_step}
+use Rattle.wb_office.specs.Outcomes.{named_step}
 use Rattle.wb_office.proofs.KeyLemmas.{dep_wait-refused, dep_wait-either, dep_wait-is}
 use Rattle.wb_office.proofs.WantLemmas.{wanted, key-wanted, want-DepWait}
 use Rattle.wb_office.specs.Checks.{key_refusal}

@@ -1,7 +1,7 @@
 use Rattle.std.proofs.Common.{◌∙◌, sym}
 use Rattle.std.proofs.lemmas.Result.{IfOk-weaker, err_from_is_err_and}
 use Rattle.wb_store.specs.Lookups.{entry_of}
-use Rattle.wb_office.specs.Found.{move_step}
+use Rattle.wb_office.specs.Outcomes.{move_step}
 use Rattle.wb_office.proofs.NamedLemmas.{named_step-UnknownArch, named_step-found, named_step-moves}
 use Rattle.wb_office.proofs.MoveLemmas.{move_step-made}
 use Rattle.wb_office.proofs.StepLemmas.{with-known}

@@ -1,7 +1,7 @@
 use Rattle.std.proofs.Common.{◌∙◌, sym}
 use Rattle.std.proofs.lemmas.Result.{IfErr-weaker, IfOk-weaker, err_from_is_err_and}
 use Rattle.wb_states.specs.declared.moves.Move.TheVariants as to
-use Rattle.wb_office.specs.Found.{named_step}
+use Rattle.wb_office.specs.Outcomes.{named_step}
 use Rattle.wb_office.proofs.KeyLemmas.{not_for_us-refused, not_for_us-long, not_for_us-is}
 use Rattle.wb_office.proofs.WantLemmas.{wanted, want-NotForUs}
 use Rattle.wb_office.specs.Checks.{key_refusal}

@@ -1,7 +1,7 @@
 use Rattle.std.proofs.Common.{◌∙◌, sym}
 use Rattle.std.proofs.lemmas.Result.{IfErr-weaker, IfOk-weaker, err_from_is_err_and}
 use Rattle.wb_states.specs.declared.moves.Move.TheVariants as to
-use Rattle.wb_office.specs.Found.{named_step}
+use Rattle.wb_office.specs.Outcomes.{named_step}
 use Rattle.wb_office.proofs.KeyLemmas.{rebuild-refused, rebuild-BadNumber, rebuild-long, rebuild-is, numbered}
 use Rattle.wb_office.proofs.WantLemmas.{wanted, want-Rebuild}
 use Rattle.wb_office.specs.Checks.{key_refusal}

@@ -2,7 +2,7 @@ use Rattle.std.proofs.Common.{◌∷◌, [], refl}
 use Rattle.clap.proofs.OnLiterals.{clap_on_literals}
 use Rattle.wb_states.specs.Forms.{Built, PutBack, Rebuild, Uploaded, Waits}
 use Rattle.wb_words.specs.Arguments.{joined, number_in}
-use Rattle.wb_words.proofs.AskedLemmas.{operator-asked, builder-asked, next-asked}
+use Rattle.wb_words.proofs.InvocationLemmas.{operator-invocation, builder-invocation, next-invocation}
 use Rattle.wb_words.proofs.LiteralLemmas.{words_on_literals}
 use Rattle.wb_words.proofs.laws.any_words_are_arguments.Goals as goal
 
@@ -17,14 +17,14 @@ returns c = record {
   fail = λ arch source version first second. refl;
   not_for_us = λ arch source version first second. refl;
   rebuild = λ arch source version number first second.
-      operator-asked (λ n. Rebuild arch source version n (joined (first ∷ second ∷ []))) (number_in number);
+      operator-invocation (λ n. Rebuild arch source version n (joined (first ∷ second ∷ []))) (number_in number);
   next = λ arch builder. refl;
-  after = λ arch builder after. next-asked arch builder (number_in after);
+  after = λ arch builder after. next-invocation arch builder (number_in after);
   take = λ arch builder source version. refl;
-  built = λ take_number. builder-asked (λ n. Built n) (number_in take_number);
-  uploaded = λ take_number. builder-asked (λ n. Uploaded n) (number_in take_number);
-  put_back = λ take_number. builder-asked (λ n. PutBack n) (number_in take_number);
+  built = λ take_number. builder-invocation (λ n. Built n) (number_in take_number);
+  uploaded = λ take_number. builder-invocation (λ n. Uploaded n) (number_in take_number);
+  put_back = λ take_number. builder-invocation (λ n. PutBack n) (number_in take_number);
   waits = λ take_number first second.
-      builder-asked (λ n. Waits n (joined (first ∷ second ∷ []))) (number_in take_number);
+      builder-invocation (λ n. Waits n (joined (first ∷ second ∷ []))) (number_in take_number);
   merge = λ sources first second. refl;
 }

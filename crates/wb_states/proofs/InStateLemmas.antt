@@ -5,7 +5,7 @@ use Rattle.deb_version.specs.Syntax.{reading_of}
 use Rattle.wb_states.specs.declared.record.Record.{Record}
 use Rattle.wb_states.specs.declared.state.State.{State}
 use Rattle.wb_states.specs.Limits.{rebuild_limit, note_limit, relations_limit}
-use Rattle.wb_states.specs.Moves.{settled_in, note_after}
+use Rattle.wb_states.specs.Moves.{in_state, note_after}
 use Rattle.wb_states.specs.Names.{is_builder_name, is_label_text}
 use Rattle.wb_states.specs.Record.{IsWellFormed}
 use Rattle.deb_text.specs.Text.{IsTextWithin, is_empty_text}
@@ -86,7 +86,7 @@ filled true text is = ap not (is refl)
 filled false text is = refl
 
 pub settled-well : (state : State) (current : Record) (note : List ℕ) → HasFields current → IsTextWithin note_limit note → MayStand current state
-    → IsWellFormed (record (settled_in state current) { note = note })
+    → IsWellFormed (record (in_state state current) { note = note })
 settled-well state current note fields short stands = record {
   version = fields.version;
   priority = fields.priority;

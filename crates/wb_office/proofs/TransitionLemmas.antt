@@ -13,7 +13,7 @@ use Rattle.deb_text.proofs.KeyLemmas.{pair_cmp_total, pair_cmp-same}
 use Rattle.wb_states.proofs.QueueLemmas.{head_of-waits}
 use Rattle.deb_text.proofs.SortedLemmas.{IsIn-filter, IsIn-find}
 use Rattle.wb_office.specs.Checks.{refused_move}
-use Rattle.wb_office.specs.Moving.{record_named, target_of, move_asked, with_move, moving}
+use Rattle.wb_office.specs.Targets.{record_named, target_of, move_of_command, with_move, transition_of}
 
 -- a record of the office, with its key
 abbrev pub Stands : Machine → Entry → Type 0
@@ -71,7 +71,7 @@ target_of-stands machine (of.Merge fields) entry is = cc
 -- what is known of the record that a command moves, and of the move
 pub record MayMove (machine : Machine) (command : Command) (asked : Entry × Move) : Type 0 where
   pub target : target_of machine command ≡ Some asked.0
-  pub asks : move_asked machine command (arch_words machine asked.0.0.0) ≡ Some asked.1
+  pub asks : move_of_command machine command (arch_words machine asked.0.0.0) ≡ Some asked.1
   pub stands : Stands machine asked.0
   pub allowed : move_refusal asked.1 asked.0.1 ≡ None
 
@@ -86,13 +86,13 @@ map-Some {Y = Y} f (Some x) y is = (x, (refl, only (f x) y is)) where
   only : (a b : Y) → Some a ≡ Some b → a ≡ b
   only a b e = cc
 
-pub moving-may : (machine : Machine) (command : Command) (asked : Entry × Move) → refused_move machine command ≡ None → moving machine command ≡ Some asked
+pub transition_of-may : (machine : Machine) (command : Command) (asked : Entry × Move) → refused_move machine command ≡ None → transition_of machine command ≡ Some asked
     → MayMove machine command asked
-unfolding moving
-moving-may machine command asked allowed is =
+unfolding transition_of
+transition_of-may machine command asked allowed is =
     let found = and_then-Some (with_move machine command) (target_of machine command) asked is in
     let entry : Entry = found.0 in
-    let made = map-Some (λ (move : Move). (entry, move)) (move_asked machine command (arch_words machine entry.0.0)) asked found.1.1 in
+    let made = map-Some (λ (move : Move). (entry, move)) (move_of_command machine command (arch_words machine entry.0.0)) asked found.1.1 in
     let same : (entry, made.0) ≡ asked = made.1.1 in
     let target : target_of machine command ≡ Some entry = found.1.0 in
     let allowed : move_refusal asked.1 asked.0.1 ≡ None = sym (ap (option_and_then (λ (asked : Entry × Move). move_refusal asked.1 asked.0.1)) is) ∙ allowed in

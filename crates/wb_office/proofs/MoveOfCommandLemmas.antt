@@ -21,10 +21,10 @@ use Rattle.wb_states.specs.Names.{is_arch_name, is_builder_name}
 use Rattle.wb_states.specs.Queue.{Entry}
 use Rattle.deb_text.specs.Text.{IsTextWithin}
 use Rattle.wb_states.proofs.QueueLemmas.{head_of-waits}
-use Rattle.wb_office.specs.Moving.{target_of, move_asked}
+use Rattle.wb_office.specs.Targets.{target_of, move_of_command}
 use Rattle.wb_office.specs.Utf8.{HasUtf8Texts}
-use Rattle.wb_office.proofs.MovedLemmas.{IsGoodMove}
-use Rattle.wb_office.proofs.MovingLemmas.{record_named-is}
+use Rattle.wb_office.proofs.MovedRecordLemmas.{IsGoodMove}
+use Rattle.wb_office.proofs.TransitionLemmas.{record_named-is}
 use Rattle.wb_office.proofs.PassLemmas.{Passes}
 
 -- a text that is not too long
@@ -65,7 +65,7 @@ HasHanded machine handed (of.Take fields) = handed ≡ machine.handed + 1
 HasHanded machine handed _ = Unit {0}
 
 pub asked-good : (machine : Machine) (handed : ℕ) (command : Command) (entry : Entry) (move : Move) → HasUtf8Texts command → HasHanded machine handed command → Passes machine command
-    → target_of machine command ≡ Some entry → move_asked machine command (arch_words machine entry.0.0) ≡ Some move → IsGoodMove machine handed entry.0.0 move
+    → target_of machine command ≡ Some entry → move_of_command machine command (arch_words machine entry.0.0) ≡ Some move → IsGoodMove machine handed entry.0.0 move
 asked-good machine handed (of.AddArch fields) entry move utf8 given pass target is = none move is
 asked-good machine handed (of.AddBuilder fields) entry move utf8 given pass target is = none move is
 asked-good machine handed (of.Enter fields) entry move utf8 given pass target is = none move is

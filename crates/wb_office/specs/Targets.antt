@@ -38,32 +38,32 @@ target_of machine (of.Enter fields) = None
 target_of machine (of.Merge fields) = None
 
 -- the move that a command makes of a record of an architecture with these words
-abbrev pub move_asked : Machine → Command → ArchWords → Option Move
-move_asked machine (of.Next fields) words = Some (to.Take fields.builder (machine.handed + 1))
-move_asked machine (of.Take fields) words = Some (to.Take fields.builder (machine.handed + 1))
-move_asked machine (of.Built fields) words = Some to.Built
-move_asked machine (of.Uploaded fields) words = Some to.Uploaded
-move_asked machine (of.Waits fields) words = Some (to.Waits (result_unwrap_or (reading_of fields.relations) []) words)
-move_asked machine (of.PutBack fields) words = Some to.PutBack
-move_asked machine (of.GiveBack fields) words = Some to.GiveBack
-move_asked machine (of.DepWait fields) words =
+abbrev pub move_of_command : Machine → Command → ArchWords → Option Move
+move_of_command machine (of.Next fields) words = Some (to.Take fields.builder (machine.handed + 1))
+move_of_command machine (of.Take fields) words = Some (to.Take fields.builder (machine.handed + 1))
+move_of_command machine (of.Built fields) words = Some to.Built
+move_of_command machine (of.Uploaded fields) words = Some to.Uploaded
+move_of_command machine (of.Waits fields) words = Some (to.Waits (result_unwrap_or (reading_of fields.relations) []) words)
+move_of_command machine (of.PutBack fields) words = Some to.PutBack
+move_of_command machine (of.GiveBack fields) words = Some to.GiveBack
+move_of_command machine (of.DepWait fields) words =
     Some (to.DepWait (result_unwrap_or (reading_of fields.relations) []) words)
-move_asked machine (of.Fail fields) words = Some (to.Fail fields.note)
-move_asked machine (of.NotForUs fields) words = Some (to.NotForUs fields.note)
-move_asked machine (of.Rebuild fields) words = Some (to.Rebuild fields.number fields.message)
-move_asked machine (of.AddArch fields) words = None
-move_asked machine (of.AddBuilder fields) words = None
-move_asked machine (of.Enter fields) words = None
-move_asked machine (of.Merge fields) words = None
+move_of_command machine (of.Fail fields) words = Some (to.Fail fields.note)
+move_of_command machine (of.NotForUs fields) words = Some (to.NotForUs fields.note)
+move_of_command machine (of.Rebuild fields) words = Some (to.Rebuild fields.number fields.message)
+move_of_command machine (of.AddArch fields) words = None
+move_of_command machine (of.AddBuilder fields) words = None
+move_of_command machine (of.Enter fields) words = None
+move_of_command machine (of.Merge fields) words = None
 
 -- a record with its key, and the move that a command makes of it
 abbrev pub with_move : Machine → Command → Entry → Option (Entry × Move)
 with_move machine command entry =
-    option_map (λ move. (entry, move)) (move_asked machine command (arch_words machine entry.0.0))
+    option_map (λ move. (entry, move)) (move_of_command machine command (arch_words machine entry.0.0))
 
 -- the record that a command moves, with its key, and the move
-unfoldable pub moving : Machine → Command → Option (Entry × Move)
-moving machine command = option_and_then (with_move machine command) (target_of machine command)
+unfoldable pub transition_of : Machine → Command → Option (Entry × Move)
+transition_of machine command = option_and_then (with_move machine command) (target_of machine command)
 
 -- what a builder is told of again: what it builds on the architecture under the least take number after the one that it names
 abbrev pub again_of : Machine → Command → Option Entry

@@ -4,14 +4,14 @@ ghost use Rattle.std.specs.FinMap as map;
 ghost use Rattle.wb_states.specs.declared.refusal.Refusal.TheVariants.{Memory};
 ghost use Rattle.wb_states.specs.declared.reply.Reply.TheVariants.{Done};
 ghost use Rattle.wb_states.specs.Limits.{count_limit};
-ghost use Rattle.wb_states.specs.Moves.{move_refusal, moved};
+ghost use Rattle.wb_states.specs.Moves.{move_refusal, record_after_move};
 ghost use Rattle.wb_states.specs.Refusals.{IsOfMachine};
 ghost use Rattle.wb_store.specs.Lookups.{entry_of};
-ghost use Rattle.wb_office.specs.Found.{move_step};
+ghost use Rattle.wb_office.specs.Outcomes.{move_step};
 ghost use Rattle.wb_office.specs.Step.{counted};
 
 use crate::checks::is_spent;
-use crate::operator::count_done;
+use crate::operator::accept_one;
 use std::alloc::Global;
 use wb_states::{Move, Record, Refusal, Reply, move_record};
 use wb_store::{KeyedRecord, Store};
@@ -22,7 +22,7 @@ pub(crate) fn move_checked(
     current: &Record,
     change: &Move,
 ) -> Result<Record, Refusal>
-    ensures value { IfOk result (λ after. after ≡ moved change.now current.now) }
+    ensures value { IfOk result (λ after. after ≡ record_after_move change.now current.now) }
     ensures ok { OnOk result (move_refusal change.now current.now ≡ None) }
     ensures refused { IfErr result (λ refusal. IsOfMachine refusal
         → move_refusal change.now current.now ≡ Some refusal) }
@@ -38,7 +38,7 @@ pub(crate) fn prepare_move(
     change: &Move,
 ) -> Result<KeyedRecord, Refusal>
     ensures value { IfOk result (λ made. entry_of made
-        ≡ ((row.arch, row.source), moved change.now row.current)) }
+        ≡ ((row.arch, row.source), record_after_move change.now row.current)) }
     ensures ok { OnOk result (move_refusal change.now row.current ≡ None) }
     ensures room { OnOk result (nat_le count_limit store.now.accepted ≡ false) }
     ensures refused { IfErr result (λ refusal. IsOfMachine refusal
@@ -68,5 +68,5 @@ pub(crate) fn keep_move(store: &mut Store, made: KeyedRecord) -> Result<Reply, R
     ensures unchanged { OnErr result (store.new ≡ store.old) }
 {
     store.put(made.arch, made.source, made.current)?;
-    count_done(store)
+    accept_one(store)
 }

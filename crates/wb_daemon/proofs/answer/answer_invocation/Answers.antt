@@ -1,0 +1,52 @@
+-- What may be said to the command may be said to what the line asks for.
+use Rattle.std.proofs.Common.{refl, sym, subst, inl, inr, IfNone, IfSome}
+use Rattle.wb_daemon.specs.Lists.{MayReadMerge, LacksMerge}
+use Rattle.wb_daemon.specs.Run.{InvokesAs}
+use Rattle.wb_daemon.specs.Turn.{response_of_answer, IsInvocationResponseOrMemory}
+use Rattle.wb_daemon.proofs.AnswerLemmas.{merge-answered}
+use Rattle.wb_daemon.proofs.answer.answer_invocation.Goals as goal
+
+pub returns-in-Command-clause-memory : goal.returns-in-Command-clause-memory
+returns-in-Command-clause-memory g c = λ e. (
+  c.in-Command.command,
+  subst (λ invocation. InvokesAs (g.L.Lists.may_read c.args.lists.now) invocation c.in-Command.command) (sym c.in-Command.is) refl,
+  c.answer_to.ensures.memory e,
+)
+
+pub returns-in-Ok-Some-clause-memory : goal.returns-in-Ok-Some-clause-memory
+returns-in-Ok-Some-clause-memory g c = λ e.
+    let may_read = g.L.Lists.may_read c.args.lists.now in
+    let found = subst (λ found. IfSome found (λ command. MayReadMerge may_read c.in-Merge.sources c.as_slice.result.now command))
+    c.in-Ok-Some.field-0-is c.in-Ok-Some.ensures.value in
+    let given = subst (λ parts. MayReadMerge may_read c.in-Merge.sources parts c.in-Ok-Some.command) c.as_slice.ensures found in (
+      c.in-Ok-Some.command,
+      subst (λ invocation. InvokesAs may_read invocation c.in-Ok-Some.command) (sym c.in-Merge.is) given,
+      c.answer_to-in-Ok-Some.ensures.memory e,
+    )
+
+pub returns-in-Ok-Some-clause-value : goal.returns-in-Ok-Some-clause-value
+returns-in-Ok-Some-clause-value g c =
+    let may_read = g.L.Lists.may_read c.args.lists.now in
+    let found = subst (λ found. IfSome found (λ command. MayReadMerge may_read c.in-Merge.sources c.as_slice.result.now command))
+    c.in-Ok-Some.field-0-is c.in-Ok-Some.ensures.value in
+    let given = subst (λ parts. MayReadMerge may_read c.in-Merge.sources parts c.in-Ok-Some.command) c.as_slice.ensures found in
+    merge-answered may_read c.args.office.now _ c.args.invocation.now c.in-Merge.sources c.in-Merge.parts c.in-Ok-Some.command _
+    c.in-Merge.is given c.answer_to-in-Ok-Some.ensures.value
+
+pub returns-in-Ok-None-clause-value : goal.returns-in-Ok-None-clause-value
+returns-in-Ok-None-clause-value g c =
+    let may_read = g.L.Lists.may_read c.args.lists.now in
+    let missed = subst (λ found. IfNone found (LacksMerge may_read c.in-Merge.sources c.as_slice.result.now))
+    c.in-Ok-None.field-0-is c.in-Ok-None.ensures.refused in
+    let lacks = subst (λ parts. LacksMerge may_read c.in-Merge.sources parts) c.as_slice.ensures missed in (
+      c.file_answer.ensures.status,
+      subst (λ invocation. IsInvocationResponseOrMemory may_read c.args.office.now invocation (response_of_answer c.file_answer.result c.args.office.now))
+          (sym c.in-Merge.is) (inl (inr (lacks, c.file_answer.ensures.value c.args.office.now))),
+    )
+
+pub returns-in-Err-clause-value : goal.returns-in-Err-clause-value
+returns-in-Err-clause-value g c = (
+  c.memory_answer.ensures.status,
+  subst (λ invocation. IsInvocationResponseOrMemory (g.L.Lists.may_read c.args.lists.now) c.args.office.now invocation (response_of_answer c.memory_answer.result c.args.office.now))
+      (sym c.in-Merge.is) (inr (tt, c.memory_answer.ensures.value c.args.office.now)),
+)
