@@ -14,15 +14,17 @@ use Rattle.deb_text.specs.Text.{pair_cmp, text_cmp}
 use Rattle.deb_relations.specs.declared.arch.ArchWords.{ArchWords}
 use Rattle.deb_text.proofs.KeyLemmas.{text_cmp_total, text_cmp-same, pair_cmp_total, pair_cmp-same, eq_by_cmp-same, insert_all}
 
-pub IsConsistent-empty_office : IsConsistent empty_office
+-- the office with nothing in it but its counts
+pub consistent-empty : (handed accepted : ℕ) → handed ≤ count_limit → accepted ≤ count_limit
+    → IsConsistent (record empty_office { handed = handed; accepted = accepted })
 unfolding empty_office
-IsConsistent-empty_office = record {
+consistent-empty handed accepted given room = record {
   archs = λ name. rw (map.get-empty text_cmp name) tt;
   builders = λ builder arch h. absurd (no (sym (set.contains-empty pair_cmp (builder, arch)) ∙ h));
   records = λ arch source. rw (map.get-empty pair_cmp (arch, source)) tt;
   takes = λ one other first second take_number is _ _ _. absurd (none first (sym (map.get-empty pair_cmp one) ∙ is));
-  handed = omega arith;
-  accepted = omega arith;
+  handed = given;
+  accepted = room;
 }
   where
     no : false ≡ true → ⊥
@@ -30,6 +32,10 @@ IsConsistent-empty_office = record {
 
     none : (first : Record) → None ≡ Some first → ⊥
     none first e = cc
+
+pub IsConsistent-empty_office : IsConsistent empty_office
+unfolding empty_office
+IsConsistent-empty_office = consistent-empty 0 0 (omega arith) (omega arith)
 
 -- what the new state has of the old one: its architectures with their words, its builders, and its take numbers
 pub record Keeps (old new : Machine) : Type 0 where

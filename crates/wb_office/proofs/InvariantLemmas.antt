@@ -1,5 +1,5 @@
 -- Every step keeps the invariant of the office.
-use Rattle.std.proofs.Common.{◌≡◌, ℕ, ◌+◌, ◌<◌, ◌≤◌, false, ◌&&◌, ◌||◌, inl, inr, is_none, Option, Some, None, IsTrue, IfSome, refl, sym, ap, subst, ◌∙◌, List, [], ◌∷◌, nat_le, arith}
+use Rattle.std.proofs.Common.{◌≡◌, ℕ, ◌+◌, ◌<◌, ◌≤◌, false, ◌&&◌, ◌||◌, inl, inr, is_none, Option, Some, None, Result, Ok, Err, OnOk, IsTrue, IfSome, refl, sym, ap, subst, ◌∙◌, List, [], ◌∷◌, nat_le, arith}
 use Rattle.std.proofs.lemmas.Bool.{and_parts, leb-false, not-false, or_parts, or_right}
 use Rattle.std.specs.FinMap as map
 use Rattle.deb_version.specs.Syntax.{fault_of}
@@ -8,6 +8,8 @@ use Rattle.wb_states.specs.declared.command.Command.{Command}
 use Rattle.wb_states.specs.declared.command.Command.TheVariants as of
 use Rattle.wb_states.specs.declared.moves.Move.{Move}
 use Rattle.wb_states.specs.declared.record.Record.{Record}
+use Rattle.wb_states.specs.declared.refusal.Refusal.{Refusal}
+use Rattle.wb_states.specs.declared.reply.Reply.{Reply}
 use Rattle.wb_states.specs.Limits.{count_limit, note_limit, relations_limit}
 use Rattle.wb_states.specs.Machine.{Machine, arch_words, IsRecord, IsConsistent}
 use Rattle.wb_states.specs.Moves.{record_after_move, move_refusal}
@@ -16,6 +18,7 @@ use Rattle.wb_states.specs.Names.{is_arch_name, is_os_cpu_word, is_builder_name,
 use Rattle.wb_states.specs.Queue.{Entry}
 use Rattle.wb_states.specs.Record.{IsWellFormed}
 use Rattle.deb_text.specs.Text.{is_empty_text}
+use Rattle.wb_office.specs.Carries.{Carries}
 use Rattle.wb_office.specs.Targets.{again_of, transition_of}
 use Rattle.wb_office.specs.Replay.{replay}
 use Rattle.wb_office.specs.Step.{step, state_after, counted, entered, after_move, after_take}
@@ -161,3 +164,10 @@ step-keeps machine command utf8 old = step-either IsConsistent machine command o
 pub replay-keeps : (machine : Machine) (commands : List Command) → HaveUtf8Texts commands → IsConsistent machine → IsConsistent (replay machine commands)
 replay-keeps machine [] utf8 old = old
 replay-keeps machine (command ∷ commands) utf8 old = replay-keeps (step machine command).1 commands utf8.1 (step-keeps machine command utf8.0 old)
+
+-- what a command keeps that is carried out or refused
+pub carries-keeps : (answer : Result Reply Refusal) (old new : Machine) (command : Command) → Carries old new command answer
+    → OnOk answer (HasUtf8Texts command) → IsConsistent old → IsConsistent new
+carries-keeps (Ok reply) old new command carries utf8 kept =
+    subst IsConsistent (ap (λ outcome. outcome.1) carries.reply) (step-keeps old command utf8 kept)
+carries-keeps (Err refusal) old new command carries utf8 kept = subst IsConsistent (sym carries.unchanged) kept

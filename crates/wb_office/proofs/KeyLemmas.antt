@@ -6,7 +6,9 @@ use Rattle.deb_version.specs.Syntax.{fault_of}
 use Rattle.deb_relations.specs.declared.arch.ArchWords.{ArchWords}
 use Rattle.deb_relations.specs.declared.relations.Alternative.{Alternative}
 use Rattle.deb_relations.specs.Reading.{reading_of}
-use Rattle.wb_states.specs.Forms.{Waits, GiveBack, DepWait, Fail, NotForUs, Rebuild}
+use Rattle.wb_states.specs.Forms.{GiveBack, DepWait, Fail, Rebuild}
+use Rattle.wb_states.specs.declared.command.Command.TheVariants as of
+use Rattle.wb_states.specs.declared.command.SetAside.{SetAside}
 use Rattle.wb_states.specs.declared.moves.Move.TheVariants as to
 use Rattle.wb_states.specs.declared.refusal.Refusal.{Refusal}
 use Rattle.wb_states.specs.declared.refusal.Refusal.TheVariants.{BadName, BadVersion, BadRelations, BadNumber, TextTooLong, Memory}
@@ -15,7 +17,7 @@ use Rattle.wb_states.specs.Machine.{Machine, arch_words}
 use Rattle.wb_office.specs.Checks.{when, has_bad_key, relations_refusal, text_refusal, key_refusal}
 use Rattle.wb_office.specs.Outcomes.{named_step}
 use Rattle.wb_office.specs.Step.{step}
-use Rattle.wb_office.proofs.NamedLemmas.{step-GiveBack, step-DepWait, step-Fail, step-NotForUs, step-Rebuild}
+use Rattle.wb_office.proofs.NamedLemmas.{step-GiveBack, step-DepWait, step-Rebuild}
 use Rattle.wb_office.proofs.StepLemmas.{step-text, two-None, two-Some, two-later}
 
 pub give_back-refused : (machine : Machine) (arch source version : List ℕ) (refusal : Refusal) → key_refusal arch source version ≡ Some refusal
@@ -68,47 +70,31 @@ dep_wait-is machine arch source version relations groups words is reads named =
     ∙ ap (λ reading. option_or (option_map (λ fault. BadRelations (Some fault)) (result_err reading)) None) reads)
     ∙ (λ i. named_step machine arch source version (to.DepWait (result_unwrap_or (reads i) []) (sym named i)))
 
-pub fail-refused : (machine : Machine) (arch source version note : List ℕ) (refusal : Refusal) → key_refusal arch source version ≡ Some refusal
-    → step machine (Fail arch source version note) ≡ (Err refusal, machine)
+-- the two commands that set a source package aside read the same texts
+pub aside-same : (fields : SetAside) → text_refusal (of.NotForUs fields) ≡ text_refusal (of.Fail fields)
 unfolding text_refusal
-fail-refused machine arch source version note refusal is =
-    step-text machine (Fail arch source version note) refusal (two-Some (when (has_bad_key arch source) BadName) (option_map BadVersion (fault_of version)) (option_or (when (nat_lt note_limit (length note)) TextTooLong) None) refusal is)
+aside-same fields = refl
 
-pub fail-long : (machine : Machine) (arch source version note : List ℕ) (refusal : Refusal)
+pub aside-refused : (arch source version note : List ℕ) (refusal : Refusal) → key_refusal arch source version ≡ Some refusal
+    → text_refusal (Fail arch source version note) ≡ Some refusal
+unfolding text_refusal
+aside-refused arch source version note refusal is =
+    two-Some (when (has_bad_key arch source) BadName) (option_map BadVersion (fault_of version)) (option_or (when (nat_lt note_limit (length note)) TextTooLong) None) refusal is
+
+pub aside-long : (arch source version note : List ℕ) (refusal : Refusal)
     → option_or (key_refusal arch source version) (Some TextTooLong) ≡ Some refusal → nat_lt note_limit (length note) ≡ true
-    → step machine (Fail arch source version note) ≡ (Err refusal, machine)
+    → text_refusal (Fail arch source version note) ≡ Some refusal
 unfolding text_refusal
-fail-long machine arch source version note refusal is long =
-    step-text machine (Fail arch source version note) refusal (two-later (when (has_bad_key arch source) BadName) (option_map BadVersion (fault_of version)) (option_or (when (nat_lt note_limit (length note)) TextTooLong) None) TextTooLong refusal is
-    (ap (λ b. option_or (when b TextTooLong) None) long))
+aside-long arch source version note refusal is long =
+    two-later (when (has_bad_key arch source) BadName) (option_map BadVersion (fault_of version)) (option_or (when (nat_lt note_limit (length note)) TextTooLong) None) TextTooLong refusal is
+    (ap (λ b. option_or (when b TextTooLong) None) long)
 
-pub fail-is : (machine : Machine) (arch source version note : List ℕ) (own : List ℕ) → key_refusal arch source version ≡ None → nat_lt note_limit (length note) ≡ false → own ≡ note
-    → step machine (Fail arch source version note) ≡ named_step machine arch source version (to.Fail own)
+pub aside-None : (arch source version note : List ℕ) → key_refusal arch source version ≡ None → nat_lt note_limit (length note) ≡ false
+    → text_refusal (Fail arch source version note) ≡ None
 unfolding text_refusal
-fail-is machine arch source version note own is long same =
-    step-Fail machine arch source version note (two-None (when (has_bad_key arch source) BadName) (option_map BadVersion (fault_of version)) (option_or (when (nat_lt note_limit (length note)) TextTooLong) None) is ∙ ap (λ b. option_or (when b TextTooLong) None) long)
-    ∙ ap (λ (text : List ℕ). named_step machine arch source version (to.Fail text)) (sym same)
-
-pub not_for_us-refused : (machine : Machine) (arch source version note : List ℕ) (refusal : Refusal) → key_refusal arch source version ≡ Some refusal
-    → step machine (NotForUs arch source version note) ≡ (Err refusal, machine)
-unfolding text_refusal
-not_for_us-refused machine arch source version note refusal is =
-    step-text machine (NotForUs arch source version note) refusal (two-Some (when (has_bad_key arch source) BadName) (option_map BadVersion (fault_of version)) (option_or (when (nat_lt note_limit (length note)) TextTooLong) None) refusal is)
-
-pub not_for_us-long : (machine : Machine) (arch source version note : List ℕ) (refusal : Refusal)
-    → option_or (key_refusal arch source version) (Some TextTooLong) ≡ Some refusal → nat_lt note_limit (length note) ≡ true
-    → step machine (NotForUs arch source version note) ≡ (Err refusal, machine)
-unfolding text_refusal
-not_for_us-long machine arch source version note refusal is long =
-    step-text machine (NotForUs arch source version note) refusal (two-later (when (has_bad_key arch source) BadName) (option_map BadVersion (fault_of version)) (option_or (when (nat_lt note_limit (length note)) TextTooLong) None) TextTooLong refusal is
-    (ap (λ b. option_or (when b TextTooLong) None) long))
-
-pub not_for_us-is : (machine : Machine) (arch source version note : List ℕ) (own : List ℕ) → key_refusal arch source version ≡ None → nat_lt note_limit (length note) ≡ false → own ≡ note
-    → step machine (NotForUs arch source version note) ≡ named_step machine arch source version (to.NotForUs own)
-unfolding text_refusal
-not_for_us-is machine arch source version note own is long same =
-    step-NotForUs machine arch source version note (two-None (when (has_bad_key arch source) BadName) (option_map BadVersion (fault_of version)) (option_or (when (nat_lt note_limit (length note)) TextTooLong) None) is ∙ ap (λ b. option_or (when b TextTooLong) None) long)
-    ∙ ap (λ (text : List ℕ). named_step machine arch source version (to.NotForUs text)) (sym same)
+aside-None arch source version note is short =
+    two-None (when (has_bad_key arch source) BadName) (option_map BadVersion (fault_of version)) (option_or (when (nat_lt note_limit (length note)) TextTooLong) None) is
+    ∙ ap (λ b. option_or (when b TextTooLong) None) short
 
 pub rebuild-refused : (machine : Machine) (arch source version : List ℕ) (number : ℕ) (message : List ℕ) (refusal : Refusal) → key_refusal arch source version ≡ Some refusal
     → step machine (Rebuild arch source version number message) ≡ (Err refusal, machine)

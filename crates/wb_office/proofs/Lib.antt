@@ -1,7 +1,7 @@
 pub mod ApartPartLemmas
-pub mod AppliedLemmas
 pub mod MoveOfCommandLemmas
 pub mod AssignmentLemmas
+pub mod CarriesLemmas
 pub mod ConsistencyLemmas
 pub mod CountedLemmas
 pub mod EndedLemmas

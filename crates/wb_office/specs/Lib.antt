@@ -1,4 +1,5 @@
 pub mod Arguments
+pub mod Carries
 pub mod Checks
 pub mod Outcomes
 pub mod HandOuts

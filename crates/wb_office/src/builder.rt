@@ -9,6 +9,7 @@ ghost use Rattle.wb_states.specs.Limits.{count_limit};
 ghost use Rattle.wb_states.specs.Moves.{move_refusal, record_after_move};
 ghost use Rattle.wb_states.specs.Refusals.{IsOfMachine};
 ghost use Rattle.wb_store.specs.Lookups.{entry_of};
+ghost use Rattle.wb_office.specs.Carries.{Carries, Reaches};
 ghost use Rattle.wb_office.specs.Checks.{MayWantMemory, builder_refusal};
 ghost use Rattle.wb_office.specs.Outcomes.{head_step, assignment_step, take_move, take_step};
 ghost use Rattle.wb_office.specs.Step.{step, assignment_of};
@@ -19,8 +20,8 @@ use crate::checks::{
     lacks_builder,
 };
 use crate::forms::{has_bad_request, has_bad_take};
-use crate::transition::move_checked;
 use crate::texts::read_version;
+use crate::transition::move_checked;
 use deb_text::Text;
 use deb_version::Version;
 use std::alloc::Global;
@@ -180,11 +181,8 @@ fn next_head(
     arch: &Text,
     builder: &Text,
 ) -> Result<Reply, Refusal>
-    ensures reply { IfOk result (λ reply.
-        head_step store.old arch.now builder.now ≡ (Ok reply, store.new)) }
-    ensures refused { IfErr result (λ refusal. IsOfMachine refusal
-        → head_step store.old arch.now builder.now ≡ (Err refusal, store.old)) }
-    ensures unchanged { OnErr result (store.new ≡ store.old) }
+    ensures reaches { Reaches store.old store.new
+        (head_step store.old arch.now builder.now) result }
 {
     let found = store.head(arch)?;
     let Some(row) = found else {
@@ -201,13 +199,7 @@ pub(crate) fn next(
     store: &mut Store,
     command: &command::Next,
 ) -> Result<Reply, Refusal>
-    ensures reply { IfOk result (λ reply.
-        step store.old (of.Next command.now) ≡ (Ok reply, store.new)) }
-    ensures refused { IfErr result (λ refusal. IsOfMachine refusal
-        → step store.old (of.Next command.now) ≡ (Err refusal, store.old)) }
-    ensures memory { IfErr result (λ refusal. refusal ≡ Memory
-        → MayWantMemory (of.Next command.now)) }
-    ensures unchanged { OnErr result (store.new ≡ store.old) }
+    ensures carries { Carries store.old store.new (of.Next command.now) result }
 {
     let (arch, builder) = (&command.arch, &command.builder);
     if has_bad_request(arch, builder) {
@@ -240,12 +232,8 @@ fn take_by_name(
     source: &Text,
     version: &Version,
 ) -> Result<Reply, Refusal>
-    ensures reply { IfOk result (λ reply.
-        take_step store.old arch.now builder.now source.now version.now ≡ (Ok reply, store.new)) }
-    ensures refused { IfErr result (λ refusal. IsOfMachine refusal
-        → take_step store.old arch.now builder.now source.now version.now
-        ≡ (Err refusal, store.old)) }
-    ensures unchanged { OnErr result (store.new ≡ store.old) }
+    ensures reaches { Reaches store.old store.new
+        (take_step store.old arch.now builder.now source.now version.now) result }
 {
     check_builds(store, arch, builder)?;
     let row = find_source(alloc, store, arch, source, version)?;
@@ -259,13 +247,7 @@ pub(crate) fn take(
     store: &mut Store,
     command: &command::Take,
 ) -> Result<Reply, Refusal>
-    ensures reply { IfOk result (λ reply.
-        step store.old (of.Take command.now) ≡ (Ok reply, store.new)) }
-    ensures refused { IfErr result (λ refusal. IsOfMachine refusal
-        → step store.old (of.Take command.now) ≡ (Err refusal, store.old)) }
-    ensures memory { IfErr result (λ refusal. refusal ≡ Memory
-        → MayWantMemory (of.Take command.now)) }
-    ensures unchanged { OnErr result (store.new ≡ store.old) }
+    ensures carries { Carries store.old store.new (of.Take command.now) result }
 {
     let command::Take {
         arch,

@@ -9,11 +9,11 @@ mod forms;
 mod holder;
 pub mod laws;
 mod merging;
-mod transition;
 mod named;
 mod office;
 mod operator;
 mod part;
 mod texts;
+mod transition;
 
 pub use office::Office;

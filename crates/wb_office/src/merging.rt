@@ -9,6 +9,7 @@ ghost use Rattle.wb_states.specs.Limits.{count_limit};
 ghost use Rattle.wb_states.specs.Machine.{Machine};
 ghost use Rattle.wb_states.specs.Names.{is_arch_name};
 ghost use Rattle.wb_states.specs.Refusals.{IsOfMachine};
+ghost use Rattle.wb_office.specs.Carries.{Carries};
 ghost use Rattle.wb_office.specs.Checks.{MayWantMemory, first_refusal, has_repeated_arch};
 ghost use Rattle.wb_office.specs.Parts.{is_good, is_known, is_merged, part_listing, part_replies, parts_refusal, records_after, end_with, records_with};
 ghost use Rattle.wb_states.specs.Forms.{Merge};
@@ -228,15 +229,9 @@ pub(crate) fn merge(
     store: &mut Store,
     command: &command::Merge,
 ) -> Result<Reply, Refusal>
-    ensures reply { IfOk result (λ reply.
-        step store.old (of.Merge command.now) ≡ (Ok reply, store.new)) }
-    ensures refused { IfErr result (λ refusal. IsOfMachine refusal
-        → step store.old (of.Merge command.now) ≡ (Err refusal, store.old)) }
-    ensures memory { IfErr result (λ refusal. refusal ≡ Memory
-        → MayWantMemory (of.Merge command.now)) }
+    ensures carries { Carries store.old store.new (of.Merge command.now) result }
     ensures known { IfErr result (λ refusal. refusal ≡ Memory
         → list_any (is_known store.old) command.now.parts ≡ true) }
-    ensures unchanged { OnErr result (store.new ≡ store.old) }
 {
     let made = prepare_merge(
         alloc,

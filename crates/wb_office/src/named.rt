@@ -1,16 +1,16 @@
 //! The commands that name a source package, by which operators move its record.
-ghost use Rattle.std.specs.Prelude.{◌≡◌, Ok, Err, IfOk, IfErr, OnOk, OnErr};
+ghost use Rattle.std.specs.Prelude.{◌≡◌, None, Some, IfOk, IfErr, OnOk};
 ghost use Rattle.std.specs.Str.{IsUtf8};
 ghost use Rattle.wb_states.specs.declared.command.Command.TheVariants as of;
 ghost use Rattle.wb_states.specs.declared.refusal.Refusal.TheVariants.{Memory};
 ghost use Rattle.wb_states.specs.Refusals.{IsOfMachine};
-ghost use Rattle.wb_office.specs.Checks.{MayWantMemory};
+ghost use Rattle.wb_office.specs.Carries.{Carries, Reaches};
+ghost use Rattle.wb_office.specs.Checks.{text_refusal};
 ghost use Rattle.wb_office.specs.Outcomes.{named_step};
-ghost use Rattle.wb_office.specs.Step.{step};
 
 use crate::checks::{find_source, lacks_arch, words_of};
-use crate::transition::{keep_move, prepare_move};
 use crate::texts::{is_long, read_key, read_refusal_or, read_relations, rebuild_number};
+use crate::transition::{keep_move, prepare_move};
 use deb_text::Text;
 use deb_version::Version;
 use std::alloc::Global;
@@ -26,12 +26,8 @@ fn move_named(
     version: &Version,
     change: &Move,
 ) -> Result<Reply, Refusal>
-    ensures reply { IfOk result (λ reply.
-        named_step store.old arch.now source.now version.now change.now ≡ (Ok reply, store.new)) }
-    ensures refused { IfErr result (λ refusal. IsOfMachine refusal
-        → named_step store.old arch.now source.now version.now change.now
-        ≡ (Err refusal, store.old)) }
-    ensures unchanged { OnErr result (store.new ≡ store.old) }
+    ensures reaches { Reaches store.old store.new
+        (named_step store.old arch.now source.now version.now change.now) result }
 {
     let is_unknown = lacks_arch(store, arch)?;
     if is_unknown {
@@ -48,13 +44,7 @@ pub(crate) fn give_back(
     store: &mut Store,
     command: &command::GiveBack,
 ) -> Result<Reply, Refusal>
-    ensures reply { IfOk result (λ reply.
-        step store.old (of.GiveBack command.now) ≡ (Ok reply, store.new)) }
-    ensures refused { IfErr result (λ refusal. IsOfMachine refusal
-        → step store.old (of.GiveBack command.now) ≡ (Err refusal, store.old)) }
-    ensures memory { IfErr result (λ refusal. refusal ≡ Memory
-        → MayWantMemory (of.GiveBack command.now)) }
-    ensures unchanged { OnErr result (store.new ≡ store.old) }
+    ensures carries { Carries store.old store.new (of.GiveBack command.now) result }
 {
     let read = read_key(alloc, &command.arch, &command.source, &command.version)?;
     move_named(
@@ -73,15 +63,7 @@ pub(crate) fn dep_wait(
     store: &mut Store,
     command: &command::DepWait,
 ) -> Result<Reply, Refusal>
-    ensures reply { IfOk result (λ reply.
-        step store.old (of.DepWait command.now)
-        ≡ (Ok reply, store.new)) }
-    ensures refused { IfErr result (λ refusal. IsOfMachine refusal
-        → step store.old (of.DepWait command.now)
-        ≡ (Err refusal, store.old)) }
-    ensures memory { IfErr result (λ refusal. refusal ≡ Memory
-        → MayWantMemory (of.DepWait command.now)) }
-    ensures unchanged { OnErr result (store.new ≡ store.old) }
+    ensures carries { Carries store.old store.new (of.DepWait command.now) result }
 {
     let command::DepWait {
         arch,
@@ -103,20 +85,22 @@ pub(crate) fn dep_wait(
     move_named(alloc, store, arch, source, &read, &change)
 }
 
-/// Says that its build failed.
-pub(crate) fn fail(
-    alloc: Global,
-    store: &mut Store,
-    command: &command::SetAside,
-) -> Result<Reply, Refusal>
-    ensures reply { IfOk result (λ reply.
-        step store.old (of.Fail command.now) ≡ (Ok reply, store.new)) }
+/// What a command reads that sets a source package aside: the version that it names, and its note.
+#[derive(Drop)]
+struct Aside {
+    version: Version,
+    note: Text,
+}
+
+/// The version and the note of a command that sets a source package aside, if its texts are not refused.
+fn read_aside(alloc: Global, command: &command::SetAside) -> Result<Aside, Refusal>
+    ensures value { IfOk result (λ read.
+        (read.version ≡ command.now.version) × (read.note ≡ command.now.note)) }
+    ensures ok { OnOk result (text_refusal (of.Fail command.now) ≡ None) }
     ensures refused { IfErr result (λ refusal. IsOfMachine refusal
-        → step store.old (of.Fail command.now)
-        ≡ (Err refusal, store.old)) }
+        → text_refusal (of.Fail command.now) ≡ Some refusal) }
     ensures memory { IfErr result (λ refusal. refusal ≡ Memory
-        → MayWantMemory (of.Fail command.now)) }
-    ensures unchanged { OnErr result (store.new ≡ store.old) }
+        → text_refusal (of.Fail command.now) ≡ None) }
     ensures utf8 { OnOk result (IsUtf8 command.now.note) }
 {
     let command::SetAside {
@@ -130,10 +114,31 @@ pub(crate) fn fail(
         return Err(read_refusal_or(key, Refusal::TextTooLong));
     }
     let read = key?;
-    let change = Move::Fail {
+    Ok(Aside {
+        version: read,
         note: note.clone()?,
-    };
-    move_named(alloc, store, arch, source, &read, &change)
+    })
+}
+
+/// Says that its build failed.
+pub(crate) fn fail(
+    alloc: Global,
+    store: &mut Store,
+    command: &command::SetAside,
+) -> Result<Reply, Refusal>
+    ensures carries { Carries store.old store.new (of.Fail command.now) result }
+    ensures utf8 { OnOk result (IsUtf8 command.now.note) }
+{
+    let read = read_aside(alloc, command)?;
+    let change = Move::Fail { note: read.note };
+    move_named(
+        alloc,
+        store,
+        &command.arch,
+        &command.source,
+        &read.version,
+        &change,
+    )
 }
 
 /// Says that it is not to be built.
@@ -142,32 +147,19 @@ pub(crate) fn not_for_us(
     store: &mut Store,
     command: &command::SetAside,
 ) -> Result<Reply, Refusal>
-    ensures reply { IfOk result (λ reply.
-        step store.old (of.NotForUs command.now)
-        ≡ (Ok reply, store.new)) }
-    ensures refused { IfErr result (λ refusal. IsOfMachine refusal
-        → step store.old (of.NotForUs command.now)
-        ≡ (Err refusal, store.old)) }
-    ensures memory { IfErr result (λ refusal. refusal ≡ Memory
-        → MayWantMemory (of.NotForUs command.now)) }
-    ensures unchanged { OnErr result (store.new ≡ store.old) }
+    ensures carries { Carries store.old store.new (of.NotForUs command.now) result }
     ensures utf8 { OnOk result (IsUtf8 command.now.note) }
 {
-    let command::SetAside {
-        arch,
-        source,
-        version,
-        note,
-    } = command;
-    let key = read_key(alloc, arch, source, version);
-    if is_long(note) {
-        return Err(read_refusal_or(key, Refusal::TextTooLong));
-    }
-    let read = key?;
-    let change = Move::NotForUs {
-        note: note.clone()?,
-    };
-    move_named(alloc, store, arch, source, &read, &change)
+    let read = read_aside(alloc, command)?;
+    let change = Move::NotForUs { note: read.note };
+    move_named(
+        alloc,
+        store,
+        &command.arch,
+        &command.source,
+        &read.version,
+        &change,
+    )
 }
 
 /// Builds it once more, as the binary-only rebuild of this number.
@@ -176,15 +168,7 @@ pub(crate) fn rebuild(
     store: &mut Store,
     command: &command::Rebuild,
 ) -> Result<Reply, Refusal>
-    ensures reply { IfOk result (λ reply.
-        step store.old (of.Rebuild command.now)
-        ≡ (Ok reply, store.new)) }
-    ensures refused { IfErr result (λ refusal. IsOfMachine refusal
-        → step store.old (of.Rebuild command.now)
-        ≡ (Err refusal, store.old)) }
-    ensures memory { IfErr result (λ refusal. refusal ≡ Memory
-        → MayWantMemory (of.Rebuild command.now)) }
-    ensures unchanged { OnErr result (store.new ≡ store.old) }
+    ensures carries { Carries store.old store.new (of.Rebuild command.now) result }
     ensures utf8 { OnOk result (IsUtf8 command.now.message) }
 {
     let command::Rebuild {

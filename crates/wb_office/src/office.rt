@@ -1,8 +1,10 @@
 //! The office over its store.
-ghost use Rattle.std.specs.Prelude.{◌≡◌, IfOk, IfErr, OnOk, OnErr};
+ghost use Rattle.std.specs.Prelude.{◌≡◌, ◌≤◌, Ok, Err, IsOk, IfOk, IfErr, OnOk, OnErr};
 ghost use Rattle.wb_states.specs.declared.refusal.Refusal.TheVariants.{Memory};
+ghost use Rattle.wb_states.specs.Limits.{count_limit};
 ghost use Rattle.wb_states.specs.Machine.{IsConsistent, empty_office};
 ghost use Rattle.wb_states.specs.Refusals.{IsOfMachine};
+ghost use Rattle.wb_office.specs.Carries.{Carries};
 ghost use Rattle.wb_office.specs.Checks.{MayWantMemory};
 ghost use Rattle.wb_office.specs.Step.{step};
 ghost use Rattle.wb_office.specs.Utf8.{HasUtf8Texts};
@@ -10,11 +12,13 @@ ghost use Rattle.wb_office.specs.Utf8.{HasUtf8Texts};
 use crate::{builder, holder, merging, named, operator};
 use std::alloc::Global;
 use std::marker::Model;
-use wb_states::{Command, Refusal, Reply};
+use wb_states::{Command, Counts, Move, Refusal, Reply, StoreFault};
 use wb_store::Store;
 
 /// The office with all that it keeps. Clauses see it as its state: the records, the architectures, the
-/// builders and the two counts.
+/// builders and the two counts. The state is consistent, whatever was done to the office before: all that is
+/// kept has its form, a source package on an architecture has at most one holder, which may build for it, and
+/// no take number is held twice (this project's own).
 #[derive(Drop)]
 pub struct Office {
     alloc: Global,
@@ -22,7 +26,7 @@ pub struct Office {
 }
 
 impl Model for Office {
-    ghost use Rattle.wb_states.specs.Machine.{Machine};
+    ghost use Rattle.wb_states.specs.Machine.{IsConsistent, Machine};
     ghost use Rattle.wb_store.specs.Coded.{coded_machine};
 
     ghost Value = { Machine };
@@ -30,6 +34,8 @@ impl Model for Office {
     ghost coded = { coded_machine };
 
     ghost view = { λ office. office.store };
+
+    ghost invariant = { λ office. IsConsistent office.store };
 }
 
 impl Office {
@@ -44,17 +50,27 @@ impl Office {
         }
     }
 
-    /// The office over tables that are there already. Takes no memory; the allocator is kept for the calls
-    /// that follow (this project's own).
-    pub fn over(alloc: Global, store: Store) -> Office
-        ensures value { result ≡ store }
+    /// The empty office that already counts so many take numbers and accepted commands, each at most
+    /// [`COUNT_LIMIT`](wb_states::COUNT_LIMIT). Takes no memory, and cannot fail of tables in memory; the
+    /// allocator is kept for the calls that follow (this project's own).
+    pub fn with_counts(alloc: Global, counts: Counts) -> Result<Office, StoreFault>
+        requires handed { counts.handed ≤ count_limit }
+        requires accepted { counts.accepted ≤ count_limit }
+        ensures ok { IsOk result }
+        ensures value { IfOk result (λ office. office ≡ record empty_office {
+          handed = counts.handed;
+          accepted = counts.accepted;
+        }) }
     {
-        Office { alloc, store }
+        let mut store = Store::new(alloc);
+        store.set_counts(counts)?;
+        Ok(Office { alloc, store })
     }
 
     /// The tables of the office, to look up what no reply shows. Takes no memory (this project's own).
     pub fn store(&self) -> &Store
         ensures value { result.now ≡ self.now }
+        ensures consistent { IsConsistent self.now }
     {
         &self.store
     }
@@ -81,37 +97,47 @@ impl Office {
             → step self.old command.now ≡ (Err refusal, self.old)) }
         ensures memory { IfErr result (λ refusal. refusal ≡ Memory → MayWantMemory command.now) }
         ensures unchanged { OnErr result (self.new ≡ self.old) }
-        ensures consistent { IsConsistent self.old → IsConsistent self.new }
+        ensures consistent { IsConsistent self.new }
     {
-        self.carry_out(command)
+        carry_out(self.alloc, &mut self.store, command)
     }
+}
 
-    /// Carries out one command by its kind.
-    fn carry_out(&mut self, command: &Command) -> Result<Reply, Refusal>
-        ensures reply { IfOk result (λ reply. step self.old command.now ≡ (Ok reply, self.new)) }
-        ensures refused { IfErr result (λ refusal. IsOfMachine refusal
-            → step self.old command.now ≡ (Err refusal, self.old)) }
-        ensures memory { IfErr result (λ refusal. refusal ≡ Memory → MayWantMemory command.now) }
-        ensures unchanged { OnErr result (self.new ≡ self.old) }
-        ensures utf8 { OnOk result (HasUtf8Texts command.now) }
-    {
-        let (alloc, store) = (self.alloc, &mut self.store);
-        match command {
-            Command::AddArch(command) => operator::add_arch(store, command),
-            Command::AddBuilder(command) => operator::add_builder(store, command),
-            Command::Enter(command) => operator::enter(alloc, store, command),
-            Command::Next(command) => builder::next(alloc, store, command),
-            Command::Take(command) => builder::take(alloc, store, command),
-            Command::Built(command) => holder::built(alloc, store, command),
-            Command::Uploaded(command) => holder::uploaded(alloc, store, command),
-            Command::Waits(command) => holder::waits(alloc, store, command),
-            Command::PutBack(command) => holder::put_back(alloc, store, command),
-            Command::GiveBack(command) => named::give_back(alloc, store, command),
-            Command::DepWait(command) => named::dep_wait(alloc, store, command),
-            Command::Fail(command) => named::fail(alloc, store, command),
-            Command::NotForUs(command) => named::not_for_us(alloc, store, command),
-            Command::Rebuild(command) => named::rebuild(alloc, store, command),
-            Command::Merge(command) => merging::merge(alloc, store, command),
-        }
+/// Carries out one command by its kind.
+fn carry_out(alloc: Global, store: &mut Store, command: &Command) -> Result<Reply, Refusal>
+    ensures carries { Carries store.old store.new command.now result }
+    ensures utf8 { OnOk result (HasUtf8Texts command.now) }
+{
+    match command {
+        Command::AddArch(command) => operator::add_arch(store, command),
+        Command::AddBuilder(command) => operator::add_builder(store, command),
+        Command::Enter(command) => operator::enter(alloc, store, command),
+        Command::Next(command) => builder::next(alloc, store, command),
+        Command::Take(command) => builder::take(alloc, store, command),
+        Command::Built(command) => holder::move_taken(
+            alloc,
+            store,
+            command.take_number,
+            &Move::Built,
+        ),
+        Command::Uploaded(command) => holder::move_taken(
+            alloc,
+            store,
+            command.take_number,
+            &Move::Uploaded,
+        ),
+        Command::Waits(command) => holder::waits(alloc, store, command),
+        Command::PutBack(command) => holder::move_taken(
+            alloc,
+            store,
+            command.take_number,
+            &Move::PutBack,
+        ),
+        Command::GiveBack(command) => named::give_back(alloc, store, command),
+        Command::DepWait(command) => named::dep_wait(alloc, store, command),
+        Command::Fail(command) => named::fail(alloc, store, command),
+        Command::NotForUs(command) => named::not_for_us(alloc, store, command),
+        Command::Rebuild(command) => named::rebuild(alloc, store, command),
+        Command::Merge(command) => merging::merge(alloc, store, command),
     }
 }

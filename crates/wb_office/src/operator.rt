@@ -5,6 +5,7 @@ ghost use Rattle.wb_states.specs.declared.refusal.Refusal.TheVariants.{Memory};
 ghost use Rattle.wb_states.specs.declared.reply.Reply.TheVariants.{Done};
 ghost use Rattle.wb_states.specs.Limits.{count_limit};
 ghost use Rattle.wb_states.specs.Refusals.{IsOfMachine};
+ghost use Rattle.wb_office.specs.Carries.{Carries};
 ghost use Rattle.wb_office.specs.Checks.{MayWantMemory, first_refusal};
 ghost use Rattle.wb_office.specs.Step.{step, counted, entered};
 
@@ -59,13 +60,7 @@ fn check_arch(store: &Store, command: &command::AddArch) -> Result<(), Refusal>
 /// Adds an architecture.
 #[tactic(auto, unfolding(crate::specs::Step::step))]
 pub(crate) fn add_arch(store: &mut Store, command: &command::AddArch) -> Result<Reply, Refusal>
-    ensures reply { IfOk result (λ reply.
-        step store.old (of.AddArch command.now) ≡ (Ok reply, store.new)) }
-    ensures refused { IfErr result (λ refusal. IsOfMachine refusal
-        → step store.old (of.AddArch command.now) ≡ (Err refusal, store.old)) }
-    ensures memory { IfErr result (λ refusal. refusal ≡ Memory
-        → MayWantMemory (of.AddArch command.now)) }
-    ensures unchanged { OnErr result (store.new ≡ store.old) }
+    ensures carries { Carries store.old store.new (of.AddArch command.now) result }
 {
     check_arch(store, command)?;
     let words = OsCpu {
@@ -109,13 +104,7 @@ pub(crate) fn add_builder(
     store: &mut Store,
     command: &command::AddBuilder,
 ) -> Result<Reply, Refusal>
-    ensures reply { IfOk result (λ reply.
-        step store.old (of.AddBuilder command.now) ≡ (Ok reply, store.new)) }
-    ensures refused { IfErr result (λ refusal. IsOfMachine refusal
-        → step store.old (of.AddBuilder command.now) ≡ (Err refusal, store.old)) }
-    ensures memory { IfErr result (λ refusal. refusal ≡ Memory
-        → MayWantMemory (of.AddBuilder command.now)) }
-    ensures unchanged { OnErr result (store.new ≡ store.old) }
+    ensures carries { Carries store.old store.new (of.AddBuilder command.now) result }
 {
     check_builder(store, command)?;
     store.add_builder(command.name.clone()?, command.arch.clone()?)?;
@@ -165,13 +154,7 @@ pub(crate) fn enter(
     store: &mut Store,
     command: &command::Enter,
 ) -> Result<Reply, Refusal>
-    ensures reply { IfOk result (λ reply.
-        step store.old (of.Enter command.now) ≡ (Ok reply, store.new)) }
-    ensures refused { IfErr result (λ refusal. IsOfMachine refusal
-        → step store.old (of.Enter command.now) ≡ (Err refusal, store.old)) }
-    ensures memory { IfErr result (λ refusal. refusal ≡ Memory
-        → MayWantMemory (of.Enter command.now)) }
-    ensures unchanged { OnErr result (store.new ≡ store.old) }
+    ensures carries { Carries store.old store.new (of.Enter command.now) result }
 {
     let read = check_entry(alloc, store, command)?;
     let waiting = entered_record(alloc, read, &command.priority, &command.section)?;

@@ -1,23 +1,31 @@
 //! An office whose counts are at their limit, and texts that are too long.
+ghost use Rattle.std.specs.Prelude.{◌≤◌};
+ghost use Rattle.wb_states.specs.Limits.{count_limit};
+
 use super::lists::printed;
-use super::stores::{add, held, put, waiting};
 use std::alloc::Global;
 use std::process::Abort;
 use std::test::Fail;
 use wb_office::Office;
 use wb_states::Counts;
-use wb_store::Store;
 
 const LIMIT: u64 = 1_000_000_000_000;
 
-/// An office in which b1 builds `held` and `waiting` waits, with these counts.
-fn office_at(alloc: Global, counts: Counts) -> Result<Office, Fail> {
-    let mut store = Store::new(alloc);
-    add(alloc, &mut store, "amd64")?;
-    put(alloc, &mut store, "amd64", "held", held(alloc, LIMIT)?)?;
-    put(alloc, &mut store, "amd64", "waiting", waiting(alloc)?)?;
-    store.set_counts(counts)?;
-    Ok(Office::over(alloc, store))
+/// The lines after which b1 builds `held`, under one take number more, and `waiting` waits: five are accepted.
+const SETUP: &str = "add-arch amd64 linux amd64\nadd-builder b1 amd64\nenter amd64 held 1.0 optional devel\n\
+    enter amd64 waiting 1.0 optional devel\ntake amd64 b1 held 1.0\n";
+
+/// An office that has given all take numbers but one and has accepted as many commands, after the lines of the setup.
+fn office_after(alloc: Global, accepted: u64) -> Result<Office, Fail>
+    requires { accepted ≤ count_limit }
+{
+    let counts = Counts {
+        handed: LIMIT - 1,
+        accepted,
+    };
+    let mut office = Office::with_counts(alloc, counts)?;
+    printed(alloc, &mut office, SETUP, &LISTS)?;
+    Ok(office)
 }
 
 static LISTS: [(&str, &str); 2] = [
@@ -61,7 +69,7 @@ static AT_LIMIT: [(&str, &str); 17] = [
 static TAKES_AT_LIMIT: [(&str, &str); 4] = [
     ("next amd64 b1", SPENT),
     ("take amd64 b1 waiting 1.0", SPENT),
-    ("built 1000000000000", r#"{"accepted":1,"ok":"built"}"#),
+    ("built 1000000000000", r#"{"accepted":6,"ok":"built"}"#),
     (
         "next amd64 b1 --after 1000000000001",
         r#"{"code":9,"handed":1000000000000,"refused":"AfterAhead"}"#,
@@ -70,10 +78,12 @@ static TAKES_AT_LIMIT: [(&str, &str); 4] = [
 
 fn each_answers(
     rt: &(impl Abort + AllocGlobal),
-    counts: Counts,
+    accepted: u64,
     cases: &[(&str, &str)],
-) -> Result<(), Fail> {
-    let mut office = office_at(rt.alloc(), counts)?;
+) -> Result<(), Fail>
+    requires { accepted ≤ count_limit }
+{
+    let mut office = office_after(rt.alloc(), accepted)?;
     for (line, want) in cases {
         let (text, _) = printed(rt.alloc(), &mut office, line, &LISTS)?;
         assert_eq!(rt; text.trim_end(), *want, "{line}");
@@ -83,20 +93,12 @@ fn each_answers(
 
 #[test]
 fn counts_at_their_limit(rt: HostRuntime) -> Result<(), Fail> {
-    let counts = Counts {
-        handed: LIMIT,
-        accepted: LIMIT,
-    };
-    each_answers(&rt, counts, &AT_LIMIT)
+    each_answers(&rt, LIMIT - 5, &AT_LIMIT)
 }
 
 #[test]
 fn take_numbers_at_their_limit(rt: HostRuntime) -> Result<(), Fail> {
-    let counts = Counts {
-        handed: LIMIT,
-        accepted: 0,
-    };
-    each_answers(&rt, counts, &TAKES_AT_LIMIT)
+    each_answers(&rt, 0, &TAKES_AT_LIMIT)
 }
 
 /// A line that lets `held` wait for as many alternatives as this, each of which is printed longer than it is written.
@@ -110,17 +112,13 @@ fn long_waits(alloc: Global, count: u32) -> Result<String, Fail> {
 
 #[test]
 fn waits_that_are_printed_too_long(rt: HostRuntime) -> Result<(), Fail> {
-    let counts = Counts {
-        handed: LIMIT,
-        accepted: 0,
-    };
-    let mut office = office_at(rt.alloc(), counts)?;
+    let mut office = office_after(rt.alloc(), 0)?;
     for (count, want) in [
         (
             13109,
             r#"{"code":13,"fault":"TooLong","refused":"BadRelations"}"#,
         ),
-        (13107, r#"{"accepted":1,"ok":"waits"}"#),
+        (13107, r#"{"accepted":6,"ok":"waits"}"#),
     ] {
         let line = long_waits(rt.alloc(), count)?;
         let (text, _) = printed(rt.alloc(), &mut office, line.as_str(), &LISTS)?;

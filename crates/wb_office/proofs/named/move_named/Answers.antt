@@ -1,32 +1,32 @@
 use Rattle.std.proofs.Common.{◌∙◌, sym}
-use Rattle.std.proofs.lemmas.Result.{IfOk-weaker, err_from_is_err_and}
+use Rattle.std.proofs.lemmas.Result.{IfOk-weaker}
 use Rattle.wb_store.specs.Lookups.{entry_of}
 use Rattle.wb_office.specs.Outcomes.{move_step}
+use Rattle.wb_office.proofs.CarriesLemmas.{reaches-refused, reaches-returned, reaches-kept}
 use Rattle.wb_office.proofs.NamedLemmas.{named_step-UnknownArch, named_step-found, named_step-moves}
 use Rattle.wb_office.proofs.MoveLemmas.{move_step-made}
 use Rattle.wb_office.proofs.StepLemmas.{with-known}
 use Rattle.wb_office.proofs.named.move_named.Goals as goal
 
-pub returns-then-is_unknown-clause-refused : goal.returns-then-is_unknown-clause-refused
-returns-then-is_unknown-clause-refused c = λ _.
-    named_step-UnknownArch c.args.store.now c.args.arch.now c.args.source.now c.args.version.now c.args.change.now (sym c.in_ok-is_unknown.ensures.value ∙ c.if-is_unknown.true)
+pub returns-then-is_unknown : goal.returns-then-is_unknown
+returns-then-is_unknown c = record { reaches = reaches-refused
+    (named_step-UnknownArch c.args.store.now c.args.arch.now c.args.source.now c.args.version.now c.args.change.now (sym c.in_ok-is_unknown.ensures.value ∙ c.if-is_unknown.true)) }
 
-pub returns-in_err-row-clause-refused : goal.returns-in_err-row-clause-refused
-returns-in_err-row-clause-refused c =
-    let p = err_from_is_err_and c.from_residual-in_err-row.result c.from_residual-in_err-row.ensures.1 in
-    rw (p.1, p.2) (λ differs. named_step-found c.args.store.now c.args.arch.now c.args.source.now c.args.version.now c.args.change.now _ (sym c.in_ok-is_unknown.ensures.value ∙ c.if-is_unknown.false) (c.in_err-row.ensures.refused differs))
+pub returns-in_err-row : goal.returns-in_err-row
+returns-in_err-row c = record { reaches = reaches-returned c.from_residual-in_err-row.result c.from_residual-in_err-row.ensures.1
+    (λ differs. named_step-found c.args.store.now c.args.arch.now c.args.source.now c.args.version.now c.args.change.now _ (sym c.in_ok-is_unknown.ensures.value ∙ c.if-is_unknown.false) (c.in_err-row.ensures.refused differs)) }
 
-pub returns-in_err-made-clause-refused : goal.returns-in_err-made-clause-refused
-returns-in_err-made-clause-refused c =
-    let p = err_from_is_err_and c.from_residual-in_err-made.result c.from_residual-in_err-made.ensures.1 in
-    rw (p.1, p.2) (λ differs. named_step-moves c.args.store.now c.args.arch.now c.args.source.now c.args.version.now c.args.change.now c.in_ok-row.row.current (sym c.in_ok-is_unknown.ensures.value ∙ c.if-is_unknown.false)
-    c.in_ok-row.ensures.value c.in_ok-row.ensures.ok ∙ (λ i. move_step c.args.store.now ((sym c.in_ok-row.ensures.key.0 i, sym c.in_ok-row.ensures.key.1 i), c.in_ok-row.row.current) c.args.change.now) ∙ c.in_err-made.ensures.refused differs)
+pub returns-in_err-made : goal.returns-in_err-made
+returns-in_err-made c = record { reaches = reaches-returned c.from_residual-in_err-made.result c.from_residual-in_err-made.ensures.1
+    (λ differs. named_step-moves c.args.store.now c.args.arch.now c.args.source.now c.args.version.now c.args.change.now c.in_ok-row.row.current (sym c.in_ok-is_unknown.ensures.value ∙ c.if-is_unknown.false)
+    c.in_ok-row.ensures.value c.in_ok-row.ensures.ok ∙ (λ i. move_step c.args.store.now ((sym c.in_ok-row.ensures.key.0 i, sym c.in_ok-row.ensures.key.1 i), c.in_ok-row.row.current) c.args.change.now) ∙ c.in_err-made.ensures.refused differs) }
 
-pub returns-clause-reply : goal.returns-clause-reply
-returns-clause-reply c = IfOk-weaker c.keep_move.result _ _ (λ _ is.
+pub returns : goal.returns
+returns c = record { reaches = reaches-kept (IfOk-weaker c.keep_move.result _ _ (λ _ is.
     named_step-moves c.args.store.now c.args.arch.now c.args.source.now c.args.version.now c.args.change.now c.in_ok-row.row.current (sym c.in_ok-is_unknown.ensures.value ∙ c.if-is_unknown.false)
     c.in_ok-row.ensures.value c.in_ok-row.ensures.ok
     ∙ (λ i. move_step c.args.store.now ((sym c.in_ok-row.ensures.key.0 i, sym c.in_ok-row.ensures.key.1 i), c.in_ok-row.row.current) c.args.change.now)
     ∙ move_step-made c.args.store.now _ (entry_of c.in_ok-row.row) c.args.change.now c.in_ok-made.made _
     c.in_ok-made.ensures.ok c.in_ok-made.ensures.room c.in_ok-made.ensures.value is.0 is.1)
-    (with-known c.keep_move.result _ _ c.keep_move.ensures.reply c.keep_move.ensures.ok)
+    (with-known c.keep_move.result _ _ c.keep_move.ensures.reply c.keep_move.ensures.ok))
+    c.keep_move.ensures.refused c.keep_move.ensures.unchanged }
