@@ -6,7 +6,9 @@ use Rattle.wb_states.specs.declared.refusal.Refusal.{Refusal}
 use Rattle.wb_states.specs.declared.refusal.Refusal.TheVariants.{Memory}
 use Rattle.wb_states.specs.declared.reply.Reply.{Reply}
 use Rattle.wb_states.specs.Machine.{Machine}
-use Rattle.wb_states.specs.Refusals.{IsOfMachine}
+use Rattle.wb_states.specs.declared.store_fault.StoreFault.{StoreFault}
+use Rattle.wb_states.specs.declared.store_fault.StoreFault.TheVariants.{Memory as NoMemory}
+use Rattle.wb_states.specs.Refusals.{IsOfMachine, IsOfStore}
 use Rattle.wb_office.specs.Carries.{Carries, Reaches}
 use Rattle.wb_office.specs.Checks.{MayWantMemory}
 use Rattle.wb_office.specs.Step.{Outcome, step}
@@ -59,12 +61,19 @@ carries-returned {machine = machine} (Err returned) same is memory = record {
   unchanged = refl;
 }
 
--- there is no memory for a callee, and `?` gives that back
-pub carries-memory : {old new : Machine} {command : Command} (result : Result Reply Refusal)
-    → IsErrAnd result (λ returned. returned ≡ Memory) → new ≡ old → MayWantMemory command → Carries old new command result
-carries-memory (Ok reply) none unchanged known = absurd none
-carries-memory (Err returned) none unchanged known =
-    record { reply = tt; refused = λ differs. absurd (differs none); memory = λ _. known; unchanged = unchanged }
+-- a text cannot be copied, and `?` gives that back
+pub carries-memory : {machine : Machine} {command : Command} (result : Result Reply Refusal)
+    → IsErrAnd result (λ returned. returned ≡ Memory) → MayWantMemory command → Carries machine machine command result
+carries-memory (Ok reply) none known = absurd none
+carries-memory (Err returned) none known =
+    record { reply = tt; refused = λ differs. absurd (differs none); memory = λ _. known; unchanged = refl }
+
+-- the store has no memory for a change, and `?` gives that back
+pub carries-failed : {old new : Machine} {command : Command} {fault : StoreFault} (result : Result Reply Refusal)
+    → IsErrAnd result (IsOfStore fault) → fault ≡ NoMemory → new ≡ old → MayWantMemory command → Carries old new command result
+carries-failed (Ok reply) told none unchanged known = absurd told
+carries-failed (Err returned) told none unchanged known =
+    record { reply = tt; refused = λ differs. absurd (differs (told.0 none)); memory = λ _. known; unchanged = unchanged }
 
 -- the last call reaches the command's step
 pub carries-reached : {old new : Machine} {command : Command} {outcome : Outcome} {result : Result Reply Refusal}

@@ -10,31 +10,39 @@ use Rattle.wb_office.proofs.WantLemmas.{want-Waits}
 use Rattle.wb_office.proofs.holder.waits.Goals as goal
 
 pub returns-in_err-read : goal.returns-in_err-read
-returns-in_err-read c = record { carries = carries-returned c.from_residual.result c.from_residual.ensures.1
-    (λ differs. waits-BadRelations c.args.store.now c.args.command.now.take_number c.args.command.now.relations _ (c.in_err-read.ensures.refused differs))
-    (λ none. want-Waits c.args.command.now.take_number c.args.command.now.relations (c.in_err-read.ensures.memory none)) }
+returns-in_err-read c = record {
+  carries = carries-returned c.from_residual.result c.from_residual.ensures.1
+      (λ differs. waits-BadRelations c.args.store.now c.args.command.now.take_number c.args.command.now.relations _ (c.in_err-read.ensures.refused differs))
+      (λ none. want-Waits c.args.command.now.take_number c.args.command.now.relations (c.in_err-read.ensures.memory none));
+}
 
 pub returns-in_default : goal.returns-in_default
-returns-in_default c = record { carries = carries-refused
-    (λ _. waits-NotHeld c.args.store.now c.args.command.now.take_number c.args.command.now.relations c.in_ok-read.read c.in_ok-read.ensures.value (sym (sym (ap (option_map entry_of) c.in_default.is) ∙ c.in_ok-found.ensures.value)))
-    (λ none. cc) }
+returns-in_default c = record {
+  carries = carries-refused
+      (λ _. waits-NotHeld c.args.store.now c.args.command.now.take_number c.args.command.now.relations c.in_ok-read.read c.in_ok-read.ensures.value (sym (sym (ap (option_map entry_of) c.in_default.is) ∙ c.in_ok-found.ensures.value)))
+      (λ none. cc);
+}
 
 pub returns-in_err-made : goal.returns-in_err-made
-returns-in_err-made c = record { carries = carries-returned c.from_residual-in_err-made.result c.from_residual-in_err-made.ensures.1
-    (λ differs.
-    waits-moves c.args.store.now c.args.command.now.take_number c.args.command.now.relations c.in_ok-read.read c.in_ok-words.words
-    (entry_of c.in-Some.row) c.in_ok-read.ensures.value (sym (sym (ap (option_map entry_of) c.in-Some.is) ∙ c.in_ok-found.ensures.value)) c.in_ok-words.ensures.value
-    ∙ c.in_err-made.ensures.refused differs)
-    (λ _. want-Waits c.args.command.now.take_number c.args.command.now.relations c.in_ok-read.ensures.short) }
+returns-in_err-made c = record {
+  carries = carries-returned c.from_residual-in_err-made.result c.from_residual-in_err-made.ensures.1
+      (λ differs.
+      waits-moves c.args.store.now c.args.command.now.take_number c.args.command.now.relations c.in_ok-read.read c.in_ok-words.words
+      (entry_of c.in-Some.row) c.in_ok-read.ensures.value (sym (sym (ap (option_map entry_of) c.in-Some.is) ∙ c.in_ok-found.ensures.value)) c.in_ok-words.ensures.value
+      ∙ c.in_err-made.ensures.refused differs)
+      (λ _. want-Waits c.args.command.now.take_number c.args.command.now.relations c.in_ok-read.ensures.short);
+}
 
 pub returns : goal.returns
-returns c = record { carries = carries-reached
-    (reaches-kept (IfOk-weaker c.keep_move.result _ _ (λ _ is.
-    waits-moves c.args.store.now c.args.command.now.take_number c.args.command.now.relations c.in_ok-read.read c.in_ok-words.words
-    (entry_of c.in-Some.row) c.in_ok-read.ensures.value (sym (sym (ap (option_map entry_of) c.in-Some.is) ∙ c.in_ok-found.ensures.value)) c.in_ok-words.ensures.value
-    ∙ move_step-made c.args.store.now _ (entry_of c.in-Some.row) (to.Waits c.in_ok-read.read c.in_ok-words.words) c.in_ok-made.made _
-    c.in_ok-made.ensures.ok c.in_ok-made.ensures.room c.in_ok-made.ensures.value is.0 is.1)
-    (with-known c.keep_move.result _ _ c.keep_move.ensures.reply c.keep_move.ensures.ok))
-    c.keep_move.ensures.refused c.keep_move.ensures.unchanged)
-    refl
-    (want-Waits c.args.command.now.take_number c.args.command.now.relations c.in_ok-read.ensures.short) }
+returns c = record {
+  carries = carries-reached
+      (reaches-kept (IfOk-weaker c.keep_move.result _ _ (λ _ is.
+      waits-moves c.args.store.now c.args.command.now.take_number c.args.command.now.relations c.in_ok-read.read c.in_ok-words.words
+      (entry_of c.in-Some.row) c.in_ok-read.ensures.value (sym (sym (ap (option_map entry_of) c.in-Some.is) ∙ c.in_ok-found.ensures.value)) c.in_ok-words.ensures.value
+      ∙ move_step-made c.args.store.now _ (entry_of c.in-Some.row) (to.Waits c.in_ok-read.read c.in_ok-words.words) c.in_ok-made.made _
+      c.in_ok-made.ensures.ok c.in_ok-made.ensures.room c.in_ok-made.ensures.value is.0 is.1)
+      (with-known c.keep_move.result _ _ c.keep_move.ensures.reply c.keep_move.ensures.ok))
+      c.keep_move.ensures.refused c.keep_move.ensures.unchanged)
+      refl
+      (want-Waits c.args.command.now.take_number c.args.command.now.relations c.in_ok-read.ensures.short);
+}

@@ -9,24 +9,32 @@ use Rattle.wb_office.proofs.StepLemmas.{with-known}
 use Rattle.wb_office.proofs.named.move_named.Goals as goal
 
 pub returns-then-is_unknown : goal.returns-then-is_unknown
-returns-then-is_unknown c = record { reaches = reaches-refused
-    (named_step-UnknownArch c.args.store.now c.args.arch.now c.args.source.now c.args.version.now c.args.change.now (sym c.in_ok-is_unknown.ensures.value ∙ c.if-is_unknown.true)) }
+returns-then-is_unknown c = record {
+  reaches = reaches-refused
+      (named_step-UnknownArch c.args.store.now c.args.arch.now c.args.source.now c.args.version.now c.args.change.now (sym c.in_ok-is_unknown.ensures.value ∙ c.if-is_unknown.true));
+}
 
 pub returns-in_err-row : goal.returns-in_err-row
-returns-in_err-row c = record { reaches = reaches-returned c.from_residual-in_err-row.result c.from_residual-in_err-row.ensures.1
-    (λ differs. named_step-found c.args.store.now c.args.arch.now c.args.source.now c.args.version.now c.args.change.now _ (sym c.in_ok-is_unknown.ensures.value ∙ c.if-is_unknown.false) (c.in_err-row.ensures.refused differs)) }
+returns-in_err-row c = record {
+  reaches = reaches-returned c.from_residual-in_err-row.result c.from_residual-in_err-row.ensures.1
+      (λ differs. named_step-found c.args.store.now c.args.arch.now c.args.source.now c.args.version.now c.args.change.now _ (sym c.in_ok-is_unknown.ensures.value ∙ c.if-is_unknown.false) (c.in_err-row.ensures.refused differs));
+}
 
 pub returns-in_err-made : goal.returns-in_err-made
-returns-in_err-made c = record { reaches = reaches-returned c.from_residual-in_err-made.result c.from_residual-in_err-made.ensures.1
-    (λ differs. named_step-moves c.args.store.now c.args.arch.now c.args.source.now c.args.version.now c.args.change.now c.in_ok-row.row.current (sym c.in_ok-is_unknown.ensures.value ∙ c.if-is_unknown.false)
-    c.in_ok-row.ensures.value c.in_ok-row.ensures.ok ∙ (λ i. move_step c.args.store.now ((sym c.in_ok-row.ensures.key.0 i, sym c.in_ok-row.ensures.key.1 i), c.in_ok-row.row.current) c.args.change.now) ∙ c.in_err-made.ensures.refused differs) }
+returns-in_err-made c = record {
+  reaches = reaches-returned c.from_residual-in_err-made.result c.from_residual-in_err-made.ensures.1
+      (λ differs. named_step-moves c.args.store.now c.args.arch.now c.args.source.now c.args.version.now c.args.change.now c.in_ok-row.row.current (sym c.in_ok-is_unknown.ensures.value ∙ c.if-is_unknown.false)
+      c.in_ok-row.ensures.value c.in_ok-row.ensures.ok ∙ (λ i. move_step c.args.store.now ((sym c.in_ok-row.ensures.key.0 i, sym c.in_ok-row.ensures.key.1 i), c.in_ok-row.row.current) c.args.change.now) ∙ c.in_err-made.ensures.refused differs);
+}
 
 pub returns : goal.returns
-returns c = record { reaches = reaches-kept (IfOk-weaker c.keep_move.result _ _ (λ _ is.
-    named_step-moves c.args.store.now c.args.arch.now c.args.source.now c.args.version.now c.args.change.now c.in_ok-row.row.current (sym c.in_ok-is_unknown.ensures.value ∙ c.if-is_unknown.false)
-    c.in_ok-row.ensures.value c.in_ok-row.ensures.ok
-    ∙ (λ i. move_step c.args.store.now ((sym c.in_ok-row.ensures.key.0 i, sym c.in_ok-row.ensures.key.1 i), c.in_ok-row.row.current) c.args.change.now)
-    ∙ move_step-made c.args.store.now _ (entry_of c.in_ok-row.row) c.args.change.now c.in_ok-made.made _
-    c.in_ok-made.ensures.ok c.in_ok-made.ensures.room c.in_ok-made.ensures.value is.0 is.1)
-    (with-known c.keep_move.result _ _ c.keep_move.ensures.reply c.keep_move.ensures.ok))
-    c.keep_move.ensures.refused c.keep_move.ensures.unchanged }
+returns c = record {
+  reaches = reaches-kept (IfOk-weaker c.keep_move.result _ _ (λ _ is.
+      named_step-moves c.args.store.now c.args.arch.now c.args.source.now c.args.version.now c.args.change.now c.in_ok-row.row.current (sym c.in_ok-is_unknown.ensures.value ∙ c.if-is_unknown.false)
+      c.in_ok-row.ensures.value c.in_ok-row.ensures.ok
+      ∙ (λ i. move_step c.args.store.now ((sym c.in_ok-row.ensures.key.0 i, sym c.in_ok-row.ensures.key.1 i), c.in_ok-row.row.current) c.args.change.now)
+      ∙ move_step-made c.args.store.now _ (entry_of c.in_ok-row.row) c.args.change.now c.in_ok-made.made _
+      c.in_ok-made.ensures.ok c.in_ok-made.ensures.room c.in_ok-made.ensures.value is.0 is.1)
+      (with-known c.keep_move.result _ _ c.keep_move.ensures.reply c.keep_move.ensures.ok))
+      c.keep_move.ensures.refused c.keep_move.ensures.unchanged;
+}

@@ -27,7 +27,8 @@ returns-in_err-read-clause-carries c = carries-returned c.from_residual.result c
     (λ none. want-Rebuild c.args.command.now.arch c.args.command.now.source c.args.command.now.version c.args.command.now.number c.args.command.now.message (c.in_err-read.ensures.memory none) (numbered c.args.command.now.number c.in-Some.number _ c.in-Some.ensures.value).0 (sym c.is_long.ensures.value ∙ c.if-is_long.false))
 
 pub returns-in_err-clone-clause-carries : goal.returns-in_err-clone-clause-carries
-returns-in_err-clone-clause-carries c = ?
+returns-in_err-clone-clause-carries c = carries-memory c.from_residual-in_err-clone.result c.from_residual-in_err-clone.ensures.1
+    (want-Rebuild c.args.command.now.arch c.args.command.now.source c.args.command.now.version c.args.command.now.number c.args.command.now.message c.in_ok-read.ensures.ok (numbered c.args.command.now.number c.in-Some.number _ c.in-Some.ensures.value).0 (sym c.is_long.ensures.value ∙ c.if-is_long.false))
 
 pub returns-clause-carries : goal.returns-clause-carries
 returns-clause-carries c = carries-reached c.move_named.ensures.reaches
