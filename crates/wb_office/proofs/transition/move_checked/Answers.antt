@@ -1,6 +1,6 @@
 use Rattle.std.proofs.lemmas.Result.{IfErr-weaker, IfOk-weaker}
 use Rattle.wb_office.proofs.MoveLemmas.{move_outcome-Ok, move_outcome-Err}
-use Rattle.wb_office.proofs.record_after_move.move_checked.Goals as goal
+use Rattle.wb_office.proofs.transition.move_checked.Goals as goal
 
 pub returns-clause-value : goal.returns-clause-value
 returns-clause-value c = IfOk-weaker c.move_record.result _ _ (λ after is. (move_outcome-Ok c.args.change.now c.args.current.now after is).1) c.move_record.ensures.value

@@ -2,7 +2,7 @@ use Rattle.std.proofs.Common.{◌∙◌, sym}
 use Rattle.std.proofs.lemmas.Result.{err_from_is_err_and}
 use Rattle.wb_store.specs.Lookups.{entry_of}
 use Rattle.wb_office.proofs.MoveLemmas.{move_step-refused, move_step-Spent}
-use Rattle.wb_office.proofs.record_after_move.prepare_move.Goals as goal
+use Rattle.wb_office.proofs.transition.prepare_move.Goals as goal
 
 pub returns-in_err-after-clause-refused : goal.returns-in_err-after-clause-refused
 returns-in_err-after-clause-refused c =
