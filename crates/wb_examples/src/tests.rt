@@ -2,6 +2,5 @@ mod failing;
 mod kept;
 mod limits;
 mod lists;
-mod run;
 mod stores;
 mod words;
