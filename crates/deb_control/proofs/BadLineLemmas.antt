@@ -12,7 +12,7 @@ use Rattle.deb_control.specs.declared.fault.ControlFaultKind.{ControlFaultKind}
 use Rattle.deb_control.specs.declared.fault.ControlFaultKind.TheVariants.{TooLarge, NotUtf8, Orphan, NoColon, BadName, Duplicate, Memory, Ended}
 use Rattle.deb_control.specs.Lines.{is_continuation, body_of}
 use Rattle.std.specs.Str.{str_to_ascii_lowercase}
-use Rattle.deb_control.specs.Fields.{FieldText, Reads, HaveDistinctNames, IsLineFault, HasBadLine, IsFault, has_colon, is_name, name_of, field_of, fields_of, is_among, names_in, form_fault, line_fault, names_after, first_fault, largest_paragraph, fault_of, outcome, reading_of}
+use Rattle.deb_control.specs.Fields.{FieldText, Reads, HaveDistinctNames, IsLineFault, HasBadLine, IsFault, has_colon, is_name, name_of, field_of, fields_of, is_among, names_in, form_fault, line_fault, names_after, first_fault, paragraph_limit, fault_of, outcome, reading_of}
 use Rattle.deb_control.proofs.NameLemmas.{is_among-names_in}
 use Rattle.deb_control.proofs.FormLemmas.{option_or-none}
 use Rattle.deb_control.proofs.GrammarLemmas.{Reads-first_fault, first_fault-Reads}
@@ -192,7 +192,7 @@ outcome_err None fields kind is = cc
 outcome_err (Some other) fields kind is = let same : other ≡ kind = cc in ap (λ (k : ControlFaultKind). Some k) same
 
 -- a small text in UTF-8 with a bad line
-bad_line : (kind : ControlFaultKind) (lines : List (List ℕ)) → length (concat lines) ≤ largest_paragraph → IsUtf8 (concat lines) → HasBadLine kind (map body_of lines) → IsFault kind lines
+bad_line : (kind : ControlFaultKind) (lines : List (List ℕ)) → length (concat lines) ≤ paragraph_limit → IsUtf8 (concat lines) → HasBadLine kind (map body_of lines) → IsFault kind lines
 bad_line TooLarge lines size text h = absurd h.fault
 bad_line NotUtf8 lines size text h = absurd h.fault
 bad_line Orphan lines size text h = (size, text, h)
@@ -213,8 +213,8 @@ IsFault-from_reading_of lines kind is = by_size (outcome_err (fault_of lines) (f
     some : {a b : ControlFaultKind} → Some a ≡ Some b → a ≡ b
     some e = cc
 
-    by_size : (if nat_lt largest_paragraph (length (concat lines)) then Some TooLarge else if is_utf8 (concat lines) then first_fault [] (map body_of lines) else Some NotUtf8) ≡ Some kind → IsFault kind lines
-    by_size fault = elim (cases_Bool (nat_lt largest_paragraph (length (concat lines)))) [
+    by_size : (if nat_lt paragraph_limit (length (concat lines)) then Some TooLarge else if is_utf8 (concat lines) then first_fault [] (map body_of lines) else Some NotUtf8) ≡ Some kind → IsFault kind lines
+    by_size fault = elim (cases_Bool (nat_lt paragraph_limit (length (concat lines)))) [
       | inl large ↦ subst (λ (k : ControlFaultKind). IsFault k lines) (some (sym (cond-true _ _ _ large) ∙ fault)) (test_below _ _ large)
       | inr small ↦
           let text_fault : (if is_utf8 (concat lines) then first_fault [] (map body_of lines) else Some NotUtf8) ≡ Some kind = sym (cond-false _ _ _ small) ∙ fault in
@@ -227,7 +227,7 @@ IsFault-from_reading_of lines kind is = by_size (outcome_err (fault_of lines) (f
           ]
     ]
 
-fault_of-bad : (lines : List (List ℕ)) (kind : ControlFaultKind) → length (concat lines) ≤ largest_paragraph → IsUtf8 (concat lines) → HasBadLine kind (map body_of lines) → fault_of lines ≡ Some kind
+fault_of-bad : (lines : List (List ℕ)) (kind : ControlFaultKind) → length (concat lines) ≤ paragraph_limit → IsUtf8 (concat lines) → HasBadLine kind (map body_of lines) → fault_of lines ≡ Some kind
 unfolding fault_of
 fault_of-bad lines kind size text h =
     cond-false _ _ _ (not_below_test _ _ size) ∙ cond-true _ _ _ (is_utf8-from_IsUtf8 (concat lines) text) ∙ first_fault-HasBadLine (map body_of lines) kind h

@@ -11,7 +11,7 @@ use Rattle.deb_control.specs.declared.fault.ControlFaultKind.{ControlFaultKind}
 use Rattle.deb_control.specs.declared.fault.ControlFaultKind.TheVariants.{TooLarge, NotUtf8}
 use Rattle.deb_control.specs.Lines.{body_of, is_continuation}
 use Rattle.std.specs.Str.{str_to_ascii_lowercase}
-use Rattle.deb_control.specs.Fields.{FieldText, IsField, Reads, HaveDistinctNames, is_colon, is_name, has_colon, name_of, first_of, is_among, continued, field_of, fields_of, line_fault, names_after, first_fault, largest_paragraph, fault_of, outcome, reading_of, IsReading}
+use Rattle.deb_control.specs.Fields.{FieldText, IsField, Reads, HaveDistinctNames, is_colon, is_name, has_colon, name_of, first_of, is_among, continued, field_of, fields_of, line_fault, names_after, first_fault, paragraph_limit, fault_of, outcome, reading_of, IsReading}
 use Rattle.std.proofs.lemmas.Str.{IsUtf8-from_is_utf8, is_utf8-from_IsUtf8}
 use Rattle.deb_control.proofs.FieldLemmas.{take_while-continuation, take_while-other}
 use Rattle.deb_control.proofs.FormLemmas.{Named, named, line-name, option_or-none, good_line, line_good, continuation_good, names_after-continuation, names_after-other}
@@ -193,10 +193,10 @@ pub IsReading-from_reading_of : (lines : List (List ℕ)) (fields : List FieldTe
 unfolding reading_of fault_of
 IsReading-from_reading_of lines fields is =
     let parts : (fault_of lines ≡ None) × (fields_of (map body_of lines) ≡ fields) = outcome_cases _ _ fields is in
-    let faults : (nat_lt largest_paragraph (length (concat lines)) ≡ false) × (is_utf8 (concat lines) ≡ true) × (first_fault [] (map body_of lines) ≡ None) = fault_cases _ _ _ parts.0 in
+    let faults : (nat_lt paragraph_limit (length (concat lines)) ≡ false) × (is_utf8 (concat lines) ≡ true) × (first_fault [] (map body_of lines) ≡ None) = fault_cases _ _ _ parts.0 in
     let read : Reads (map body_of lines) (fields_of (map body_of lines)) × HaveDistinctNames (fields_of (map body_of lines)) = Reads-first_fault (map body_of lines) faults.2 in
     record {
-      size = not_below largest_paragraph (length (concat lines)) faults.0;
+      size = not_below paragraph_limit (length (concat lines)) faults.0;
       text = IsUtf8-from_is_utf8 (concat lines) faults.1;
       is = subst (λ (v : List FieldText). Reads (map body_of lines) v) parts.1 read.0;
       names = subst (λ (v : List FieldText). HaveDistinctNames v) parts.1 read.1;
@@ -205,7 +205,7 @@ IsReading-from_reading_of lines fields is =
 pub reading_of-IsReading : (lines : List (List ℕ)) (fields : List FieldText) → IsReading lines fields → reading_of lines ≡ Ok fields
 unfolding reading_of fault_of
 reading_of-IsReading lines fields reading =
-    let small : nat_lt largest_paragraph (length (concat lines)) ≡ false = not_below_test largest_paragraph (length (concat lines)) reading.size in
+    let small : nat_lt paragraph_limit (length (concat lines)) ≡ false = not_below_test paragraph_limit (length (concat lines)) reading.size in
     let utf8 : is_utf8 (concat lines) ≡ true = is_utf8-from_IsUtf8 (concat lines) reading.text in
     let read : (first_fault [] (map body_of lines) ≡ None) × (fields_of (map body_of lines) ≡ fields) = first_fault-Reads (map body_of lines) fields reading.is reading.names in
     ap (λ (v : Option ControlFaultKind). outcome v (fields_of (map body_of lines))) (cond-false _ _ _ small ∙ cond-true _ _ _ utf8 ∙ read.0)

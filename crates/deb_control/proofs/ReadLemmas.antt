@@ -12,7 +12,7 @@ use Rattle.std.proofs.lemmas.List.{append-nil, map-append}
 use Rattle.deb_control.specs.declared.fault.ControlFaultKind.{ControlFaultKind}
 use Rattle.deb_control.specs.Lines.{is_line_feed, is_continuation, lines_of, body_of, lines_in}
 use Rattle.std.specs.Str.{str_to_ascii_lowercase}
-use Rattle.deb_control.specs.Fields.{FieldText, field_of, fields_of, fields_at, names_in, names_after, line_fault, first_fault, largest_paragraph, fault_of, outcome, reading_of}
+use Rattle.deb_control.specs.Fields.{FieldText, field_of, fields_of, fields_at, names_in, names_after, line_fault, first_fault, paragraph_limit, fault_of, outcome, reading_of}
 use Rattle.deb_control.proofs.LineLemmas.{lines_in-front, concat-lines_of}
 
 -- the lines of a text that is not empty
@@ -81,41 +81,41 @@ not_below_test a b more = grind (arith, nat_tests)
 
 -- the fault of the lines of a text, by the text
 fault_of-text : (text : List ℕ) → fault_of (lines_of text)
-    ≡ (if nat_lt largest_paragraph (length text) then Some TooLarge else if is_utf8 text then first_fault [] (lines_in text) else Some NotUtf8)
+    ≡ (if nat_lt paragraph_limit (length text) then Some TooLarge else if is_utf8 text then first_fault [] (lines_in text) else Some NotUtf8)
 unfolding fault_of lines_in
 fault_of-text text =
-    ap (λ (v : List ℕ). if nat_lt largest_paragraph (length v) then Some TooLarge else if is_utf8 v then first_fault [] (lines_in text) else Some NotUtf8)
+    ap (λ (v : List ℕ). if nat_lt paragraph_limit (length v) then Some TooLarge else if is_utf8 v then first_fault [] (lines_in text) else Some NotUtf8)
     (concat-lines_of text)
 
-fault_of-large : (text : List ℕ) → largest_paragraph < length text → fault_of (lines_of text) ≡ Some TooLarge
-fault_of-large text large = fault_of-text text ∙ cond-true (nat_lt largest_paragraph (length text)) _ _ (below_test largest_paragraph (length text) large)
+fault_of-large : (text : List ℕ) → paragraph_limit < length text → fault_of (lines_of text) ≡ Some TooLarge
+fault_of-large text large = fault_of-text text ∙ cond-true (nat_lt paragraph_limit (length text)) _ _ (below_test paragraph_limit (length text) large)
 
-fault_of-small : (text : List ℕ) → length text ≤ largest_paragraph → fault_of (lines_of text) ≡ (if is_utf8 text then first_fault [] (lines_in text) else Some NotUtf8)
-fault_of-small text small = fault_of-text text ∙ cond-false (nat_lt largest_paragraph (length text)) _ _ (not_below_test largest_paragraph (length text) small)
+fault_of-small : (text : List ℕ) → length text ≤ paragraph_limit → fault_of (lines_of text) ≡ (if is_utf8 text then first_fault [] (lines_in text) else Some NotUtf8)
+fault_of-small text small = fault_of-text text ∙ cond-false (nat_lt paragraph_limit (length text)) _ _ (not_below_test paragraph_limit (length text) small)
 
 -- the reading of a text that is too large, that is no UTF-8, and of any other
-pub reading_of-large : (text : List ℕ) → largest_paragraph < length text → reading_of (lines_of text) ≡ Err TooLarge
+pub reading_of-large : (text : List ℕ) → paragraph_limit < length text → reading_of (lines_of text) ≡ Err TooLarge
 unfolding reading_of
 reading_of-large text large = ap (λ (v : Option ControlFaultKind). outcome v (fields_of (map body_of (lines_of text)))) (fault_of-large text large)
 
-pub reading_of-not_utf8 : (text : List ℕ) → length text ≤ largest_paragraph → (IsUtf8 text → ⊥) → reading_of (lines_of text) ≡ Err NotUtf8
+pub reading_of-not_utf8 : (text : List ℕ) → length text ≤ paragraph_limit → (IsUtf8 text → ⊥) → reading_of (lines_of text) ≡ Err NotUtf8
 unfolding reading_of
 reading_of-not_utf8 text small other =
     ap (λ (v : Option ControlFaultKind). outcome v (fields_of (map body_of (lines_of text))))
     (fault_of-small text small ∙ cond-false (is_utf8 text) _ _ (false_from_ne_true (is_utf8 text) (λ e. other (IsUtf8-from_is_utf8 text e))))
 
-reading_of-small : (text : List ℕ) → length text ≤ largest_paragraph → IsUtf8 text → reading_of (lines_of text) ≡ outcome (first_fault [] (lines_in text)) (fields_of (lines_in text))
+reading_of-small : (text : List ℕ) → length text ≤ paragraph_limit → IsUtf8 text → reading_of (lines_of text) ≡ outcome (first_fault [] (lines_in text)) (fields_of (lines_in text))
 unfolding reading_of lines_in
 reading_of-small text small utf8 =
     ap (λ (v : Option ControlFaultKind). outcome v (fields_of (map body_of (lines_of text))))
     (fault_of-small text small ∙ cond-true (is_utf8 text) _ _ (is_utf8-from_IsUtf8 text utf8))
 
-pub reading_of-fault : (bytes text : List ℕ) (kind : ControlFaultKind) → length bytes ≤ largest_paragraph → (text ≡ bytes) × IsUtf8 bytes → first_fault [] (lines_in text) ≡ Some kind → reading_of (lines_of bytes) ≡ Err kind
+pub reading_of-fault : (bytes text : List ℕ) (kind : ControlFaultKind) → length bytes ≤ paragraph_limit → (text ≡ bytes) × IsUtf8 bytes → first_fault [] (lines_in text) ≡ Some kind → reading_of (lines_of bytes) ≡ Err kind
 reading_of-fault bytes text kind small utf8 fault =
     reading_of-small bytes small utf8.1
     ∙ ap (λ (v : Option ControlFaultKind). outcome v (fields_of (lines_in bytes))) (ap (λ (v : List ℕ). first_fault [] (lines_in v)) (sym utf8.0) ∙ fault)
 
-pub reading_of-fields : (bytes text : List ℕ) (fields : List FieldText) → length bytes ≤ largest_paragraph → (text ≡ bytes) × IsUtf8 bytes → first_fault [] (lines_in text) ≡ None → fields ≡ fields_of (lines_in text) → reading_of (lines_of bytes) ≡ Ok fields
+pub reading_of-fields : (bytes text : List ℕ) (fields : List FieldText) → length bytes ≤ paragraph_limit → (text ≡ bytes) × IsUtf8 bytes → first_fault [] (lines_in text) ≡ None → fields ≡ fields_of (lines_in text) → reading_of (lines_of bytes) ≡ Ok fields
 reading_of-fields bytes text fields small utf8 good is =
     reading_of-small bytes small utf8.1
     ∙ ap (λ (v : Option ControlFaultKind). outcome v (fields_of (lines_in bytes))) (ap (λ (v : List ℕ). first_fault [] (lines_in v)) (sym utf8.0) ∙ good)

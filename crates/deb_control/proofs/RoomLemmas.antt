@@ -7,7 +7,7 @@ use Rattle.std.proofs.lemmas.Str.{is_utf8-from_IsUtf8}
 use Rattle.std.proofs.lemmas.Bool.Decides.{nat_tests}
 use Rattle.std.proofs.lemmas.Bool.{and_from}
 use Rattle.deb_control.specs.Lines.{is_line_feed, lines_of, body_of, lines_in}
-use Rattle.deb_control.specs.Fields.{FieldText, names_in, line_fault, largest_paragraph, begin_with_field, takes_memory}
+use Rattle.deb_control.specs.Fields.{FieldText, names_in, line_fault, paragraph_limit, begin_with_field, takes_memory}
 use Rattle.deb_control.proofs.LineLemmas.{concat-lines_of}
 use Rattle.deb_control.proofs.ReadLemmas.{lines_in-split}
 
@@ -34,10 +34,10 @@ not_less : (m n : ℕ) → n ≤ m → not (nat_lt m n) ≡ true
 not_less m n h = grind (arith, nat_tests)
 
 -- a text that is small enough, is UTF-8 and begins with a field
-pub takes_memory-of : (bytes text : List ℕ) → length bytes ≤ largest_paragraph → (text ≡ bytes) × IsUtf8 bytes
+pub takes_memory-of : (bytes text : List ℕ) → length bytes ≤ paragraph_limit → (text ≡ bytes) × IsUtf8 bytes
     → begin_with_field (lines_in text) ≡ true → takes_memory (lines_of bytes) ≡ true
 unfolding takes_memory lines_in
 takes_memory-of bytes text small utf8 begun =
     let whole : concat (lines_of bytes) ≡ bytes = concat-lines_of bytes in
-    and_from _ _ (ap (λ xs. not (nat_lt largest_paragraph (length xs))) whole ∙ not_less largest_paragraph (length bytes) small)
+    and_from _ _ (ap (λ xs. not (nat_lt paragraph_limit (length xs))) whole ∙ not_less paragraph_limit (length bytes) small)
     (and_from _ _ (ap is_utf8 whole ∙ is_utf8-from_IsUtf8 bytes utf8.1) (ap (λ xs. begin_with_field (map body_of (lines_of xs))) (sym utf8.0) ∙ begun))

@@ -7,6 +7,7 @@ use Rattle.std.specs.Option.{option_or, option_map_or}
 use Rattle.deb_control.specs.declared.fault.ControlFaultKind.{ControlFaultKind}
 use Rattle.deb_control.specs.declared.fault.ControlFaultKind.TheVariants.{TooLarge, NotUtf8, Orphan, NoColon, BadName, Duplicate}
 use Rattle.deb_control.specs.Lines.{is_continuation, body_of, lines_in, trim_end, trim, is_nonempty}
+use Rattle.deb_control.specs.declared.paragraph.TheConstants.{PARAGRAPH_LIMIT}
 
 -- a field with its name, what stands behind the colon, and its continuation lines (Policy 5.1)
 pub record FieldText : Type 0 where
@@ -91,13 +92,13 @@ first_fault names [] = None
 first_fault names (line ∷ lines) = option_or (line_fault names line) (first_fault (names_after names line) lines)
 
 -- the greatest number of bytes of a paragraph, line feeds included (this project's own)
-abbrev pub largest_paragraph : ℕ
-largest_paragraph = 4194304
+abbrev pub paragraph_limit : ℕ
+paragraph_limit = PARAGRAPH_LIMIT
 
 -- what is wrong with a paragraph: its size, its encoding, or its first bad line (this project's own order)
 unfoldable pub fault_of : List (List ℕ) → Option ControlFaultKind
 fault_of lines =
-    if nat_lt largest_paragraph (length (concat lines)) then Some TooLarge
+    if nat_lt paragraph_limit (length (concat lines)) then Some TooLarge
     else if is_utf8 (concat lines) then first_fault [] (map body_of lines) else Some NotUtf8
 
 -- the fault where there is one, or else the fields (this project's own)
@@ -116,7 +117,7 @@ begin_with_field lines = option_map_or (λ line. is_none (line_fault [] line)) (
 -- whether memory is taken for a paragraph: it is small enough, is UTF-8, and begins with a field (this project's own)
 unfoldable pub takes_memory : List (List ℕ) → Bool
 takes_memory lines =
-    not (nat_lt largest_paragraph (length (concat lines))) && (is_utf8 (concat lines) && begin_with_field (map body_of lines))
+    not (nat_lt paragraph_limit (length (concat lines))) && (is_utf8 (concat lines) && begin_with_field (map body_of lines))
 
 -- whether two names are the same but for case (Policy 5.1)
 abbrev pub has_name : List ℕ → FieldText → Bool
@@ -166,7 +167,7 @@ HaveDistinctNames (field ∷ fields) = (list_any (λ later. has_name later.name 
 
 -- a paragraph of these lines has these fields: it is small enough, is UTF-8, and its lines are the fields (Policy 5.1)
 pub record IsReading (lines : List (List ℕ)) (fields : List FieldText) : Type 0 where
-  pub size : length (concat lines) ≤ largest_paragraph
+  pub size : length (concat lines) ≤ paragraph_limit
   pub text : IsUtf8 (concat lines)
   pub is : Reads (map body_of lines) fields
   pub names : HaveDistinctNames fields
@@ -193,6 +194,6 @@ pub record HasBadLine (kind : ControlFaultKind) (lines : List (List ℕ)) : Type
 
 -- a paragraph of these lines has this fault: it is too large, or else no UTF-8, or else has a bad line (this project's own order)
 abbrev pub IsFault : ControlFaultKind → List (List ℕ) → Type 0
-IsFault TooLarge lines = largest_paragraph < length (concat lines)
-IsFault NotUtf8 lines = (length (concat lines) ≤ largest_paragraph) × ¬ (IsUtf8 (concat lines))
-IsFault kind lines = (length (concat lines) ≤ largest_paragraph) × IsUtf8 (concat lines) × HasBadLine kind (map body_of lines)
+IsFault TooLarge lines = paragraph_limit < length (concat lines)
+IsFault NotUtf8 lines = (length (concat lines) ≤ paragraph_limit) × ¬ (IsUtf8 (concat lines))
+IsFault kind lines = (length (concat lines) ≤ paragraph_limit) × IsUtf8 (concat lines) × HasBadLine kind (map body_of lines)

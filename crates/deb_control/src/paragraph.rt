@@ -16,10 +16,10 @@ use std::collections::BTreeSet;
 use std::marker::Model;
 
 /// The greatest number of bytes of a paragraph, line feeds included.
-const LARGEST: usize = 4194304;
+const PARAGRAPH_LIMIT: usize = 4194304;
 
 /// So many names are compared one by one; those of later fields stand in a set.
-const FEW: usize = 32;
+const COMPARED_NAMES: usize = 32;
 
 /// Whether two names are the same but for case.
 fn is_same_name(left: &str, right: &str) -> bool
@@ -51,18 +51,18 @@ fn add_name(
     later: &mut BTreeSet<String>,
     name: &str,
 ) -> Result<bool, AllocError>
-    requires { IsNameSet (contains_text later.old) (drop FEW (names_in fields.now)) }
+    requires { IsNameSet (contains_text later.old) (drop COMPARED_NAMES (names_in fields.now)) }
     ensures value { IfOk result (λ new.
         new ≡ not (is_among (str_to_ascii_lowercase name.now) (names_in fields.now))) }
     ensures known { IfOk result (λ new. OnTrue new (IsNameSet (contains_text later.new)
-        (drop FEW (names_in fields.now ++ str_to_ascii_lowercase name.now ∷ [])))) }
+        (drop COMPARED_NAMES (names_in fields.now ++ str_to_ascii_lowercase name.now ∷ [])))) }
     ensures memory { IfErr result (λ _.
-        is_among (str_to_ascii_lowercase name.now) (take FEW (names_in fields.now)) ≡ false) }
+        is_among (str_to_ascii_lowercase name.now) (take COMPARED_NAMES (names_in fields.now)) ≡ false) }
 {
-    if fields.len() < FEW {
+    if fields.len() < COMPARED_NAMES {
         return Ok(!is_name_of_any(fields, name));
     }
-    if is_name_of_any(&fields[..FEW], name) {
+    if is_name_of_any(&fields[..COMPARED_NAMES], name) {
         return Ok(false);
     }
     let new = later.insert(lower_name(alloc, name)?)?;
@@ -78,19 +78,19 @@ fn read_line<'a>(
     line: &'a str,
     rest: &'a str,
 ) -> Result<(), ControlFaultKind>
-    requires { IsNameSet (contains_text later.old) (drop FEW (names_in fields.old.items)) }
+    requires { IsNameSet (contains_text later.old) (drop COMPARED_NAMES (names_in fields.old.items)) }
     // of the line
     ensures ok { OnOk result (line_fault (names_in fields.old.items) line.now ≡ None) }
     ensures refused { IfErr result (λ kind. kind ≢ Memory →
         line_fault (names_in fields.old.items) line.now ≡ Some kind) }
     ensures memory { IfErr result (λ kind. kind ≡ Memory → line_fault [] line.now ≡ None) }
     ensures new { IfErr result (λ kind. kind ≡ Memory → is_among
-        (str_to_ascii_lowercase (name_of line.now)) (take FEW (names_in fields.old.items)) ≡ false) }
+        (str_to_ascii_lowercase (name_of line.now)) (take COMPARED_NAMES (names_in fields.old.items)) ≡ false) }
     // of the fields and their names
     ensures fields { OnOk result (
         fields.new.items ≡ fields.old.items ++ fields_at line.now rest.now) }
     ensures known { OnOk result (
-        IsNameSet (contains_text later.new) (drop FEW (names_in fields.new.items))) }
+        IsNameSet (contains_text later.new) (drop COMPARED_NAMES (names_in fields.new.items))) }
 {
     if is_continuation_line(line) {
         if fields.is_empty() {
@@ -156,7 +156,7 @@ impl<'a> Paragraph<'a> {
         ensures memory { IfErr result (λ kind. kind ≡ Memory →
             takes_memory (lines_of bytes.now) ≡ true) }
     {
-        if bytes.len() > LARGEST {
+        if bytes.len() > PARAGRAPH_LIMIT {
             return Err(ControlFaultKind::TooLarge);
         }
         let Ok(text) = str::from_utf8(bytes) else {

@@ -6,6 +6,7 @@ use Rattle.std.specs.List.{list_any, list_all, fold, before_first, after_first, 
 use Rattle.std.specs.Option.{option_map, option_or}
 use Rattle.deb_version.specs.declared.fault.VersionFault.{VersionFault}
 use Rattle.deb_version.specs.declared.fault.VersionFault.TheVariants.{Empty, EpochEmpty, EpochNotNumber, EpochTooLarge, UpstreamEmpty, UpstreamBad, RevisionEmpty, RevisionBad, TooLong}
+use Rattle.deb_version.specs.declared.parse.TheConstants.{EPOCH_LIMIT, VERSION_LIMIT}
 
 -- an epoch, an upstream version, and a revision where one is written (Policy 5.6.12)
 pub record Parts : Type 0 where
@@ -91,11 +92,11 @@ parts_of text = record {
 
 -- how many bytes the text of a version may have (this project's own)
 abbrev pub version_limit : ℕ
-version_limit = 1000
+version_limit = VERSION_LIMIT
 
 -- how large an epoch may be (this project's own)
 abbrev pub epoch_limit : ℕ
-epoch_limit = 2147483647
+epoch_limit = EPOCH_LIMIT
 
 -- no text, or one above the limit (this project's own)
 unfoldable pub length_fault : List ℕ → Option VersionFault

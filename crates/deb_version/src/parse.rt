@@ -7,9 +7,9 @@ ghost use Rattle.deb_version.specs.Syntax.{is_upstream_char, is_revision_char, i
 
 use crate::fault::VersionFault;
 
-const MAX_LEN: usize = 1000;
+const VERSION_LIMIT: usize = 1000;
 
-const MAX_EPOCH: u32 = 2147483647;
+const EPOCH_LIMIT: u32 = 2147483647;
 
 /// The epoch of a text, and where its upstream version begins and ends.
 #[derive(Clone, Copy)]
@@ -86,7 +86,7 @@ fn number_of(digits: &[u8]) -> Option<u32>
     let mut rest = digits;
     while let [digit, others @ ..] = rest {
         let next = u64::from(value) * 10 + u64::from(*digit - b'0');
-        if next > MAX_EPOCH as u64 {
+        if next > EPOCH_LIMIT as u64 {
             return None;
         }
         value = next as u32;
@@ -186,7 +186,7 @@ pub(crate) fn cut_of(text: &[u8]) -> Result<Cut, VersionFault>
     if text.is_empty() {
         return Err(VersionFault::Empty);
     }
-    if text.len() > MAX_LEN {
+    if text.len() > VERSION_LIMIT {
         return Err(VersionFault::TooLong);
     }
     let (epoch, start) = epoch_cut(text)?;

@@ -19,7 +19,7 @@ use Rattle.wb_daemon.specs.Line.{is_long, with_line_feed}
 use Rattle.wb_daemon.specs.Lists.{MayRead, MayReadMerge, MayReadLess}
 use Rattle.wb_daemon.specs.Run.{LineResponse, IsLineResponse, Accepts, InvokesAs, LineInvokes, IsResponseOfKind, LineKind, Blank, Fault, Request, kind_of_line, kind_of_invocation, invocation_of_line, line_fault_response, memory_response, needs_memory}
 use Rattle.wb_daemon.specs.declared.answer.Answer.{Answer}
-use Rattle.wb_daemon.specs.Turn.{response_of_answer, Answers, IsCommandResponseOrMemory, IsInvocationResponseOrMemory, AnswersInPart, AppendsFront, TookEndedLine, TookLastLine, LacksAnswer, StopsTurn, Turns}
+use Rattle.wb_daemon.specs.Turn.{response_of_answer, Answers, IsCommandResponseOrMemory, IsInvocationResponseOrMemory, AnswersInPart, AppendsFront, TookEndedLine, TookLastLine, StopsAtLine, StopsTurn, Turns}
 use Rattle.wb_daemon.specs.declared.message.Cause.{Cause}
 use Rattle.wb_daemon.specs.declared.message.Cause.TheVariants as why
 use Rattle.wb_daemon.specs.declared.run.Turn.{Turn}
@@ -129,19 +129,22 @@ InvokesAs-more old new m (invocation_Merge sources parts) command h = MayReadMer
 LineInvokes-more : (old new : MayRead) → MayReadLess old new → (line : List ℕ) (command : Command) → LineInvokes new line command → LineInvokes old line command
 LineInvokes-more old new m line command h = (h.0, h.1, InvokesAs-more old new m h.0 command h.2)
 
-LacksAnswer-more : (old new : MayRead) → MayReadLess old new → (line : List ℕ) (before after : Machine) (a b : Option (List ℕ)) (cause : Cause)
-    → LacksAnswer new line before after a b cause → LacksAnswer old line before after a b cause
-LacksAnswer-more old new m line before after a b why.Read h = absurd h
-LacksAnswer-more old new m line before after a b why.Write h = AnswersInPart-more old new m line before after a b h
-LacksAnswer-more old new m line before after a b why.Reply h = (h.0, LineInvokes-more old new m line h.0 h.1, h.2, h.3)
-LacksAnswer-more old new m line before after a b why.Lines h = absurd h
-LacksAnswer-more old new m line before after a b why.Room h = absurd h
+StopsAtLine-more : (old new : MayRead) → MayReadLess old new → (line : List ℕ) (before after : Machine) (a b : Option (List ℕ)) (cause : Cause)
+    → StopsAtLine new line before after a b cause → StopsAtLine old line before after a b cause
+StopsAtLine-more old new m line before after a b why.Read h = absurd h
+StopsAtLine-more old new m line before after a b why.Write h = AnswersInPart-more old new m line before after a b h
+StopsAtLine-more old new m line before after a b why.Reply h = (h.0, LineInvokes-more old new m line h.0 h.1, h.2, h.3)
+StopsAtLine-more old new m line before after a b why.Store h =
+    (h.0, h.1, IsLineResponse-more old new m before line h.0 h.2, LineInvokes-more old new m line h.1 h.3, h.4, h.5, h.6)
+StopsAtLine-more old new m line before after a b why.Lines h = absurd h
+StopsAtLine-more old new m line before after a b why.Room h = absurd h
 
 StopsTurn-more : (old new : MayRead) → MayReadLess old new → (cause : Cause) (before after : Machine) (i j a b : Option (List ℕ))
     → StopsTurn new cause before after i j a b → StopsTurn old cause before after i j a b
 StopsTurn-more old new m why.Read before after i j a b t = t
-StopsTurn-more old new m why.Write before after i j a b t = (t.0, t.1, LacksAnswer-more old new m t.0 before after a b why.Write t.2)
-StopsTurn-more old new m why.Reply before after i j a b t = (t.0, t.1, LacksAnswer-more old new m t.0 before after a b why.Reply t.2)
+StopsTurn-more old new m why.Write before after i j a b t = (t.0, t.1, StopsAtLine-more old new m t.0 before after a b why.Write t.2)
+StopsTurn-more old new m why.Reply before after i j a b t = (t.0, t.1, StopsAtLine-more old new m t.0 before after a b why.Reply t.2)
+StopsTurn-more old new m why.Store before after i j a b t = (t.0, t.1, StopsAtLine-more old new m t.0 before after a b why.Store t.2)
 StopsTurn-more old new m why.Lines before after i j a b t = absurd t.2
 StopsTurn-more old new m why.Room before after i j a b t = absurd t.2
 
@@ -181,10 +184,11 @@ LineInvokes-invocation may_read line invocation command h k e a = (invocation, k
 
 -- a line that was not answered stops the turn
 pub stops_turn : (may_read : MayRead) (cause : Cause) (line : List ℕ) (before after : Machine) (i j a b : Option (List ℕ))
-    → TookEndedLine line i j ⊎ TookLastLine line i j → LacksAnswer may_read line before after a b cause → StopsTurn may_read cause before after i j a b
+    → TookEndedLine line i j ⊎ TookLastLine line i j → StopsAtLine may_read line before after a b cause → StopsTurn may_read cause before after i j a b
 stops_turn may_read why.Read line before after i j a b g h = absurd h
 stops_turn may_read why.Write line before after i j a b g h = (line, g, h)
 stops_turn may_read why.Reply line before after i j a b g h = (line, g, h)
+stops_turn may_read why.Store line before after i j a b g h = (line, g, h)
 stops_turn may_read why.Lines line before after i j a b g h = absurd h
 stops_turn may_read why.Room line before after i j a b g h = absurd h
 

@@ -1,5 +1,5 @@
 -- Lemmas on the commands that lines have the office carry out.
-use Rattle.std.proofs.Common.{◌≡◌, ℕ, List, [], ◌∷◌, ◌++◌, take, drop, Option, Result, Ok, Err, ◌⊎◌, inl, inr, refl, sym, ap, ◌∙◌, subst, append_assoc, take-append-drop}
+use Rattle.std.proofs.Common.{◌≡◌, ℕ, List, [], ◌∷◌, ◌++◌, take, drop, Option, Result, Ok, Err, ◌⊎◌, inl, inr, refl, sym, ap, ◌∙◌, subst, append-nil, append_assoc, take-append-drop}
 use Rattle.wb_states.specs.Commands.{name_of_command}
 use Rattle.wb_states.specs.Machine.{Machine}
 use Rattle.wb_states.specs.declared.command.Command.{Command}
@@ -107,7 +107,7 @@ StopsInLine-replay may_read seen left machine text after (inl (lines, acted, s))
       ∙ sym (append_assoc s.answered.text (take s.written s.response.text) (drop s.written s.response.text))
       ∙ ap (λ t. t ++ drop s.written s.response.text) (sym s.front),
 )
-StopsInLine-replay may_read seen left machine text after (inr (lines, acted, s)) =
+StopsInLine-replay may_read seen left machine text after (inr (inl (lines, acted, s))) =
     let response = command_response s.answered.machine s.command in (
       lines,
       followed s.answered response,
@@ -117,6 +117,16 @@ StopsInLine-replay may_read seen left machine text after (inr (lines, acted, s))
       s.accepted.1 ∙ sym (command_response-machine s.answered.machine s.command),
       ap (λ t. t ++ response.text) (sym s.unwritten),
     )
+
+StopsInLine-replay may_read seen left machine text after (inr (inr (lines, acted, s))) = (
+  lines,
+  followed s.answered s.response,
+  [],
+  acted,
+  snoc-replay may_read lines s.earlier s.last machine s.answered s.response s.parts s.runs s.responds,
+  s.office,
+  sym s.written ∙ sym (append-nil text),
+)
 
 -- ---- a whole run
 
@@ -138,7 +148,8 @@ pub RunStopsFor-leaves : (may_read : MayRead) (cause : Cause) (input left old ne
     → RunStopsFor may_read cause input left old new before after → LeavesReplay may_read before after
 RunStopsFor-leaves may_read why.Read input left old new before after h = Runs-leaves may_read before after (ended_in h.0) h.1 h.4.0 h.4.1
 RunStopsFor-leaves may_read why.Write input left old new before after h = StopsInLine-leaves may_read h.0 left before h.1 after (inl h.4)
-RunStopsFor-leaves may_read why.Reply input left old new before after h = StopsInLine-leaves may_read h.0 left before h.1 after (inr h.4)
+RunStopsFor-leaves may_read why.Reply input left old new before after h = StopsInLine-leaves may_read h.0 left before h.1 after (inr (inl h.4))
+RunStopsFor-leaves may_read why.Store input left old new before after h = StopsInLine-leaves may_read h.0 left before h.1 after (inr (inr h.4))
 RunStopsFor-leaves may_read why.Lines input left old new before after h = Runs-leaves may_read before after (ended_in h.4.0) h.1 h.4.4.0 h.4.4.1
 RunStopsFor-leaves may_read why.Room input left old new before after h =
     ([], no_response before, Runs-replay may_read [] before (no_response before) refl, h.4.2)

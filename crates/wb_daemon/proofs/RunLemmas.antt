@@ -13,11 +13,11 @@ use Rattle.deb_text.proofs.ListLemmas.{slice_split-run, slice_split-end}
 use Rattle.deb_text.specs.Lines.{is_line_feed, IsOneLine}
 use Rattle.wb_daemon.specs.Line.{ended_in, is_long, input_lines, line_limit, lines_limit, through_long, with_line_feed, with_line_feeds, AreWithinLimit}
 use Rattle.wb_daemon.specs.Lists.{MayRead, IsAllOf}
-use Rattle.wb_daemon.specs.Run.{LineResponse, IsLineResponse, Runs, EndsInput, FailsFor, StopsBeforeReply, StopsBetween, RunStopsFor, StopsWithin, WereActedOn, followed, no_response}
+use Rattle.wb_daemon.specs.Run.{LineResponse, IsLineResponse, Runs, EndsInput, FailsFor, StopsAfter, StopsBeforeReply, StopsBetween, RunStopsFor, StopsWithin, WereActedOn, followed, no_response}
 use Rattle.wb_daemon.specs.Streams.{Flags, Stream}
-use Rattle.wb_daemon.specs.Turn.{Answers, AnswersInPart, TookEndedLine, TookLastLine, LacksAnswer, LacksReply, StopsTurn, fails_to_write}
+use Rattle.wb_daemon.specs.Turn.{Answers, AnswersInPart, AnswersLast, TookEndedLine, TookLastLine, StopsAtLine, LacksReply, StopsTurn, fails_to_write}
 use Rattle.wb_daemon.specs.declared.message.Cause.{Cause}
-use Rattle.wb_daemon.specs.declared.message.Cause.TheVariants.{Read, Write, Reply, Lines, Room}
+use Rattle.wb_daemon.specs.declared.message.Cause.TheVariants.{Read, Write, Reply, Store, Lines, Room}
 use Rattle.wb_daemon.proofs.LineLemmas.{Appends-same, Appends-then, Consumes-then}
 use Rattle.wb_daemon.proofs.AnswerLemmas.{IsLineResponse-long, answers-blank}
 use lib.Seq.{take-append_seam}
@@ -305,6 +305,23 @@ module _ {may_read : MayRead} {input now old new : Option (List ℕ)} {before af
     unwritten = refl;
   }
 
+  after_answer : (line : List ℕ) (written : Option (List ℕ)) (next : Machine) → (a : AnswersLast may_read line after next new written)
+      → StopsAfter may_read (far.lines ++ line ∷ []) before (far.text ++ a.0.text) next
+  after_answer line written next a = record {
+    earlier = far.lines;
+    last = line;
+    answered = record { text = far.text; machine = after; status = status };
+    response = a.0;
+    command = a.1;
+    parts = refl;
+    runs = far.runs;
+    responds = a.2;
+    invokes = a.3;
+    refused = a.4;
+    written = refl;
+    office = a.5;
+  }
+
   -- the bytes of the lines that were acted on
   acted_on : (line : List ℕ) (left : Option (List ℕ)) → TookEndedLine line now left ⊎ TookLastLine line now left
       → (seen : List ℕ) × Consumes input left seen × WereActedOn seen left (far.lines ++ line ∷ [])
@@ -320,17 +337,20 @@ module _ {may_read : MayRead} {input now old new : Option (List ℕ)} {before af
     inr (sym (input_lines-last far.lines line far.are g.0), at_last line left g.2),
   )
 
-  stops-unanswered : (cause : Cause) (line : List ℕ) (left written : Option (List ℕ)) (next : Machine)
-      → TookEndedLine line now left ⊎ TookLastLine line now left → LacksAnswer may_read line after next new written cause → RunStopsFor may_read cause input left old written before next
-  stops-unanswered Read line left written next g a = absurd a
-  stops-unanswered Write line left written next g a =
+  stops-line : (cause : Cause) (line : List ℕ) (left written : Option (List ℕ)) (next : Machine)
+      → TookEndedLine line now left ⊎ TookLastLine line now left → StopsAtLine may_read line after next new written cause → RunStopsFor may_read cause input left old written before next
+  stops-line Read line left written next g a = absurd a
+  stops-line Write line left written next g a =
       let h = acted_on line left g in
       (h.0, far.text ++ take a.3.0 a.0.text, h.1, Appends-then old new written far.text _ far.written a.3.2, (far.lines ++ line ∷ [], h.2, within line written next a))
-  stops-unanswered Reply line left written next g a =
+  stops-line Reply line left written next g a =
       let h = acted_on line left g in
       (h.0, far.text, h.1, subst (λ w. Appends old w far.text) (sym a.3) far.written, (far.lines ++ line ∷ [], h.2, before_reply line written next a))
-  stops-unanswered Lines line left written next g a = absurd a
-  stops-unanswered Room line left written next g a = absurd a
+  stops-line Store line left written next g a =
+      let h = acted_on line left g in
+      (h.0, far.text ++ a.0.text, h.1, Appends-then old new written far.text _ far.written a.6, (far.lines ++ line ∷ [], h.2, after_answer line written next a))
+  stops-line Lines line left written next g a = absurd a
+  stops-line Room line left written next g a = absurd a
 
   -- a turn stopped
   pub stops-turn : (cause : Cause) (left written : Option (List ℕ)) (next : Machine)
@@ -338,8 +358,9 @@ module _ {may_read : MayRead} {input now old new : Option (List ℕ)} {before af
   stops-turn Read left written next t =
       subst (λ w. RunStopsFor may_read Read input left old w before next) (sym t.4)
       (subst (λ m. RunStopsFor may_read Read input left old new before m) (sym t.3) (stops-read t.0 left t.1 t.2))
-  stops-turn Write left written next t = stops-unanswered Write t.0 left written next t.1 t.2
-  stops-turn Reply left written next t = stops-unanswered Reply t.0 left written next t.1 t.2
+  stops-turn Write left written next t = stops-line Write t.0 left written next t.1 t.2
+  stops-turn Reply left written next t = stops-line Reply t.0 left written next t.1 t.2
+  stops-turn Store left written next t = stops-line Store t.0 left written next t.1 t.2
   stops-turn Lines left written next t = absurd t.2
   stops-turn Room left written next t = absurd t.2
 
@@ -365,6 +386,7 @@ pub FailsFor-then : (cause : Option Cause) (a b c x y z : Stream) → FailsFor N
 FailsFor-then (Some Read) a b c x y z p q = (q.0, q.1 ∙ p.1)
 FailsFor-then (Some Write) a b c x y z p q = (q.0 ∙ p.0, q.1)
 FailsFor-then (Some Reply) a b c x y z p q = (q.0 ∙ p.0, q.1 ∙ p.1)
+FailsFor-then (Some Store) a b c x y z p q = (q.0 ∙ p.0, q.1 ∙ p.1)
 FailsFor-then (Some Lines) a b c x y z p q = (q.0 ∙ p.0, q.1 ∙ p.1)
 FailsFor-then (Some Room) a b c x y z p q = (q.0 ∙ p.0, q.1 ∙ p.1)
 FailsFor-then None a b c x y z p q = (q.0 ∙ p.0, q.1 ∙ p.1)
@@ -374,14 +396,16 @@ pub FailsFor-answer : (cause : Cause) (a b x y : Stream) → b.failed ≡ a.fail
 FailsFor-answer Read a b x y p n q = absurd (n refl)
 FailsFor-answer Write a b x y p n q = (p, q)
 FailsFor-answer Reply a b x y p n q = (p, q)
+FailsFor-answer Store a b x y p n q = (p, q)
 FailsFor-answer Lines a b x y p n q = (p, q)
 FailsFor-answer Room a b x y p n q = (p, q)
 
 -- why a line that was read is not answered is no failed read
-pub LacksAnswer-written : (may_read : MayRead) (cause : Cause) (line : List ℕ) (before after : Machine) (a b : Option (List ℕ))
-    → LacksAnswer may_read line before after a b cause → ¬ (cause ≡ Read)
-LacksAnswer-written may_read Read line before after a b h e = h
-LacksAnswer-written may_read Write line before after a b h e = cc
-LacksAnswer-written may_read Reply line before after a b h e = cc
-LacksAnswer-written may_read Lines line before after a b h e = h
-LacksAnswer-written may_read Room line before after a b h e = h
+pub StopsAtLine-written : (may_read : MayRead) (cause : Cause) (line : List ℕ) (before after : Machine) (a b : Option (List ℕ))
+    → StopsAtLine may_read line before after a b cause → ¬ (cause ≡ Read)
+StopsAtLine-written may_read Read line before after a b h e = h
+StopsAtLine-written may_read Write line before after a b h e = cc
+StopsAtLine-written may_read Reply line before after a b h e = cc
+StopsAtLine-written may_read Store line before after a b h e = cc
+StopsAtLine-written may_read Lines line before after a b h e = h
+StopsAtLine-written may_read Room line before after a b h e = h

@@ -7,14 +7,16 @@ use Rattle.wb_daemon.specs.declared.line.LineRead.{LineRead}
 use Rattle.wb_daemon.specs.declared.line.LineRead.TheVariants.{Ended, Last, TooLong, Failed}
 use Rattle.wb_daemon.specs.declared.line.ByteRead.{ByteRead}
 use Rattle.wb_daemon.specs.declared.line.ByteRead.TheVariants as byte
+use Rattle.wb_daemon.specs.declared.line.TheConstants.{LINE_LIMIT}
+use Rattle.wb_daemon.specs.declared.run.TheConstants.{LINES_LIMIT}
 
 -- the greatest length of a line, its line feed not counted
 abbrev pub line_limit : ℕ
-line_limit = 65536
+line_limit = LINE_LIMIT
 
 -- the greatest number of lines that end with a line feed
 abbrev pub lines_limit : ℕ
-lines_limit = 1_000_000_000
+lines_limit = LINES_LIMIT
 
 -- a text and the line feed after it
 abbrev pub with_line_feed : List ℕ → List ℕ

@@ -7,6 +7,7 @@ use Rattle.wb_states.specs.Commands.{name_of_command}
 use Rattle.wb_states.specs.Machine.{Machine}
 use Rattle.wb_states.specs.declared.command.Command.{Command}
 use Rattle.wb_states.specs.declared.refusal.Refusal.{Refusal}
+use Rattle.wb_states.specs.declared.refusal.Refusal.TheVariants.{Closed, Store}
 use Rattle.wb_states.specs.declared.reply.Reply.{Reply}
 use Rattle.wb_office.specs.Step.{step}
 use Rattle.wb_words.specs.Words.{invocation_in}
@@ -87,6 +88,16 @@ LineInvokes may_read line command = (invocation : Invocation) × (kind_of_line l
 abbrev pub Accepts : Machine → Command → Machine → Type 0
 Accepts before command after =
     IsOk (step before command).0 × (after ≡ (step before command).1) × (before.accepted < after.accepted)
+
+-- whether a run stops after this refusal: the store failed, or the office is closed
+abbrev pub ends_run : Refusal → Bool
+ends_run Closed = true
+ends_run (Store fault) = true
+ends_run refusal = false
+
+-- a command is refused since the store failed or the office is closed
+abbrev pub IsRefusedByStore : Machine → Command → Type 0
+IsRefusedByStore before command = (refusal : Refusal) × ((step before command).0 ≡ Err refusal) × (ends_run refusal ≡ true)
 
 -- what may be said to a merge of these lists: what is said to the command with what the lists gave, or that one of them is at fault
 abbrev pub IsMergeResponse : MayRead → Machine → List ℕ → List PartNames → LineResponse → Type 0
@@ -187,20 +198,38 @@ pub record StopsBeforeReply (may_read : MayRead) (lines : List (List ℕ)) (befo
   pub accepted : Accepts answered.machine command after
   pub unwritten : text ≡ answered.text
 
--- a run that stopped for this cause: a read or a write failed, or there was no memory for a reply, or more follows its last line, or it has no room for a line
+-- a run that stopped after the last of these lines, each of which was answered: its command was refused since the store failed or the office is closed
+pub record StopsAfter (may_read : MayRead) (lines : List (List ℕ)) (before : Machine) (text : List ℕ) (after : Machine) : Type 0 where
+  pub earlier : List (List ℕ)
+  pub last : List ℕ
+  pub answered : LineResponse
+  pub response : LineResponse
+  pub command : Command
+  pub parts : lines ≡ earlier ++ last ∷ []
+  pub runs : Runs may_read before earlier answered
+  pub responds : IsLineResponse may_read answered.machine last response
+  pub invokes : LineInvokes may_read last command
+  pub refused : IsRefusedByStore answered.machine command
+  pub written : text ≡ answered.text ++ response.text
+  pub office : after ≡ response.machine
+
+-- a run that stopped for this cause: a read or a write failed, or there was no memory for a reply, or the store failed, or more follows its last line, or it has no room for a line
 abbrev pub StopsFor : MayRead → Cause → List ℕ → Option (List ℕ) → Machine → List ℕ → Machine → Type 0
 StopsFor may_read why.Read seen left before text after = StopsBetween may_read seen before text after
 StopsFor may_read why.Write seen left before text after =
     (lines : List (List ℕ)) × WereActedOn seen left lines × StopsWithin may_read lines before text after
 StopsFor may_read why.Reply seen left before text after =
     (lines : List (List ℕ)) × WereActedOn seen left lines × StopsBeforeReply may_read lines before text after
+StopsFor may_read why.Store seen left before text after =
+    (lines : List (List ℕ)) × WereActedOn seen left lines × StopsAfter may_read lines before text after
 StopsFor may_read why.Lines seen left before text after = StopsAtLimit may_read seen before text after
 StopsFor may_read why.Room seen left before text after = NeverBegins seen before text after
 
--- a run that did not answer the last line that it acted on: the answer was not written whole, or there is no memory for the reply
+-- a run that stopped at the last line that it acted on: its answer was not written whole, or there is no memory for the reply, or the store failed
 abbrev pub StopsInLine : MayRead → List ℕ → Option (List ℕ) → Machine → List ℕ → Machine → Type 0
 StopsInLine may_read seen left before text after =
-    StopsFor may_read why.Write seen left before text after ⊎ StopsFor may_read why.Reply seen left before text after
+    StopsFor may_read why.Write seen left before text after
+    ⊎ (StopsFor may_read why.Reply seen left before text after ⊎ StopsFor may_read why.Store seen left before text after)
 
 -- a run that stopped for this cause before its input ended: what it had read, and what it wrote
 abbrev pub RunStopsFor : MayRead → Cause → Option (List ℕ) → Option (List ℕ) → Option (List ℕ) → Option (List ℕ) → Machine → Machine → Type 0
@@ -213,6 +242,7 @@ abbrev pub FailsFor : Option Cause → Stream → Stream → Stream → Stream �
 FailsFor (Some why.Read) input left old new = (left.failed ≡ true) × (new.failed ≡ old.failed)
 FailsFor (Some why.Write) input left old new = (left.failed ≡ input.failed) × (new.failed ≡ true)
 FailsFor (Some why.Reply) input left old new = (left.failed ≡ input.failed) × (new.failed ≡ old.failed)
+FailsFor (Some why.Store) input left old new = (left.failed ≡ input.failed) × (new.failed ≡ old.failed)
 FailsFor (Some why.Lines) input left old new = (left.failed ≡ input.failed) × (new.failed ≡ old.failed)
 FailsFor (Some why.Room) input left old new = (left.failed ≡ input.failed) × (new.failed ≡ old.failed)
 FailsFor None input left old new = (left.failed ≡ input.failed) × (new.failed ≡ old.failed)

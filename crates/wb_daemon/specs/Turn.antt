@@ -13,10 +13,10 @@ use Rattle.wb_api.specs.Encoding.{is_plain}
 use Rattle.deb_text.specs.Lines.{IsOneLine}
 use Rattle.wb_daemon.specs.Line.{is_long, with_line_feed}
 use Rattle.wb_daemon.specs.Lists.{MayRead}
-use Rattle.wb_daemon.specs.Run.{LineResponse, IsLineResponse, IsInvocationResponse, command_response, memory_response, Accepts, EndsInput, LineInvokes, RunStopsFor}
+use Rattle.wb_daemon.specs.Run.{LineResponse, IsLineResponse, IsInvocationResponse, command_response, memory_response, Accepts, EndsInput, IsRefusedByStore, LineInvokes, RunStopsFor}
 use Rattle.wb_daemon.specs.declared.answer.Answer.{Answer}
 use Rattle.wb_daemon.specs.declared.message.Cause.{Cause}
-use Rattle.wb_daemon.specs.declared.message.Cause.TheVariants.{Read, Write, Reply, Lines, Room}
+use Rattle.wb_daemon.specs.declared.message.Cause.TheVariants.{Read, Write, Reply, Store, Lines, Room}
 use Rattle.wb_daemon.specs.declared.run.RunEnd.{RunEnd}
 use Rattle.wb_daemon.specs.declared.run.RunEnd.TheVariants.{Ended, Stopped}
 use Rattle.wb_daemon.specs.declared.run.Turn.{Turn}
@@ -67,11 +67,18 @@ abbrev pub LacksReply : MayRead → List ℕ → Machine → Machine → Option 
 LacksReply may_read line before after old new =
     (command : Command) × LineInvokes may_read line command × Accepts before command after × (new ≡ old)
 
--- why a line that was acted on was not answered: a write failed, or there is no memory for the reply
-abbrev pub LacksAnswer : MayRead → List ℕ → Machine → Machine → Option (List ℕ) → Option (List ℕ) → Cause → Type 0
-LacksAnswer may_read line before after old new Write = AnswersInPart may_read line before after old new
-LacksAnswer may_read line before after old new Reply = LacksReply may_read line before after old new
-LacksAnswer may_read line before after old new cause = ⊥
+-- a line was answered, and its command was refused since the store failed or the office is closed
+abbrev pub AnswersLast : MayRead → List ℕ → Machine → Machine → Option (List ℕ) → Option (List ℕ) → Type 0
+AnswersLast may_read line before after old new =
+    (response : LineResponse) × (command : Command) × IsLineResponse may_read before line response × LineInvokes may_read line command
+    × IsRefusedByStore before command × (after ≡ response.machine) × Appends old new response.text
+
+-- why a run stops at a line that was acted on: a write failed, or there is no memory for the reply, or the store failed
+abbrev pub StopsAtLine : MayRead → List ℕ → Machine → Machine → Option (List ℕ) → Option (List ℕ) → Cause → Type 0
+StopsAtLine may_read line before after old new Write = AnswersInPart may_read line before after old new
+StopsAtLine may_read line before after old new Reply = LacksReply may_read line before after old new
+StopsAtLine may_read line before after old new Store = AnswersLast may_read line before after old new
+StopsAtLine may_read line before after old new cause = ⊥
 
 -- a line and its line feed were taken from the reader
 abbrev pub TookEndedLine : List ℕ → Option (List ℕ) → Option (List ℕ) → Type 0
@@ -81,13 +88,13 @@ TookEndedLine line old new = (is_long line ≡ false) × IsOneLine line × Consu
 abbrev pub TookLastLine : List ℕ → Option (List ℕ) → Option (List ℕ) → Type 0
 TookLastLine line old new = IsOneLine line × Consumes old new line × (IsAtEnd new ⊎ (is_long line ≡ true))
 
--- why a turn stopped: a read failed within the line, or the line was not answered
+-- why a turn stopped: a read failed within the line, or the run stops at the line
 abbrev pub StopsTurn : MayRead → Cause → Machine → Machine → Option (List ℕ) → Option (List ℕ) → Option (List ℕ) → Option (List ℕ) → Type 0
 StopsTurn may_read Read before after old_input new_input old new =
     (line : List ℕ) × IsOneLine line × Consumes old_input new_input line × (after ≡ before) × (new ≡ old)
 StopsTurn may_read cause before after old_input new_input old new =
     (line : List ℕ) × (TookEndedLine line old_input new_input ⊎ TookLastLine line old_input new_input)
-    × LacksAnswer may_read line before after old new cause
+    × StopsAtLine may_read line before after old new cause
 
 -- what a turn did: a line was answered and more may follow, or the last line was answered, or the run stops
 abbrev pub Turns : MayRead → Turn → Machine → Machine → Option (List ℕ) → Option (List ℕ) → Option (List ℕ) → Option (List ℕ) → Type 0
@@ -105,12 +112,13 @@ Ran may_read (Ended status) before after old_input new_input old new =
 Ran may_read (Stopped cause) before after old_input new_input old new =
     RunStopsFor may_read cause old_input new_input old new before after
 
--- whether a line was not answered since a write failed
+-- whether a run stops at a line since a write failed
 abbrev pub fails_to_write : Result ℕ Cause → Bool
 fails_to_write (Ok status) = false
 fails_to_write (Err Read) = false
 fails_to_write (Err Write) = true
 fails_to_write (Err Reply) = false
+fails_to_write (Err Store) = false
 fails_to_write (Err Lines) = false
 fails_to_write (Err Room) = false
 

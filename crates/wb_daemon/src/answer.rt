@@ -1,11 +1,11 @@
 //! The answer to one line.
-ghost use Rattle.std.specs.Prelude.{◌≡◌, ◌≢◌, ◌≤◌, IfOk, IfErr, IfSome, IsTrue, Some, None, Err, false};
+ghost use Rattle.std.specs.Prelude.{◌≡◌, ◌≢◌, ◌≤◌, IfOk, IfErr, IfSome, IsTrue, Some, None, Err, false, true};
 ghost use Rattle.std.specs.Str.{is_utf8};
 ghost use Rattle.wb_words.specs.declared.fault.WordsFault.TheVariants.{Memory};
 ghost use Rattle.wb_daemon.specs.Line.{is_long};
 ghost use Rattle.deb_text.specs.Lines.{is_blank_line};
 ghost use Rattle.wb_daemon.specs.Lists.{MayReadLess};
-ghost use Rattle.wb_daemon.specs.Run.{invocation_of_line, file_fault_response, memory_response, Accepts, InvokesAs, LineInvokes, IsLineResponse};
+ghost use Rattle.wb_daemon.specs.Run.{invocation_of_line, file_fault_response, memory_response, Accepts, InvokesAs, IsLineResponse, IsRefusedByStore, LineInvokes, ends_run};
 ghost use Rattle.wb_states.specs.Machine.{IsConsistent, Machine};
 ghost use Rattle.wb_states.specs.declared.command.Command.{Command};
 ghost use Rattle.wb_daemon.specs.Turn.{response_of_answer, IsInvocationResponseOrMemory, IsCommandResponseOrMemory};
@@ -21,11 +21,20 @@ use wb_office::Office;
 use wb_states::{Command, Refusal};
 use wb_words::{Invocation, WordsFault, invocation_of, fault_of};
 
-/// What is written to a line, without its line feed, and the status of the line.
+/// What is written to a line, without its line feed, the status of the line, and whether the run stops after
+/// it, since the store failed or the office is closed.
 #[derive(Drop)]
 pub(crate) struct Answer {
     pub(crate) text: CowStr<'static>,
     pub(crate) status: u8,
+    pub(crate) stops: bool,
+}
+
+/// Whether a run stops after this refusal: the store failed, or the office is closed.
+fn ends_run(refusal: &Refusal) -> bool
+    ensures value { result ≡ ends_run refusal.now }
+{
+    matches!(refusal, Refusal::Closed | Refusal::Store { .. })
 }
 
 /// What the words of a line ask for. The errors are `NoCommand` where the line is not UTF-8 or its words
@@ -51,6 +60,7 @@ fn answer_to(alloc: Global, office: &mut Office, command: &Command) -> Option<An
     ensures value { IfSome result (λ answer. (answer.status ≤ 3)
         × IsCommandResponseOrMemory office.old command.now (response_of_answer answer office.new)) }
     ensures memory { result ≡ None → Accepts office.old command.now office.new }
+    ensures stops { IfSome result (λ answer. answer.stops ≡ true → IsRefusedByStore office.old command.now) }
     ensures consistent { IsConsistent office.old → IsConsistent office.new }
 {
     let accepted = office.accepted();
@@ -59,6 +69,7 @@ fn answer_to(alloc: Global, office: &mut Office, command: &Command) -> Option<An
             Ok(text) => Some(Answer {
                 text: CowStr::Owned(text),
                 status: ACCEPTED,
+                stops: false,
             }),
             Err(_) if office.accepted() == accepted => Some(memory_answer(alloc)),
             Err(_) => None,
@@ -67,6 +78,7 @@ fn answer_to(alloc: Global, office: &mut Office, command: &Command) -> Option<An
         Err(refusal) => Some(Answer {
             text: refusal_json(alloc, &refusal),
             status: REFUSED,
+            stops: ends_run(&refusal),
         }),
     }
 }
@@ -75,10 +87,12 @@ fn answer_to(alloc: Global, office: &mut Office, command: &Command) -> Option<An
 fn memory_answer(alloc: Global) -> Answer
     ensures value { (machine : Machine) → response_of_answer result machine ≡ memory_response machine }
     ensures status { result.status ≤ 3 }
+    ensures stops { result.stops ≡ false }
 {
     Answer {
         text: refusal_json(alloc, &Refusal::Memory),
         status: REFUSED,
+        stops: false,
     }
 }
 
@@ -86,10 +100,12 @@ fn memory_answer(alloc: Global) -> Answer
 fn file_answer() -> Answer
     ensures value { (machine : Machine) → response_of_answer result machine ≡ file_fault_response machine }
     ensures status { result.status ≤ 3 }
+    ensures stops { result.stops ≡ false }
 {
     Answer {
         text: CowStr::Borrowed(file_fault_json()),
         status: FILE_FAULT,
+        stops: false,
     }
 }
 
@@ -106,6 +122,8 @@ fn answer_invocation<L: Lists>(
         × IsInvocationResponseOrMemory (L.may_read lists.old) office.old invocation.now (response_of_answer answer office.new)) }
     ensures memory { result ≡ None → (command : Command)
         × InvokesAs (L.may_read lists.old) invocation.now command × Accepts office.old command office.new }
+    ensures stops { IfSome result (λ answer. answer.stops ≡ true → (command : Command)
+        × InvokesAs (L.may_read lists.old) invocation.now command × IsRefusedByStore office.old command) }
     ensures kept { MayReadLess (L.may_read lists.old) (L.may_read lists.new) }
     ensures consistent { IsConsistent office.old → IsConsistent office.new }
 {
@@ -137,6 +155,8 @@ pub(crate) fn answer_of<L: Lists>(
         × IsLineResponse (L.may_read lists.old) office.old line.now (response_of_answer answer office.new)) }
     ensures memory { result ≡ None → (command : Command)
         × LineInvokes (L.may_read lists.old) line.now command × Accepts office.old command office.new }
+    ensures stops { IfSome result (λ answer. answer.stops ≡ true → (command : Command)
+        × LineInvokes (L.may_read lists.old) line.now command × IsRefusedByStore office.old command) }
     // what is left of the lists and the office
     ensures kept { MayReadLess (L.may_read lists.old) (L.may_read lists.new) }
     ensures consistent { IsConsistent office.old → IsConsistent office.new }
@@ -146,6 +166,7 @@ pub(crate) fn answer_of<L: Lists>(
         Err(WordsFault::NoCommand) => Some(Answer {
             text: CowStr::Borrowed(line_fault_json()),
             status: LINE_FAULT,
+            stops: false,
         }),
         Err(WordsFault::Memory) => Some(memory_answer(alloc)),
     }

@@ -10,6 +10,8 @@ pub enum Cause {
     Write,
     /// There is no memory for the reply to an accepted command.
     Reply,
+    /// The store failed, or the office is closed.
+    Store,
     /// More follows the last line that a run reads.
     Lines,
     /// There is no memory for the room that holds a line.
@@ -22,6 +24,7 @@ impl fmt::Display for Cause {
             Cause::Read => "the input cannot be read",
             Cause::Write => "an answer cannot be written",
             Cause::Reply => "out of memory for the reply to an accepted command",
+            Cause::Store => "the store failed, or is closed",
             Cause::Lines => "there are more lines than a run answers",
             Cause::Room => "out of memory for the room that holds a line",
         })

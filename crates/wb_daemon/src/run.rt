@@ -6,7 +6,7 @@ ghost use Rattle.wb_daemon.specs.Lists.{MayReadLess};
 ghost use Rattle.wb_daemon.specs.Replays.{LeavesReplay};
 ghost use Rattle.wb_daemon.specs.Run.{FailsFor, RunEndsWell, RunStops};
 ghost use Rattle.wb_daemon.specs.Streams.{Flags};
-ghost use Rattle.wb_daemon.specs.Turn.{Answers, LacksAnswer, Ran, Turns, cause_of_end};
+ghost use Rattle.wb_daemon.specs.Turn.{Answers, StopsAtLine, Ran, Turns, cause_of_end};
 ghost use Rattle.wb_daemon.specs.Turn.{cause_of_turn, fails_to_write};
 
 use crate::answer::{Answer, answer_of, report_fault};
@@ -46,7 +46,7 @@ pub(crate) enum RunEnd {
 }
 
 /// Acts on the line of this number and writes what is said to it. Answers the status of the line. The errors
-/// are `Reply` and `Write`, and the run stops there.
+/// are `Reply`, `Write` and, after the answer was written, `Store`; the run stops there.
 fn answer_line<W: Write + Drop, L: Lists>(
     alloc: Global,
     office: &mut Office,
@@ -58,7 +58,7 @@ fn answer_line<W: Write + Drop, L: Lists>(
     requires { is_long line.now ≡ false }
     ensures value { IfOk result (Answers (L.may_read lists.old) line.now office.old office.new
         writer.old.bytes writer.new.bytes) }
-    ensures err { IfErr result (LacksAnswer (L.may_read lists.old) line.now office.old office.new
+    ensures err { IfErr result (StopsAtLine (L.may_read lists.old) line.now office.old office.new
         writer.old.bytes writer.new.bytes) }
     ensures failed { Flags (fails_to_write result) writer.old writer.new }
     ensures kept { MayReadLess (L.may_read lists.old) (L.may_read lists.new) }
@@ -70,15 +70,21 @@ fn answer_line<W: Write + Drop, L: Lists>(
     let Some(answer) = answer_of(alloc, office, lists, line) else {
         return Err(Cause::Reply);
     };
-    let Answer { text, status } = answer;
+    let Answer {
+        text,
+        status,
+        stops,
+    } = answer;
     if status == LINE_FAULT {
         report_fault(alloc, lists, number, line);
     }
-    if write_line(alloc, writer, text.as_str()) {
-        Ok(status)
-    } else {
-        Err(Cause::Write)
+    if !write_line(alloc, writer, text.as_str()) {
+        return Err(Cause::Write);
     }
+    if stops {
+        return Err(Cause::Store);
+    }
+    Ok(status)
 }
 
 /// Reads the line of this number into the room and answers it.
@@ -193,7 +199,8 @@ fn run_in_room<R: Read + Drop, W: Write + Drop, L: Lists>(
 /// Status 3 tells as well that the run stopped: a read of the input failed, and the line that it cut off was
 /// not acted on; or a write failed or took no byte, also an interrupted one, and the output ends within the
 /// answer to the last line that was acted on; or there was no memory for the reply to an accepted command,
-/// and nothing of it was written; or more follows the 1000000000th line feed; or there was no memory for the
+/// and nothing of it was written; or the store failed or the office is closed, and the answer to the last line
+/// that was acted on says so; or more follows the 1000000000th line feed; or there was no memory for the
 /// room that holds a line, and nothing was read. The commands of all lines that were acted on stand (this
 /// project's own).
 pub fn run_lines<R: Read + Drop, W: Write + Drop, L: Lists>(

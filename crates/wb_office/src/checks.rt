@@ -45,7 +45,7 @@ pub(crate) fn lacks_builder(store: &Store, builder: &Text) -> Result<bool, Refus
     ensures value { IfOk result (λ lacks. lacks ≡ is_unknown_builder store.now builder.now) }
     ensures refused { IfErr result (λ refusal. refusal ≡ Memory) }
 {
-    Ok(store.archs_of(builder)?.is_empty())
+    Ok(!store.is_builder(builder)?)
 }
 
 /// Whether the builder was added for the architecture.

@@ -16,13 +16,7 @@ use deb_relations::{RelationFault, Relations};
 use deb_text::Text;
 use deb_version::{Version, VersionFault};
 use std::alloc::Global;
-use wb_states::Refusal;
-
-/// The greatest length of a note or a message, in bytes (this project's own).
-const NOTE_LIMIT: usize = 1000;
-
-/// The greatest number of a binary-only rebuild (this project's own).
-const REBUILD_LIMIT: u64 = 999;
+use wb_states::{NOTE_LIMIT, REBUILD_LIMIT, Refusal};
 
 /// The version that a text is.
 pub(crate) fn read_version(alloc: Global, text: &Text) -> Result<Version, Refusal>

@@ -6,6 +6,7 @@ mod arch;
 pub mod command;
 mod counts;
 pub mod laws;
+mod limits;
 mod moves;
 mod names;
 mod queue;
@@ -17,7 +18,8 @@ mod store_fault;
 
 pub use arch::OsCpu;
 pub use command::{Command, Part};
-pub use counts::{COUNT_LIMIT, Counts};
+pub use counts::Counts;
+pub use limits::{COUNT_LIMIT, NOTE_LIMIT, REBUILD_LIMIT};
 pub use moves::{Move, build_text, move_record};
 pub use names::{is_arch, is_builder, is_label, is_os_cpu, is_source};
 pub use queue::QueueKey;

@@ -5,6 +5,7 @@ ghost use Rattle.std.specs.Map.Iter.{deref_pair};
 ghost use Rattle.std.specs.FinMap as map;
 ghost use Rattle.std.specs.FinSet as set;
 ghost use Rattle.wb_states.specs.declared.store_fault.StoreFault.TheVariants.{Memory};
+ghost use Rattle.deb_text.specs.Lists.{is_nonempty};
 ghost use Rattle.wb_states.specs.Machine.{archs_of};
 ghost use Rattle.wb_store.specs.Lookups.{entry_of, rows_of};
 
@@ -55,6 +56,20 @@ impl Store {
             }
         }
         Ok(found)
+    }
+
+    /// Whether a builder of this name was added, for any architecture. Makes no list. The only error is
+    /// `Memory` (this project's own).
+    pub fn is_builder(&self, name: &Text) -> Result<bool, StoreFault>
+        ensures value { IfOk result (λ is_there. is_there ≡ is_nonempty (archs_of self.now name.now)) }
+        ensures fault { IfErr result (λ fault. fault ≡ Memory) }
+    {
+        for (arch, _) in self.archs.iter() {
+            if self.has_builder(name, arch)? {
+                return Ok(true);
+            }
+        }
+        Ok(false)
     }
 
     /// Whether the builder was added for the architecture. The only error is `Memory` (this project's

@@ -10,11 +10,11 @@ use Rattle.deb_control.specs.Fields.{FieldText, has_name, names_in}
 use Rattle.deb_control.proofs.NameLemmas.{is_among-names_in, is_among-take, is_among-first, is_among-later, IsNameSet-few, IsNameSet-later, where-any}
 use Rattle.deb_control.proofs.paragraph.add_name.Goals as goal
 
-pub returns-then-fields-lt-FEW-clause-value : goal.returns-then-fields-lt-FEW-clause-value
-returns-then-fields-lt-FEW-clause-value c = ap not (c.is_name_of_any.ensures ∙ sym (is_among-names_in c.args.name.now c.args.fields.now))
+pub returns-then-fields-lt-COMPARED_NAMES-clause-value : goal.returns-then-fields-lt-COMPARED_NAMES-clause-value
+returns-then-fields-lt-COMPARED_NAMES-clause-value c = ap not (c.is_name_of_any.ensures ∙ sym (is_among-names_in c.args.name.now c.args.fields.now))
 
-pub returns-then-fields-lt-FEW-clause-known : goal.returns-then-fields-lt-FEW-clause-known
-returns-then-fields-lt-FEW-clause-known c =
+pub returns-then-fields-lt-COMPARED_NAMES-clause-known : goal.returns-then-fields-lt-COMPARED_NAMES-clause-known
+returns-then-fields-lt-COMPARED_NAMES-clause-known c =
     let fewer : length (names_in c.args.fields.now) < 32 = omega (arith, length-map c.args.fields.now (λ (field : FieldText). str_to_ascii_lowercase field.name)) in
     OnTrue_from _ _ (λ _. IsNameSet-few 32 (contains_text c.args.later.now) (names_in c.args.fields.now) (str_to_ascii_lowercase c.args.name.now) fewer c.requires)
 

@@ -3,16 +3,16 @@ use Rattle.std.proofs.Common.{not, refl, subst, take, inl, inr}
 use Rattle.std.specs.Io.KnownBytes.{Appends}
 use Rattle.wb_daemon.specs.Line.{with_line_feed}
 use Rattle.wb_daemon.specs.Streams.{Flags}
-use Rattle.wb_daemon.specs.Turn.{AppendsFront, LacksAnswer}
+use Rattle.wb_daemon.specs.Turn.{AppendsFront, StopsAtLine}
 use Rattle.wb_daemon.proofs.AnswerLemmas.{answers-long, answers-long_cut, stops_turn}
-use Rattle.wb_daemon.proofs.RunLemmas.{FailsFor-answer, LacksAnswer-written, short_line}
+use Rattle.wb_daemon.proofs.RunLemmas.{FailsFor-answer, StopsAtLine-written, short_line}
 use Rattle.wb_daemon.proofs.run.take_turn.Goals as goal
 
 pub returns-in-Err-clause-value : goal.returns-in-Err-clause-value
 returns-in-Err-clause-value g c =
     let took = c.in-Ended.ensures.value in
     let line = take c.in-Ended.len c.read_line.new.room in
-    let lacks = subst (λ l. LacksAnswer (g.L.Lists.may_read c.args.lists.now) l c.args.office.now c.answer_line.new.office
+    let lacks = subst (λ l. StopsAtLine (g.L.Lists.may_read c.args.lists.now) l c.args.office.now c.answer_line.new.office
     c.args.writer.now.bytes c.answer_line.new.writer.bytes c.in-Err.cause)
     {y = line} c.split_at.ensures.front c.in-Err.ensures.err in
     stops_turn (g.L.Lists.may_read c.args.lists.now) c.in-Err.cause line c.args.office.now c.answer_line.new.office
@@ -23,7 +23,7 @@ pub returns-in-Err-answer_line-clause-value : goal.returns-in-Err-answer_line-cl
 returns-in-Err-answer_line-clause-value g c =
     let took = c.in-Last.ensures.value in
     let line = take c.in-Last.len c.read_line.new.room in
-    let lacks = subst (λ l. LacksAnswer (g.L.Lists.may_read c.args.lists.now) l c.args.office.now c.answer_line-in-Last.new.office
+    let lacks = subst (λ l. StopsAtLine (g.L.Lists.may_read c.args.lists.now) l c.args.office.now c.answer_line-in-Last.new.office
     c.args.writer.now.bytes c.answer_line-in-Last.new.writer.bytes c.in-Err-answer_line.cause)
     {y = line} c.split_at-in-Last.ensures.front c.in-Err-answer_line.ensures.err in
     stops_turn (g.L.Lists.may_read c.args.lists.now) c.in-Err-answer_line.cause line c.args.office.now c.answer_line-in-Last.new.office
@@ -58,7 +58,7 @@ returns-in-Ok-clause-failed g c = (c.in-Ended.ensures.failed, c.in-Ok.ensures.fa
 pub returns-in-Err-clause-failed : goal.returns-in-Err-clause-failed
 returns-in-Err-clause-failed g c =
     FailsFor-answer c.in-Err.cause c.args.reader.now c.read_line.new.reader c.args.writer.now c.answer_line.new.writer c.in-Ended.ensures.failed
-    (LacksAnswer-written (g.L.Lists.may_read c.args.lists.now) c.in-Err.cause _ _ _ _ _ c.in-Err.ensures.err) c.in-Err.ensures.failed
+    (StopsAtLine-written (g.L.Lists.may_read c.args.lists.now) c.in-Err.cause _ _ _ _ _ c.in-Err.ensures.err) c.in-Err.ensures.failed
 
 pub returns-in-Ok-answer_line-clause-failed : goal.returns-in-Ok-answer_line-clause-failed
 returns-in-Ok-answer_line-clause-failed g c = (c.in-Last.ensures.failed, c.in-Ok-answer_line.ensures.failed)
@@ -66,7 +66,7 @@ returns-in-Ok-answer_line-clause-failed g c = (c.in-Last.ensures.failed, c.in-Ok
 pub returns-in-Err-answer_line-clause-failed : goal.returns-in-Err-answer_line-clause-failed
 returns-in-Err-answer_line-clause-failed g c =
     FailsFor-answer c.in-Err-answer_line.cause c.args.reader.now c.read_line.new.reader c.args.writer.now c.answer_line-in-Last.new.writer c.in-Last.ensures.failed
-    (LacksAnswer-written (g.L.Lists.may_read c.args.lists.now) c.in-Err-answer_line.cause _ _ _ _ _ c.in-Err-answer_line.ensures.err) c.in-Err-answer_line.ensures.failed
+    (StopsAtLine-written (g.L.Lists.may_read c.args.lists.now) c.in-Err-answer_line.cause _ _ _ _ _ c.in-Err-answer_line.ensures.err) c.in-Err-answer_line.ensures.failed
 
 pub returns-then-write_line-clause-failed : goal.returns-then-write_line-clause-failed
 returns-then-write_line-clause-failed g c =

@@ -1,6 +1,6 @@
-//! The forms of names, and the names and numbers of states.
+//! The forms of names, and the names and numbers of states and refusals.
 use std::test::Fail;
-use wb_states::{State, is_arch, is_builder, is_label, is_os_cpu, is_source};
+use wb_states::{Refusal, State, is_arch, is_builder, is_label, is_os_cpu, is_source};
 
 #[test]
 fn sources(rt: HostRuntime) {
@@ -90,4 +90,29 @@ fn states(rt: HostRuntime) -> Result<(), Fail> {
     assert_eq!(rt; State::of_code(9), None);
     assert_eq!(rt; State::of_name("needs-build"), None);
     Ok(())
+}
+
+#[test]
+fn refusals(rt: HostRuntime) {
+    let cases = [
+        (Refusal::UnknownArch, 1, "UnknownArch"),
+        (Refusal::UnknownBuilder, 2, "UnknownBuilder"),
+        (Refusal::WrongArch, 3, "WrongArch"),
+        (
+            Refusal::WrongState {
+                state: State::Built,
+            },
+            6,
+            "WrongState",
+        ),
+        (Refusal::QueueEmpty, 7, "QueueEmpty"),
+        (Refusal::AlreadyThere, 10, "AlreadyThere"),
+        (Refusal::BadName, 11, "BadName"),
+        (Refusal::Spent, 18, "Spent"),
+        (Refusal::Memory, 20, "Memory"),
+    ];
+    for (refusal, code, name) in cases {
+        assert_eq!(rt; refusal.code(), code, "{name}");
+        assert_eq!(rt; refusal.name(), name);
+    }
 }

@@ -6,18 +6,59 @@ use std::alloc::Global;
 use std::test::Fail;
 use wb_states::{Move, Record, Refusal, State, move_record};
 
-/// For each move the codes of the states from which it goes, and that of the state in which it ends.
-static TABLE: [(&[u8], u8); 10] = [
-    (&[0], 1),
-    (&[1], 2),
-    (&[1, 2], 3),
-    (&[1], 5),
-    (&[1], 0),
-    (&[1, 2, 3, 5, 6, 7, 8], 0),
-    (&[0, 1, 6, 7], 5),
-    (&[0, 1, 2, 5, 6], 7),
-    (&[0, 1, 5, 6, 7], 8),
-    (&[4], 0),
+/// For each move the states from which it goes, and the state in which it ends.
+static TABLE: [(&str, &[State], State); 10] = [
+    ("take", &[State::NeedsBuild], State::Building),
+    ("built", &[State::Building], State::Built),
+    ("uploaded", &[State::Building, State::Built], State::Uploaded),
+    ("waits", &[State::Building], State::DepWait),
+    ("put-back", &[State::Building], State::NeedsBuild),
+    (
+        "give-back",
+        &[
+            State::Building,
+            State::Built,
+            State::Uploaded,
+            State::DepWait,
+            State::BdUninstallable,
+            State::Failed,
+            State::NotForUs,
+        ],
+        State::NeedsBuild,
+    ),
+    (
+        "dep-wait",
+        &[
+            State::NeedsBuild,
+            State::Building,
+            State::BdUninstallable,
+            State::Failed,
+        ],
+        State::DepWait,
+    ),
+    (
+        "fail",
+        &[
+            State::NeedsBuild,
+            State::Building,
+            State::Built,
+            State::DepWait,
+            State::BdUninstallable,
+        ],
+        State::Failed,
+    ),
+    (
+        "not-for-us",
+        &[
+            State::NeedsBuild,
+            State::Building,
+            State::DepWait,
+            State::BdUninstallable,
+            State::Failed,
+        ],
+        State::NotForUs,
+    ),
+    ("rebuild", &[State::Installed], State::NeedsBuild),
 ];
 
 fn text(alloc: Global, text: &str) -> Result<Text, Fail> {
@@ -88,17 +129,17 @@ fn rebuild(alloc: Global) -> Result<Move, Fail> {
     })
 }
 
-fn move_at(alloc: Global, place: usize) -> Result<Move, Fail> {
-    match place {
-        0 => take(alloc),
-        1 => Ok(Move::Built),
-        2 => Ok(Move::Uploaded),
-        3 => waits(alloc),
-        4 => Ok(Move::PutBack),
-        5 => Ok(Move::GiveBack),
-        6 => dep_wait(alloc),
-        7 => fail(alloc),
-        8 => not_for_us(alloc),
+fn move_named(alloc: Global, name: &str) -> Result<Move, Fail> {
+    match name {
+        "take" => take(alloc),
+        "built" => Ok(Move::Built),
+        "uploaded" => Ok(Move::Uploaded),
+        "waits" => waits(alloc),
+        "put-back" => Ok(Move::PutBack),
+        "give-back" => Ok(Move::GiveBack),
+        "dep-wait" => dep_wait(alloc),
+        "fail" => fail(alloc),
+        "not-for-us" => not_for_us(alloc),
         _ => rebuild(alloc),
     }
 }
@@ -110,20 +151,19 @@ fn state_after(
     change: &Move,
 ) -> Result<Result<State, State>, Fail> {
     match move_record(alloc, current, change) {
-        Ok(moved) => Ok(Ok(moved.state)),
+        Ok(after) => Ok(Ok(after.state)),
         Err(Refusal::WrongState { state }) => Ok(Err(state)),
         Err(_) => Err("another refusal")?,
     }
 }
 
-/// Whether the move of this place is done from the state of this code and ends in the goal, or is refused by the state.
-fn is_done(alloc: Global, place: usize, goal: u8, code: u8) -> Result<bool, Fail> {
-    let state = State::of_code(code).ok_or("no state")?;
+/// Whether the move of this name is done from the state and ends in the goal, or is refused by the state.
+fn is_done(alloc: Global, name: &str, goal: State, state: State) -> Result<bool, Fail> {
     let current = record_in(alloc, state)?;
-    let change = move_at(alloc, place)?;
+    let change = move_named(alloc, name)?;
     match state_after(alloc, &current, &change)? {
-        Ok(after) if after.code() == goal => Ok(true),
-        Err(told) if told == state => Ok(false),
+        Ok(after) if after == goal => Ok(true),
+        Err(refused) if refused == state => Ok(false),
         _ => Err("another answer")?,
     }
 }
@@ -131,14 +171,11 @@ fn is_done(alloc: Global, place: usize, goal: u8, code: u8) -> Result<bool, Fail
 #[test]
 fn each_state_and_move(rt: HostRuntime) -> Result<(), Fail> {
     let mut done: u64 = 0;
-    for (place, (codes, goal)) in TABLE.iter().enumerate() {
+    for (name, states, goal) in TABLE.iter() {
         for code in 0..9u8 {
-            let is_done = is_done(rt.alloc(), place, *goal, code)?;
-            assert_eq!(rt;
-                is_done,
-                codes.contains(&code),
-                "at move {place} and state {code}"
-            );
+            let state = State::of_code(code).ok_or("no state of this number")?;
+            let is_done = is_done(rt.alloc(), name, *goal, state)?;
+            assert_eq!(rt; is_done, states.contains(&state), "{name} from {}", state.name());
             done = done.saturating_add(u64::from(is_done));
         }
     }

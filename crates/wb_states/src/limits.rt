@@ -1,0 +1,10 @@
+//! The limits of what an office keeps; the definitions name these constants.
+
+/// The greatest value of a count (this project's own).
+pub const COUNT_LIMIT: u64 = 1_000_000_000_000;
+
+/// The greatest length of a note or a message, in bytes (this project's own).
+pub const NOTE_LIMIT: usize = 1000;
+
+/// The greatest number of a binary-only rebuild (this project's own).
+pub const REBUILD_LIMIT: u64 = 999;

@@ -1,0 +1,6 @@
+mod moves;
+mod names;
+mod queue;
+mod stores;
+mod tables;
+mod versions;

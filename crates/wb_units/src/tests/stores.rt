@@ -1,0 +1,61 @@
+//! Stores that are filled by hand.
+use deb_text::Text;
+use deb_version::Version;
+use std::alloc::Global;
+use std::test::Fail;
+use wb_states::{OsCpu, Record, State};
+use wb_store::Store;
+
+/// The record of a source package that waits to be built.
+pub(super) fn waiting(alloc: Global) -> Result<Record, Fail> {
+    Ok(Record {
+        state: State::NeedsBuild,
+        version: Version::parse(alloc, "1.0")?,
+        priority: Text::copied(alloc, "optional")?,
+        section: Text::copied(alloc, "devel")?,
+        earlier: false,
+        number: 0,
+        holder: None,
+        take: None,
+        waits: Text::new(alloc),
+        depends: None,
+        note: Text::new(alloc),
+        message: Text::new(alloc),
+    })
+}
+
+/// The record of a source package that `b1` builds under this take number.
+pub(super) fn held(alloc: Global, take_number: u64) -> Result<Record, Fail> {
+    let mut record = waiting(alloc)?;
+    record.state = State::Building;
+    record.holder = Some(Text::copied(alloc, "b1")?);
+    record.take = Some(take_number);
+    Ok(record)
+}
+
+/// Adds the architecture, and `b1` as its builder.
+pub(super) fn add(alloc: Global, store: &mut Store, arch: &str) -> Result<(), Fail> {
+    let words = OsCpu {
+        os: Text::copied(alloc, "linux")?,
+        cpu: Text::copied(alloc, arch)?,
+    };
+    store.add_arch(Text::copied(alloc, arch)?, words)?;
+    store.add_builder(Text::copied(alloc, "b1")?, Text::copied(alloc, arch)?)?;
+    Ok(())
+}
+
+/// Puts the record of a source package on an architecture.
+pub(super) fn put(
+    alloc: Global,
+    store: &mut Store,
+    arch: &str,
+    source: &str,
+    record: Record,
+) -> Result<(), Fail> {
+    store.put(
+        Text::copied(alloc, arch)?,
+        Text::copied(alloc, source)?,
+        record,
+    )?;
+    Ok(())
+}
