@@ -12,12 +12,3 @@ returns-then-is_blank_line-clause-value g c =
 
 pub returns-in_default-clause-err : goal.returns-in_default-clause-err
 returns-in_default-clause-err g c = let h = c.answer_of.ensures.memory c.in_default.is in (h.0, h.1, h.2, refl)
-
-pub returns-clause-err : goal.returns-clause-err
-returns-clause-err g c = (
-  response_of_answer c.in-Some.answer c.answer_of.new.office,
-  c.in-Some.ensures.value.1,
-  refl,
-  subst (λ t. AppendsFront c.args.writer.now.bytes c.write_line.new.writer.bytes (with_line_feed t))
-      c.as_str.ensures.value (c.write_line.ensures.err c.if-write_line.false),
-)
