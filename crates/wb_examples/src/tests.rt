@@ -2,5 +2,4 @@ mod failing;
 mod kept;
 mod limits;
 mod lists;
-mod stores;
 mod words;

@@ -1,5 +1,5 @@
 -- A record that was found is moved, or the move is refused.
-use Rattle.std.proofs.Common.{◌≡◌, ℕ, ◌+◌, true, false, List, Some, None, Ok, Err, sym, ◌∙◌, nat_le}
+use Rattle.std.proofs.Common.{◌≡◌, ◌+◌, true, false, Some, None, Ok, Err, sym, ◌∙◌, nat_le}
 use Rattle.std.specs.FinMap as map
 use Rattle.std.specs.Option.{option_or}
 use Rattle.deb_text.proofs.OptionLemmas.{ok_unless-Ok, ok_unless-Err}

@@ -6,7 +6,6 @@ use Rattle.wb_states.specs.declared.refusal.Refusal.{Refusal}
 use Rattle.wb_states.specs.declared.refusal.Refusal.TheVariants.{AfterAhead, BadName, QueueEmpty, Spent, UnknownArch, UnknownBuilder, WrongArch}
 use Rattle.wb_states.specs.declared.reply.Reply.TheVariants.{Again}
 use Rattle.wb_states.specs.declared.moves.Move.{Move}
-use Rattle.wb_states.specs.declared.record.Record.{Record}
 use Rattle.wb_states.specs.declared.reply.Assignment.{Assignment}
 use Rattle.wb_states.specs.declared.state.State.TheVariants.{NeedsBuild}
 use Rattle.wb_states.specs.Limits.{count_limit}

@@ -15,7 +15,6 @@ use Rattle.deb_relations.specs.Reading.{reading_of}
 use Rattle.deb_text.specs.Lists.{is_nonempty}
 use Rattle.wb_states.specs.declared.command.Command.{Command}
 use Rattle.wb_states.specs.declared.command.Command.TheVariants as of
-use Rattle.wb_states.specs.declared.command.Next.{Next}
 use Rattle.wb_states.specs.declared.command.Part.{Part}
 use Rattle.wb_states.specs.declared.record.Record.{Record}
 use Rattle.wb_states.specs.declared.refusal.Refusal.{Refusal}

@@ -10,9 +10,9 @@ ghost use Rattle.wb_states.specs.Moves.{move_refusal, record_after_move};
 ghost use Rattle.wb_states.specs.Refusals.{IsOfMachine};
 ghost use Rattle.wb_store.specs.Lookups.{entry_of};
 ghost use Rattle.wb_office.specs.Carries.{Carries, Reaches};
-ghost use Rattle.wb_office.specs.Checks.{MayWantMemory, builder_refusal};
+ghost use Rattle.wb_office.specs.Checks.{builder_refusal};
 ghost use Rattle.wb_office.specs.Outcomes.{head_step, assignment_step, take_move, take_step};
-ghost use Rattle.wb_office.specs.Step.{step, assignment_of};
+ghost use Rattle.wb_office.specs.Step.{assignment_of};
 
 use crate::again::assignment_again;
 use crate::checks::{

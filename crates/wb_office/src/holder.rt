@@ -14,13 +14,13 @@ use wb_store::Store;
 pub(crate) fn move_taken(
     alloc: Global,
     store: &mut Store,
-    take_number: u64,
+    command: &command::Held,
     change: &Move,
 ) -> Result<Reply, Refusal>
     ensures reaches { Reaches store.old store.new
-        (taken_step store.old take_number (λ _. change.now)) result }
+        (taken_step store.old command.now.take_number (λ _. change.now)) result }
 {
-    let found = store.by_take(take_number)?;
+    let found = store.by_take(command.take_number)?;
     let Some(row) = found else {
         return Err(Refusal::NotHeld);
     };

@@ -1,13 +1,13 @@
 //! The texts of commands, each read once.
-ghost use Rattle.std.specs.Prelude.{◌≡◌, ◌≢◌, ◌||◌, false, Option, None, Some, Ok, nat_eq, nat_lt, length, OnOk, IfOk, IfErr, if◌then◌else◌};
-ghost use Rattle.std.specs.Option.{option_map, option_or};
+ghost use Rattle.std.specs.Prelude.{◌≡◌, ◌≢◌, ◌||◌, false, Option, None, Some, Ok, nat_lt, length, OnOk, IfOk, IfErr, if◌then◌else◌};
+ghost use Rattle.std.specs.Option.{option_or};
 ghost use Rattle.std.specs.Str.{IsUtf8};
 ghost use Rattle.deb_version.specs.Syntax.{fault_of};
 ghost use Rattle.deb_relations.specs.declared.fault.RelationFault.TheVariants.{Memory as NoMemory};
 ghost use Rattle.deb_relations.specs.Reading.{reading_of};
 ghost use Rattle.wb_states.specs.declared.refusal.Refusal.{Refusal};
 ghost use Rattle.wb_states.specs.declared.refusal.Refusal.TheVariants.{Memory, BadVersion, BadRelations};
-ghost use Rattle.wb_states.specs.Limits.{note_limit, rebuild_limit, relations_limit};
+ghost use Rattle.wb_states.specs.Limits.{relations_limit};
 ghost use Rattle.wb_states.specs.Refusals.{IsOfMachine};
 ghost use Rattle.wb_office.specs.Checks.{is_bad_number, is_long_text, key_refusal, refusal_of_fault, relations_refusal, version_refusal};
 
