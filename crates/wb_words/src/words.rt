@@ -4,7 +4,7 @@ ghost use Rattle.clap.specs.Words.{found_of, rows_of};
 ghost use Rattle.wb_words.specs.declared.fault.WordsFault.TheVariants.{Memory};
 ghost use Rattle.wb_words.specs.Words.{invocation_in, invocation_named, command_named};
 
-use crate::tree::wb_app;
+use crate::tree::{arguments_of, subcommand_app, wb_app};
 use crate::{WordsFault, builder, lists, operator};
 use clap::ArgMatches;
 use deb_text::{Items, Text};
@@ -84,11 +84,14 @@ pub fn invocation_of<'a>(alloc: Global, words: &'a [&'a str]) -> Result<Invocati
     ensures refused { IfErr result (λ fault. fault ≢ Memory
         → invocation_in (map (λ word. word.now) words.entry.now) ≡ None) }
 {
-    let matches = wb_app(alloc)?.try_get_matches_from(words)?;
-    let Some((name, arguments)) = matches.subcommand() else {
+    let [name, given @ ..] = words else {
         return Err(WordsFault::NoCommand);
     };
-    match invocation_named(alloc, name, arguments)? {
+    let Some(usage) = arguments_of(name) else {
+        return Err(WordsFault::NoCommand);
+    };
+    let arguments = subcommand_app(alloc, name, usage)?.try_get_matches_from(given)?;
+    match invocation_named(alloc, name, &arguments)? {
         Some(invocation) => Ok(invocation),
         None => Err(WordsFault::NoCommand),
     }
