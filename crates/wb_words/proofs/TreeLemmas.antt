@@ -1,12 +1,15 @@
 -- What a line asks for, by what clap reads of the one subcommand that its first word names.
-use Rattle.std.proofs.Common.{◌≡◌, ◌∙◌, refl, sym, ap, ap₂, inl, inr, true, List, [], ◌∷◌, Option, None, Some, option_and_then, map}
+use Rattle.std.proofs.Common.{◌≡◌, ◌∙◌, refl, sym, ap, ap₂, inl, inr, true, List, [], ◌∷◌, Option, None, Some, option_and_then, map, option_map, is_some, false, Result, Ok, Err, IfOk, IfErr}
 use Rattle.std.proofs.Common.{◌<◌, ◌≤◌, ◌-◌, length, get_or, take, drop, take_all, arith}
 use Rattle.std.specs.Borrow.{Bor}
 use Rattle.clap.specs.Words.{App, HasKind, Kinds, Row, Text, fault_of, is_simple, is_simple_and_free, kind_of, matches_of, subcommand_of}
 use Rattle.clap.specs.declared.error.Error.{Error}
 use Rattle.clap.specs.declared.error.kind.ErrorKind.TheVariants.{OutOfMemory}
 use Rattle.clap.proofs.OnLiterals.{clap_on_literals}
+use Rattle.wb_words.specs.declared.fault.WordsFault.{WordsFault}
+use Rattle.wb_words.specs.declared.fault.WordsFault.TheVariants.{Memory}
 use Rattle.wb_words.specs.declared.words.Invocation.{Invocation}
+use Rattle.wb_words.specs.Faults.{Reads}
 use Rattle.wb_words.specs.Usages.{Argument, arguments_named, subcommand_app, wb_app, wb_usages}
 use Rattle.wb_words.specs.Words.{invocation_in, invocation_named, unless_faulty}
 use Rattle.wb_words.proofs.SubcommandLemmas.{Fails, fault_of-known, fault_of-unknown, own_app, own_app-free, own_app-simple, subcommand_app-written, subcommand_of-known}
@@ -72,3 +75,25 @@ module _ (app : App) (name : Text) (rest : List Text) (arguments : List Argument
       → (is_simple app ≡ true → rows ≡ matches_of app rest) → invocation_in (name ∷ rest) ≡ invocation_named (name, rows)
   invocation_in-read rows none read = invocation_in-known
       ∙ ap₂ (λ (kinds : Kinds) (given : List Row). unless_faulty kinds (invocation_named (name, given))) (none free) (sym (read simple))
+
+-- ---- what is asked for is what is read
+
+pub reads-value : {X : Type 0} (asked wanted : Option X) (r : Result X WordsFault) → asked ≡ wanted → Reads wanted r → IfOk r (λ read. asked ≡ Some read)
+reads-value asked wanted (Ok read) e h = e ∙ h
+reads-value asked wanted (Err fault) e h = tt
+
+pub reads-refused : {X : Type 0} (asked wanted : Option X) (r : Result X WordsFault) → asked ≡ wanted → Reads wanted r
+    → IfErr r (λ fault. (fault ≡ Memory → ⊥) → asked ≡ None)
+reads-refused asked wanted (Ok read) e h = tt
+reads-refused asked wanted (Err fault) e h = λ other. e ∙ h other
+
+-- a fault of any kind is right where nothing is asked for
+pub refused-nothing : {X : Type 0} (asked : Option X) (r : Result X WordsFault) → asked ≡ None → IfErr r (λ fault. (fault ≡ Memory → ⊥) → asked ≡ None)
+refused-nothing asked (Ok read) e = tt
+refused-nothing asked (Err fault) e = λ _. e
+
+-- what was not found has no arguments
+pub named-missing : {A : Type 0} (f : A → List Argument) (found : Option A) (named : Option (List Argument)) → false ≡ is_some found
+    → option_map f found ≡ named → None ≡ named
+named-missing f None named missing e = e
+named-missing f (Some x) named missing e = cc
