@@ -12,7 +12,8 @@ ghost use Rattle.wb_states.specs.Forms.{PutBack, Rebuild, Take};
 ghost use Rattle.wb_states.specs.Forms.{Uploaded, Waits};
 ghost use Rattle.wb_words.specs.Arguments.{joined, number_in, parts_in};
 ghost use Rattle.wb_words.specs.Start.{IsNoStart, Starts};
-ghost use Rattle.wb_words.specs.Words.{invocation_by, invocation_in, command_named};
+ghost use Rattle.wb_words.specs.Usages.{usage_named, wb_usages};
+ghost use Rattle.wb_words.specs.Words.{command_named, invocation_by, invocation_in};
 ghost use Rattle.wb_words.specs.declared.start.Start.TheVariants.{Help, Run};
 ghost use Rattle.wb_words.specs.declared.words.Invocation.TheVariants.{Command, Merge};
 
@@ -177,6 +178,12 @@ pub fn other_words_are_none()
     ensures missing { invocation_by (codes "next amd64") ≡ None }
     ensures many { invocation_by (codes "next amd64 b1 b2") ≡ None }
     ensures option { invocation_by (codes "next amd64 -b1") ≡ None }
+{}
+
+/// Words whose first is the name of no subcommand ask for nothing, whatever follows.
+pub fn other_names_are_none()
+    ensures { (name : Text) (others : List Text) → usage_named name wb_usages ≡ None
+        → invocation_in (name ∷ others) ≡ None }
 {}
 
 /// These words ask for nothing: `waits` without relations, an option in a note, a merge without a part,
