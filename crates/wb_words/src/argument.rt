@@ -25,11 +25,7 @@ pub struct Subject {
 /// A copy of the word that was given for the argument `id`. The errors are `NoCommand` if no word was
 /// given, and `Memory` if there is no memory for the copy.
 #[tactic(auto, using(crate::proofs::RowLemmas::row_laws), unfolding(crate::specs::Arguments::word_of))]
-pub(crate) fn word(
-    alloc: Global,
-    arguments: &ArgMatches<'_>,
-    id: &str,
-) -> Result<Text, WordsFault>
+pub(crate) fn word(alloc: Global, arguments: &ArgMatches<'_>, id: &str) -> Result<Text, WordsFault>
     ensures value { Reads (word_of id.now (rows_of (found_of arguments.now))) result }
 {
     let word = arguments.get_str(id).ok_or(WordsFault::NoCommand)?;
