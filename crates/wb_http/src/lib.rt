@@ -1,0 +1,4 @@
+//! HTTP (RFC 9112): what a request of a builder asks for, read from a stream, and an answer, written to one.
+#![tactic(auto)]
+
+mod head;
