@@ -76,10 +76,7 @@ pub(crate) fn read_on<R: Read + Drop>(
 }
 
 /// Reads a head into the room, and of what follows it no more than the room takes.
-pub(crate) fn read_head<R: Read + Drop>(
-    reader: &mut WatchedReader<R>,
-    room: &mut [u8],
-) -> HeadRead
+pub(crate) fn read_head<R: Read + Drop>(reader: &mut WatchedReader<R>, room: &mut [u8]) -> HeadRead
     requires { length room.old ≡ head_limit }
     ensures value { TookHead room.new reader.old.bytes reader.new.bytes result }
     ensures failed { Flags (is_failed_head result) reader.old reader.new }

@@ -1,4 +1,5 @@
 //! HTTP (RFC 9112): what a request of a builder asks for, read from a stream, and an answer, written to one.
 #![tactic(auto)]
 
+mod body;
 mod head;
