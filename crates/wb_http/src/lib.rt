@@ -2,4 +2,6 @@
 #![tactic(auto)]
 
 mod body;
+mod fault;
+mod fields;
 mod head;
