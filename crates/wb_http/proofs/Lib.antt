@@ -1,3 +1,5 @@
 pub mod FieldLemmas
 pub mod NumberLemmas
+pub mod RouteLemmas
 pub mod StreamLemmas
+pub mod Utf8Lemmas

@@ -1,3 +1,6 @@
 pub mod Bodies
+pub mod Commands
 pub mod Fields
 pub mod Heads
+pub mod Outcomes
+pub mod Routes

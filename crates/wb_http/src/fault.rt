@@ -1,4 +1,8 @@
 //! What is wrong with a request.
+ghost use Rattle.std.specs.Prelude.{◌≡◌};
+ghost use Rattle.wb_http.specs.declared.fault.RequestError.TheVariants.{Memory};
+
+use std::alloc::AllocError;
 
 /// Why a request is not carried out. They are tested in this order.
 #[derive(Clone, Copy, Debug, PartialEq, Eq)]
@@ -25,4 +29,21 @@ pub enum Fault {
     BodyCut,
     /// The body is not of the command's form.
     BadBody,
+}
+
+/// Why a part of a request was not read.
+#[derive(Clone, Copy)]
+pub(crate) enum RequestError {
+    /// The request is not to be carried out.
+    Fault(Fault),
+    /// There is no memory for it.
+    Memory,
+}
+
+impl From<AllocError> for RequestError {
+    ghost from_gives = { λ _ error. error ≡ Memory };
+
+    fn from(_error: AllocError) -> RequestError {
+        RequestError::Memory
+    }
 }

@@ -2,6 +2,8 @@
 #![tactic(auto)]
 
 mod body;
+mod command;
 mod fault;
 mod fields;
 mod head;
+mod route;
