@@ -3,4 +3,5 @@ pub mod Commands
 pub mod Fields
 pub mod Heads
 pub mod Outcomes
+pub mod Requests
 pub mod Routes

@@ -272,6 +272,7 @@ fn json_of(alloc: Global, bytes: &[u8]) -> Result<Option<Value>, AllocError>
 
 /// The command of this kind that the bytes of a body give. The errors are that they give none, and that
 /// memory ran out.
+#[tactic(auto, unfolding(crate::specs::Commands::command_of))]
 pub(crate) fn command_of(
     alloc: Global,
     kind: CommandKind,

@@ -6,4 +6,9 @@ mod command;
 mod fault;
 mod fields;
 mod head;
+mod request;
 mod route;
+
+pub use fault::Fault;
+pub use request::{Received, Request, read_request};
+pub use route::Query;
