@@ -20,6 +20,7 @@ field_limit = 32
 pub record IsHeadAt (bytes : List ℕ) (count : ℕ) (head : RequestHead) : Type 0 where
   pub reads : ReadsRequest bytes head (drop count bytes)
   pub count_is : count ≡ length (print_request head)
+  pub count_fits : count ≤ length bytes
   pub fields : length head.fields ≤ field_limit
 
 -- more fields came than a head may have, and each head that the bytes can become has more
