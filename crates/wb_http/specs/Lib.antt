@@ -1,3 +1,4 @@
+pub mod Answers
 pub mod Bodies
 pub mod Commands
 pub mod Fields
