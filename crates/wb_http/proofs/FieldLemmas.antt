@@ -1,6 +1,6 @@
 -- Lemmas on the fields of a name and their values.
-use Rattle.std.proofs.Common.{◌<◌, ◌≤◌, arith, nat_lt, length, subst, if◌then◌else◌, ◌==◌, None, Some, Ok, Err, ◌≡◌, ◌∙◌, inl, inr, refl, ap, ap₂, sym, ℕ, Bool, true, false, not, ◌||◌, ◌&&◌, List, [], ◌∷◌, map, Option, option_map}
-use Rattle.std.specs.List.{filter, find, list_all, list_any}
+use Rattle.std.proofs.Common.{◌<◌, ◌≤◌, arith, nat_lt, length, subst, if◌then◌else◌, ◌==◌, None, Some, Ok, Err, ◌≡◌, ◌∙◌, inl, inr, refl, ap, sym, ℕ, Bool, true, false, not, ◌||◌, ◌&&◌, List, [], ◌∷◌, map, option_map}
+use Rattle.std.specs.List.{find, list_all, list_any}
 use Rattle.std.proofs.lemmas.Bool.{and_parts, cases_Bool}
 use Rattle.std.proofs.lemmas.Bool.Decides.{nat_tests}
 use Rattle.std.specs.Char.{is_ascii_digit}

@@ -1,5 +1,5 @@
 -- Lemmas on the numbers that digits write.
-use Rattle.std.proofs.Common.{◌≡◌, ◌∙◌, ◌⊎◌, inl, inr, refl, ap, ap₂, sym, subst, ℕ, zero, suc, ◌+◌, ◌-◌, ◌*◌, ◌<◌, ◌≤◌, Bool, true, false, ◌==◌, ◌&&◌, List, [], ◌∷◌, length, get_or, arith, Decides}
+use Rattle.std.proofs.Common.{◌≡◌, ◌∙◌, ◌⊎◌, inl, inr, refl, ap, ap₂, sym, ℕ, zero, suc, ◌+◌, ◌-◌, ◌*◌, ◌<◌, ◌≤◌, true, ◌==◌, List, [], ◌∷◌, length, get_or, arith}
 use Rattle.std.specs.Char.{digit_value, is_ascii_digit}
 use Rattle.std.specs.List.{list_all}
 use Rattle.std.specs.Str.{bytes_eq}
@@ -101,12 +101,12 @@ same_number xs ys dx dy =
     let vx = value-without_zeros xs in
     let vy = value-without_zeros ys in
     let one : digits_value 10 xs ≡ digits_value 10 ys → without_zeros xs ≡ without_zeros ys = λ same.
-        same_stripped-by (without_zeros xs) (without_zeros ys) (IsStripped-without_zeros xs) (IsStripped-without_zeros ys)
-            (digits-without_zeros xs dx) (digits-without_zeros ys dy) (vx ∙ same ∙ sym vy) (cases_lt (length (without_zeros xs)) (length (without_zeros ys))) in
+    same_stripped-by (without_zeros xs) (without_zeros ys) (IsStripped-without_zeros xs) (IsStripped-without_zeros ys)
+    (digits-without_zeros xs dx) (digits-without_zeros ys dy) (vx ∙ same ∙ sym vy) (cases_lt (length (without_zeros xs)) (length (without_zeros ys))) in
     let other : without_zeros xs ≡ without_zeros ys → digits_value 10 xs ≡ digits_value 10 ys = λ same. sym vx ∙ ap (digits_value 10) same ∙ vy in
     same_from_decides {P = without_zeros xs ≡ without_zeros ys} (bytes_eq (without_zeros xs) (without_zeros ys)) (digits_value 10 xs == digits_value 10 ys)
-        (bytes_eq-Decides (without_zeros xs) (without_zeros ys))
-        (λ e. one (eqb-true (digits_value 10 xs) (digits_value 10 ys) e), λ p. eq-eqb (digits_value 10 xs) (digits_value 10 ys) (other p))
+    (bytes_eq-Decides (without_zeros xs) (without_zeros ys))
+    (λ e. one (eqb-true (digits_value 10 xs) (digits_value 10 ys) e), λ p. eq-eqb (digits_value 10 xs) (digits_value 10 ys) (other p))
 
 -- each of a text of digits is one
 pub digit_at : (ds : List ℕ) (i : ℕ) → list_all is_ascii_digit ds ≡ true → i < length ds

@@ -1,10 +1,10 @@
 -- Lemmas on what the bytes of a connection ask for.
-use Rattle.std.proofs.Common.{◌≡◌, ◌∙◌, ◌⊎◌, inl, inr, refl, ap, sym, subst, ℕ, ◌+◌, ◌-◌, ◌<◌, ◌≤◌, Bool, true, false, nat_le, List, [], ◌∷◌, ◌++◌, length, take, drop, map, Option, None, Some, IfSome, Result, Ok, Err, arith, append_assoc, append-nil, length-append}
+use Rattle.std.proofs.Common.{◌≡◌, ◌∙◌, inl, inr, refl, ap, sym, subst, ℕ, ◌+◌, ◌-◌, ◌<◌, ◌≤◌, true, false, nat_le, List, [], ◌++◌, length, take, drop, map, Option, None, Some, IfSome, Result, Ok, Err, arith, append_assoc, append-nil, length-append}
 use Rattle.std.specs.Io.KnownBytes.{Consumes, IsAtEnd}
 use Rattle.std.proofs.lemmas.Bool.Decides.{nat_tests}
 use Rattle.std.proofs.lemmas.List.{take-append-le}
 use Rattle.std.proofs.Math.Seq.{take-append-add, take-append_seam}
-use Rattle.httparse.specs.Grammar.{HasNoRequest, NeverHasRequest, ReadsRequest, RequestHead, print_request}
+use Rattle.httparse.specs.Grammar.{HasNoRequest, NeverHasRequest, ReadsRequest, RequestHead}
 use Rattle.httparse.specs.Spans.{name_and_value}
 use Rattle.httparse.proofs.GrammarLemmas.{ReadsRequest-append}
 use Rattle.wb_http.specs.Commands.{command_of}
@@ -13,12 +13,10 @@ use Rattle.wb_http.specs.Heads.{HasManyFields, IsHeadAt, IsMalformed, IsTooLarge
 use Rattle.wb_http.specs.Outcomes.{GivesOr}
 use Rattle.wb_http.specs.Requests.{Answers, IsHead, Means, asked, body_asked, wanted_by, wanted_of}
 use Rattle.wb_http.specs.Routes.{and_then, command_at}
-use Rattle.wb_http.specs.declared.fault.Fault.{Fault}
 use Rattle.wb_http.specs.declared.fault.Fault.TheVariants.{BadHead, BodyCut, HeadTooLarge}
 use Rattle.wb_http.specs.declared.fault.RequestError.{RequestError}
 use Rattle.wb_http.specs.declared.request.Received.{Received}
 use Rattle.wb_http.specs.declared.request.Received.TheVariants as received
-use Rattle.wb_http.specs.declared.request.Request.{Request}
 use Rattle.wb_http.specs.declared.request.Request.TheVariants as request
 use Rattle.wb_http.specs.declared.request.Wanted.{Wanted}
 use Rattle.wb_http.specs.declared.route.CommandKind.{CommandKind}
@@ -100,7 +98,7 @@ means_head None new seen count head result p within at h = tt
 means_head (Some l) None seen count head result p within at h = absurd p
 means_head (Some l) (Some r) seen count head result p within at h =
     subst (λ x. Means x result) (sym p)
-        (means_by (seen ++ r) head (drop count seen ++ r) result (IsHead-from seen r count head at within) (h head at))
+    (means_by (seen ++ r) head (drop count seen ++ r) result (IsHead-from seen r count head at within) (h head at))
 
 NeverHasRequest-append : (xs ys : List ℕ) → NeverHasRequest xs → NeverHasRequest (xs ++ ys)
 NeverHasRequest-append xs ys never = λ more. subst HasNoRequest (sym (append_assoc xs ys more)) (never (ys ++ more))
@@ -120,7 +118,7 @@ means_malformed (Some l) (Some r) seen p some (within, inl never) =
     let front = front_of_seen seen r within in
     let long : 0 < length (seen ++ r) = omega (arith, length-append seen r) in
     subst (λ x. Means x (received.Refused BadHead)) (sym p)
-        (inr (inl (refl, (long, inl (subst NeverHasRequest (sym front.1) (NeverHasRequest-append seen front.0 never))))))
+    (inr (inl (refl, (long, inl (subst NeverHasRequest (sym front.1) (NeverHasRequest-append seen front.0 never))))))
 means_malformed (Some l) (Some r) seen p some (within, inr (short, none, end)) =
     let all : l ≡ seen = p ∙ ap (λ x. seen ++ x) end ∙ append-nil seen in
     subst (λ x. Means x (received.Refused BadHead)) (sym all) (inr (inl (refl, (some, inr (short, none)))))
@@ -140,7 +138,7 @@ means_large (Some l) (Some r) seen p (within, inl (long, unfinished)) =
     let front : take head_limit (seen ++ r) ≡ seen = ap (λ n. take n (seen ++ r)) (sym long) ∙ take-append_seam seen r in
     let size : head_limit ≤ length (seen ++ r) = omega (arith, length-append seen r) in
     subst (λ x. Means x (received.Refused HeadTooLarge)) (sym p)
-        (inr (inr (refl, inl (size, subst IsUnfinished (sym front) unfinished))))
+    (inr (inr (refl, inl (size, subst IsUnfinished (sym front) unfinished))))
 means_large (Some l) (Some r) seen p (within, inr many) =
     subst (λ x. Means x (received.Refused HeadTooLarge)) (sym p) (inr (inr (refl, inr (HasManyFields-append seen r many))))
 

@@ -1,5 +1,5 @@
 -- Lemmas on where a text is cut.
-use Rattle.std.proofs.Common.{◌≡◌, ◌∙◌, refl, ap, ap₂, sym, subst, ℕ, ◌+◌, ◌-◌, ◌<◌, Bool, true, false, cond, ltb, nat_lt, List, length, take, drop, Option, None, Some, arith}
+use Rattle.std.proofs.Common.{◌≡◌, ◌∙◌, refl, ap, ap₂, sym, ℕ, ◌+◌, ◌-◌, Bool, true, false, cond, ltb, List, length, take, drop, Option, None, Some, arith}
 use Rattle.std.specs.List.{position_or_len}
 use Rattle.std.proofs.lemmas.List.{length-drop, take_all}
 use Rattle.wb_http.specs.Routes.{cut_at_slash, is_slash}

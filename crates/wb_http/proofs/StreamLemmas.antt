@@ -3,8 +3,8 @@ use Rattle.wb_http.specs.Answers.{AppendsFront}
 use Rattle.std.proofs.Math.Seq.{take-append-add}
 use Rattle.std.specs.List.{concat}
 use Rattle.std.proofs.lemmas.List.{take-append-le, take_all}
-use Rattle.std.proofs.Common.{Bor, ◌-◌, get_or, map, ◌<◌, length, length-append, arith, take, drop, take-add, subst, append-nil, ◌≤◌, Option, None, Some, ◌≡◌, ℕ, ◌+◌, List, [], ◌∷◌, ◌++◌, sym, ap, ◌∙◌, append_assoc, refl}
-use Rattle.std.specs.Io.KnownBytes.{Consumes, Appends, Keeps}
+use Rattle.std.proofs.Common.{Bor, ◌-◌, get_or, map, length, length-append, arith, take, drop, take-add, subst, append-nil, ◌≤◌, Option, None, Some, ◌≡◌, ℕ, ◌+◌, List, [], ◌∷◌, ◌++◌, sym, ap, ◌∙◌, append_assoc, refl}
+use Rattle.std.specs.Io.KnownBytes.{Consumes, Appends}
 
 pub Consumes-nil : (a : Option (List ℕ)) → Consumes a a []
 Consumes-nil None = tt
@@ -56,7 +56,7 @@ pub AppendsFront-then : (a b c : Option (List ℕ)) (before text rest all : List
 AppendsFront-then a b c before text rest all p (count, less, q) is =
     let size : length all ≡ length before + (length text + length rest) = ap length is ∙ length-append before (text ++ rest) ∙ ap (λ n. length before + n) (length-append text rest) in
     let front : take (length before + count) all ≡ before ++ take count text =
-        ap (take (length before + count)) is ∙ take-append-add before (text ++ rest) count ∙ ap (λ l. before ++ l) (take-append-le count text rest (omega arith)) in
+    ap (take (length before + count)) is ∙ take-append-add before (text ++ rest) count ∙ ap (λ l. before ++ l) (take-append-le count text rest (omega arith)) in
     (length before + count, omega arith, subst (Appends a c) (sym front) (Appends-then a b c before (take count text) p q))
 
 -- texts of which there is one are the first and the others

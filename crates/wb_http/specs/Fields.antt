@@ -4,7 +4,6 @@ use Rattle.std.specs.Char.{is_ascii_digit, to_ascii_lowercase}
 use Rattle.std.specs.List.{list_all, list_any}
 use Rattle.std.specs.Str.{bytes_eq}
 use Rattle.std.specs.Str.Parse.{digits_value}
-
 use Rattle.wb_http.specs.declared.fault.Fault.{Fault}
 use Rattle.wb_http.specs.declared.fault.Fault.TheVariants.{NoLength, BadLength, BodyTooLarge}
 

@@ -24,7 +24,7 @@ use Rattle.wb_http.specs.declared.route.Query.{Query}
 unfoldable pub command_wanted : CommandKind → List ℕ → List NameAndValue → Result Wanted Fault
 command_wanted kind method fields = if bytes_eq method (codes "POST")
     then (if has_field (codes "transfer-encoding") fields then Err NotSupported
-        else and_then (length_stated (values_of content_length fields)) (λ n. Ok (wanted.Body kind n)))
+    else and_then (length_stated (values_of content_length fields)) (λ n. Ok (wanted.Body kind n)))
     else Err WrongMethod
 
 -- the query that has this target, if there is one

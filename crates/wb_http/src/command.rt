@@ -12,8 +12,7 @@ use deb_text::Text;
 use serde_json::Value;
 use std::alloc::{AllocError, Global};
 use std::str;
-use wb_states::Command;
-use wb_states::command;
+use wb_states::{Command, command};
 
 /// The architecture, the source package and the version that a command names.
 #[derive(Drop)]
@@ -229,11 +228,7 @@ fn rebuild_in(alloc: Global, body: &Value) -> Result<Option<Command>, AllocError
 
 /// The command of this kind that a body gives; `None` if a key is missing or has another kind of value.
 /// The only error is that memory ran out.
-fn command_in(
-    alloc: Global,
-    kind: CommandKind,
-    body: &Value,
-) -> Result<Option<Command>, AllocError>
+fn command_in(alloc: Global, kind: CommandKind, body: &Value) -> Result<Option<Command>, AllocError>
     ensures value { IfOk result (λ command. command ≡ command_in kind (view body.now)) }
 {
     match kind {

@@ -36,10 +36,7 @@ pub enum Request {
 enum Wanted {
     Query(Query),
     /// A command, which a body of `length` bytes gives.
-    Body {
-        kind: CommandKind,
-        length: usize,
-    },
+    Body { kind: CommandKind, length: usize },
 }
 
 /// What was read of a request.

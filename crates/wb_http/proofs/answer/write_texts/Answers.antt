@@ -1,5 +1,5 @@
 -- A text was written, or a part of it.
-use Rattle.std.proofs.Common.{◌∙◌, ◌++◌, ◌≡◌, Bor, ap, sym, append_assoc, true, false, refl, subst, List, ℕ, get_or, map, take, drop, length, ◌-◌}
+use Rattle.std.proofs.Common.{◌∙◌, ◌++◌, Bor, ap, sym, append_assoc, refl, List, ℕ, map, take, drop, length, ◌-◌}
 use Rattle.std.specs.List.{concat}
 use Rattle.wb_http.proofs.StreamLemmas.{Appends-then, AppendsFront-then, texts_step}
 use Rattle.wb_http.proofs.answer.write_texts.Goals as goal

@@ -1,5 +1,5 @@
 -- A read adds to what was read before it.
-use Rattle.std.proofs.Common.{[], refl, ◌∙◌, ◌+◌, ◌≤◌, ap, arith, append_assoc, append-nil, take, drop, take-add, sym, length, length-append, ◌++◌}
+use Rattle.std.proofs.Common.{[], refl, ◌∙◌, ap, arith, append-nil, take, drop, sym, length, ◌++◌}
 use Rattle.std.proofs.lemmas.List.{take_all, length-take-le}
 use Rattle.wb_http.proofs.StreamLemmas.{Consumes-nil, Consumes-none, Consumes-then, room-grown}
 use Rattle.wb_http.proofs.body.fill.Goals as goal

@@ -1,5 +1,4 @@
-use Rattle.std.proofs.Common.{◌∙◌, ◌≡◌, sym, ap, subst, List, ℕ, true, false, None, Some, Option}
-use Rattle.std.specs.Str.{is_utf8}
+use Rattle.std.proofs.Common.{◌∙◌, sym, ap}
 use Rattle.std.proofs.lemmas.Str.{is_utf8-from_IsUtf8}
 use Rattle.serde_json.specs.Read.{read}
 use Rattle.wb_http.proofs.Utf8Lemmas.{is_utf8-false, json_of-other, json_of-text}

@@ -1,9 +1,7 @@
-use Rattle.std.proofs.Common.{◌∙◌, ◌≡◌, Bool, true, false, Bor, List, ℕ, Option, None, Some, ap, sym, rules, tests, map, option_map}
+use Rattle.std.proofs.Common.{◌∙◌, ◌≡◌, true, false, sym, rules, tests, map}
 use Rattle.std.proofs.lemmas.Iterator.{YieldsList-from_slice}
 use Rattle.std.proofs.lemmas.Iterator.Search.{all_from_yields_List}
-use Rattle.std.specs.List.{list_all}
 use Rattle.httparse.specs.Borrowed.{header_parts}
-use Rattle.deb_text.specs.Lists.{first_of}
 use Rattle.wb_http.specs.Fields.{agrees, content_length, is_same_number, values_of}
 use Rattle.wb_http.proofs.FieldLemmas.{first_is_digits, length_stated-none, length_stated-some, list_all-values_of}
 use Rattle.wb_http.proofs.fields.content_length.Goals as goal

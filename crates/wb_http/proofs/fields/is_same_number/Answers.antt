@@ -1,4 +1,4 @@
-use Rattle.std.proofs.Common.{ap₂, nat_lt, length, ◌∙◌, ◌&&◌, ◌==◌, ◌≡◌, true, sym, ap, List, ℕ}
+use Rattle.std.proofs.Common.{ap₂, nat_lt, length, ◌∙◌, ◌&&◌, ◌==◌, ◌≡◌, true, sym}
 use Rattle.std.specs.Str.Parse.{digits_value}
 use Rattle.std.specs.Str.{bytes_eq}
 use Rattle.std.specs.Char.{is_ascii_digit}
@@ -17,5 +17,5 @@ returns c =
     let digits_other = (and_parts (nat_lt 0 (length c.args.other.now)) (list_all is_ascii_digit c.args.other.now) other).1 in
     let same = same_number c.args.one.now c.args.other.now digits_one digits_other in
     let read : c.eq.result ≡ bytes_eq (without_zeros c.args.one.now) (without_zeros c.args.other.now) =
-        c.eq.ensures ∙ ap₂ bytes_eq c.without_zeros.ensures.value c.without_zeros-2.ensures.value in
+    c.eq.ensures ∙ ap₂ bytes_eq c.without_zeros.ensures.value c.without_zeros-2.ensures.value in
     record { value = read ∙ same ∙ sym (ap₂ (λ a b. (a && b) && (digits_value 10 c.args.one.now == digits_value 10 c.args.other.now)) one other) }

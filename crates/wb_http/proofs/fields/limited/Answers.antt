@@ -1,9 +1,9 @@
-use Rattle.std.proofs.Common.{◌∙◌, ◌+◌, ◌<◌, ◌≤◌, ap, sym, arith, take}
+use Rattle.std.proofs.Common.{◌∙◌, ◌+◌, ◌<◌, ◌≤◌, ap, sym, arith}
 use Rattle.std.proofs.lemmas.Int.Digits.{digits_value_more}
 use Rattle.std.proofs.lemmas.List.{take_all}
 use Rattle.std.proofs.lemmas.Str.Parse.{digits_value-take-le}
 use Rattle.std.specs.Str.Parse.{digits_value}
-use Rattle.wb_http.specs.Fields.{body_limit, limited}
+use Rattle.wb_http.specs.Fields.{body_limit}
 use Rattle.std.specs.Prelude.{Ok}
 use Rattle.wb_http.proofs.FieldLemmas.{limited-large, limited-small}
 use Rattle.wb_http.proofs.NumberLemmas.{digit_at}

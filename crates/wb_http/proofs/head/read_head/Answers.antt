@@ -1,5 +1,5 @@
 -- What was read so far is the front of the room, and each read adds to it.
-use Rattle.std.proofs.Common.{inl, inr, arith, length, take, length-take, ◌∙◌, ap, ◌≡◌, ◌≤◌, ◌<◌, ◌+◌, ℕ}
+use Rattle.std.proofs.Common.{inl, inr, arith, length, take, length-take, ◌∙◌, ◌≡◌, ◌+◌}
 use Rattle.wb_http.proofs.StreamLemmas.{Consumes-none, Consumes-on}
 use Rattle.wb_http.proofs.head.read_head.Goals as goal
 

@@ -1,4 +1,4 @@
-use Rattle.std.proofs.Common.{◌≡◌, ◌∙◌, Some, List, ℕ, Bor, ap, sym, option_copied}
+use Rattle.std.proofs.Common.{◌≡◌, ◌∙◌, Some, ap, sym, option_copied}
 use Rattle.httparse.proofs.GrammarLemmas.{request_unique}
 use Rattle.wb_http.proofs.RequestLemmas.{wanted_same}
 use Rattle.wb_http.proofs.request.wanted_of.Goals as goal

@@ -1,8 +1,5 @@
-use Rattle.std.proofs.Common.{◌∙◌, ◌≡◌, sym, ap, subst, List, ℕ, Ok}
+use Rattle.std.proofs.Common.{◌∙◌, sym, ap, subst, Ok}
 use Rattle.std.specs.Str.{IsUtf8}
-use Rattle.std.specs.String.{string_bytes}
-use Rattle.std.specs.Cow.{cow_str_bytes}
-use Rattle.percent_encoding.specs.Percent.{percent_decode}
 use Rattle.wb_http.proofs.Utf8Lemmas.{decoded_text-bad, decoded_text-ok}
 use Rattle.wb_http.proofs.route.decoded.Goals as goal
 
