@@ -1,0 +1,6 @@
+pub mod FieldLemmas
+pub mod NumberLemmas
+pub mod RequestLemmas
+pub mod RouteLemmas
+pub mod StreamLemmas
+pub mod Utf8Lemmas

@@ -1,0 +1,149 @@
+-- Lemmas on what the bytes of a connection ask for.
+use Rattle.std.proofs.Common.{◌≡◌, ◌∙◌, inl, inr, refl, ap, sym, subst, ℕ, ◌+◌, ◌-◌, ◌<◌, ◌≤◌, true, false, nat_le, List, [], ◌++◌, length, take, drop, map, Option, None, Some, IfSome, Result, Ok, Err, arith, append_assoc, append-nil, length-append}
+use Rattle.std.specs.Io.KnownBytes.{Consumes, IsAtEnd}
+use Rattle.std.proofs.lemmas.Bool.Decides.{nat_tests}
+use Rattle.std.proofs.lemmas.List.{take-append-le}
+use Rattle.std.proofs.Math.Seq.{take-append-add, take-append_seam}
+use Rattle.httparse.specs.Grammar.{HasNoRequest, NeverHasRequest, ReadsRequest, RequestHead}
+use Rattle.httparse.specs.Spans.{name_and_value}
+use Rattle.httparse.proofs.GrammarLemmas.{ReadsRequest-append}
+use Rattle.wb_http.specs.Commands.{command_of}
+use Rattle.wb_http.specs.Fields.{NameAndValue}
+use Rattle.wb_http.specs.Heads.{HasManyFields, IsHeadAt, IsMalformed, IsTooLarge, IsUnfinished, head_limit}
+use Rattle.wb_http.specs.Outcomes.{GivesOr}
+use Rattle.wb_http.specs.Requests.{Answers, IsHead, Means, asked, body_asked, wanted_by, wanted_of}
+use Rattle.wb_http.specs.Routes.{and_then, command_at}
+use Rattle.wb_http.specs.declared.fault.Fault.TheVariants.{BadHead, BodyCut, HeadTooLarge}
+use Rattle.wb_http.specs.declared.fault.RequestError.{RequestError}
+use Rattle.wb_http.specs.declared.request.Received.{Received}
+use Rattle.wb_http.specs.declared.request.Received.TheVariants as received
+use Rattle.wb_http.specs.declared.request.Request.TheVariants as request
+use Rattle.wb_http.specs.declared.request.Wanted.{Wanted}
+use Rattle.wb_http.specs.declared.route.CommandKind.{CommandKind}
+
+-- what is wanted by the parts of a head is what the head wants
+pub wanted_same : (result : Result Wanted RequestError) (head other : RequestHead) (method target : List ℕ) (fields : List NameAndValue)
+    → head ≡ other → method ≡ other.method → target ≡ other.target → fields ≡ map name_and_value other.fields
+    → GivesOr result (wanted_by (command_at target) method target fields) → GivesOr result (wanted_of head)
+wanted_same result head other method target fields same em et ef h =
+    let one = subst (λ m. GivesOr result (wanted_by (command_at target) m target fields)) em h in
+    let two = subst (λ t. GivesOr result (wanted_by (command_at t) other.method t fields)) et one in
+    let three = subst (λ f. GivesOr result (wanted_by (command_at other.target) other.method other.target f)) ef two in
+    subst (λ k. GivesOr result (wanted_of k)) (sym same) three
+
+-- ---- bodies
+
+pub body_asked-whole : (kind : CommandKind) (count : ℕ) (rest body : List ℕ) → count ≤ length rest → body ≡ take count rest
+    → body_asked kind count rest ≡ and_then (command_of kind body) (λ command. Ok (request.Command command))
+unfolding body_asked
+body_asked-whole kind count rest body fits is =
+    let t : nat_le count (length rest) ≡ true = grind (arith, nat_tests) in
+    rw t (ap (λ b. and_then (command_of kind b) (λ command. Ok (request.Command command))) (sym is))
+
+pub body_asked-cut : (kind : CommandKind) (count : ℕ) (rest : List ℕ) → length rest < count → body_asked kind count rest ≡ Err BodyCut
+unfolding body_asked
+body_asked-cut kind count rest short =
+    let f : nat_le count (length rest) ≡ false = grind (arith, nat_tests) in
+    rw f refl
+
+-- what the whole of a body asks for, whatever is left after it
+pub body_whole : (old new : Option (List ℕ)) (already taken body : List ℕ) (kind : CommandKind) (count : ℕ) (result : Received)
+    → Consumes old new taken → count ≤ length (already ++ taken) → body ≡ take count (already ++ taken)
+    → Answers (and_then (command_of kind body) (λ command. Ok (request.Command command))) result
+    → IfSome old (λ left. Answers (body_asked kind count (already ++ left)) result)
+body_whole None new already taken body kind count result p fits is h = tt
+body_whole (Some l) None already taken body kind count result p fits is h = absurd p
+body_whole (Some l) (Some r) already taken body kind count result p fits is h =
+    let all : already ++ l ≡ (already ++ taken) ++ r = ap (λ x. already ++ x) p ∙ sym (append_assoc already taken r) in
+    let more : count ≤ length ((already ++ taken) ++ r) = omega (arith, length-append (already ++ taken) r) in
+    let front : body ≡ take count ((already ++ taken) ++ r) = is ∙ sym (take-append-le count (already ++ taken) r fits) in
+    let same = body_asked-whole kind count ((already ++ taken) ++ r) body more front in
+    subst (λ x. Answers (body_asked kind count x) result) (sym all) (subst (λ x. Answers x result) (sym same) h)
+
+-- a body that the input ends before
+pub body_cut : (old new : Option (List ℕ)) (already taken : List ℕ) (kind : CommandKind) (count : ℕ)
+    → Consumes old new taken → IsAtEnd new → length (already ++ taken) < count
+    → IfSome old (λ left. body_asked kind count (already ++ left) ≡ Err BodyCut)
+body_cut None new already taken kind count p end short = tt
+body_cut (Some l) None already taken kind count p end short = absurd p
+body_cut (Some l) (Some r) already taken kind count p end short =
+    let all : l ≡ taken = p ∙ ap (λ x. taken ++ x) end ∙ append-nil taken in
+    body_asked-cut kind count (already ++ l) (subst (λ x. length (already ++ x) < count) (sym all) short)
+
+-- ---- heads
+
+-- what was read of an input that begins with a head
+pub IsHead-from : (seen left : List ℕ) (count : ℕ) (head : RequestHead) → IsHeadAt seen count head → length seen ≤ head_limit
+    → IsHead (seen ++ left) head (drop count seen ++ left)
+IsHead-from seen left count head at within = record {
+  reads = ReadsRequest-append seen head (drop count seen) left at.reads;
+  within = omega (arith, at.count_is, at.count_fits);
+  fields = at.fields;
+}
+
+-- what follows a head is what the input asks for
+pub means_by : (input : List ℕ) (head : RequestHead) (rest : List ℕ) (result : Received) → IsHead input head rest → Answers (asked head rest) result → Means input result
+means_by input head rest received.Nothing is h = absurd h
+means_by input head rest received.Failed is h = tt
+means_by input head rest received.Memory is h = tt
+means_by input head rest (received.Refused fault) is h = inl (head, rest, is, h)
+means_by input head rest (received.Asked asks) is h = (head, rest, is, h)
+
+-- a head came, and what follows it is known
+pub means_head : (old new : Option (List ℕ)) (seen : List ℕ) (count : ℕ) (head : RequestHead) (result : Received)
+    → Consumes old new seen → length seen ≤ head_limit → IsHeadAt seen count head
+    → IfSome new (λ left. (k : RequestHead) → IsHeadAt seen count k → Answers (asked k (drop count seen ++ left)) result)
+    → IfSome old (λ input. Means input result)
+means_head None new seen count head result p within at h = tt
+means_head (Some l) None seen count head result p within at h = absurd p
+means_head (Some l) (Some r) seen count head result p within at h =
+    subst (λ x. Means x result) (sym p)
+    (means_by (seen ++ r) head (drop count seen ++ r) result (IsHead-from seen r count head at within) (h head at))
+
+NeverHasRequest-append : (xs ys : List ℕ) → NeverHasRequest xs → NeverHasRequest (xs ++ ys)
+NeverHasRequest-append xs ys never = λ more. subst HasNoRequest (sym (append_assoc xs ys more)) (never (ys ++ more))
+
+-- the first bytes of an input, of which some were seen
+front_of_seen : (seen left : List ℕ) → length seen ≤ head_limit → (more : List ℕ) × (take head_limit (seen ++ left) ≡ seen ++ more)
+front_of_seen seen left within =
+    let size : head_limit ≡ length seen + (head_limit - length seen) = omega arith in
+    (take (head_limit - length seen) left, ap (λ n. take n (seen ++ left)) size ∙ take-append-add seen left (head_limit - length seen))
+
+-- an input that begins with no head
+pub means_malformed : (old new : Option (List ℕ)) (seen : List ℕ) → Consumes old new seen → 0 < length seen → IsMalformed seen new
+    → IfSome old (λ input. Means input (received.Refused BadHead))
+means_malformed None new seen p some bad = tt
+means_malformed (Some l) None seen p some bad = absurd p
+means_malformed (Some l) (Some r) seen p some (within, inl never) =
+    let front = front_of_seen seen r within in
+    let long : 0 < length (seen ++ r) = omega (arith, length-append seen r) in
+    subst (λ x. Means x (received.Refused BadHead)) (sym p)
+    (inr (inl (refl, (long, inl (subst NeverHasRequest (sym front.1) (NeverHasRequest-append seen front.0 never))))))
+means_malformed (Some l) (Some r) seen p some (within, inr (short, none, end)) =
+    let all : l ≡ seen = p ∙ ap (λ x. seen ++ x) end ∙ append-nil seen in
+    subst (λ x. Means x (received.Refused BadHead)) (sym all) (inr (inl (refl, (some, inr (short, none)))))
+
+HasManyFields-append : (xs ys : List ℕ) → HasManyFields xs → HasManyFields (xs ++ ys)
+HasManyFields-append xs ys (over, exceeds) = (
+  λ more head rest reads. over (ys ++ more) head rest (subst (λ b. ReadsRequest b head rest) (append_assoc xs ys more) reads),
+  (exceeds.0, exceeds.1 ++ ys, ap (λ b. b ++ ys) exceeds.2 ∙ append_assoc exceeds.0 exceeds.1 ys, exceeds.3, exceeds.4, exceeds.5),
+)
+
+-- an input whose head is too large
+pub means_large : (old new : Option (List ℕ)) (seen : List ℕ) → Consumes old new seen → IsTooLarge seen
+    → IfSome old (λ input. Means input (received.Refused HeadTooLarge))
+means_large None new seen p large = tt
+means_large (Some l) None seen p large = absurd p
+means_large (Some l) (Some r) seen p (within, inl (long, unfinished)) =
+    let front : take head_limit (seen ++ r) ≡ seen = ap (λ n. take n (seen ++ r)) (sym long) ∙ take-append_seam seen r in
+    let size : head_limit ≤ length (seen ++ r) = omega (arith, length-append seen r) in
+    subst (λ x. Means x (received.Refused HeadTooLarge)) (sym p)
+    (inr (inr (refl, inl (size, subst IsUnfinished (sym front) unfinished))))
+means_large (Some l) (Some r) seen p (within, inr many) =
+    subst (λ x. Means x (received.Refused HeadTooLarge)) (sym p) (inr (inr (refl, inr (HasManyFields-append seen r many))))
+
+-- an input without a byte
+pub means_nothing : (old new : Option (List ℕ)) → Consumes old new [] → IsAtEnd new → IfSome old (λ input. Means input received.Nothing)
+means_nothing None new p end = tt
+means_nothing (Some l) None p end = absurd p
+means_nothing (Some l) (Some r) p end = p ∙ end

@@ -1,0 +1,13 @@
+-- What was read of the input decides what it means, whatever is left.
+use Rattle.wb_http.proofs.RequestLemmas.{means_large, means_malformed}
+use Rattle.wb_http.proofs.request.read_request.Goals as goal
+
+pub returns-in-Malformed-clause-value : goal.returns-in-Malformed-clause-value
+returns-in-Malformed-clause-value g c =
+    let took = c.in-Malformed.ensures.value in
+    means_malformed c.args.reader.now.bytes _ took.0 took.2 took.1 took.3
+
+pub returns-in-TooLarge-clause-value : goal.returns-in-TooLarge-clause-value
+returns-in-TooLarge-clause-value g c =
+    let took = c.in-TooLarge.ensures.value in
+    means_large c.args.reader.now.bytes _ took.0 took.1 took.2

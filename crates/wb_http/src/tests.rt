@@ -1,0 +1,521 @@
+use crate::{Fault, Query, Received, Request, Status, read_request, write_answer};
+use std::alloc::Global;
+use std::io::{self, ErrorKind, Read, Write};
+use std::test::Fail;
+use wb_states::Command;
+use wb_streams::{WatchedReader, WatchedWriter};
+
+/// A reader that gives at most `step` bytes a read, and fails after so many reads.
+struct CutReader<'a> {
+    left: &'a [u8],
+    step: usize,
+    reads: usize,
+}
+
+impl<'a> Drop for CutReader<'a> {
+    fn drop(self) {
+        let CutReader {
+            left: _,
+            step: _,
+            reads: _,
+        } = self;
+    }
+}
+
+impl<'a> Read for CutReader<'a> {
+    fn read(&mut self, buf: &mut [u8]) -> io::Result<usize> {
+        if self.reads == 0 {
+            return Err(io::Error::from(ErrorKind::Interrupted));
+        }
+        self.reads -= 1;
+        let count = buf.len().min(self.step);
+        self.left.read(&mut buf[..count])
+    }
+}
+
+/// A writer that takes one byte at a time, and no more than its room.
+#[derive(Drop)]
+struct FullWriter {
+    taken: Vec<u8>,
+    room: usize,
+}
+
+impl Write for FullWriter {
+    fn write(&mut self, buf: &[u8]) -> io::Result<usize> {
+        let count = buf.len().min(self.room).min(1);
+        self.room -= count;
+        self.taken.extend_from_slice(&buf[..count])?;
+        Ok(count)
+    }
+
+    fn flush(&mut self) -> io::Result<()> {
+        Ok(())
+    }
+}
+
+fn received(alloc: Global, input: &[u8], step: usize) -> Received {
+    let mut reader = WatchedReader::new(CutReader {
+        left: input,
+        step,
+        reads: 100_000,
+    });
+    read_request(alloc, &mut reader)
+}
+
+/// What was received, as one word.
+fn word_of(received: &Received) -> &'static str {
+    match received {
+        Received::Nothing => "nothing",
+        Received::Failed => "failed",
+        Received::Memory => "memory",
+        Received::Refused(fault) => fault.name(),
+        Received::Asked(Request::Command(command)) => command.name(),
+        Received::Asked(Request::Query(Query::Item { .. })) => "item",
+        Received::Asked(Request::Query(Query::Mine { .. })) => "mine",
+    }
+}
+
+const NEXT: &str =
+    "POST /v1/next HTTP/1.1\r\nHost: localhost\r\nContent-Length: 31\r\n\r\n{\"arch\":\"amd64\",\"builder\":\"b1\"}";
+
+/// Requests without a body, or with one that plays no part, and what they are.
+const HEADS: [(&str, &str); 36] = [
+    ("", "nothing"),
+    ("\u{1}", "BadHead"),
+    ("GET /v1/item/a/b HTTP/1.1\r\n", "BadHead"),
+    ("GET /v1/item/a/b HTTP/2.0\r\n\r\n", "BadHead"),
+    ("GET /v1/item/a/b HTTP/1.0\n\n", "item"),
+    ("\r\n\r\nGET /v1/item/a/b HTTP/1.1\r\n\r\n", "item"),
+    (
+        "GET /v1/mine/b1 HTTP/1.1\r\nContent-Length: 99\r\n\r\n",
+        "mine",
+    ),
+    ("GET /v1/item/a%2Fb/c HTTP/1.1\r\n\r\n", "item"),
+    ("GET /v1/item/%2561/c HTTP/1.1\r\n\r\n", "item"),
+    ("GET /v1/item/a/%ff HTTP/1.1\r\n\r\n", "BadPath"),
+    ("GET /v1/mine/%C3%28 HTTP/1.1\r\n\r\n", "BadPath"),
+    ("PUT /v1/mine/%ff HTTP/1.1\r\n\r\n", "WrongMethod"),
+    ("GET /v1/item//b HTTP/1.1\r\n\r\n", "NoRoute"),
+    ("GET /v1/item/a/ HTTP/1.1\r\n\r\n", "NoRoute"),
+    ("GET /v1/item/a HTTP/1.1\r\n\r\n", "NoRoute"),
+    ("GET /v1/item/a/b/ HTTP/1.1\r\n\r\n", "NoRoute"),
+    ("GET /v1/item/a/b/c HTTP/1.1\r\n\r\n", "NoRoute"),
+    ("GET /v1/mine/ HTTP/1.1\r\n\r\n", "NoRoute"),
+    ("GET /v1/mine/b1/ HTTP/1.1\r\n\r\n", "NoRoute"),
+    ("POST /v1/next/ HTTP/1.1\r\n\r\n", "NoRoute"),
+    ("POST /v1/next?x HTTP/1.1\r\n\r\n", "NoRoute"),
+    ("POST /v1/%6eext HTTP/1.1\r\n\r\n", "NoRoute"),
+    ("POST http://x/v1/next HTTP/1.1\r\n\r\n", "NoRoute"),
+    ("OPTIONS * HTTP/1.1\r\n\r\n", "NoRoute"),
+    ("GET /v1/next HTTP/1.1\r\n\r\n", "WrongMethod"),
+    ("HEAD /v1/mine/b1 HTTP/1.1\r\n\r\n", "WrongMethod"),
+    ("post /v1/next HTTP/1.1\r\n\r\n", "WrongMethod"),
+    (
+        "POST /v1/item/a/b HTTP/1.1\r\nContent-Length: x\r\n\r\n",
+        "WrongMethod",
+    ),
+    (
+        "POST /v1/next HTTP/1.1\r\nTransfer-Encoding: chunked\r\n\r\n",
+        "NotSupported",
+    ),
+    (
+        "POST /v1/next HTTP/1.1\r\nTRANSFER-encoding:\r\nContent-Length: x\r\n\r\n",
+        "NotSupported",
+    ),
+    ("POST /v1/next HTTP/1.1\r\nHost: x\r\n\r\n", "NoLength"),
+    (
+        "POST /v1/next HTTP/1.1\r\nContent-Length:\r\n\r\n",
+        "BadLength",
+    ),
+    (
+        "POST /v1/next HTTP/1.1\r\nContent-Length: 1, 1\r\n\r\n",
+        "BadLength",
+    ),
+    (
+        "POST /v1/next HTTP/1.1\r\nContent-Length: x\r\nContent-Length: 16777217\r\n\r\n",
+        "BadLength",
+    ),
+    (
+        "POST /v1/next HTTP/1.1\r\ncontent-LENGTH: 16777217\r\n\r\n",
+        "BodyTooLarge",
+    ),
+    (
+        "POST /v1/next HTTP/1.1\r\nContent-Length: 16777216\r\n\r\n{}",
+        "BodyCut",
+    ),
+];
+
+#[test]
+fn each_head_has_its_fault(rt: HostRuntime) -> Result<(), Fail> {
+    for (input, want) in HEADS {
+        for step in [1, 7, 100_000] {
+            let got = received(rt.alloc(), input.as_bytes(), step);
+            assert_eq!(rt; word_of(&got), want, "{input} by {step}");
+        }
+    }
+    Ok(())
+}
+
+/// The lengths that fields state, and what a request for the next source package with them is.
+const LENGTHS: [(&str, &str); 9] = [
+    ("Content-Length: 31", "next"),
+    ("Content-Length: 0031", "next"),
+    ("Content-Length: \t31 ", "next"),
+    ("Content-Length: 31\r\nContent-Length: 031", "next"),
+    ("Content-Length: 31\r\nContent-Length: 32", "BadLength"),
+    ("Content-Length: 32", "BodyCut"),
+    ("Content-Length: 30", "BadBody"),
+    ("Content-Length: +31", "BadLength"),
+    ("Content-Length: 99999999999999999999999999", "BodyTooLarge"),
+];
+
+#[test]
+fn each_length_is_its_number(rt: HostRuntime) -> Result<(), Fail> {
+    for (field, want) in LENGTHS {
+        let input = format!(in rt.alloc();
+            "POST /v1/next HTTP/1.1\r\n{field}\r\n\r\n{{\"arch\":\"amd64\",\"builder\":\"b1\"}}"
+        )?;
+        let got = received(rt.alloc(), input.as_bytes(), 10);
+        assert_eq!(rt; word_of(&got), want, "with {field}");
+    }
+    Ok(())
+}
+
+#[test]
+fn a_request_is_read_however_it_is_cut(rt: HostRuntime) -> Result<(), Fail> {
+    for length in 0..NEXT.len() + 1 {
+        let want = if length == 0 {
+            "nothing"
+        } else if length < 63 {
+            "BadHead"
+        } else if length < 94 {
+            "BodyCut"
+        } else {
+            "next"
+        };
+        for step in [1, 60, 70, 100_000] {
+            let got = received(rt.alloc(), &NEXT.as_bytes()[..length], step);
+            assert_eq!(rt; word_of(&got), want, "after {length} bytes by {step}");
+        }
+    }
+    Ok(())
+}
+
+#[test]
+fn what_follows_a_request_says_nothing(rt: HostRuntime) -> Result<(), Fail> {
+    let input = format!(in rt.alloc(); "{NEXT}}}garbage\r\n\r\n")?;
+    for step in [1, 95, 100_000] {
+        let got = received(rt.alloc(), input.as_bytes(), step);
+        assert_eq!(rt; word_of(&got), "next");
+    }
+    Ok(())
+}
+
+#[test]
+fn each_read_fails_in_turn(rt: HostRuntime) -> Result<(), Fail> {
+    for reads in 0..NEXT.len() + 1 {
+        let mut reader = WatchedReader::new(CutReader {
+            left: NEXT.as_bytes(),
+            step: 1,
+            reads,
+        });
+        let got = read_request(rt.alloc(), &mut reader);
+        let whole = reads == NEXT.len();
+        assert_eq!(rt;
+            word_of(&got),
+            if whole { "next" } else { "failed" },
+            "after {reads} reads"
+        );
+        assert_eq!(rt; reader.has_failed(), !whole);
+    }
+    Ok(())
+}
+
+/// A head with so many fields.
+fn head_of(alloc: Global, fields: usize, fill: usize) -> Result<String, Fail> {
+    let mut head = String::from_str(alloc, "GET /v1/mine/b1 HTTP/1.1\r\n")?;
+    for _ in 0..fields {
+        head.push_str("a: b\r\n")?;
+    }
+    if fill > 0 {
+        head.push_str("x: ")?;
+        for _ in 0..fill {
+            head.push('y')?;
+        }
+        head.push_str("\r\n")?;
+    }
+    head.push_str("\r\n")?;
+    Ok(head)
+}
+
+#[test]
+fn heads_have_limits(rt: HostRuntime) -> Result<(), Fail> {
+    // 26 bytes of the first line, 5 around the value and 2 at the end leave 8159 for it.
+    let cases = [
+        (32, 0, "mine"),
+        (33, 0, "HeadTooLarge"),
+        (0, 8159, "mine"),
+        (0, 8160, "HeadTooLarge"),
+        (0, 9000, "HeadTooLarge"),
+    ];
+    for (fields, fill, want) in cases {
+        let head = head_of(rt.alloc(), fields, fill)?;
+        for step in [100, 100_000] {
+            let got = received(rt.alloc(), head.as_bytes(), step);
+            assert_eq!(rt;
+                word_of(&got),
+                want,
+                "{fields} fields, {fill} bytes, by {step}"
+            );
+        }
+    }
+    Ok(())
+}
+
+/// Bodies for each path, and what they are.
+const BODIES: [(&str, &str, &str); 38] = [
+    ("next", r#"{"arch":"a","builder":"b","after":null}"#, "next"),
+    (
+        "next",
+        r#"{"arch":"a","builder":"b","after":18446744073709551615}"#,
+        "next",
+    ),
+    (
+        "next",
+        r#"{"arch":"a","builder":"b","after":18446744073709551616}"#,
+        "BadBody",
+    ),
+    (
+        "next",
+        r#"{"arch":"a","builder":"b","after":1.0}"#,
+        "BadBody",
+    ),
+    (
+        "next",
+        r#"{"arch":"a","builder":"b","after":1e3}"#,
+        "BadBody",
+    ),
+    (
+        "next",
+        r#"{"arch":"a","builder":"b","after":-0}"#,
+        "BadBody",
+    ),
+    (
+        "next",
+        r#"{"arch":"a","builder":"b","after":-1}"#,
+        "BadBody",
+    ),
+    (
+        "next",
+        r#"{"arch":"a","builder":"b","after":"1"}"#,
+        "BadBody",
+    ),
+    ("next", r#"{"arch":"a","builder":null}"#, "BadBody"),
+    ("next", r#"{"arch":"a","builder":7}"#, "BadBody"),
+    ("next", r#"{"arch":"a"}"#, "BadBody"),
+    ("next", r#"["arch","builder"]"#, "BadBody"),
+    ("next", r#"{"arch":"a","builder":"b"} x"#, "BadBody"),
+    ("next", "", "BadBody"),
+    (
+        "next",
+        r#" { "builder" : "b\u00e9" , "arch" : "a" , "x" : {"y":[1.5,true]} } "#,
+        "next",
+    ),
+    ("next", r#"{"arch":"\ud800","builder":"b"}"#, "BadBody"),
+    ("next", r#"{"arch":"a","builder":"b","x":1e400}"#, "BadBody"),
+    ("next", r#"{"arch":1,"builder":"b","arch":"a"}"#, "next"),
+    (
+        "take",
+        r#"{"arch":"a","builder":"b","source":"s","version":"1"}"#,
+        "take",
+    ),
+    (
+        "take",
+        r#"{"arch":"a","builder":"b","source":"s"}"#,
+        "BadBody",
+    ),
+    ("built", r#"{"take":1}"#, "built"),
+    ("built", r#"{"take":"1"}"#, "BadBody"),
+    ("built", r#"{"take":null}"#, "BadBody"),
+    ("uploaded", r#"{"take":0}"#, "uploaded"),
+    ("waits", r#"{"take":1,"relations":"a"}"#, "waits"),
+    ("waits", r#"{"take":1}"#, "BadBody"),
+    ("put-back", r#"{"take":1}"#, "put-back"),
+    (
+        "give-back",
+        r#"{"arch":"a","source":"s","version":"1"}"#,
+        "give-back",
+    ),
+    ("give-back", r#"{"arch":"a","version":"1"}"#, "BadBody"),
+    (
+        "dep-wait",
+        r#"{"arch":"a","source":"s","version":"1","relations":""}"#,
+        "dep-wait",
+    ),
+    (
+        "dep-wait",
+        r#"{"arch":"a","source":"s","version":"1"}"#,
+        "BadBody",
+    ),
+    (
+        "fail",
+        r#"{"arch":"a","source":"s","version":"1","note":""}"#,
+        "fail",
+    ),
+    (
+        "fail",
+        r#"{"arch":"a","source":"s","version":"1"}"#,
+        "BadBody",
+    ),
+    (
+        "not-for-us",
+        r#"{"arch":"a","source":"s","version":"1","note":"n"}"#,
+        "not-for-us",
+    ),
+    (
+        "rebuild",
+        r#"{"arch":"a","source":"s","version":"1","number":1,"message":"m"}"#,
+        "rebuild",
+    ),
+    (
+        "rebuild",
+        r#"{"arch":"a","source":"s","version":"1","number":1}"#,
+        "BadBody",
+    ),
+    (
+        "rebuild",
+        r#"{"arch":"a","source":"s","version":"1","number":"1","message":"m"}"#,
+        "BadBody",
+    ),
+    (
+        "rebuild",
+        r#"{"arch":"a","source":"s","version":"1","message":"m"}"#,
+        "BadBody",
+    ),
+];
+
+#[test]
+fn each_body_gives_its_command(rt: HostRuntime) -> Result<(), Fail> {
+    for (path, body, want) in BODIES {
+        let length = body.len();
+        let input = format!(in rt.alloc();
+            "POST /v1/{path} HTTP/1.1\r\nContent-Length: {length}\r\n\r\n{body}"
+        )?;
+        let got = received(rt.alloc(), input.as_bytes(), 100_000);
+        assert_eq!(rt; word_of(&got), want, "{body} to {path}");
+    }
+    Ok(())
+}
+
+/// A body with a further key, whose value is so many arrays inside one another.
+fn nested(alloc: Global, levels: usize) -> Result<String, Fail> {
+    let mut text = String::from_str(alloc, r#"{"arch":"a","builder":"b","x":"#)?;
+    for _ in 0..levels {
+        text.push('[')?;
+    }
+    for _ in 0..levels {
+        text.push(']')?;
+    }
+    text.push('}')?;
+    Ok(text)
+}
+
+#[test]
+fn bodies_have_levels(rt: HostRuntime) -> Result<(), Fail> {
+    for (levels, want) in [
+        (100, "next"),
+        (126, "next"),
+        (127, "BadBody"),
+        (200, "BadBody"),
+    ] {
+        let body = nested(rt.alloc(), levels)?;
+        let length = body.len();
+        let text = body.as_str();
+        let input = format!(in rt.alloc();
+            "POST /v1/next HTTP/1.1\r\nContent-Length: {length}\r\n\r\n{text}"
+        )?;
+        let got = received(rt.alloc(), input.as_bytes(), 100_000);
+        assert_eq!(rt; word_of(&got), want, "{levels} levels");
+    }
+    Ok(())
+}
+
+#[test]
+fn texts_come_as_they_are(rt: HostRuntime) -> Result<(), Fail> {
+    let input = b"GET /v1/item/amd64/libsigc%2B%2B-2.0%2541 HTTP/1.1\r\n\r\n";
+    let Received::Asked(Request::Query(Query::Item { arch, source })) = received(
+        rt.alloc(),
+        input,
+        3,
+    ) else {
+        panic!(rt; "no item");
+    };
+    assert_eq!(rt; arch.as_str(), "amd64");
+    assert_eq!(rt; source.as_str(), "libsigc++-2.0%41");
+    let input = b"GET /v1/mine/b%zz%2 HTTP/1.1\r\n\r\n";
+    let Received::Asked(Request::Query(Query::Mine { builder })) = received(rt.alloc(), input, 3)
+    else {
+        panic!(rt; "no builder");
+    };
+    assert_eq!(rt; builder.as_str(), "b%zz%2");
+    let body =
+        b"POST /v1/next HTTP/1.1\r\nContent-Length: 43\r\n\r\n{\"arch\":\"amd64\",\"builder\":\"b\\n1\",\"after\":7}";
+    let Received::Asked(Request::Command(Command::Next(next))) = received(rt.alloc(), body, 3)
+    else {
+        panic!(rt; "no command");
+    };
+    assert_eq!(rt; next.arch.as_str(), "amd64");
+    assert_eq!(rt; next.builder.as_str(), "b\n1");
+    assert_eq!(rt; next.after, Some(7));
+    Ok(())
+}
+
+const ANSWER: &str =
+    "HTTP/1.1 400 Bad Request\r\nContent-Type: application/json\r\nContent-Length: 18\r\nConnection: close\r\n\r\n{\"http\":\"BadHead\"}";
+
+#[test]
+fn each_write_fails_in_turn(rt: HostRuntime) -> Result<(), Fail> {
+    for room in 0..ANSWER.len() + 1 {
+        let mut taken = FullWriter {
+            taken: Vec::new(rt.alloc()),
+            room,
+        };
+        let whole = {
+            let mut writer = WatchedWriter::new(&mut taken);
+            let whole = write_answer(&mut writer, Fault::BadHead.status(), Fault::BadHead.json());
+            assert_eq!(rt; writer.has_failed(), !whole);
+            whole
+        };
+        assert_eq!(rt; whole, room == ANSWER.len(), "with room for {room}");
+        assert_eq!(rt; taken.taken.as_slice(), &ANSWER.as_bytes()[..room]);
+    }
+    Ok(())
+}
+
+/// The faults in their order, with the codes of their statuses.
+const FAULTS: [(Fault, u16, &str); 11] = [
+    (Fault::HeadTooLarge, 431, "HeadTooLarge"),
+    (Fault::BadHead, 400, "BadHead"),
+    (Fault::NoRoute, 404, "NoRoute"),
+    (Fault::WrongMethod, 405, "WrongMethod"),
+    (Fault::BadPath, 400, "BadPath"),
+    (Fault::NotSupported, 501, "NotSupported"),
+    (Fault::NoLength, 411, "NoLength"),
+    (Fault::BadLength, 400, "BadLength"),
+    (Fault::BodyTooLarge, 413, "BodyTooLarge"),
+    (Fault::BodyCut, 400, "BodyCut"),
+    (Fault::BadBody, 400, "BadBody"),
+];
+
+#[test]
+fn faults_have_names_and_statuses(rt: HostRuntime) -> Result<(), Fail> {
+    for (fault, code, name) in FAULTS {
+        let status = fault.status();
+        assert_eq!(rt; status.code(), code);
+        assert_eq!(rt; fault.name(), name);
+        let text = format!(in rt.alloc(); "{code} ")?;
+        assert!(rt; status.code_and_phrase().starts_with(text.as_str()));
+    }
+    assert_eq!(rt; Status::Ok.code_and_phrase(), "200 OK");
+    Ok(())
+}
