@@ -3,5 +3,4 @@ pub mod Line
 pub mod Lists
 pub mod Replays
 pub mod Run
-pub mod Streams
 pub mod Turn

@@ -18,7 +18,7 @@ use Rattle.wb_api.specs.Encoding.{reply_text, refusal_text, memory_text, line_fa
 use Rattle.deb_text.specs.Lines.{words_in, is_blank_line}
 use Rattle.wb_daemon.specs.Line.{is_long, input_lines, ended_in, lines_limit, with_line_feed, AreWithinLimit}
 use Rattle.wb_daemon.specs.Lists.{MayRead, MayReadMerge, IsAllOf, LacksMerge}
-use Rattle.wb_daemon.specs.Streams.{Stream}
+use Rattle.wb_streams.specs.Streams.{Stream}
 use Rattle.wb_daemon.specs.declared.message.Cause.{Cause}
 use Rattle.wb_daemon.specs.declared.message.Cause.TheVariants as why
 

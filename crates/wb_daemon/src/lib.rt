@@ -8,10 +8,8 @@ mod lists;
 mod message;
 mod run;
 pub mod status;
-mod watched;
 mod write;
 
 pub use lists::Lists;
 pub use message::{Cause, Message};
 pub use run::run_lines;
-pub use watched::{WatchedReader, WatchedWriter};

@@ -5,9 +5,9 @@ ghost use Rattle.std.specs.Io.KnownBytes.{Consumes, IsAtEnd};
 ghost use Rattle.wb_daemon.specs.declared.line.ByteRead.TheVariants.{End};
 ghost use Rattle.deb_text.specs.Lines.{words_in};
 ghost use Rattle.wb_daemon.specs.Line.{bytes_of, is_failed_byte, is_failed_line, line_limit, TookLine};
-ghost use Rattle.wb_daemon.specs.Streams.{Flags};
+ghost use Rattle.wb_streams.specs.Streams.{Flags};
 
-use crate::watched::WatchedReader;
+use wb_streams::WatchedReader;
 use std::alloc::{AllocError, Global};
 use std::io::Read;
 use std::str;

@@ -5,7 +5,7 @@ ghost use Rattle.wb_daemon.specs.Line.{is_long, line_limit};
 ghost use Rattle.wb_daemon.specs.Lists.{MayReadLess};
 ghost use Rattle.wb_daemon.specs.Replays.{LeavesReplay};
 ghost use Rattle.wb_daemon.specs.Run.{FailsFor, RunEndsWell, RunStops};
-ghost use Rattle.wb_daemon.specs.Streams.{Flags};
+ghost use Rattle.wb_streams.specs.Streams.{Flags};
 ghost use Rattle.wb_daemon.specs.Turn.{Answers, StopsAtLine, Ran, Turns, cause_of_end};
 ghost use Rattle.wb_daemon.specs.Turn.{cause_of_turn, fails_to_write};
 
@@ -14,7 +14,7 @@ use crate::line::{ByteRead, LINE_LIMIT, LineRead, read_byte, read_line};
 use crate::lists::Lists;
 use crate::message::{Cause, Message};
 use crate::status::{ACCEPTED, LINE_FAULT, STOPPED};
-use crate::watched::{WatchedReader, WatchedWriter};
+use wb_streams::{WatchedReader, WatchedWriter};
 use crate::write::write_line;
 use deb_text::is_blank_line;
 use std::alloc::Global;

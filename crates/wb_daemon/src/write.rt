@@ -5,10 +5,10 @@ ghost use Rattle.std.specs.String.{string_bytes};
 ghost use Rattle.std.specs.Io.KnownBytes.{Appends};
 ghost use Rattle.std.specs.Prelude.{true, false};
 ghost use Rattle.wb_daemon.specs.Line.{with_line_feed};
-ghost use Rattle.wb_daemon.specs.Streams.{Flags};
+ghost use Rattle.wb_streams.specs.Streams.{Flags};
 ghost use Rattle.wb_daemon.specs.Turn.{AppendsFront};
 
-use crate::watched::WatchedWriter;
+use wb_streams::WatchedWriter;
 use std::alloc::{AllocError, Global};
 use std::io::Write;
 

@@ -3,8 +3,9 @@ use super::lists::MemoryLists;
 use std::alloc::Global;
 use std::io::{self, ErrorKind, Read, Write};
 use std::test::Fail;
-use wb_daemon::{WatchedReader, WatchedWriter, run_lines};
+use wb_daemon::run_lines;
 use wb_office::Office;
+use wb_streams::{WatchedReader, WatchedWriter};
 
 /// A reader of one byte at a time that fails after so many reads.
 struct FailingReader<'a> {

@@ -2,8 +2,9 @@
 use std::alloc::{AllocError, Global};
 use std::io::{self, Read};
 use std::test::Fail;
-use wb_daemon::{Lists, WatchedReader, WatchedWriter, run_lines};
+use wb_daemon::{Lists, run_lines};
 use wb_office::Office;
+use wb_streams::{WatchedReader, WatchedWriter};
 
 /// Lists in memory: the name and the text of each.
 pub(super) struct MemoryLists<'a> {

@@ -2,7 +2,7 @@
 use Rattle.std.proofs.Common.{not, refl, subst, take, inl, inr}
 use Rattle.std.specs.Io.KnownBytes.{Appends}
 use Rattle.wb_daemon.specs.Line.{with_line_feed}
-use Rattle.wb_daemon.specs.Streams.{Flags}
+use Rattle.wb_streams.specs.Streams.{Flags}
 use Rattle.wb_daemon.specs.Turn.{AppendsFront, StopsAtLine}
 use Rattle.wb_daemon.proofs.AnswerLemmas.{answers-long, answers-long_cut, stops_turn}
 use Rattle.wb_daemon.proofs.RunLemmas.{FailsFor-answer, StopsAtLine-written, short_line}
