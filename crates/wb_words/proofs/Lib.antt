@@ -2,6 +2,7 @@ pub mod ArgumentLemmas
 pub mod InvocationLemmas
 pub mod LiteralLemmas
 pub mod RowLemmas
+pub mod SubcommandLemmas
 pub mod TreeLemmas
 pub mod UsageLemmas
 pub mod StartLemmas

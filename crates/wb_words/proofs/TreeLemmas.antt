@@ -1,72 +1,99 @@
--- The command line is one of which clap says what it reads.
-use Rattle.std.proofs.Common.{◌≡◌, true, refl, List, [], ◌∷◌, Option, None, Some, option_and_then, option_map, inl, inr, ap, sym, ◌∙◌, subst}
-use Rattle.clap.specs.Words.{App, HasKind, Kinds, Row, Text, fault_of, is_simple, is_simple_and_free, kind_of, subcommand_of}
+-- What a line asks for, by what clap reads of the one subcommand that its first word names.
+use Rattle.std.proofs.Common.{◌≡◌, ◌∙◌, refl, sym, ap, ap₂, inl, inr, true, List, [], ◌∷◌, Option, None, Some, option_and_then, map, option_map, is_some, false, Result, Ok, Err, IfOk, IfErr}
+use Rattle.std.proofs.Common.{◌<◌, ◌≤◌, ◌-◌, length, get_or, take, drop, take_all, arith}
+use Rattle.std.specs.Borrow.{Bor}
+use Rattle.clap.specs.Words.{App, HasKind, Kinds, Row, Text, fault_of, is_simple, is_simple_and_free, kind_of, matches_of, subcommand_of}
 use Rattle.clap.specs.declared.error.Error.{Error}
 use Rattle.clap.specs.declared.error.kind.ErrorKind.TheVariants.{OutOfMemory}
 use Rattle.clap.proofs.OnLiterals.{clap_on_literals}
+use Rattle.wb_words.specs.declared.fault.WordsFault.{WordsFault}
+use Rattle.wb_words.specs.declared.fault.WordsFault.TheVariants.{Memory}
 use Rattle.wb_words.specs.declared.words.Invocation.{Invocation}
-use Rattle.wb_words.specs.Usages.{wb_app}
+use Rattle.wb_words.specs.Faults.{Reads}
+use Rattle.wb_words.specs.Usages.{Argument, arguments_named, subcommand_app, wb_app, wb_usages}
 use Rattle.wb_words.specs.Words.{invocation_in, invocation_named, unless_faulty}
+use Rattle.wb_words.proofs.SubcommandLemmas.{Fails, fault_of-known, fault_of-unknown, own_app, own_app-free, own_app-simple, subcommand_app-written, subcommand_of-known}
+use Rattle.wb_words.proofs.SubcommandLemmas.{usage_named-found, usage_named-missing}
 
-wb_app-simple : is_simple wb_app ≡ true
-unfolding wb_app clap_on_literals
-wb_app-simple = refl
+unless_faulty-fails : (kinds : Kinds) (invocation : Option Invocation) → Fails kinds → unless_faulty kinds invocation ≡ None
+unless_faulty-fails [] invocation h = absurd h
+unless_faulty-fails (kind ∷ kinds) invocation h = refl
 
-wb_app-free : is_simple_and_free wb_app ≡ true
-unfolding wb_app clap_on_literals
-wb_app-free = refl
-
--- an error that is no want of memory has a kind, and then there is no command
+-- an error that is not for memory has a kind, and then there is no command
 unless_faulty-failed : (kinds : Kinds) (error : Error) (invocation : Option Invocation) → HasKind kinds error
     → (kind_of error ≡ OutOfMemory → ⊥) → unless_faulty kinds invocation ≡ None
 unless_faulty-failed [] error invocation (inl h) other = absurd (other h)
 unless_faulty-failed [] error invocation (inr h) other = absurd h
 unless_faulty-failed (kind ∷ kinds) error invocation h other = refl
 
-pub invocation_in-failed : (app : App) (words : List Text) (error : Error) → app ≡ wb_app
-    → (is_simple_and_free app ≡ true → HasKind (fault_of app words) error)
-    → (kind_of error ≡ OutOfMemory → ⊥) → invocation_in words ≡ None
+-- no words ask for nothing
+pub invocation_in-nothing : (words : List (Bor Text)) → length words < 1 → invocation_in (map (λ word. word.now) words) ≡ None
+unfolding invocation_in wb_app clap_on_literals
+invocation_in-nothing [] none = refl
+invocation_in-nothing (word ∷ words) none = absurd (omega arith)
+
+-- a line is its first word and the others
+pub words-cut : (words : List (Bor Text)) (d : Bor Text) → 1 ≤ length words
+    → map (λ word. word.now) words ≡ (get_or words 0 d).now ∷ map (λ word. word.now) (take (length words - 1) (drop 1 words))
+words-cut [] d some = absurd (omega arith)
+words-cut (word ∷ words) d some = ap (λ (rest : List (Bor Text)). word.now ∷ map (λ (other : Bor Text). other.now) rest) (sym (take_all (length (word ∷ words) - 1) words (omega arith)))
+
+-- words whose first names no subcommand ask for nothing
+pub invocation_in-unknown : (name : Text) (rest : List Text) → None ≡ arguments_named name wb_usages → invocation_in (name ∷ rest) ≡ None
 unfolding invocation_in
-invocation_in-failed app words error e h other =
-    let fails : HasKind (fault_of wb_app words) error =
-    subst (λ (a : App). HasKind (fault_of a words) error) e (h (ap is_simple_and_free e ∙ wb_app-free)) in
-    unless_faulty-failed (fault_of wb_app words) error _ fails other
+invocation_in-unknown name rest missing =
+    unless_faulty-fails _ (option_and_then invocation_named (subcommand_of wb_app (name ∷ rest))) (fault_of-unknown name rest (usage_named-missing name wb_usages missing))
 
--- what words ask for in which there is no fault is what the subcommand that was met asks for
-invocation_in-met : (app : App) (words : List Text) (met : Option (Text × List Row)) → app ≡ wb_app
-    → (is_simple_and_free app ≡ true → fault_of app words ≡ [])
-    → (is_simple app ≡ true → met ≡ subcommand_of app words)
-    → invocation_in words ≡ option_and_then invocation_named met
-unfolding invocation_in
-invocation_in-met app words met e free read =
-    let none : fault_of wb_app words ≡ [] = subst (λ (a : App). fault_of a words ≡ []) e (free (ap is_simple_and_free e ∙ wb_app-free)) in
-    let same : met ≡ subcommand_of wb_app words = subst (λ (a : App). met ≡ subcommand_of a words) e (read (ap is_simple e ∙ wb_app-simple)) in
-    ap (λ (kinds : Kinds). unless_faulty kinds (option_and_then invocation_named (subcommand_of wb_app words))) none
-    ∙ ap (λ (named : Option (Text × List Row)). option_and_then invocation_named named) (sym same)
+-- the first word names a subcommand, of which this is the command
+module _ (app : App) (name : Text) (rest : List Text) (arguments : List Argument)
+    (named : Some arguments ≡ arguments_named name wb_usages)
+    (is : app ≡ subcommand_app (name, arguments)) where
+  own : app ≡ own_app (name, arguments)
+  own = is ∙ subcommand_app-written (name, arguments)
 
--- no subcommand was met
-pub invocation_in-none : (app : App) (words : List Text) (met : Option (Text × List Row)) → app ≡ wb_app
-    → (is_simple_and_free app ≡ true → fault_of app words ≡ [])
-    → (is_simple app ≡ true → met ≡ subcommand_of app words)
-    → None ≡ option_map (λ (named : Text × List Row). named.1) met → invocation_in words ≡ None
-invocation_in-none app words None e free read none = invocation_in-met app words None e free read
-invocation_in-none app words (Some named) e free read none = cc
+  free : is_simple_and_free app ≡ true
+  free = ap is_simple_and_free own ∙ own_app-free name (name, arguments) (usage_named-found name arguments wb_usages named)
 
-met-named : {X : Type 0} (name_of : X → Text) (rows_of : X → List Row) (met : Option X) (name : Text) (rows : List Row)
-    → Some name ≡ option_map name_of met
-    → Some rows ≡ option_map (λ (named : Text × List Row). named.1) (option_map {U = Text × List Row} (λ x. (name_of x, rows_of x)) met)
-    → option_map {U = Text × List Row} (λ x. (name_of x, rows_of x)) met ≡ Some (name, rows)
-met-named name_of rows_of None name rows p q = cc
-met-named name_of rows_of (Some x) name rows p q = cc
+  simple : is_simple app ≡ true
+  simple = ap is_simple own ∙ own_app-simple name (name, arguments) (usage_named-found name arguments wb_usages named)
 
--- a subcommand of this name was met, with these arguments
-pub invocation_in-named : {X : Type 0} (app : App) (words : List Text) (name_of : X → Text) (rows_of : X → List Row) (met : Option X) (name : Text) (rows : List Row)
-    → app ≡ wb_app
-    → (is_simple_and_free app ≡ true → fault_of app words ≡ [])
-    → (is_simple app ≡ true → option_map {U = Text × List Row} (λ x. (name_of x, rows_of x)) met ≡ subcommand_of app words)
-    → Some name ≡ option_map name_of met
-    → Some rows ≡ option_map (λ (named : Text × List Row). named.1) (option_map {U = Text × List Row} (λ x. (name_of x, rows_of x)) met)
-    → invocation_in words ≡ invocation_named (name, rows)
-invocation_in-named app words name_of rows_of met name rows e free read p q =
-    invocation_in-met app words (option_map {U = Text × List Row} (λ x. (name_of x, rows_of x)) met) e free read
-    ∙ ap (λ (named : Option (Text × List Row)). option_and_then invocation_named named) (met-named name_of rows_of met name rows p q)
+  invocation_in-known : invocation_in (name ∷ rest) ≡ unless_faulty (fault_of app rest) (invocation_named (name, matches_of app rest))
+  unfolding invocation_in
+  invocation_in-known =
+      let found = usage_named-found name arguments wb_usages named in
+      ap₂ (λ (kinds : Kinds) (met : Option (Text × List Row)). unless_faulty kinds (option_and_then invocation_named met))
+      (fault_of-known name rest arguments found) (subcommand_of-known name rest arguments found)
+      ∙ ap (λ (a : App). unless_faulty (fault_of a rest) (invocation_named (name, matches_of a rest))) (sym own)
+
+  -- an error that is not for memory is a fault of the words
+  pub invocation_in-failed : (error : Error) → (is_simple_and_free app ≡ true → HasKind (fault_of app rest) error)
+      → (kind_of error ≡ OutOfMemory → ⊥) → invocation_in (name ∷ rest) ≡ None
+  invocation_in-failed error fails other = invocation_in-known ∙ unless_faulty-failed (fault_of app rest) error _ (fails free) other
+
+  -- words that are read ask for what the subcommand asks for with these arguments
+  pub invocation_in-read : (rows : List Row) → (is_simple_and_free app ≡ true → fault_of app rest ≡ [])
+      → (is_simple app ≡ true → rows ≡ matches_of app rest) → invocation_in (name ∷ rest) ≡ invocation_named (name, rows)
+  invocation_in-read rows none read = invocation_in-known
+      ∙ ap₂ (λ (kinds : Kinds) (given : List Row). unless_faulty kinds (invocation_named (name, given))) (none free) (sym (read simple))
+
+-- ---- what is asked for is what is read
+
+pub reads-value : {X : Type 0} (asked wanted : Option X) (r : Result X WordsFault) → asked ≡ wanted → Reads wanted r → IfOk r (λ read. asked ≡ Some read)
+reads-value asked wanted (Ok read) e h = e ∙ h
+reads-value asked wanted (Err fault) e h = tt
+
+pub reads-refused : {X : Type 0} (asked wanted : Option X) (r : Result X WordsFault) → asked ≡ wanted → Reads wanted r
+    → IfErr r (λ fault. (fault ≡ Memory → ⊥) → asked ≡ None)
+reads-refused asked wanted (Ok read) e h = tt
+reads-refused asked wanted (Err fault) e h = λ other. e ∙ h other
+
+-- a fault of any kind is right where nothing is asked for
+pub refused-nothing : {X : Type 0} (asked : Option X) (r : Result X WordsFault) → asked ≡ None → IfErr r (λ fault. (fault ≡ Memory → ⊥) → asked ≡ None)
+refused-nothing asked (Ok read) e = tt
+refused-nothing asked (Err fault) e = λ _. e
+
+-- what was not found has no arguments
+pub named-missing : {A : Type 0} (f : A → List Argument) (found : Option A) (named : Option (List Argument)) → false ≡ is_some found
+    → option_map f found ≡ named → None ≡ named
+named-missing f None named missing e = e
+named-missing f (Some x) named missing e = cc

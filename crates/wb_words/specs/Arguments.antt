@@ -1,4 +1,4 @@
--- What stands in the arguments of a subcommand, by the rows that `clap` found (this project's own).
+-- What the arguments of a subcommand are, by the rows that `clap` found (this project's own).
 use Rattle.std.specs.Prelude.{ℕ, ◌==◌, Bool, List, [], Option, Some, None, codes}
 use Rattle.std.specs.Prelude.{if◌then◌else◌, length, nat_lt, option_and_then, option_map, unwrap_or}
 use Rattle.std.specs.List.{after_first, before_first, join_by, position_or_len}
@@ -19,7 +19,7 @@ word_of id rows = first_of id rows
 abbrev pub joined : List Text → Text
 joined words = join_by (λ word. word) (codes " ") words
 
--- the words that were given for an argument, none where it was not given
+-- the words that were given for an argument, none if it was not given
 abbrev pub all_words_of : Text → List Row → List Text
 all_words_of id rows = unwrap_or (all_of id rows) []
 
@@ -40,7 +40,7 @@ number_in text = if is_unsigned_in 0 number_limit text
 unfoldable pub number_of : Text → List Row → Option ℕ
 number_of id rows = option_and_then number_in (word_of id rows)
 
--- the number that was given for an argument, where a word was given
+-- the number that was given for an argument, if a word was given
 abbrev pub number_if : Option Text → Option (Option ℕ)
 number_if None = Some None
 number_if (Some text) = option_map (λ number. Some number) (number_in text)
@@ -62,7 +62,7 @@ subject_of rows = option_and_then (λ arch. option_and_then (λ source. option_m
 abbrev pub is_equals_sign : ℕ → Bool
 is_equals_sign c = c == 61
 
--- the part that a word names: the architecture before its first =, and the file behind it
+-- the part that a word names: the architecture before its first =, and the file after it
 unfoldable pub part_in : Text → Option PartNames
 part_in word = if nat_lt (position_or_len is_equals_sign word) (length word)
     then Some (record {
@@ -70,7 +70,7 @@ part_in word = if nat_lt (position_or_len is_equals_sign word) (length word)
       packages = after_first is_equals_sign word;
     }) else None
 
--- the parts that the words name, where each of them names one
+-- the parts that the words name, if each of them names one
 abbrev pub parts_in : List Text → Option (List PartNames)
 parts_in words = all_some part_in words
 

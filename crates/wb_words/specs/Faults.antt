@@ -1,5 +1,5 @@
--- What is printed of the faults of words, for a person to read (this project's own).
-use Rattle.std.specs.Prelude.{ℕ, List, codes}
+-- Why words are not read, and what is printed of it for a person (this project's own).
+use Rattle.std.specs.Prelude.{◌≡◌, ◌≢◌, ℕ, List, MatchResult, None, Option, Result, Some, codes}
 use Rattle.wb_words.specs.declared.fault.WordsFault.{WordsFault}
 use Rattle.wb_words.specs.declared.fault.WordsFault.TheVariants.{NoCommand, Memory}
 
@@ -7,3 +7,8 @@ use Rattle.wb_words.specs.declared.fault.WordsFault.TheVariants.{NoCommand, Memo
 abbrev pub fault_text : WordsFault → List ℕ
 fault_text NoCommand = codes "the words are no command"
 fault_text Memory = codes "there is no memory for it now"
+
+-- a reading of words: its value, or a fault that is out of memory or says that there is no value
+abbrev pub Reads : {X : Type 0} → Option X → Result X WordsFault → Type 0
+Reads value result = MatchResult result (λ read. value ≡ Some read)
+    (λ fault. fault ≢ Memory → value ≡ None)

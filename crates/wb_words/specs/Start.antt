@@ -1,4 +1,4 @@
--- What the words after the program's name ask of it, where `clap` reads them (this project's own).
+-- What the words after the program's name ask of it, as `clap` reads them (this project's own).
 use Rattle.std.specs.Prelude.{◌≡◌, ◌≢◌, ◌⊎◌, List, [], ◌∷◌, Bool, true, false, codes}
 use Rattle.std.specs.Str.{bytes_eq}
 use Rattle.clap.specs.Words.{App, IsAmong, Kinds, Text, fault_of, new_app, with_subcommand}
@@ -22,7 +22,7 @@ abbrev pub begins_with_help : List Text → Bool
 begins_with_help [] = false
 begins_with_help (word ∷ words) = bytes_eq word (codes "help")
 
--- the faults that `clap` finds in the words, of which a wish for help is one
+-- the faults that `clap` finds in the words; asking for help is one of them
 unfoldable pub start_faults : List Text → Kinds
 start_faults words = fault_of start_app words
 
@@ -31,7 +31,7 @@ abbrev pub Starts : List Text → Start → Type 0
 Starts words Run = (begins_with_help words ≡ false) × (start_faults words ≡ [])
 Starts words Help = (begins_with_help words ≡ true) ⊎ IsAmong DisplayHelp (start_faults words)
 
--- the words ask for nothing that there is: a fault of another kind comes first
+-- the words ask for neither: a fault of another kind comes first
 abbrev pub IsNoStart : List Text → Type 0
 IsNoStart words = (begins_with_help words ≡ false)
     × ((kind : ErrorKind) × IsAmong kind (start_faults words) × (kind ≢ DisplayHelp))

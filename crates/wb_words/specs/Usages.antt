@@ -1,6 +1,7 @@
 -- The subcommands of the office with their arguments, as `clap` knows them (this project's own).
-use Rattle.std.specs.Prelude.{List, [], ◌∷◌, ◌++◌, Some, true, codes, map}
+use Rattle.std.specs.Prelude.{List, [], ◌∷◌, ◌++◌, Option, Some, true, codes, find, map, option_map}
 use Rattle.std.specs.Borrow.{Bor}
+use Rattle.std.specs.Str.{bytes_eq}
 use Rattle.clap.specs.Lexer.{usize_max}
 use Rattle.clap.specs.Words.{App, Rule, Shape, Text, new_app, new_rule, with_rule, with_subcommand}
 use Rattle.clap.specs.declared.builder.action.ArgAction.TheVariants.{Append, Set}
@@ -17,12 +18,13 @@ Argument = Text × ArgumentKind
 abbrev pub Usage : Type 0
 Usage = Text × List Argument
 
+-- the arguments that a table of references holds
+abbrev pub arguments_in : List (Bor Text × ArgumentKind) → List Argument
+arguments_in = map (λ argument. (argument.0.now, argument.1))
+
 -- the usages that a table of references holds
 abbrev pub usages_in : List (Bor Text × Bor (List (Bor Text × ArgumentKind))) → List Usage
-usages_in = map (λ usage. (
-  usage.0.now,
-  map (λ argument. (argument.0.now, argument.1)) usage.1.now,
-))
+usages_in = map (λ usage. (usage.0.now, arguments_in usage.1.now))
 
 -- the arguments that take one word each
 abbrev pub word_arguments : List Text → List Argument
@@ -61,6 +63,18 @@ builder_usages = (codes "next", arch_and_builder ++ (codes "after", NamedWord) �
 -- the subcommands that read lists of the archive
 abbrev pub list_usages : List Usage
 list_usages = (codes "merge", (codes "sources", Word) ∷ (codes "parts", SomeWords) ∷ []) ∷ []
+
+-- all subcommands
+unfoldable pub wb_usages : List Usage
+wb_usages = operator_usages ++ builder_usages ++ list_usages
+
+-- the first usage of a subcommand
+abbrev pub usage_named : Text → List Usage → Option Usage
+usage_named name usages = find (λ usage. bytes_eq usage.0 name) usages
+
+-- the arguments of a subcommand
+abbrev pub arguments_named : Text → List Usage → Option (List Argument)
+arguments_named name usages = option_map (λ usage. usage.1) (usage_named name usages)
 
 -- ---- the command line, as `clap` knows it
 
@@ -108,3 +122,17 @@ bare_app = record (new_app (codes "wb")) {
 -- the command of a line, with all its subcommands
 unfoldable pub wb_app : App
 wb_app = with_usages (with_usages (with_usages bare_app operator_usages) builder_usages) list_usages
+
+-- a command that takes no subcommand and gives no help
+abbrev pub bare_subcommand : Text → App
+bare_subcommand name = record (new_app name) {
+  top = record ((new_app name).top) {
+    no_binary_name = true;
+    disable_help_flag = true;
+    disable_help_subcommand = true;
+  };
+}
+
+-- the command of a line after its first word, which names the subcommand
+abbrev pub subcommand_app : Usage → App
+subcommand_app usage = with_arguments (bare_subcommand usage.0) usage.1

@@ -1,4 +1,4 @@
--- What the words of a line ask of the office, where `clap` reads them (this project's own).
+-- What the words of a line ask of the office, as `clap` reads them (this project's own).
 use Rattle.std.specs.Prelude.{◌==◌, List, [], ◌∷◌, Option, Some, None, codes, if◌then◌else◌}
 use Rattle.std.specs.Prelude.{option_and_then, option_map}
 use Rattle.std.specs.List.{slice_split}
@@ -113,7 +113,7 @@ builder_command name rows = if bytes_eq name (codes "next") then next_of rows
 
 -- ---- what reads lists
 
--- to merge the lists that stand in files
+-- to merge the lists in files
 unfoldable pub merge_of : List Row → Option Invocation
 merge_of rows = option_and_then (λ sources. option_map (λ parts. invocation.Merge sources parts)
     (parts_of (codes "parts") rows)) (word_of (codes "sources") rows)
@@ -128,7 +128,7 @@ list_invocation name rows = if bytes_eq name (codes "merge") then merge_of rows 
 unfoldable pub command_named : Text → List Row → Option Command
 command_named name rows = option_or (operator_command name rows) (builder_command name rows)
 
--- a command, and where there is none what is asked else
+-- a command, or if there is none what else is asked for
 abbrev pub or_asked : Option Command → Option Invocation → Option Invocation
 or_asked (Some command) next = Some (invocation.Command command)
 or_asked None next = next
@@ -137,7 +137,7 @@ or_asked None next = next
 unfoldable pub invocation_named : Text × List Row → Option Invocation
 invocation_named named = or_asked (command_named named.0 named.1) (list_invocation named.0 named.1)
 
--- what is asked, where the words have no fault
+-- what is asked for, if the words have no fault
 abbrev pub unless_faulty : Kinds → Option Invocation → Option Invocation
 unless_faulty [] invocation = invocation
 unless_faulty (kind ∷ kinds) invocation = None
@@ -147,6 +147,6 @@ unfoldable pub invocation_in : List Text → Option Invocation
 invocation_in words = unless_faulty (fault_of wb_app words)
     (option_and_then invocation_named (subcommand_of wb_app words))
 
--- what a text asks for whose words are parted by one space each
+-- what a text asks for in which single spaces separate the words
 abbrev pub invocation_by : Text → Option Invocation
 invocation_by text = invocation_in (slice_split (λ c. c == 32) text)

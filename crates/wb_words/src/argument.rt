@@ -1,9 +1,12 @@
 //! The arguments of a subcommand, one by one.
-ghost use Rattle.std.specs.Prelude.{◌≡◌, map, IfOk};
+ghost use Rattle.std.specs.Prelude.{◌≡◌, map, IfErr, IfOk};
 ghost use Rattle.clap.specs.Words.{found_of, rows_of};
 ghost use Rattle.wb_words.specs.Arguments.{joined, number_in, number_of, optional_number_of, subject_of};
 ghost use Rattle.wb_words.specs.Arguments.{word_of, words_of};
+ghost use Rattle.wb_words.specs.Faults.{Reads};
+ghost use Rattle.wb_words.specs.declared.fault.WordsFault.TheVariants.{NoCommand};
 
+use crate::WordsFault;
 use clap::ArgMatches;
 use deb_text::Text;
 use std::alloc::{AllocError, Global};
@@ -19,20 +22,14 @@ pub struct Subject {
     pub version: Text,
 }
 
-/// A copy of the word that was given for the argument `id`, or `None` where there is none. The only
-/// error is that there is no memory for the copy.
+/// A copy of the word that was given for the argument `id`. The errors are `NoCommand` if no word was
+/// given, and `Memory` if there is no memory for the copy.
 #[tactic(auto, using(crate::proofs::RowLemmas::row_laws), unfolding(crate::specs::Arguments::word_of))]
-pub(crate) fn word(
-    alloc: Global,
-    arguments: &ArgMatches<'_>,
-    id: &str,
-) -> Result<Option<Text>, AllocError>
-    ensures value { IfOk result (λ text. text ≡ word_of id.now (rows_of (found_of arguments.now))) }
+pub(crate) fn word(alloc: Global, arguments: &ArgMatches<'_>, id: &str) -> Result<Text, WordsFault>
+    ensures value { Reads (word_of id.now (rows_of (found_of arguments.now))) result }
 {
-    match arguments.get_str(id) {
-        Some(word) => Ok(Some(Text::copied(alloc, word)?)),
-        None => Ok(None),
-    }
+    let word = arguments.get_str(id).ok_or(WordsFault::NoCommand)?;
+    Ok(Text::copied(alloc, word)?)
 }
 
 /// The words with one space between each two. The only error is that there is no memory for the text.
@@ -43,8 +40,8 @@ fn joined(alloc: Global, words: &[&str]) -> Result<Text, AllocError>
     Ok(Text::from(words.join(alloc, " ")?))
 }
 
-/// The words that were given for the argument `id`, joined by one space each; the empty text where
-/// there is none. The only error is that there is no memory for the text.
+/// The words that were given for the argument `id`, joined by one space each; the empty text if
+/// there are none. The only error is that there is no memory for the text.
 #[tactic(auto, using(crate::proofs::RowLemmas::row_laws), unfolding(crate::specs::Arguments::words_of))]
 pub(crate) fn words(alloc: Global, arguments: &ArgMatches<'_>, id: &str) -> Result<Text, AllocError>
     ensures value { IfOk result (λ text.
@@ -64,53 +61,41 @@ fn number_in(text: &str) -> Option<u64>
     text.parse::<u64>().ok()
 }
 
-/// The number that was given for the argument `id`; `None` where there is none, or another word.
+/// The number that was given for the argument `id`. The error is `NoCommand` if no number was given.
 #[tactic(auto, using(crate::proofs::RowLemmas::row_laws), unfolding(crate::specs::Arguments::word_of, crate::specs::Arguments::number_of))]
-pub(crate) fn number(arguments: &ArgMatches<'_>, id: &str) -> Option<u64>
-    ensures value { result ≡ number_of id.now (rows_of (found_of arguments.now)) }
+pub(crate) fn number(arguments: &ArgMatches<'_>, id: &str) -> Result<u64, WordsFault>
+    ensures value { Reads (number_of id.now (rows_of (found_of arguments.now))) result }
+    ensures memory { IfErr result (λ fault. fault ≡ NoCommand) }
 {
-    match arguments.get_str(id) {
-        Some(word) => number_in(word),
-        None => None,
-    }
+    let word = arguments.get_str(id).ok_or(WordsFault::NoCommand)?;
+    number_in(word).ok_or(WordsFault::NoCommand)
 }
 
-/// The number that was given for the argument `id`, if one was; `None` where another word was given.
+/// The number that was given for the argument `id`; `None` if no word was given. The error is
+/// `NoCommand` if the word is no number.
 #[tactic(auto, using(crate::proofs::RowLemmas::row_laws), unfolding(crate::specs::Arguments::word_of, crate::specs::Arguments::optional_number_of))]
-pub(crate) fn optional_number(arguments: &ArgMatches<'_>, id: &str) -> Option<Option<u64>>
-    ensures value { result ≡ optional_number_of id.now (rows_of (found_of arguments.now)) }
+pub(crate) fn optional_number(
+    arguments: &ArgMatches<'_>,
+    id: &str,
+) -> Result<Option<u64>, WordsFault>
+    ensures value { Reads (optional_number_of id.now (rows_of (found_of arguments.now))) result }
+    ensures memory { IfErr result (λ fault. fault ≡ NoCommand) }
 {
     match arguments.get_str(id) {
-        Some(word) => match number_in(word) {
-            Some(number) => Some(Some(number)),
-            None => None,
-        },
-        None => Some(None),
+        Some(word) => Ok(Some(number_in(word).ok_or(WordsFault::NoCommand)?)),
+        None => Ok(None),
     }
 }
 
-/// The source package that the arguments `arch`, `source` and `version` name; `None` where one of
-/// them is missing. The only error is that there is no memory for the texts.
+/// The source package that the arguments `arch`, `source` and `version` name. The errors are
+/// `NoCommand` if one of them was not given, and `Memory` if there is no memory for the texts.
 #[tactic(auto, unfolding(crate::specs::Arguments::subject_of))]
-pub(crate) fn read_subject(
-    alloc: Global,
-    arguments: &ArgMatches<'_>,
-) -> Result<Option<Subject>, AllocError>
-    ensures value { IfOk result (λ subject.
-        subject ≡ subject_of (rows_of (found_of arguments.now))) }
+pub(crate) fn read_subject(alloc: Global, arguments: &ArgMatches<'_>) -> Result<Subject, WordsFault>
+    ensures value { Reads (subject_of (rows_of (found_of arguments.now))) result }
 {
-    let Some(arch) = word(alloc, arguments, "arch")? else {
-        return Ok(None);
-    };
-    let Some(source) = word(alloc, arguments, "source")? else {
-        return Ok(None);
-    };
-    let Some(version) = word(alloc, arguments, "version")? else {
-        return Ok(None);
-    };
-    Ok(Some(Subject {
-        arch,
-        source,
-        version,
-    }))
+    Ok(Subject {
+        arch: word(alloc, arguments, "arch")?,
+        source: word(alloc, arguments, "source")?,
+        version: word(alloc, arguments, "version")?,
+    })
 }

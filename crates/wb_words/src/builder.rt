@@ -1,13 +1,14 @@
 //! The subcommands of builders.
-ghost use Rattle.std.specs.Prelude.{◌≡◌, IfOk};
 ghost use Rattle.clap.specs.Words.{found_of, rows_of};
+ghost use Rattle.wb_words.specs.Faults.{Reads};
 ghost use Rattle.wb_words.specs.Words.{builder_command, built_of, next_of, put_back_of, take_of};
 ghost use Rattle.wb_words.specs.Words.{uploaded_of, waits_of};
 
+use crate::WordsFault;
 use crate::argument::{number, optional_number, read_subject, word, words};
 use crate::usage::ArgumentKind;
 use clap::ArgMatches;
-use std::alloc::{AllocError, Global};
+use std::alloc::Global;
 use wb_states::{Command, command};
 
 /// The subcommands with their arguments.
@@ -41,100 +42,82 @@ pub static USAGES: [(&str, &[(&str, ArgumentKind)]); 6] = [
     ),
 ];
 
-/// The builder's command `name` with these arguments; `None` where `name` is no subcommand of
-/// builders, an argument is missing, or a take number is no number. The only error is that there is
-/// no memory for its texts.
+/// The builder's command `name` with these arguments. The errors are `NoCommand` if `name` is no
+/// subcommand of builders, an argument was not given, or a take number is no number; and `Memory` if
+/// there is no memory for its texts.
 #[tactic(auto, unfolding(crate::specs::Words::builder_command))]
 pub(crate) fn builder_command(
     alloc: Global,
     name: &str,
     arguments: &ArgMatches<'_>,
-) -> Result<Option<Command>, AllocError>
-    ensures value { IfOk result (λ command.
-        command ≡ builder_command name.now (rows_of (found_of arguments.now))) }
+) -> Result<Command, WordsFault>
+    ensures value { Reads (builder_command name.now (rows_of (found_of arguments.now))) result }
 {
     match name {
         "next" => next(alloc, arguments),
         "take" => take(alloc, arguments),
-        "built" => Ok(built(arguments)),
-        "uploaded" => Ok(uploaded(arguments)),
-        "put-back" => Ok(put_back(arguments)),
+        "built" => built(arguments),
+        "uploaded" => uploaded(arguments),
+        "put-back" => put_back(arguments),
         "waits" => waits(alloc, arguments),
-        _ => Ok(None),
+        _ => Err(WordsFault::NoCommand),
     }
 }
 
 #[tactic(auto, unfolding(crate::specs::Words::next_of))]
-fn next(alloc: Global, arguments: &ArgMatches<'_>) -> Result<Option<Command>, AllocError>
-    ensures value { IfOk result (λ command. command ≡ next_of (rows_of (found_of arguments.now))) }
+fn next(alloc: Global, arguments: &ArgMatches<'_>) -> Result<Command, WordsFault>
+    ensures value { Reads (next_of (rows_of (found_of arguments.now))) result }
 {
-    let Some(arch) = word(alloc, arguments, "arch")? else {
-        return Ok(None);
-    };
-    let Some(builder) = word(alloc, arguments, "builder")? else {
-        return Ok(None);
-    };
-    let Some(after) = optional_number(arguments, "after") else {
-        return Ok(None);
-    };
-    Ok(Some(Command::Next(command::Next {
-        arch,
-        builder,
-        after,
-    })))
+    Ok(Command::Next(command::Next {
+        arch: word(alloc, arguments, "arch")?,
+        builder: word(alloc, arguments, "builder")?,
+        after: optional_number(arguments, "after")?,
+    }))
 }
 
 #[tactic(auto, unfolding(crate::specs::Words::take_of))]
-fn take(alloc: Global, arguments: &ArgMatches<'_>) -> Result<Option<Command>, AllocError>
-    ensures value { IfOk result (λ command. command ≡ take_of (rows_of (found_of arguments.now))) }
+fn take(alloc: Global, arguments: &ArgMatches<'_>) -> Result<Command, WordsFault>
+    ensures value { Reads (take_of (rows_of (found_of arguments.now))) result }
 {
-    let Some(subject) = read_subject(alloc, arguments)? else {
-        return Ok(None);
-    };
-    let Some(builder) = word(alloc, arguments, "builder")? else {
-        return Ok(None);
-    };
-    Ok(Some(Command::Take(command::Take {
+    let subject = read_subject(alloc, arguments)?;
+    Ok(Command::Take(command::Take {
         arch: subject.arch,
-        builder,
+        builder: word(alloc, arguments, "builder")?,
         source: subject.source,
         version: subject.version,
-    })))
+    }))
 }
 
 #[tactic(auto, unfolding(crate::specs::Words::built_of))]
-fn built(arguments: &ArgMatches<'_>) -> Option<Command>
-    ensures value { result ≡ built_of (rows_of (found_of arguments.now)) }
+fn built(arguments: &ArgMatches<'_>) -> Result<Command, WordsFault>
+    ensures value { Reads (built_of (rows_of (found_of arguments.now))) result }
 {
     let take_number = number(arguments, "take")?;
-    Some(Command::Built(command::Held { take_number }))
+    Ok(Command::Built(command::Held { take_number }))
 }
 
 #[tactic(auto, unfolding(crate::specs::Words::uploaded_of))]
-fn uploaded(arguments: &ArgMatches<'_>) -> Option<Command>
-    ensures value { result ≡ uploaded_of (rows_of (found_of arguments.now)) }
+fn uploaded(arguments: &ArgMatches<'_>) -> Result<Command, WordsFault>
+    ensures value { Reads (uploaded_of (rows_of (found_of arguments.now))) result }
 {
     let take_number = number(arguments, "take")?;
-    Some(Command::Uploaded(command::Held { take_number }))
+    Ok(Command::Uploaded(command::Held { take_number }))
 }
 
 #[tactic(auto, unfolding(crate::specs::Words::put_back_of))]
-fn put_back(arguments: &ArgMatches<'_>) -> Option<Command>
-    ensures value { result ≡ put_back_of (rows_of (found_of arguments.now)) }
+fn put_back(arguments: &ArgMatches<'_>) -> Result<Command, WordsFault>
+    ensures value { Reads (put_back_of (rows_of (found_of arguments.now))) result }
 {
     let take_number = number(arguments, "take")?;
-    Some(Command::PutBack(command::Held { take_number }))
+    Ok(Command::PutBack(command::Held { take_number }))
 }
 
 #[tactic(auto, unfolding(crate::specs::Words::waits_of))]
-fn waits(alloc: Global, arguments: &ArgMatches<'_>) -> Result<Option<Command>, AllocError>
-    ensures value { IfOk result (λ command. command ≡ waits_of (rows_of (found_of arguments.now))) }
+fn waits(alloc: Global, arguments: &ArgMatches<'_>) -> Result<Command, WordsFault>
+    ensures value { Reads (waits_of (rows_of (found_of arguments.now))) result }
 {
-    let Some(take_number) = number(arguments, "take") else {
-        return Ok(None);
-    };
-    Ok(Some(Command::Waits(command::Waits {
-        take_number,
+    Ok(Command::Waits(command::Waits {
+        take_number: number(arguments, "take")?,
         relations: words(alloc, arguments, "relations")?,
-    })))
+    }))
 }

@@ -9,8 +9,8 @@ use std::fmt;
 /// Why the words of a line gave no command.
 #[derive(Clone, Copy, Debug, PartialEq, Eq)]
 pub enum WordsFault {
-    /// The words are no command: the subcommand is missing or unknown, or is help; an argument is
-    /// missing, is no number where one is wanted, or no part; or there is a word too many, an unknown
+    /// The words are no command. The subcommand is missing or unknown, or is help; an argument is
+    /// missing, or is malformed as a number or as a part; or there is a word too many, an unknown
     /// option, or `--after` twice or without its number.
     NoCommand,
     /// There is no memory to read them now.
@@ -53,7 +53,7 @@ impl<T: Drop> From<AllocFailed<T>> for WordsFault {
     }
 }
 
-/// Want of memory stays what it is; each other error says that the words are no command.
+/// Out of memory stays out of memory; each other error says that the words are no command.
 impl From<clap::Error> for WordsFault {
     ghost use Rattle.std.specs.Prelude.{◌↔◌};
     ghost use Rattle.clap.specs.Words.{kind_of};

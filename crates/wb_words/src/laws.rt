@@ -12,7 +12,8 @@ ghost use Rattle.wb_states.specs.Forms.{PutBack, Rebuild, Take};
 ghost use Rattle.wb_states.specs.Forms.{Uploaded, Waits};
 ghost use Rattle.wb_words.specs.Arguments.{joined, number_in, parts_in};
 ghost use Rattle.wb_words.specs.Start.{IsNoStart, Starts};
-ghost use Rattle.wb_words.specs.Words.{invocation_by, invocation_in, command_named};
+ghost use Rattle.wb_words.specs.Usages.{usage_named, wb_usages};
+ghost use Rattle.wb_words.specs.Words.{command_named, invocation_by, invocation_in};
 ghost use Rattle.wb_words.specs.declared.start.Start.TheVariants.{Help, Run};
 ghost use Rattle.wb_words.specs.declared.words.Invocation.TheVariants.{Command, Merge};
 
@@ -55,8 +56,8 @@ pub fn builder_lines_are_commands()
         ≡ Some (Command (Waits 1 (codes "libc6"))) }
 {}
 
-/// A merge names the file of the Sources list and then parts, each cut at its first `=`. A part may
-/// lack its architecture: the office refuses that.
+/// A merge names the file of the Sources list, and then parts. Each part is cut at its first `=`. Its
+/// architecture may be empty here: the office refuses that.
 pub fn merge_lines_name_files()
     ensures one { invocation_by (codes "merge S amd64=P")
         ≡ Some (Merge (codes "S") (record { arch = codes "amd64"; packages = codes "P" } ∷ [])) }
@@ -69,8 +70,8 @@ pub fn merge_lines_name_files()
         ≡ Some (Merge (codes "S") (record { arch = codes "a"; packages = codes "b=c" } ∷ [])) }
 {}
 
-/// Several words of a last argument are joined by one space, also where `--` comes before them or
-/// between them: the first `--` is no word, and a word behind it is no option.
+/// One space joins the words of a last argument. The first `--`, before or between them, is none of
+/// the words, and a word after it is no option.
 pub fn last_words_are_joined()
     ensures relations { invocation_by (codes "waits 1 libc6 (>= 2), gcc")
         ≡ Some (Command (Waits 1 (codes "libc6 (>= 2), gcc"))) }
@@ -84,7 +85,7 @@ pub fn last_words_are_joined()
         ≡ Some (Command (Rebuild (codes "a") (codes "s") (codes "v") 1 (codes "help - me"))) }
 {}
 
-/// The option `--after` stands where it will before `--`, with its number behind a space or `=`.
+/// The option `--after` may be anywhere before `--`. Its number comes after a space or `=`.
 pub fn options_are_read()
     ensures last { invocation_by (codes "next a b --after 5")
         ≡ Some (Command (Next (codes "a") (codes "b") (Some 5))) }
@@ -112,8 +113,8 @@ pub fn numbers_are_read()
     ensures after { invocation_by (codes "next a b --after=") ≡ None }
 {}
 
-/// Behind `--` each word is an argument as it stands, whatever its bytes are, and so is what stands behind
-/// `--after=`: these are all texts. A last argument of several words has two of them here.
+/// After `--` each word is an argument, whatever its bytes are, and so is what comes after `--after=`:
+/// these are all texts. A last argument of several words has two of them here.
 pub fn any_words_are_arguments()
     // of operators
     ensures add_arch { (name os cpu : List ℕ) → invocation_in (codes "add-arch" ∷ codes "--" ∷ name ∷ os
@@ -163,8 +164,8 @@ pub fn any_words_are_arguments()
         ≡ option_map (λ parts. Merge sources parts) (parts_in (first ∷ second ∷ [])) }
 {}
 
-/// Nothing ask for: no words, an unknown subcommand, help in its three forms, an argument that is
-/// missing, a word too many, and an option.
+/// These words ask for nothing: no words, an unknown subcommand, help in its three forms, words without
+/// an argument, a word too many, and an option.
 pub fn other_words_are_none()
     // the subcommand
     ensures none { invocation_in [] ≡ None }
@@ -179,8 +180,14 @@ pub fn other_words_are_none()
     ensures option { invocation_by (codes "next amd64 -b1") ≡ None }
 {}
 
-/// Nothing ask for: no relations where they are wanted, an option in a note, no part, a part
-/// without `=`, and an option `--after` that comes twice or has no number.
+/// Words whose first is the name of no subcommand ask for nothing, whatever follows.
+pub fn other_names_are_none()
+    ensures { (name : Text) (others : List Text) → usage_named name wb_usages ≡ None
+        → invocation_in (name ∷ others) ≡ None }
+{}
+
+/// These words ask for nothing: `waits` without relations, an option in a note, a merge without a part,
+/// a part without `=`, and an option `--after` that comes twice or has no number.
 pub fn other_arguments_are_none()
     // the last words
     ensures relations { invocation_by (codes "waits 1") ≡ None }
@@ -206,7 +213,7 @@ pub fn starts_are_read()
     ensures many { IsNoStart (codes "run" ∷ codes "now" ∷ codes "-h" ∷ []) }
 {}
 
-/// A command is asked for by its own name, which its answer then tells.
+/// A command is asked for by its own name, which its answer then reports.
 pub fn commands_go_by_their_names()
     ensures { (name : Text) (rows : List Row) (command : AnyCommand)
         → command_named name rows ≡ Some command → name ≡ name_of_command command }

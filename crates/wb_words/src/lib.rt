@@ -15,4 +15,4 @@ mod words;
 
 pub use fault::WordsFault;
 pub use start::{HELP, Start, start_of};
-pub use words::{Invocation, PartNames, invocation_of, fault_of};
+pub use words::{Invocation, PartNames, fault_of, invocation_of};

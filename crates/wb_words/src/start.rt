@@ -17,51 +17,58 @@ pub enum Start {
     Help,
 }
 
-/// The text that says how the program is used, for a terminal.
+/// How the program is used, as text for a terminal.
 pub const HELP: &str = "\
 The central office of an autobuilder network.
 
-Usage: wb run
+Usage:
+  wb run          Answers the commands of its input
+  wb help         Prints this text
+  wb --version    Prints the version
 
-`wb run` reads one command from each line of its input and answers each with
-one line of JSON. The commands are:
+`wb run` reads one command from each line of its input. It answers each command
+with one line of JSON. The commands are:
 
   add-arch NAME OS CPU
           Adds an architecture
   add-builder NAME ARCH
           Lets a builder build for an architecture
   enter ARCH SOURCE VERSION PRIORITY SECTION
-          Puts a source package into the queue of an architecture
+          Puts a new source package into the queue of an architecture
   next ARCH BUILDER [--after N]
-          Gives a builder the first source package of the queue, or tells it
-          again of what it builds under the first take number after N
+          Gives a builder the first source package of the queue. With --after,
+          if the builder still builds under a take number above N, repeats the
+          answer with the smallest of them
   take ARCH BUILDER SOURCE VERSION
           Gives a builder this source package of the queue
   built TAKE
-          The builder built what it took
+          Reports that the builder built the source package
   uploaded TAKE
-          The builder uploaded what it built
+          Reports that the builder uploaded what it built
   waits TAKE RELATIONS..
-          What was taken waits for these relations
+          Reports that the source package waits for these relations
   put-back TAKE
-          Puts what was taken back into the queue
+          Puts the source package back into the queue
   give-back ARCH SOURCE VERSION
           Puts a source package back into the queue
   dep-wait ARCH SOURCE VERSION RELATIONS..
           Lets a source package wait for these relations
   fail ARCH SOURCE VERSION [NOTE..]
-          The build failed
+          Reports that the build failed
   not-for-us ARCH SOURCE VERSION [NOTE..]
-          The source package is not to be built on the architecture
+          Says that the source package is not built on this architecture
   rebuild ARCH SOURCE VERSION NUMBER [MESSAGE..]
-          Builds an installed source package once more, under this number
+          Builds an installed source package again, under this number
   merge SOURCESFILE PART..
-          Brings the records in line with the archive's lists; a part is
-          ARCH=PACKAGESFILE, for each architecture
+          Brings the records in line with the lists of the archive. A PART is
+          ARCH=PACKAGESFILE. Give one for each architecture
 
-Words are parted by spaces and tabs. A word of two or more bytes that begins
-with a hyphen is an option, unless the word -- comes before it. A last
-argument that ends in .. takes several words.
+TAKE is the take number in the answer to next or take. An argument in brackets
+may be left out. An argument that ends in .. takes several words.
+
+Spaces and tabs separate words, and there are no quotes. A word of two or more
+bytes that begins with a hyphen is an option. After the word -- it is an
+argument.
 ";
 
 /// Whether the first word is `help`.
@@ -88,10 +95,10 @@ fn start_app<'a>(alloc: Global) -> Result<Command<'a>, AllocError>
 
 /// Reads the words after the program's name.
 ///
-/// `help` as the first word asks for help, whatever follows; `--help` and `-h` do where no word
-/// before them is at fault or is `--`. The error is that of `clap`, with a text for the terminal:
-/// the words ask for nothing that there is, or there is no memory to read them, which may come at
-/// any words. The grammar is this project's own.
+/// `help` as the first word asks for help, whatever follows; `--help` and `-h` do if no word before
+/// them is at fault or is `--`. The error is that of `clap`, with a text for the terminal: the words
+/// ask for neither, or there is no memory to read them, which may come at any words. The grammar is
+/// this project's own.
 pub fn start_of<'a>(alloc: Global, words: &'a [&'a str]) -> Result<Start, Error>
     ensures value { IfOk result (Starts (map (λ word. word.now) words.entry.now)) }
     ensures refused { IfErr result (λ error. kind_of error ≢ OutOfMemory

@@ -1,9 +1,10 @@
 //! The command line as `clap` knows it: the subcommands with their arguments.
-ghost use Rattle.std.specs.Prelude.{◌≡◌, false, map, IfOk};
+ghost use Rattle.std.specs.Prelude.{◌≡◌, false, map, option_map, IfOk};
 ghost use Rattle.clap.specs.Walk.{rule_of};
 ghost use Rattle.clap.specs.Words.{app_of, new_app, with_subcommand};
 ghost use Rattle.clap.specs.declared.builder.command.Command.TheViews.{out-Command};
-ghost use Rattle.wb_words.specs.Usages.{rule_for, usages_in, wb_app, with_arguments, with_usages};
+ghost use Rattle.wb_words.specs.Usages.{arguments_in, arguments_named, rule_for, subcommand_app};
+ghost use Rattle.wb_words.specs.Usages.{usages_in, wb_app, wb_usages, with_arguments, with_usages};
 
 use crate::usage::ArgumentKind;
 use crate::{builder, lists, operator};
@@ -24,22 +25,23 @@ fn argument<'a>(alloc: Global, id: &'a str, kind: ArgumentKind) -> Arg<'a>
     }
 }
 
-/// A subcommand that takes these arguments, in their order.
-fn subcommand<'a>(
+/// The command with these arguments, in their order.
+fn with_arguments<'a>(
     alloc: Global,
-    name: &'a str,
+    command: Command<'a>,
     arguments: &'a [(&'a str, ArgumentKind)],
 ) -> Result<Command<'a>, AllocError>
-    ensures value { IfOk result (λ command. app_of command ≡ with_arguments (new_app name.entry.now)
-        (map (λ argument. (argument.0.now, argument.1)) arguments.entry.now)) }
-    ensures local { IfOk result (λ command. (out-Command command).has_globals ≡ false) }
+    requires { (out-Command command).has_globals ≡ false }
+    ensures value { IfOk result (λ made. app_of made ≡ with_arguments (app_of command.entry)
+        (arguments_in arguments.entry.now)) }
+    ensures local { IfOk result (λ made. (out-Command made).has_globals ≡ false) }
 {
-    let mut command = Command::new(alloc, name);
+    let mut made = command;
     for taken in arguments {
         let added = argument(alloc, taken.0, taken.1);
-        command = command.arg(added)?;
+        made = made.arg(added)?;
     }
-    Ok(command)
+    Ok(made)
 }
 
 /// The command with a subcommand for each of `usages`, a name with the arguments that it takes.
@@ -55,7 +57,7 @@ fn with_subcommands<'a>(
 {
     let mut made = command;
     for usage in usages {
-        let added = subcommand(alloc, usage.0, usage.1)?;
+        let added = with_arguments(alloc, Command::new(alloc, usage.0), usage.1)?;
         made = made.subcommand(added)?;
     }
     Ok(made)
@@ -74,4 +76,46 @@ pub(crate) fn wb_app<'a>(alloc: Global) -> Result<Command<'a>, AllocError>
     let operators = with_subcommands(alloc, bare, operator::USAGES.as_slice())?;
     let builders = with_subcommands(alloc, operators, builder::USAGES.as_slice())?;
     with_subcommands(alloc, builders, lists::USAGES.as_slice())
+}
+
+/// The command of a line after its first word, which is the subcommand `name` with these arguments.
+pub(crate) fn subcommand_app<'a>(
+    alloc: Global,
+    name: &'a str,
+    arguments: &'a [(&'a str, ArgumentKind)],
+) -> Result<Command<'a>, AllocError>
+    ensures value { IfOk result (λ command. app_of command
+        ≡ subcommand_app (name.entry.now, arguments_in arguments.entry.now)) }
+{
+    let bare = Command::new(alloc, name)
+        .no_binary_name(true)
+        .disable_help_flag(true)
+        .disable_help_subcommand(true);
+    with_arguments(alloc, bare, arguments)
+}
+
+/// The arguments of the first of `usages` with this name; `None` if there is none.
+fn arguments_among<'a>(
+    usages: &'a [(&'a str, &'a [(&'a str, ArgumentKind)])],
+    name: &str,
+) -> Option<&'a [(&'a str, ArgumentKind)]>
+    ensures value { option_map (λ arguments. arguments_in arguments.now) result
+        ≡ arguments_named name.now (usages_in usages.entry.now) }
+{
+    for usage in usages {
+        if usage.0 == name {
+            return Some(usage.1);
+        }
+    }
+    None
+}
+
+/// The arguments of the subcommand `name`; `None` if there is no such subcommand.
+pub(crate) fn arguments_of<'a>(name: &str) -> Option<&'a [(&'a str, ArgumentKind)]>
+    ensures value { option_map (λ arguments. arguments_in arguments.now) result
+        ≡ arguments_named name.now wb_usages }
+{
+    arguments_among(operator::USAGES.as_slice(), name)
+        .or(arguments_among(builder::USAGES.as_slice(), name))
+        .or(arguments_among(lists::USAGES.as_slice(), name))
 }

@@ -2,9 +2,10 @@
 ghost use Rattle.std.specs.Prelude.{◌≡◌, ◌≢◌, None, Some, map, IfErr, IfOk};
 ghost use Rattle.clap.specs.Words.{found_of, rows_of};
 ghost use Rattle.wb_words.specs.declared.fault.WordsFault.TheVariants.{Memory};
-ghost use Rattle.wb_words.specs.Words.{invocation_in, invocation_named, command_named};
+ghost use Rattle.wb_words.specs.Faults.{Reads};
+ghost use Rattle.wb_words.specs.Words.{command_named, invocation_in, invocation_named};
 
-use crate::tree::wb_app;
+use crate::tree::{arguments_of, subcommand_app, wb_app};
 use crate::{WordsFault, builder, lists, operator};
 use clap::ArgMatches;
 use deb_text::{Items, Text};
@@ -16,86 +17,83 @@ use wb_states::Command;
 pub struct PartNames {
     /// The architecture.
     pub arch: Text,
-    /// The file in which its Packages list stands.
+    /// The name of the file that has its Packages list.
     pub packages: Text,
 }
 
 /// What the words of a line ask for.
 #[derive(Debug, Drop)]
 pub enum Invocation {
-    /// A command that is whole.
+    /// A command with all its arguments.
     Command {
         command: Command,
     },
-    /// A merge of the lists that stand in these files.
+    /// A merge of the lists in these files.
     Merge {
         sources: Text,
         parts: Items<PartNames>,
     },
 }
 
-/// The command `name` with these arguments; `None` where `name` is no subcommand of operators or
-/// builders, or an argument is missing or no number. The only error is that there is no memory for
-/// its texts.
+/// The command `name` with these arguments. The errors are `NoCommand` if `name` is no subcommand of
+/// operators or builders, or an argument was not given or is no number; and `Memory` if there is no
+/// memory for its texts.
 #[tactic(auto, unfolding(crate::specs::Words::command_named))]
 fn command_named(
     alloc: Global,
     name: &str,
     arguments: &ArgMatches<'_>,
-) -> Result<Option<Command>, AllocError>
-    ensures value { IfOk result (λ command.
-        command ≡ command_named name.now (rows_of (found_of arguments.now))) }
+) -> Result<Command, WordsFault>
+    ensures value { Reads (command_named name.now (rows_of (found_of arguments.now))) result }
 {
-    match operator::operator_command(alloc, name, arguments)? {
-        Some(command) => Ok(Some(command)),
-        None => builder::builder_command(alloc, name, arguments),
+    match operator::operator_command(alloc, name, arguments) {
+        Err(WordsFault::NoCommand) => builder::builder_command(alloc, name, arguments),
+        read => read,
     }
 }
 
-/// What the subcommand `name` asks for with these arguments; `None` where `name` is no subcommand,
-/// or an argument is missing or of another form. The only error is that there is no memory for its
-/// texts.
+/// What the subcommand `name` asks for with these arguments. The errors are `NoCommand` if `name` is
+/// no subcommand, or an argument was not given or is malformed; and `Memory` if there is no memory
+/// for its texts.
 #[tactic(auto, unfolding(crate::specs::Words::invocation_named))]
 fn invocation_named(
     alloc: Global,
     name: &str,
     arguments: &ArgMatches<'_>,
-) -> Result<Option<Invocation>, AllocError>
-    ensures value { IfOk result (λ invocation.
-        invocation ≡ invocation_named (name.now, rows_of (found_of arguments.now))) }
+) -> Result<Invocation, WordsFault>
+    ensures value { Reads (invocation_named (name.now, rows_of (found_of arguments.now))) result }
 {
-    match command_named(alloc, name, arguments)? {
-        Some(command) => Ok(Some(Invocation::Command { command })),
-        None => lists::list_invocation(alloc, name, arguments),
+    match command_named(alloc, name, arguments) {
+        Ok(command) => Ok(Invocation::Command { command }),
+        Err(WordsFault::NoCommand) => lists::list_invocation(alloc, name, arguments),
+        Err(memory) => Err(memory),
     }
 }
 
 /// Reads the words of one line, of which the first is the subcommand.
 ///
-/// Each word is one argument, whatever bytes it has; several words of a last argument are joined by
-/// one space, but each part of a merge is one of its own. A word of two or more bytes that begins
-/// with a hyphen is an option, unless the word `--` came before it; the only option that there is is
-/// `--after` of `next`. Numbers are whole, from 0 to 2^64 - 1, in decimal digits; one plus sign may
-/// stand before them. The errors are `NoCommand` where the words are no command, and `Memory`, which
-/// may come at any words. The grammar is this project's own.
+/// Each word is one argument, whatever bytes it has. One space joins the words of a last argument, but
+/// each part of a merge is an argument of its own. A word of two or more bytes that begins with a
+/// hyphen is an option, unless the word `--` came before it. The only option is `--after` of `next`.
+/// Numbers are whole, from 0 to 2^64 - 1, in decimal digits, after at most one plus sign. The errors
+/// are `NoCommand` if the words are no command, and `Memory`, which may come at any words. The grammar
+/// is this project's own.
 pub fn invocation_of<'a>(alloc: Global, words: &'a [&'a str]) -> Result<Invocation, WordsFault>
     ensures value { IfOk result (λ invocation.
         invocation_in (map (λ word. word.now) words.entry.now) ≡ Some invocation) }
     ensures refused { IfErr result (λ fault. fault ≢ Memory
         → invocation_in (map (λ word. word.now) words.entry.now) ≡ None) }
 {
-    let matches = wb_app(alloc)?.try_get_matches_from(words)?;
-    let Some((name, arguments)) = matches.subcommand() else {
+    let [name, given @ ..] = words else {
         return Err(WordsFault::NoCommand);
     };
-    match invocation_named(alloc, name, arguments)? {
-        Some(invocation) => Ok(invocation),
-        None => Err(WordsFault::NoCommand),
-    }
+    let wanted = arguments_of(name).ok_or(WordsFault::NoCommand)?;
+    let arguments = subcommand_app(alloc, name, wanted)?.try_get_matches_from(given)?;
+    invocation_named(alloc, name, &arguments)
 }
 
-/// Why words are no command, for a person: what `clap` says of them, or that an argument which it takes is
-/// no number or no part. The error is that there is no memory for the text.
+/// Why words are no command, for a person: what `clap` says of them, or that an argument is malformed
+/// as a number or as a part. The error is that there is no memory for the text.
 pub fn fault_of<'a>(alloc: Global, words: &'a [&'a str]) -> Result<String, AllocError> {
     match wb_app(alloc)?.try_get_matches_from(words) {
         Ok(_) => format!(in alloc; "an argument is no number, or no part ARCH=PACKAGESFILE"),

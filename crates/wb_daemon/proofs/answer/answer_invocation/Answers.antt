@@ -1,5 +1,6 @@
 -- What may be said to the command may be said to what the line asks for.
 use Rattle.std.proofs.Common.{refl, sym, subst, inl, inr, IfNone, IfSome}
+use Rattle.std.proofs.lemmas.Option.{IfSome_then}
 use Rattle.wb_daemon.specs.Lists.{MayReadMerge, LacksMerge}
 use Rattle.wb_daemon.specs.Run.{InvokesAs}
 use Rattle.wb_daemon.specs.Turn.{response_of_answer, IsInvocationResponseOrMemory}
@@ -50,3 +51,23 @@ returns-in-Err-clause-value g c = (
   subst (λ invocation. IsInvocationResponseOrMemory (g.L.Lists.may_read c.args.lists.now) c.args.office.now invocation (response_of_answer c.memory_answer.result c.args.office.now))
       (sym c.in-Merge.is) (inr (tt, c.memory_answer.ensures.value c.args.office.now)),
 )
+
+pub returns-in-Command-clause-stops : goal.returns-in-Command-clause-stops
+returns-in-Command-clause-stops g c =
+    IfSome_then c.answer_to.result c.answer_to.ensures.stops (λ answer refused stops. (
+      c.in-Command.command,
+      subst (λ invocation. InvokesAs (g.L.Lists.may_read c.args.lists.now) invocation c.in-Command.command) (sym c.in-Command.is) refl,
+      refused stops,
+    ))
+
+pub returns-in-Ok-Some-clause-stops : goal.returns-in-Ok-Some-clause-stops
+returns-in-Ok-Some-clause-stops g c =
+    let may_read = g.L.Lists.may_read c.args.lists.now in
+    let found = subst (λ found. IfSome found (λ command. MayReadMerge may_read c.in-Merge.sources c.as_slice.result.now command))
+    c.in-Ok-Some.field-0-is c.in-Ok-Some.ensures.value in
+    let given = subst (λ parts. MayReadMerge may_read c.in-Merge.sources parts c.in-Ok-Some.command) c.as_slice.ensures found in
+    IfSome_then c.answer_to-in-Ok-Some.result c.answer_to-in-Ok-Some.ensures.stops (λ answer refused stops. (
+      c.in-Ok-Some.command,
+      subst (λ invocation. InvokesAs may_read invocation c.in-Ok-Some.command) (sym c.in-Merge.is) given,
+      refused stops,
+    ))

@@ -31,3 +31,9 @@ returns-in-Err-Memory-clause-value g c =
       IsLineResponse-memory (g.L.Lists.may_read c.args.lists.now) c.args.office.now c.args.line.now _ c.requires.short c.requires.words utf8
           (c.memory_answer.ensures.value c.args.office.now),
     )
+
+pub returns-in-Ok-clause-stops : goal.returns-in-Ok-clause-stops
+returns-in-Ok-clause-stops g c =
+    IfSome_then c.answer_invocation.result c.answer_invocation.ensures.stops (λ answer refused stops.
+    let h = refused stops in
+    (h.0, LineInvokes-invocation (g.L.Lists.may_read c.args.lists.now) c.args.line.now c.in-Ok.invocation h.0 c.requires.short c.requires.words c.in-Ok.ensures.value h.1, h.2))
