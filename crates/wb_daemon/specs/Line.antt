@@ -1,6 +1,6 @@
 -- The lines that a run reads (this project's own).
 use Rattle.std.specs.Prelude.{◌≡◌, ◌⊎◌, ℕ, ◌-◌, ◌≤◌, Bool, true, false, nat_lt, if◌then◌else◌, List, [], ◌∷◌, ◌++◌, length, take, Option}
-use Rattle.std.specs.List.{flat_map, list_all, slice_split}
+use Rattle.std.specs.List.{flat_map, slice_split}
 use Rattle.std.specs.Io.KnownBytes.{Consumes, IsAtEnd}
 use Rattle.deb_text.specs.Lines.{is_line_feed, IsOneLine}
 use Rattle.wb_daemon.specs.declared.line.LineRead.{LineRead}
