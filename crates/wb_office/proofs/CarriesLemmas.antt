@@ -14,7 +14,7 @@ use Rattle.wb_office.specs.Checks.{MayWantMemory}
 use Rattle.wb_office.specs.Step.{Outcome, step}
 use Rattle.wb_office.proofs.WantLemmas.{wanted}
 
--- ---- an outcome is reached
+-- ---- a part of a command
 
 -- a check refuses
 pub reaches-refused : {machine : Machine} {outcome : Outcome} {refusal : Refusal} → outcome ≡ (Err refusal, machine)
@@ -32,7 +32,7 @@ reaches-returned {machine = machine} (Err returned) same is = record {
   unchanged = refl;
 }
 
--- the last call writes the outcome, or it wants memory and writes nothing
+-- the last call writes the outcome, or memory runs out and it writes nothing
 pub reaches-kept : {old new : Machine} {outcome : Outcome} {result : Result Reply Refusal}
     → IfOk result (λ reply. outcome ≡ (Ok reply, new)) → IfErr result (λ refusal. refusal ≡ Memory) → OnErr result (new ≡ old)
     → Reaches old new outcome result
@@ -42,7 +42,7 @@ reaches-kept {result = result} reply none unchanged = record {
   unchanged = unchanged;
 }
 
--- ---- a command is carried out
+-- ---- a command
 
 -- a check refuses
 pub carries-refused : {machine : Machine} {command : Command} {refusal : Refusal} → (IsOfMachine refusal → step machine command ≡ (Err refusal, machine))

@@ -9,11 +9,11 @@ use Rattle.wb_states.specs.Refusals.{IsOfMachine}
 use Rattle.wb_office.specs.Checks.{MayWantMemory}
 use Rattle.wb_office.specs.Step.{Outcome, step}
 
--- an outcome is reached, or memory was wanted for it
+-- a part of a command comes to an outcome, or memory runs out and nothing changes
 pub record Reaches (old new : Machine) (outcome : Outcome) (result : Result Reply Refusal) : Type 0 where
-  -- an accepted command has the reply of the outcome, and its state
+  -- what is accepted has the reply of the outcome, and leaves its state
   pub reply : IfOk result (λ reply. outcome ≡ (Ok reply, new))
-  -- a refusal is that of the outcome, whose state is the old one
+  -- a refusal other than out of memory is that of the outcome, whose state is the old one
   pub refused : IfErr result (λ refusal. IsOfMachine refusal → outcome ≡ (Err refusal, old))
   -- after each refusal the state is as it was
   pub unchanged : OnErr result (new ≡ old)
@@ -22,9 +22,9 @@ pub record Reaches (old new : Machine) (outcome : Outcome) (result : Result Repl
 pub record Carries (old new : Machine) (command : Command) (result : Result Reply Refusal) : Type 0 where
   -- an accepted command is one step: its reply, and the state after it
   pub reply : IfOk result (λ reply. step old command ≡ (Ok reply, new))
-  -- a refusal is that of the step, which leaves the state as it was
+  -- a refusal other than out of memory is that of the step, which leaves the state as it was
   pub refused : IfErr result (λ refusal. IsOfMachine refusal → step old command ≡ (Err refusal, old))
-  -- memory is wanted only for a command whose texts are refused in no way that is seen without it
+  -- memory runs out only for a command whose texts no check without memory refuses
   pub memory : IfErr result (λ refusal. refusal ≡ Memory → MayWantMemory command)
   -- after each refusal the state is as it was
   pub unchanged : OnErr result (new ≡ old)
