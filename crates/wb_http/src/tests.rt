@@ -79,7 +79,7 @@ const NEXT: &str =
     "POST /v1/next HTTP/1.1\r\nHost: localhost\r\nContent-Length: 31\r\n\r\n{\"arch\":\"amd64\",\"builder\":\"b1\"}";
 
 /// Requests without a body, or with one that plays no part, and what they are.
-const HEADS: [(&str, &str); 36] = [
+static HEADS: [(&str, &str); 36] = [
     ("", "nothing"),
     ("\u{1}", "BadHead"),
     ("GET /v1/item/a/b HTTP/1.1\r\n", "BadHead"),
@@ -147,17 +147,17 @@ const HEADS: [(&str, &str); 36] = [
 
 #[test]
 fn each_head_has_its_fault(rt: HostRuntime) -> Result<(), Fail> {
-    for (input, want) in HEADS {
+    for (input, want) in &HEADS {
         for step in [1, 7, 100_000] {
             let got = received(rt.alloc(), input.as_bytes(), step);
-            assert_eq!(rt; word_of(&got), want, "{input} by {step}");
+            assert_eq!(rt; word_of(&got), *want, "{input} by {step}");
         }
     }
     Ok(())
 }
 
 /// The lengths that fields state, and what a request for the next source package with them is.
-const LENGTHS: [(&str, &str); 9] = [
+static LENGTHS: [(&str, &str); 9] = [
     ("Content-Length: 31", "next"),
     ("Content-Length: 0031", "next"),
     ("Content-Length: \t31 ", "next"),
@@ -171,12 +171,12 @@ const LENGTHS: [(&str, &str); 9] = [
 
 #[test]
 fn each_length_is_its_number(rt: HostRuntime) -> Result<(), Fail> {
-    for (field, want) in LENGTHS {
+    for (field, want) in &LENGTHS {
         let input = format!(in rt.alloc();
             "POST /v1/next HTTP/1.1\r\n{field}\r\n\r\n{{\"arch\":\"amd64\",\"builder\":\"b1\"}}"
         )?;
         let got = received(rt.alloc(), input.as_bytes(), 10);
-        assert_eq!(rt; word_of(&got), want, "with {field}");
+        assert_eq!(rt; word_of(&got), *want, "with {field}");
     }
     Ok(())
 }
@@ -273,7 +273,7 @@ fn heads_have_limits(rt: HostRuntime) -> Result<(), Fail> {
 }
 
 /// Bodies for each path, and what they are.
-const BODIES: [(&str, &str, &str); 38] = [
+static BODIES: [(&str, &str, &str); 38] = [
     ("next", r#"{"arch":"a","builder":"b","after":null}"#, "next"),
     (
         "next",
@@ -396,13 +396,13 @@ const BODIES: [(&str, &str, &str); 38] = [
 
 #[test]
 fn each_body_gives_its_command(rt: HostRuntime) -> Result<(), Fail> {
-    for (path, body, want) in BODIES {
+    for (path, body, want) in &BODIES {
         let length = body.len();
         let input = format!(in rt.alloc();
             "POST /v1/{path} HTTP/1.1\r\nContent-Length: {length}\r\n\r\n{body}"
         )?;
         let got = received(rt.alloc(), input.as_bytes(), 100_000);
-        assert_eq!(rt; word_of(&got), want, "{body} to {path}");
+        assert_eq!(rt; word_of(&got), *want, "{body} to {path}");
     }
     Ok(())
 }
@@ -493,7 +493,7 @@ fn each_write_fails_in_turn(rt: HostRuntime) -> Result<(), Fail> {
 }
 
 /// The faults in their order, with the codes of their statuses.
-const FAULTS: [(Fault, u16, &str); 11] = [
+static FAULTS: [(Fault, u16, &str); 11] = [
     (Fault::HeadTooLarge, 431, "HeadTooLarge"),
     (Fault::BadHead, 400, "BadHead"),
     (Fault::NoRoute, 404, "NoRoute"),
@@ -509,10 +509,10 @@ const FAULTS: [(Fault, u16, &str); 11] = [
 
 #[test]
 fn faults_have_names_and_statuses(rt: HostRuntime) -> Result<(), Fail> {
-    for (fault, code, name) in FAULTS {
+    for (fault, code, name) in &FAULTS {
         let status = fault.status();
-        assert_eq!(rt; status.code(), code);
-        assert_eq!(rt; fault.name(), name);
+        assert_eq!(rt; status.code(), *code);
+        assert_eq!(rt; fault.name(), *name);
         let text = format!(in rt.alloc(); "{code} ")?;
         assert!(rt; status.code_and_phrase().starts_with(text.as_str()));
     }
