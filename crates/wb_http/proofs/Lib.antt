@@ -1,4 +1,5 @@
 pub mod FieldLemmas
+pub mod LawLemmas
 pub mod NumberLemmas
 pub mod RequestLemmas
 pub mod RouteLemmas

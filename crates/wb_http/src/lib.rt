@@ -7,6 +7,7 @@ mod command;
 mod fault;
 mod fields;
 mod head;
+pub mod laws;
 mod request;
 mod route;
 mod status;

@@ -1,6 +1,7 @@
 use crate::{Fault, Query, Received, Request, Status, read_request, write_answer};
 use std::alloc::Global;
 use std::io::{self, ErrorKind, Read, Write};
+use std::process::Abort;
 use std::test::Fail;
 use wb_states::Command;
 use wb_streams::{WatchedReader, WatchedWriter};
@@ -79,7 +80,7 @@ const NEXT: &str =
     "POST /v1/next HTTP/1.1\r\nHost: localhost\r\nContent-Length: 31\r\n\r\n{\"arch\":\"amd64\",\"builder\":\"b1\"}";
 
 /// Requests without a body, or with one that plays no part, and what they are.
-const HEADS: [(&str, &str); 36] = [
+static HEADS: [(&str, &str); 36] = [
     ("", "nothing"),
     ("\u{1}", "BadHead"),
     ("GET /v1/item/a/b HTTP/1.1\r\n", "BadHead"),
@@ -145,19 +146,22 @@ const HEADS: [(&str, &str); 36] = [
     ),
 ];
 
-#[test]
-fn each_head_has_its_fault(rt: HostRuntime) -> Result<(), Fail> {
-    for (input, want) in HEADS {
-        for step in [1, 7, 100_000] {
-            let got = received(rt.alloc(), input.as_bytes(), step);
-            assert_eq!(rt; word_of(&got), want, "{input} by {step}");
-        }
+fn assert_heads(rt: &impl Abort, alloc: Global, cases: &[(&str, &str)], step: usize) {
+    for (input, want) in cases {
+        let got = received(alloc, input.as_bytes(), step);
+        assert_eq!(rt; word_of(&got), *want, "{input}");
     }
-    Ok(())
+}
+
+#[test]
+fn each_head_has_its_fault(rt: HostRuntime) {
+    assert_heads(&rt, rt.alloc(), &HEADS, 100_000);
+    assert_heads(&rt, rt.alloc(), &HEADS, 1);
+    assert_heads(&rt, rt.alloc(), &HEADS, 7);
 }
 
 /// The lengths that fields state, and what a request for the next source package with them is.
-const LENGTHS: [(&str, &str); 9] = [
+static LENGTHS: [(&str, &str); 9] = [
     ("Content-Length: 31", "next"),
     ("Content-Length: 0031", "next"),
     ("Content-Length: \t31 ", "next"),
@@ -169,16 +173,20 @@ const LENGTHS: [(&str, &str); 9] = [
     ("Content-Length: 99999999999999999999999999", "BodyTooLarge"),
 ];
 
-#[test]
-fn each_length_is_its_number(rt: HostRuntime) -> Result<(), Fail> {
-    for (field, want) in LENGTHS {
-        let input = format!(in rt.alloc();
-            "POST /v1/next HTTP/1.1\r\n{field}\r\n\r\n{{\"arch\":\"amd64\",\"builder\":\"b1\"}}"
-        )?;
-        let got = received(rt.alloc(), input.as_bytes(), 10);
-        assert_eq!(rt; word_of(&got), want, "with {field}");
+fn assert_lengths(rt: &impl Abort, alloc: Global, cases: &[(&str, &str)]) -> Result<(), Fail> {
+    for (field, want) in cases {
+        let mut input = String::from_str(alloc, "POST /v1/next HTTP/1.1\r\n")?;
+        input.push_str(field)?;
+        input.push_str("\r\n\r\n{\"arch\":\"amd64\",\"builder\":\"b1\"}")?;
+        let got = received(alloc, input.as_bytes(), 10);
+        assert_eq!(rt; word_of(&got), *want, "with {field}");
     }
     Ok(())
+}
+
+#[test]
+fn each_length_is_its_number(rt: HostRuntime) -> Result<(), Fail> {
+    assert_lengths(&rt, rt.alloc(), &LENGTHS)
 }
 
 #[test]
@@ -273,7 +281,7 @@ fn heads_have_limits(rt: HostRuntime) -> Result<(), Fail> {
 }
 
 /// Bodies for each path, and what they are.
-const BODIES: [(&str, &str, &str); 38] = [
+static BODIES: [(&str, &str, &str); 38] = [
     ("next", r#"{"arch":"a","builder":"b","after":null}"#, "next"),
     (
         "next",
@@ -394,17 +402,28 @@ const BODIES: [(&str, &str, &str); 38] = [
     ),
 ];
 
-#[test]
-fn each_body_gives_its_command(rt: HostRuntime) -> Result<(), Fail> {
-    for (path, body, want) in BODIES {
-        let length = body.len();
-        let input = format!(in rt.alloc();
-            "POST /v1/{path} HTTP/1.1\r\nContent-Length: {length}\r\n\r\n{body}"
-        )?;
-        let got = received(rt.alloc(), input.as_bytes(), 100_000);
-        assert_eq!(rt; word_of(&got), want, "{body} to {path}");
+/// What a command with this path and this body is.
+fn word_of_body(alloc: Global, path: &str, body: &str) -> Result<&'static str, Fail> {
+    let mut input = String::from_str(alloc, "POST /v1/")?;
+    input.push_str(path)?;
+    input.push_str(" HTTP/1.1\r\nContent-Length: ")?;
+    input.push_str(itoa::Buffer::new().format(body.len()))?;
+    input.push_str("\r\n\r\n")?;
+    input.push_str(body)?;
+    Ok(word_of(&received(alloc, input.as_bytes(), 100_000)))
+}
+
+fn assert_bodies(rt: &impl Abort, alloc: Global, cases: &[(&str, &str, &str)]) -> Result<(), Fail> {
+    for (path, body, want) in cases {
+        let got = word_of_body(alloc, path, body)?;
+        assert_eq!(rt; got, *want, "{body} to {path}");
     }
     Ok(())
+}
+
+#[test]
+fn each_body_gives_its_command(rt: HostRuntime) -> Result<(), Fail> {
+    assert_bodies(&rt, rt.alloc(), &BODIES)
 }
 
 /// A body with a further key, whose value is so many arrays inside one another.
@@ -422,20 +441,11 @@ fn nested(alloc: Global, levels: usize) -> Result<String, Fail> {
 
 #[test]
 fn bodies_have_levels(rt: HostRuntime) -> Result<(), Fail> {
-    for (levels, want) in [
-        (100, "next"),
-        (126, "next"),
-        (127, "BadBody"),
-        (200, "BadBody"),
-    ] {
-        let body = nested(rt.alloc(), levels)?;
-        let length = body.len();
-        let text = body.as_str();
-        let input = format!(in rt.alloc();
-            "POST /v1/next HTTP/1.1\r\nContent-Length: {length}\r\n\r\n{text}"
-        )?;
-        let got = received(rt.alloc(), input.as_bytes(), 100_000);
-        assert_eq!(rt; word_of(&got), want, "{levels} levels");
+    let alloc = rt.alloc();
+    for (levels, want) in [(126, "next"), (127, "BadBody"), (200, "BadBody")] {
+        let body = nested(alloc, levels)?;
+        let got = word_of_body(alloc, "next", body.as_str())?;
+        assert_eq!(rt; got, want, "{levels} levels");
     }
     Ok(())
 }
@@ -493,7 +503,7 @@ fn each_write_fails_in_turn(rt: HostRuntime) -> Result<(), Fail> {
 }
 
 /// The faults in their order, with the codes of their statuses.
-const FAULTS: [(Fault, u16, &str); 11] = [
+static FAULTS: [(Fault, u16, &str); 11] = [
     (Fault::HeadTooLarge, 431, "HeadTooLarge"),
     (Fault::BadHead, 400, "BadHead"),
     (Fault::NoRoute, 404, "NoRoute"),
@@ -507,15 +517,15 @@ const FAULTS: [(Fault, u16, &str); 11] = [
     (Fault::BadBody, 400, "BadBody"),
 ];
 
-#[test]
-fn faults_have_names_and_statuses(rt: HostRuntime) -> Result<(), Fail> {
-    for (fault, code, name) in FAULTS {
-        let status = fault.status();
-        assert_eq!(rt; status.code(), code);
-        assert_eq!(rt; fault.name(), name);
-        let text = format!(in rt.alloc(); "{code} ")?;
-        assert!(rt; status.code_and_phrase().starts_with(text.as_str()));
+fn assert_faults(rt: &impl Abort, cases: &[(Fault, u16, &str)]) {
+    for (fault, code, name) in cases {
+        assert_eq!(rt; fault.status().code(), *code);
+        assert_eq!(rt; fault.name(), *name);
     }
+}
+
+#[test]
+fn faults_have_names_and_statuses(rt: HostRuntime) {
+    assert_faults(&rt, &FAULTS);
     assert_eq!(rt; Status::Ok.code_and_phrase(), "200 OK");
-    Ok(())
 }

@@ -1,0 +1,5 @@
+use Rattle.wb_http.proofs.LawLemmas.{head_decides}
+use Rattle.wb_http.proofs.laws.a_head_decides.Goals as goal
+
+pub returns : goal.returns
+returns c = record { value = head_decides }
