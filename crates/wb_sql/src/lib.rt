@@ -1,0 +1,8 @@
+//! What SQL statements on one table mean, with transactions and crashes, over the kit's `sqlite`.
+#![tactic(auto)]
+
+mod reading;
+mod writing;
+
+pub use reading::read;
+pub use writing::{CommitError, Writing, begin};
