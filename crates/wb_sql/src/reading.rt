@@ -4,6 +4,7 @@ ghost use Rattle.sqlite.specs.Values.{bound};
 ghost use Rattle.sqlite.specs.Held.{state};
 ghost use Rattle.sqlite.specs.Given.{IsPlain};
 ghost use Rattle.sqlite.specs.Listing.{understood};
+ghost use Rattle.wb_sql.specs.Queries.{TableQuery, Asks, Answers};
 ghost use Rattle.wb_sql.specs.Transactions.{IsKeptOrUndone};
 
 use sqlite::types::ValueRef;
@@ -16,6 +17,8 @@ pub fn read<S: Alter>(
     sql: &str,
     params: &[ValueRef<'_>],
 ) -> Result<Vec<Row>, Error>
+    ensures answers { HasCleanDisk (state S.Store conn.new) → IfOk result (λ rows. (q : TableQuery) → Asks (state S.Store conn.old).now.schema sql.now q
+        → Answers q (bound params.now) ((state S.Store conn.old).now.trees q.tree) rows.items) }
     ensures shown { HasCleanDisk (state S.Store conn.new) → IfOk result (λ rows. Shown sql.now (bound params.now) (state S.Store conn.old) (state S.Store conn.new) rows.items) }
     ensures same { HasCleanDisk (state S.Store conn.new) → IsPlain (understood (state S.Store conn.old).now.schema sql.now) → OnOk result (IsUnchanged (state S.Store conn.old) (state S.Store conn.new)) }
     ensures err { HasCleanDisk (state S.Store conn.new) → OnErr result (IsKeptOrUndone (state S.Store conn.old) (state S.Store conn.new)) }
