@@ -1,2 +1,4 @@
 pub mod EndingLemmas
 pub mod ReadingLemmas
+pub mod SetLemmas
+pub mod WriteLemmas
