@@ -1,5 +1,5 @@
 -- What INSERT, INSERT OR REPLACE and DELETE on one table do, level by level of the kit's meaning of a statement.
-use Rattle.std.proofs.Common.{◌≡◌, ◌≢◌, ◌⊎◌, inl, inr, ℕ, ◌/◌, ℤ, Bool, true, false, not, ◌&&◌, cond, List, [], ◌∷◌, ◌++◌, length, take, drop, map, filter, flat_map, slice_get, Option, Some, None, Ok, Err, Result, IsTrue, refl, sym, ap, subst, ◌∙◌, append-nil}
+use Rattle.std.proofs.Common.{◌≡◌, ◌≢◌, ◌⊎◌, inl, inr, ℕ, ◌/◌, ◌-◌, ℤ, Bool, true, false, not, ◌&&◌, cond, List, [], ◌∷◌, ◌++◌, length, take, drop, map, filter, flat_map, slice_get, Option, Some, None, Ok, Err, Result, IsTrue, OnOk, refl, sym, ap, subst, ◌∙◌, append-nil}
 use Rattle.std.specs.List.{AllByRecursion, filter_map, list_all}
 use Rattle.std.proofs.lemmas.Bool.{and_parts}
 use Rattle.sqlite.specs.Order.{Row}
@@ -21,14 +21,18 @@ use Rattle.sqlite_rules.specs.Action.{works, work_for, work_by, deed_for, deed_o
 use Rattle.sqlite_rules.specs.declared.action.Deed.{Deed}
 use Rattle.sqlite_rules.specs.Steps.{IsJudged}
 use Rattle.sqlite_rules.specs.Calls.{ids_of}
-use Rattle.sqlite.specs.Rowids.TheVariants.{Chosen, Given}
+use Rattle.sqlite.specs.Rowids.TheVariants.{Chosen, Above, Given}
 use Rattle.sqlite.specs.Edit.{Edit, edit_of, edited, taken_by, Applies, IsNoIndex, without_all, with_rowid, put_all}
 use Rattle.sqlite.specs.Cast.{cast_row}
-use Rattle.sqlite.specs.Effect.{Database}
-use Rattle.sqlite.specs.Rows.{Part, Then, Edited, Written, Task, Puts, Clears, Upserts, Judged, Tries, TriesEach, InsertsOr, Inserts, nothing, mended}
-use Rattle.sqlite.specs.Does.{Tally, Does, OnRows, Concludes, WritesRows}
+use Rattle.sqlite.specs.Effect.{Database, value_rows}
+use Rattle.sqlite.specs.Rows.{Part, Then, Edited, Written, Task, Puts, Clears, Upserts, Judged, Tries, TriesEach, InsertsOr, Inserts, nothing, mended, stamped, rowids_for, count_of, Counts}
+use Rattle.sqlite.specs.Does.{Tally, Does, AtPlace, OnRows, Concludes, WritesRows}
+use Rattle.sqlite.specs.declared.error.Error.{Error}
+use Rattle.sqlite_schema.specs.declared.command.Returning.{Returning}
+use Rattle.sqlite.specs.State.{State, Shows, Writes, Executes, mode_of}
 use Rattle.sqlite.specs.declared.run.Mode.{Mode}
-use Rattle.sqlite.proofs.Callers.{one_step}
+use Rattle.sqlite.proofs.Callers.{one_step, runs_as}
+use Rattle.wb_sql.proofs.ReadingLemmas.{means_as}
 use Rattle.std.proofs.Common.{ap₂}
 use Rattle.std.proofs.lemmas.Bool.{not-true}
 use Rattle.sqlite.specs.Kind.TheVariants.{Integer}
@@ -39,7 +43,7 @@ use Rattle.sqlite_trees.specs.View.{is_int}
 use Rattle.sqlite_rules.specs.declared.error.Refusal.{Refusal}
 use Rattle.wb_sql.specs.Rows.{cells, IsStored, IsTyped, with_next_rowid, meets, inserted, upserted}
 use Rattle.wb_sql.proofs.SetLemmas.{taken_out, stored-filter, stored-put_row}
-use Rattle.wb_sql.specs.Changes.{is_no_action, never_acts, IsPlainTable, IsOneRow}
+use Rattle.wb_sql.specs.Changes.{is_no_action, never_acts, IsPlainTable, IsOneRow, ReplacesInto, InsertsInto, SetsTable}
 
 -- a part that gave a value did not stop on the way
 pub went : {B E R : Type 0} {b : B} {Stops : E → Type 0} → ((stop : E) × Stops stop × (Ok b ≡ Err stop)) ⊎ R → R
@@ -109,7 +113,7 @@ module _ (task : Task) (keys_are : task.keys ≡ Enforced) (quiet : never_acts t
   spared db next edit is a = subst (λ t. Spares task.schema t db next) is (record { tables = a.tables; others = a.others })
 
   -- the row is put in, at its own rowid
-  record IsPut (new : Row) (rows : List Row) (db next : Trees) : Type 0 where
+  pub record IsPut (new : Row) (rows : List Row) (db next : Trees) : Type 0 where
     pub rows_are : next task.table.tree ≡ put_row new rows
     pub spares : Spares task.schema task.table db next
     pub free : is_taken rows new ≡ false
@@ -186,3 +190,113 @@ module _ (table : Table) (given : Row) (typed : IsTyped table given) where
       go : (b : Bool) → cast_row table (cond b (Int (next_rowid rows) ∷ cells given) given) ≡ cond b (Int (next_rowid rows) ∷ cells given) given
       go true = ap₂ ◌∷◌ (cast_int (next_rowid rows)) typed.cast
       go false = kept_row
+
+-- ---- one row of VALUES
+
+one_source : (params full : Row) (terms : List Term) (width : ℕ) (rows : List Row) → IsOneRow terms width → full ≡ params → rows ≡ value_rows full width (length terms / width) terms
+    → rows ≡ eval_all terms (params ∷ []) ∷ []
+one_source params full terms width rows one same h =
+    subst (λ n. rows ≡ value_rows full width n terms) one.count h ∙ ap (λ ts. eval_all ts (full ∷ []) ∷ []) one.all ∙ ap (λ p. eval_all terms (p ∷ []) ∷ []) same
+
+module _ (limit : Option ℕ) (schema : Schema) (at : ℕ) (table : Table) (params : Row) (plain : IsPlainTable schema at table) where
+  abbrev task : Task
+  task = record { limit = limit; keys = Enforced; schema = schema; table = table; params = params }
+
+  unstamped : stamped table params ≡ params
+  unstamped = ap (λ terms. params ++ eval_all terms (drop (length params - length table.stamps.formats) params ∷ [])) plain.unstamped ∙ append-nil params
+
+  uncounted_rowids : (top : ℤ) → rowids_for table top ≡ Chosen
+  uncounted_rowids top = ap (λ b. cond b (Above top) Chosen) plain.uncounted
+
+  uncounted : (db next : Trees) (counter : Option Row) (top : ℤ) → Counts task db counter top (Ok next) → next ≡ db
+  uncounted db next counter top h = same_value (rw plain.uncounted at h)
+
+  -- what a row of VALUES comes to in the table
+  pub record IsUpserted (given : Row) (db next : Trees) : Type 0 where
+    pub rows_are : next table.tree ≡ upserted schema table given (db table.tree)
+    pub spares : Spares schema table db next
+    pub whole : is_int (rowid (with_next_rowid (db table.tree) given)) ≡ true
+    pub free : is_taken (filter (λ row. not (meets schema table (with_next_rowid (db table.tree) given) row)) (db table.tree)) (with_next_rowid (db table.tree) given) ≡ false
+
+  module _ (terms : List Term) (width : ℕ) (one : IsOneRow terms width) (typed : IsTyped table (eval_all terms (params ∷ []))) (db : Trees) (stored : IsStored (db table.tree)) where
+    abbrev given : Row
+    given = eval_all terms (params ∷ [])
+
+    abbrev new : Row
+    new = with_next_rowid (db table.tree) given
+
+    tries_each : (rows : List Row) (top : ℤ) (done : Written × ℤ) → rows ≡ given ∷ [] → TriesEach task Replace [] rows top (nothing db) (Ok done)
+        → (is_int (rowid new) ≡ true) × IsPut task refl plain.quiet new (filter (λ row. not (meets schema table new row)) (db table.tree)) db done.0.trees
+    tries_each rows top done is h =
+        let each = went (subst (λ rs. TriesEach task Replace [] rs top (nothing db) (Ok done)) is h) in
+        let row : with_rowid (rowids_for table top) (db table.tree) (cast_row table (mended Replace table given)) ≡ new =
+        ap (λ how. with_rowid how (db table.tree) (cast_row table (mended Replace table given))) (uncounted_rowids top) ∙ ap (with_next_rowid (db table.tree)) (kept_source table given typed) in
+        let tried = tries task refl plain.quiet new db each.0 (subst (λ r. Tries task Replace [] r db (Ok each.0)) row each.1) in
+        let end : done.0.trees ≡ each.0.trees = ap (λ (p : Written × ℤ). p.0.trees) (same_value each.2) in
+        (tried.0, subst (IsPut task refl plain.quiet new (filter (λ row. not (meets schema table new row)) (db table.tree)) db) (sym end)
+        (upserts task refl plain.quiet new db each.0 stored (kept_new table given typed (db table.tree)) tried.1))
+
+    pub inserts_or : (w : Written) → InsertsOr task Replace [] (Values terms width) db (Ok w) → IsUpserted given db w.trees
+    inserts_or w h =
+        let sourced = went h in
+        let counter = went sourced.2 in
+        let tried = went counter.2 in
+        let counted = went tried.2 in
+        let put = tries_each sourced.0 (count_of counter.0) tried.0 (one_source params (stamped table params) terms width sourced.0 one unstamped sourced.1.1) tried.1 in
+        let end : w.trees ≡ tried.0.0.trees = ap (λ (x : Written). x.trees) (same_value counted.2) ∙ uncounted tried.0.0.trees counted.0 counter.0 tried.0.1 counted.1 in
+        subst (IsUpserted given db) (sym end) (record { rows_are = put.1.rows_are; spares = put.1.spares; whole = put.0; free = put.1.free })
+
+-- ---- the whole statement
+
+module _ (params : Row) (old new : State) (at : ℕ) (table : Table) (plain : IsPlainTable old.now.schema at table) where
+  abbrev own_task : Task
+  own_task = record { limit = old.step_limit; keys = Enforced; schema = old.now.schema; table = table; params = params }
+
+  row_step : (command : Command) (tally : Tally)
+      → AtPlace (λ t. OnRows (record { limit = old.step_limit; keys = Enforced; schema = old.now.schema; table = t; params = params }) (mode_of old) None command old.now.trees) (slice_get old.now.schema.tables at)
+          (Ok (tally, new.now))
+      → (w : Written) × WritesRows own_task old.now.trees command (Ok w) × (new.now ≡ record { schema = old.now.schema; trees = w.trees })
+  row_step command tally h =
+      let on = subst (λ o. AtPlace (λ t. OnRows (record { limit = old.step_limit; keys = Enforced; schema = old.now.schema; table = t; params = params }) (mode_of old) None command old.now.trees) o (Ok (tally, new.now)))
+      plain.listed h in
+      let wrote = went on in
+      let ends = went (went wrote.2).2 in
+      (wrote.0, wrote.1, ap (λ (p : Tally × Database). p.1) (same_value ends.2))
+
+  inside_shown : (returning : Option Returning) (command : Command) (text : List ℕ) (count : ℕ) → IsTrue old.in_transaction → Writes old new returning command text params count → Shows old new new.now old.committed true
+  inside_shown returning command text count inside w = record {
+    was_open = w.shown.was_open;
+    is_open = w.shown.is_open;
+    now_is = refl;
+    committed_is = w.shown.committed_is ∙ ap (λ b. cond b old.committed new.now) inside;
+    mode = w.shown.mode ∙ inside;
+  }
+
+  sets : (rows : List Row) (next : Trees) → next table.tree ≡ rows → Spares old.now.schema table old.now.trees next → new.now ≡ record { schema = old.now.schema; trees = next }
+      → Shows old new new.now old.committed true → new.marks ≡ old.marks → SetsTable table rows old new
+  sets rows next rows_are spares now shown marks =
+      let trees : new.now.trees ≡ next = ap (λ (d : Database). d.trees) now in
+      subst (λ t. t table.tree ≡ rows → Spares old.now.schema table old.now.trees t → SetsTable table rows old new) trees
+      (λ is kept. record { rows_are = is; tables = kept.tables; others = kept.others; schema = ap (λ (d : Database). d.schema) now; shown = shown; marks = marks }) rows_are spares
+
+module _ (sql : List ℕ) (params : Row) (old new : State) (inside : IsTrue old.in_transaction) (table : Table) (terms : List Term) (stored : IsStored (old.now.trees table.tree))
+    (typed : IsTyped table (eval_all terms (params ∷ []))) where
+  abbrev source : Row
+  source = eval_all terms (params ∷ [])
+
+  abbrev rows : List Row
+  rows = old.now.trees table.tree
+
+  -- INSERT OR REPLACE of one row, in a transaction
+  pub replaces : (r : Result ℕ Error) → ReplacesInto old.now.schema sql table terms → Executes sql params old new r
+      → OnOk r (SetsTable table (upserted old.now.schema table source rows) old new × IsStored (new.now.trees table.tree))
+  replaces (Err e) text h = tt
+  replaces (Ok count) text h =
+      let plain = text.table_is in
+      let command = InsertOr text.at Replace (Values terms text.width) [] in
+      let w = runs_as sql params old new old.now.schema refl command (means_as old.now.schema sql command text.means) text.means.plain count h in
+      let step = row_step params old new text.at table plain command w.tally w.changed in
+      let is = inserts_or old.step_limit old.now.schema text.at table params plain terms text.width text.one_row typed old.now.trees stored step.0 step.1 in
+      let set = sets params old new text.at table plain (upserted old.now.schema table source rows) step.0.trees is.rows_are is.spares step.2
+      (inside_shown params old new text.at table plain None command _ count inside w) w.marks in
+      (set, subst IsStored (sym set.rows_are) (stored-put_row _ (stored-filter rows stored _) _ is.whole))
