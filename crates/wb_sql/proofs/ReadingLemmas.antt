@@ -64,7 +64,7 @@ pub means_as : (schema : Schema) (sql : List ℕ) (command : Command) → Means 
 means_as schema sql command m = same_command (understood schema sql) ∙ m.is
 
 -- an answer of the kit to a query on one table, over its rows
-answers_from : (q : TableQuery) (db : Trees) (params : Row) (answer : List Row) → nat_le (2 ^ 31) q.tree ≡ false → IsAnswer (query_of q) (overlay db []) params answer → Answers q params (db q.tree) answer
+pub answers_from : (q : TableQuery) (db : Trees) (params : Row) (answer : List Row) → nat_le (2 ^ 31) q.tree ≡ false → IsAnswer (query_of q) (overlay db []) params answer → Answers q params (db q.tree) answer
 answers_from q db params answer low a =
     let test = λ (row : Row). list_all (holds (params ∷ row ∷ [])) q.filter in
     let own : overlay db [] q.tree ≡ db q.tree = rw low in

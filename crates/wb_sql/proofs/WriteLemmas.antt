@@ -6,7 +6,7 @@ use Rattle.sqlite.specs.Order.{Row}
 use Rattle.sqlite.specs.Tree.{Trees, rowid, put_row}
 use Rattle.sqlite.specs.Schema.{Schema}
 use Rattle.sqlite.specs.Table.{Table}
-use Rattle.sqlite.specs.Term.{Term, eval_all}
+use Rattle.sqlite.specs.Term.{Term, eval_all, holds}
 use Rattle.sqlite.specs.declared.types.Value.TheVariants.{Null, Int}
 use Rattle.sqlite.specs.Source.TheVariants.{Values}
 use Rattle.sqlite.specs.Command.{Command}
@@ -32,8 +32,17 @@ use Rattle.sqlite_schema.specs.declared.command.Returning.{Returning}
 use Rattle.sqlite.specs.State.{State, Shows, Writes, Executes, mode_of}
 use Rattle.sqlite.specs.declared.run.Mode.{Mode}
 use Rattle.sqlite.proofs.Callers.{one_step, runs_as}
-use Rattle.wb_sql.proofs.ReadingLemmas.{means_as}
-use Rattle.std.proofs.Common.{ap₂}
+use Rattle.wb_sql.proofs.ReadingLemmas.{means_as, answers_from}
+use Rattle.std.proofs.Common.{ap₂, ◌^◌, nat_le}
+use Rattle.std.proofs.lemmas.List.Sorted.{IsPermutation-sym}
+use Rattle.sqlite.specs.Query.{Output, output}
+use Rattle.sqlite.specs.Rows.{Deletes}
+use Rattle.sqlite_trees.proofs.ListLemmas.{all-permutation}
+use Rattle.sqlite_rules.specs.Lists.{Has}
+use Rattle.sqlite_rules.proofs.ListLemmas.{all_from, all_has, has_filtered, has_kept}
+use Rattle.sqlite_rules.proofs.ProbeLemmas.{has_mapped, mapped_has}
+use Rattle.wb_sql.specs.Queries.{query_of, rowids_where, outputs, Answers}
+use Rattle.wb_sql.specs.Statements.{IsWriting, changes}
 use Rattle.std.proofs.lemmas.Bool.{not-true}
 use Rattle.sqlite.specs.Kind.TheVariants.{Integer}
 use Rattle.sqlite.specs.Ops.{unary, is_null}
@@ -41,9 +50,9 @@ use Rattle.sqlite.specs.Cast.{cast}
 use Rattle.sqlite.specs.Edit.{is_taken, next_rowid}
 use Rattle.sqlite_trees.specs.View.{is_int}
 use Rattle.sqlite_rules.specs.declared.error.Refusal.{Refusal}
-use Rattle.wb_sql.specs.Rows.{cells, IsStored, IsTyped, with_next_rowid, meets, inserted, upserted}
+use Rattle.wb_sql.specs.Rows.{cells, IsStored, IsTyped, with_next_rowid, meets, inserted, upserted, without}
 use Rattle.wb_sql.proofs.SetLemmas.{taken_out, stored-filter, stored-put_row}
-use Rattle.wb_sql.specs.Changes.{is_no_action, never_acts, IsPlainTable, IsOneRow, ReplacesInto, InsertsInto, SetsTable}
+use Rattle.wb_sql.specs.Changes.{is_no_action, never_acts, IsPlainTable, IsOneRow, ReplacesInto, InsertsInto, DeletesFrom, SetsTable}
 
 -- a part that gave a value did not stop on the way
 pub went : {B E R : Type 0} {b : B} {Stops : E → Type 0} → ((stop : E) × Stops stop × (Ok b ≡ Err stop)) ⊎ R → R
@@ -246,6 +255,62 @@ module _ (limit : Option ℕ) (schema : Schema) (at : ℕ) (table : Table) (para
         let end : w.trees ≡ tried.0.0.trees = ap (λ (x : Written). x.trees) (same_value counted.2) ∙ uncounted tried.0.0.trees counted.0 counter.0 tried.0.1 counted.1 in
         subst (IsUpserted given db) (sym end) (record { rows_are = put.1.rows_are; spares = put.1.spares; whole = put.0; free = put.1.free })
 
+    -- INSERT of one row
+    pub inserts : (w : Written) → Inserts task (Values terms width) db (Ok w)
+        → (w.trees table.tree ≡ inserted given (db table.tree)) × Spares schema table db w.trees × (is_int (rowid new) ≡ true) × (is_taken (db table.tree) new ≡ false)
+    inserts w h =
+        let sourced = went h in
+        let counter = went sourced.2 in
+        let written = went counter.2 in
+        let counted = went written.2 in
+        let how = rowids_for table (count_of counter.0) in
+        let one_row = one_source params (stamped table params) terms width sourced.0 one unstamped sourced.1.1 in
+        let edit : edit_of db table [] how 0 sourced.0 ≡ edit_of db table [] Chosen 0 (given ∷ []) = ap₂ (λ h rows. edit_of db table [] h 0 rows) (uncounted_rowids (count_of counter.0)) one_row in
+        let a = subst (λ e. Applies schema Enforced db e written.0) edit (applied task refl plain.quiet db written.0 (edit_of db table [] how 0 sourced.0) written.1) in
+        let row : with_next_rowid (db table.tree) (cast_row table given) ≡ new = ap (with_next_rowid (db table.tree)) (kept_row table given typed) in
+        let end : w.trees ≡ written.0 = ap (λ (x : Written). x.trees) (same_value counted.2) ∙ uncounted written.0 counted.0 counter.0 _ counted.1 in
+        subst (λ next. (next table.tree ≡ inserted given (db table.tree)) × Spares schema table db next × (is_int (rowid new) ≡ true) × (is_taken (db table.tree) new ≡ false)) (sym end) (
+          a.rows ∙ ap (λ r. put_row r (db table.tree)) row,
+          spared task refl plain.quiet db written.0 (edit_of db table [] Chosen 0 (given ∷ [])) refl a,
+          (and_parts _ _ (subst (λ r. (is_int (rowid r) && true) ≡ true) row a.keyed)).0,
+          not-true _ (and_parts _ _ (subst (λ r. (not (is_taken (db table.tree) r) && true) ≡ true) row a.fresh)).0,
+        )
+
+  -- DELETE
+  module _ (tests : List Term) (low : nat_le (2 ^ 31) table.tree ≡ false) (db : Trees) (stored : IsStored (db table.tree)) where
+    abbrev passes : Row → Bool
+    passes row = list_all (holds (params ∷ row ∷ [])) tests
+
+    abbrev shown_rowid : Row → Output
+    shown_rowid row = output (query_of (rowids_where table.tree tests)) (params ∷ row ∷ [])
+
+    found_are : (answer : List Row) → Answers (rowids_where table.tree tests) params (db table.tree) answer → without_all (db table.tree) (ids_of answer) ≡ without passes (db table.tree)
+    found_are answer a =
+        let outs = outputs (rowids_where table.tree tests) params (db table.tree) in
+        let there : AllByRecursion (Has outs) a.ordered = all-permutation (Has outs) outs a.ordered a.same (all_from (Has outs) outs (λ o h. h)) in
+        let back : AllByRecursion (Has a.ordered) outs = all-permutation (Has a.ordered) a.ordered outs (IsPermutation-sym outs a.ordered a.same) (all_from (Has a.ordered) a.ordered (λ o h. h)) in
+        ap (λ rows. without_all (db table.tree) (ids_of rows)) a.shown ∙
+        taken_out (db table.tree) stored (map (λ o. o.1) a.ordered) passes
+        (λ x h.
+            let o = has_mapped (λ (p : Output). p.1) a.ordered x h in
+            let r = has_mapped shown_rowid (filter passes (db table.tree)) o.0 (all_has (Has outs) a.ordered o.0 there o.1) in
+            let kept = has_filtered passes (db table.tree) r.0 r.1 in
+            (r.0, kept.0, kept.1, ap rowid (o.2 ∙ ap (λ (p : Output). p.1) r.2)))
+        (λ r h pass.
+            let o = mapped_has shown_rowid (filter passes (db table.tree)) r (has_kept passes (db table.tree) r h pass) in
+            (rowid r ∷ [], mapped_has (λ (p : Output). p.1) a.ordered (shown_rowid r) (all_has (Has a.ordered) outs (shown_rowid r) back o), refl))
+
+    pub deletes : (w : Written) → Deletes task (record { lets = []; body = query_of (rowids_where table.tree tests) }) db (Ok w)
+        → (w.trees table.tree ≡ without passes (db table.tree)) × Spares schema table db w.trees
+    deletes w h =
+        let found = went h in
+        let done = went found.2 in
+        let edit = edit_of db table (ids_of found.0) Given 0 [] in
+        let a = applied task refl plain.quiet db done.0 edit done.1 in
+        let is : w.trees ≡ done.0 = ap (λ (x : Written). x.trees) (same_value done.2) in
+        let answer = answers_from (rowids_where table.tree tests) db params found.0 low (found.1.answer Null) in
+        subst (λ next. (next table.tree ≡ without passes (db table.tree)) × Spares schema table db next) (sym is) (a.rows ∙ found_are found.0 answer, spared task refl plain.quiet db done.0 edit refl a)
+
 -- ---- the whole statement
 
 module _ (params : Row) (old new : State) (at : ℕ) (table : Table) (plain : IsPlainTable old.now.schema at table) where
@@ -300,3 +365,52 @@ module _ (sql : List ℕ) (params : Row) (old new : State) (inside : IsTrue old.
       let set = sets params old new text.at table plain (upserted old.now.schema table source rows) step.0.trees is.rows_are is.spares step.2
       (inside_shown params old new text.at table plain None command _ count inside w) w.marks in
       (set, subst IsStored (sym set.rows_are) (stored-put_row _ (stored-filter rows stored _) _ is.whole))
+
+  -- INSERT of one row, in a transaction
+  pub inserts_one : (r : Result ℕ Error) → InsertsInto old.now.schema sql table terms → Executes sql params old new r
+      → OnOk r (SetsTable table (inserted source rows) old new × IsStored (new.now.trees table.tree))
+  inserts_one (Err e) text h = tt
+  inserts_one (Ok count) text h =
+      let plain = text.table_is in
+      let command = Insert text.at (Values terms text.width) in
+      let w = runs_as sql params old new old.now.schema refl command (means_as old.now.schema sql command text.means) text.means.plain count h in
+      let step = row_step params old new text.at table plain command w.tally w.changed in
+      let is = inserts old.step_limit old.now.schema text.at table params plain terms text.width text.one_row typed old.now.trees stored step.0 step.1 in
+      let set = sets params old new text.at table plain (inserted source rows) step.0.trees is.0 is.1 step.2 (inside_shown params old new text.at table plain None command _ count inside w) w.marks in
+      (set, subst IsStored (sym set.rows_are) (stored-put_row rows stored _ is.2))
+
+-- DELETE, in a transaction
+pub deletes_rows : (sql : List ℕ) (params : Row) (old after : State) → IsTrue old.in_transaction → (table : Table) (tests : List Term) → IsStored (old.now.trees table.tree) → (r : Result ℕ Error)
+    → DeletesFrom old.now.schema sql table tests → Executes sql params old after r
+    → OnOk r (SetsTable table (without (λ row. list_all (holds (params ∷ row ∷ [])) tests) (old.now.trees table.tree)) old after × IsStored (after.now.trees table.tree))
+deletes_rows sql params old after inside table tests stored (Err e) text h = tt
+deletes_rows sql params old after inside table tests stored (Ok count) text h =
+    let plain = text.table_is in
+    let command = Delete text.at (record { lets = []; body = query_of (rowids_where table.tree tests) }) in
+    let w = runs_as sql params old after old.now.schema refl command (means_as old.now.schema sql command text.means) text.means.plain count h in
+    let step = row_step params old after text.at table plain command w.tally w.changed in
+    let is = deletes old.step_limit old.now.schema text.at table params plain tests text.stored old.now.trees stored step.0 step.1 in
+    let rows = without (λ row. list_all (holds (params ∷ row ∷ [])) tests) (old.now.trees table.tree) in
+    let set = sets params old after text.at table plain rows step.0.trees is.0 is.1 step.2 (inside_shown params old after text.at table plain None command _ count inside w) w.marks in
+    (set, subst IsStored (sym set.rows_are) (stored-filter (old.now.trees table.tree) stored _))
+
+-- ---- such texts write
+
+pub replaces_writes : (schema : Schema) (sql : List ℕ) (table : Table) (terms : List Term) → ReplacesInto schema sql table terms → IsWriting schema sql
+replaces_writes schema sql table terms text = ap changes text.means.is
+
+pub inserts_writes : (schema : Schema) (sql : List ℕ) (table : Table) (terms : List Term) → InsertsInto schema sql table terms → IsWriting schema sql
+inserts_writes schema sql table terms text = ap changes text.means.is
+
+pub deletes_writes : (schema : Schema) (sql : List ℕ) (table : Table) (tests : List Term) → DeletesFrom schema sql table tests → IsWriting schema sql
+deletes_writes schema sql table tests text = ap changes text.means.is
+
+-- a statement that was made was made in a transaction
+pub inside_if_made : {E : Type 0} {e : E} (inside : Bool) (count : ℕ) → (inside ≡ false → ◌≡◌ {A = Result ℕ E} (Ok count) (Err e)) → IsTrue inside
+inside_if_made true count over = refl
+inside_if_made false count over = absurd (let e = over refl in cc)
+
+-- a DELETE with no test leaves no row
+pub none_without_tests : (params : Row) (rows : List Row) → without (λ row. list_all (holds (params ∷ row ∷ [])) []) rows ≡ []
+none_without_tests params [] = refl
+none_without_tests params (row ∷ rows) = none_without_tests params rows

@@ -1,10 +1,10 @@
 -- What INSERT, INSERT OR REPLACE and DELETE on one table change of a database.
-use Rattle.std.specs.Prelude.{◌≡◌, ◌≢◌, ℕ, ◌/◌, Bool, true, false, ◌&&◌, List, [], length, take, slice_get, Some}
+use Rattle.std.specs.Prelude.{◌≡◌, ◌≢◌, ℕ, ◌/◌, ◌^◌, nat_le, Bool, true, false, ◌&&◌, List, [], ◌∷◌, length, take, slice_get, Some}
 use Rattle.std.specs.List.{AllByRecursion, list_all}
 use Rattle.sqlite.specs.Order.{Row}
 use Rattle.sqlite.specs.Schema.{Schema}
 use Rattle.sqlite.specs.Table.{Table}
-use Rattle.sqlite.specs.Term.{Term, eval_all}
+use Rattle.sqlite.specs.Term.{Term, eval_all, holds}
 use Rattle.sqlite.specs.Source.TheVariants.{Values}
 use Rattle.sqlite.specs.Command.{Command}
 use Rattle.sqlite.specs.Command.TheVariants.{Insert, InsertOr, Delete}
@@ -14,6 +14,8 @@ use Rattle.sqlite_schema.specs.declared.schema.Action.TheVariants.{NoAction}
 use Rattle.sqlite_schema.specs.declared.command.Conflict.TheVariants.{Replace}
 use Rattle.sqlite.specs.Edit.{IsNoIndex}
 use Rattle.sqlite.specs.State.{State, Shows}
+use Rattle.wb_sql.specs.Queries.{query_of, rowids_where}
+use Rattle.wb_sql.specs.Rows.{IsStored, IsTyped, inserted, upserted, without}
 use Rattle.wb_sql.specs.Statements.{Means}
 
 abbrev pub is_no_action : Action → Bool
@@ -60,3 +62,28 @@ pub record SetsTable (table : Table) (rows : List Row) (old new : State) : Type 
   pub schema : new.now.schema ≡ old.now.schema
   pub shown : Shows old new new.now old.committed true
   pub marks : new.marks ≡ old.marks
+
+-- over this schema the text is DELETE FROM the table WHERE each of these tests
+pub record DeletesFrom (schema : Schema) (sql : List ℕ) (table : Table) (tests : List Term) : Type 0 where
+  pub at : ℕ
+  pub table_is : IsPlainTable schema at table
+  pub stored : nat_le (2 ^ 31) table.tree ≡ false
+  pub means : Means schema sql (Delete at (record { lets = []; body = query_of (rowids_where table.tree tests) }))
+
+-- an INSERT OR REPLACE of one row leaves this, for each table whose statement the text is
+abbrev pub Replaces : List ℕ → Row → State → State → Type 0
+Replaces sql params old new =
+    (table : Table) (terms : List Term) → ReplacesInto old.now.schema sql table terms → IsStored (old.now.trees table.tree) → IsTyped table (eval_all terms (params ∷ []))
+    → SetsTable table (upserted old.now.schema table (eval_all terms (params ∷ [])) (old.now.trees table.tree)) old new × IsStored (new.now.trees table.tree)
+
+-- an INSERT of one row leaves this
+abbrev pub Inserts : List ℕ → Row → State → State → Type 0
+Inserts sql params old new =
+    (table : Table) (terms : List Term) → InsertsInto old.now.schema sql table terms → IsStored (old.now.trees table.tree) → IsTyped table (eval_all terms (params ∷ []))
+    → SetsTable table (inserted (eval_all terms (params ∷ [])) (old.now.trees table.tree)) old new × IsStored (new.now.trees table.tree)
+
+-- a DELETE leaves this
+abbrev pub Deletes : List ℕ → Row → State → State → Type 0
+Deletes sql params old new =
+    (table : Table) (tests : List Term) → DeletesFrom old.now.schema sql table tests → IsStored (old.now.trees table.tree)
+    → SetsTable table (without (λ row. list_all (holds (params ∷ row ∷ [])) tests) (old.now.trees table.tree)) old new × IsStored (new.now.trees table.tree)

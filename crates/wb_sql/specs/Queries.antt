@@ -1,11 +1,12 @@
 -- What a query on one table answers (SQL's SELECT with WHERE, ORDER BY, LIMIT and OFFSET).
-use Rattle.std.specs.Prelude.{◌≡◌, ℕ, ◌^◌, nat_le, Bool, false, List, [], ◌∷◌, map, filter, None, IsPermutation, IsSorted}
+use Rattle.std.specs.Prelude.{◌≡◌, ℕ, ◌^◌, nat_le, pos, negsuc, Bool, false, List, [], ◌∷◌, map, filter, None, IsPermutation, IsSorted}
 use Rattle.std.specs.List.{list_all}
 use Rattle.sqlite.specs.Collation.{Collation}
 use Rattle.sqlite_value.specs.declared.keys.Key.{Key}
 use Rattle.sqlite.specs.Order.{Row}
 use Rattle.sqlite.specs.Schema.{Schema}
-use Rattle.sqlite.specs.Term.{Term, holds}
+use Rattle.sqlite.specs.Term.{Term, lit, col, holds}
+use Rattle.sqlite.specs.declared.types.Value.TheVariants.{Int}
 use Rattle.sqlite.specs.Query.{Query, Output, inner, end, output, output_cmp, page}
 use Rattle.sqlite.specs.Command.TheVariants.{Select}
 use Rattle.sqlite.specs.Listing.{reads_listing}
@@ -56,3 +57,8 @@ pub record Answers (q : TableQuery) (params : Row) (rows answer : List Row) : Ty
   pub same : IsPermutation (outputs q params rows) ordered
   pub sorted : IsSorted (output_cmp (query_of q)) ordered
   pub shown : answer ≡ page (query_of q) params (map (λ o. o.1) ordered)
+
+-- SELECT rowid FROM the table WHERE each of these tests
+abbrev pub rowids_where : ℕ → List Term → TableQuery
+rowids_where tree tests =
+    record { tree = tree; filter = tests; project = col 1 0 ∷ []; order = []; collations = []; limit = lit (Int (negsuc 0)); offset = lit (Int (pos 0)) }

@@ -1,6 +1,7 @@
 //! What SQL statements on one table mean, with transactions and crashes, over the kit's `sqlite`.
 #![tactic(auto)]
 
+mod changes;
 mod reading;
 mod writing;
 

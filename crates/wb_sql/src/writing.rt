@@ -12,7 +12,7 @@ use std::mem::ManuallyDrop;
 /// A transaction under way on a connection. It is ended by `commit` or `roll_back`, and cannot be let go without one of the two.
 /// A failure of the store or of memory ends it too, and takes back what it wrote. After that its writes are refused.
 pub struct Writing<'conn, S: Alter> {
-    conn: &'conn mut Connection<S>,
+    pub(crate) conn: &'conn mut Connection<S>,
 }
 
 /// Why a commit is not known to be made.
