@@ -1,4 +1,5 @@
 pub mod EndingLemmas
 pub mod ReadingLemmas
 pub mod SetLemmas
+pub mod SettledLemmas
 pub mod WriteLemmas

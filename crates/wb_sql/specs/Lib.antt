@@ -1,5 +1,6 @@
 pub mod Changes
 pub mod Queries
 pub mod Rows
+pub mod Settled
 pub mod Statements
 pub mod Transactions

@@ -2,8 +2,12 @@
 #![tactic(auto)]
 
 mod changes;
+mod files;
+mod power;
 mod reading;
 mod writing;
 
+pub use files::{close, open, surrender};
+pub use power::{Power, cut_power};
 pub use reading::read;
 pub use writing::{CommitError, Writing, begin};
