@@ -1,3 +1,4 @@
+pub mod DefinitionLemmas
 pub mod EndingLemmas
 pub mod ReadingLemmas
 pub mod SetLemmas

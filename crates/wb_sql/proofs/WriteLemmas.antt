@@ -313,6 +313,17 @@ module _ (limit : Option ℕ) (schema : Schema) (at : ℕ) (table : Table) (para
 
 -- ---- the whole statement
 
+-- in a transaction a write shows itself, and the last commit stays
+pub shown_inside : (old new : State) (returning : Option Returning) (command : Command) (text : List ℕ) (params : Row) (count : ℕ) → IsTrue old.in_transaction → Writes old new returning command text params count
+    → Shows old new new.now old.committed true
+shown_inside old new returning command text params count inside w = record {
+  was_open = w.shown.was_open;
+  is_open = w.shown.is_open;
+  now_is = refl;
+  committed_is = w.shown.committed_is ∙ ap (λ b. cond b old.committed new.now) inside;
+  mode = w.shown.mode ∙ inside;
+}
+
 module _ (params : Row) (old new : State) (at : ℕ) (table : Table) (plain : IsPlainTable old.now.schema at table) where
   abbrev own_task : Task
   own_task = record { limit = old.step_limit; keys = Enforced; schema = old.now.schema; table = table; params = params }
@@ -327,15 +338,6 @@ module _ (params : Row) (old new : State) (at : ℕ) (table : Table) (plain : Is
       let wrote = went on in
       let ends = went (went wrote.2).2 in
       (wrote.0, wrote.1, ap (λ (p : Tally × Database). p.1) (same_value ends.2))
-
-  inside_shown : (returning : Option Returning) (command : Command) (text : List ℕ) (count : ℕ) → IsTrue old.in_transaction → Writes old new returning command text params count → Shows old new new.now old.committed true
-  inside_shown returning command text count inside w = record {
-    was_open = w.shown.was_open;
-    is_open = w.shown.is_open;
-    now_is = refl;
-    committed_is = w.shown.committed_is ∙ ap (λ b. cond b old.committed new.now) inside;
-    mode = w.shown.mode ∙ inside;
-  }
 
   sets : (rows : List Row) (next : Trees) → next table.tree ≡ rows → Spares old.now.schema table old.now.trees next → new.now ≡ record { schema = old.now.schema; trees = next }
       → Shows old new new.now old.committed true → new.marks ≡ old.marks → SetsTable table rows old new
@@ -363,7 +365,7 @@ module _ (sql : List ℕ) (params : Row) (old new : State) (inside : IsTrue old.
       let step = row_step params old new text.at table plain command w.tally w.changed in
       let is = inserts_or old.step_limit old.now.schema text.at table params plain terms text.width text.one_row typed old.now.trees stored step.0 step.1 in
       let set = sets params old new text.at table plain (upserted old.now.schema table source rows) step.0.trees is.rows_are is.spares step.2
-      (inside_shown params old new text.at table plain None command _ count inside w) w.marks in
+      (shown_inside old new None command _ params count inside w) w.marks in
       (set, subst IsStored (sym set.rows_are) (stored-put_row _ (stored-filter rows stored _) _ is.whole))
 
   -- INSERT of one row, in a transaction
@@ -376,7 +378,7 @@ module _ (sql : List ℕ) (params : Row) (old new : State) (inside : IsTrue old.
       let w = runs_as sql params old new old.now.schema refl command (means_as old.now.schema sql command text.means) text.means.plain count h in
       let step = row_step params old new text.at table plain command w.tally w.changed in
       let is = inserts old.step_limit old.now.schema text.at table params plain terms text.width text.one_row typed old.now.trees stored step.0 step.1 in
-      let set = sets params old new text.at table plain (inserted source rows) step.0.trees is.0 is.1 step.2 (inside_shown params old new text.at table plain None command _ count inside w) w.marks in
+      let set = sets params old new text.at table plain (inserted source rows) step.0.trees is.0 is.1 step.2 (shown_inside old new None command _ params count inside w) w.marks in
       (set, subst IsStored (sym set.rows_are) (stored-put_row rows stored _ is.2))
 
 -- DELETE, in a transaction
@@ -391,7 +393,7 @@ deletes_rows sql params old after inside table tests stored (Ok count) text h =
     let step = row_step params old after text.at table plain command w.tally w.changed in
     let is = deletes old.step_limit old.now.schema text.at table params plain tests text.stored old.now.trees stored step.0 step.1 in
     let rows = without (λ row. list_all (holds (params ∷ row ∷ [])) tests) (old.now.trees table.tree) in
-    let set = sets params old after text.at table plain rows step.0.trees is.0 is.1 step.2 (inside_shown params old after text.at table plain None command _ count inside w) w.marks in
+    let set = sets params old after text.at table plain rows step.0.trees is.0 is.1 step.2 (shown_inside old after None command _ params count inside w) w.marks in
     (set, subst IsStored (sym set.rows_are) (stored-filter (old.now.trees table.tree) stored _))
 
 -- ---- such texts write

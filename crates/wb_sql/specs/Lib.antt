@@ -1,4 +1,5 @@
 pub mod Changes
+pub mod Definitions
 pub mod Queries
 pub mod Rows
 pub mod Settled

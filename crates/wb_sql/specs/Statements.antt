@@ -1,11 +1,12 @@
 -- What a text means as one SQL statement over a schema.
-use Rattle.std.specs.Prelude.{◌≡◌, ℕ, Bool, true, false, List, Result, Ok, Err, IsTrue}
+use Rattle.std.specs.Prelude.{◌≡◌, ℕ, Bool, true, false, List, [], Result, Ok, Err, IsTrue}
 use Rattle.sqlite.specs.Schema.{Schema}
 use Rattle.sqlite.specs.Command.{Command}
 use Rattle.sqlite.specs.Command.TheVariants.{Select, Insert, InsertOr, Update, Delete, CreateTable, CreateIndex, Nothing}
 use Rattle.sqlite_resolve.specs.declared.compiled.Compiled.{Compiled}
 use Rattle.sqlite_resolve.specs.declared.error.CompileError.{CompileError}
 use Rattle.sqlite.specs.Given.{IsPlain}
+use Rattle.sqlite.specs.State.{text_of}
 use Rattle.sqlite.specs.Listing.{understood, reads_listing}
 
 -- the command of a text that was understood, and none of a text that was refused
@@ -31,3 +32,8 @@ changes _ = false
 -- over this schema the text is one statement that writes
 abbrev pub IsWriting : Schema → List ℕ → Type 0
 IsWriting schema sql = IsTrue (changes (command_in (understood schema sql)))
+
+-- the text of the statement alone
+abbrev pub statement_in : List ℕ → Result Compiled CompileError → List ℕ
+statement_in sql (Ok c) = text_of sql c
+statement_in sql (Err e) = []

@@ -2,6 +2,7 @@
 #![tactic(auto)]
 
 mod changes;
+mod definitions;
 mod files;
 mod power;
 mod reading;
