@@ -1,0 +1,2 @@
+pub mod MakingLemmas
+pub mod TableLemmas

@@ -1,0 +1,3 @@
+pub mod Making
+pub mod Tables
+pub mod Texts

@@ -1,0 +1,4 @@
+//! The tables of the office in SQL: the texts that make them, and what each text means over them.
+#![tactic(auto)]
+
+mod making;
