@@ -1,5 +1,5 @@
 -- A CREATE in a transaction, over a database whose tables have no row.
-use Rattle.std.proofs.Common.{◌≡◌, ℕ, List, [], ◌∷◌, ◌++◌, Result, Ok, Err, OnOk, refl, sym, ap, subst, ◌∙◌}
+use Rattle.std.proofs.Common.{◌≡◌, ℕ, List, [], ◌∷◌, ◌++◌, Result, Ok, Err, OnOk, refl, arith, sym, ap, subst, ◌∙◌}
 use Rattle.std.specs.List.{AllByRecursion}
 use Rattle.sqlite.specs.Schema.{Schema}
 use Rattle.sqlite.specs.Table.{Table}
@@ -7,8 +7,8 @@ use Rattle.sqlite.specs.Tree.{Trees}
 use Rattle.sqlite_schema.specs.declared.schema.Index.{Index}
 use Rattle.sqlite.specs.Change.{created, indexed, next_tree, KeepsRows}
 use Rattle.sqlite.specs.declared.error.Error.{Error}
-use Rattle.sqlite.specs.State.{State, Survives}
-use Rattle.sqlite.proofs.StateLemmas.{survives_weaker}
+use Rattle.sqlite.specs.State.{State, HasCleanDisk, Survives}
+use Rattle.sqlite.proofs.StateLemmas.{survives_weaker, survives_then}
 use Rattle.wb_sql.specs.Statements.{IsWriting}
 use Rattle.wb_sql.specs.Definitions.{DefinesTable, DefinesIndex, CreatesTable, CreatesIndex}
 use Rattle.wb_sql.proofs.DefinitionLemmas.{defines_table_writes, defines_index_writes}
@@ -58,3 +58,23 @@ module _ (sql : List ℕ) (from : Schema) where
   pub index_survives : (table : Table) (index : Index) → DefinesIndex from sql table index → (old new : State) → Survives old new (λ _. ¬ IsWriting old.now.schema sql)
       → Survives old new (λ _. ¬ HasEmptyTables from old)
   index_survives table index defines = writes_survives (defines_index_writes from sql table index defines)
+
+-- one step after another
+pub makes_then : {A : Type 0} (from to : Schema) (a b c : State) (r : Result A Error) → MakesTables from a b → OnOk r (MakesTables to b c) → OnOk r (MakesTables to a c)
+makes_then from to a b c (Err e) p q = tt
+makes_then from to a b c (Ok done) p q = record {
+  tables = q.tables;
+  shown = record {
+    was_open = p.shown.was_open;
+    is_open = q.shown.is_open;
+    now_is = refl;
+    committed_is = q.shown.committed_is ∙ p.shown.committed_is;
+    mode = q.shown.mode;
+  };
+  marks = q.marks ∙ p.marks;
+}
+
+pub survives_makes : (from mid : Schema) (a b c : State) → (HasCleanDisk b → HasEmptyTables from a → MakesTables mid a b) → Survives a b (λ _. ¬ HasEmptyTables from a) → Survives b c (λ _. ¬ HasEmptyTables mid b)
+    → Survives a c (λ _. ¬ HasEmptyTables from a)
+survives_makes from mid a b c made one two =
+    survives_then a b c _ _ _ (λ clean db none. none) (λ clean db none was. let early : HasCleanDisk b = omega (arith, two.clean) in none (made early was).tables) one two

@@ -2,3 +2,5 @@
 #![tactic(auto)]
 
 mod making;
+
+pub use making::make_tables;

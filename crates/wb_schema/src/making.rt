@@ -96,3 +96,59 @@ fn make_binary_name<S: Alter>(writing: &mut Writing<'_, S>) -> Result<(), Error>
 {
     writing.create_index("CREATE INDEX binary_name ON scratch_binary(name, seq)")
 }
+
+/// Makes the tables of the office, of architectures and of builders.
+fn make_people<S: Alter>(writing: &mut Writing<'_, S>) -> Result<(), Error>
+    ensures same_reference { writing.new.conn.ghost_name ≡ writing.old.conn.ghost_name }
+    ensures made { HasCleanDisk (state S.Store writing.new.conn.now) → HasEmptyTables empty_schema (state S.Store writing.old.conn.now) → OnOk result (MakesTables with_builder (state S.Store writing.old.conn.now) (state S.Store writing.new.conn.now)) }
+    ensures survives { Survives (state S.Store writing.old.conn.now) (state S.Store writing.new.conn.now) (λ _. ¬ HasEmptyTables empty_schema (state S.Store writing.old.conn.now)) }
+{
+    make_office(writing)?;
+    make_arch(writing)?;
+    make_builder(writing)
+}
+
+/// Makes the table of records and its indexes.
+fn make_records<S: Alter>(writing: &mut Writing<'_, S>) -> Result<(), Error>
+    ensures same_reference { writing.new.conn.ghost_name ≡ writing.old.conn.ghost_name }
+    ensures made { HasCleanDisk (state S.Store writing.new.conn.now) → HasEmptyTables with_builder (state S.Store writing.old.conn.now) → OnOk result (MakesTables with_record_take (state S.Store writing.old.conn.now) (state S.Store writing.new.conn.now)) }
+    ensures survives { Survives (state S.Store writing.old.conn.now) (state S.Store writing.new.conn.now) (λ _. ¬ HasEmptyTables with_builder (state S.Store writing.old.conn.now)) }
+{
+    make_source_record(writing)?;
+    make_record_order(writing)?;
+    make_record_take(writing)
+}
+
+/// Makes the scratch table of source packages and its index.
+fn make_sources<S: Alter>(writing: &mut Writing<'_, S>) -> Result<(), Error>
+    ensures same_reference { writing.new.conn.ghost_name ≡ writing.old.conn.ghost_name }
+    ensures made { HasCleanDisk (state S.Store writing.new.conn.now) → HasEmptyTables with_record_take (state S.Store writing.old.conn.now) → OnOk result (MakesTables with_source_name (state S.Store writing.old.conn.now) (state S.Store writing.new.conn.now)) }
+    ensures survives { Survives (state S.Store writing.old.conn.now) (state S.Store writing.new.conn.now) (λ _. ¬ HasEmptyTables with_record_take (state S.Store writing.old.conn.now)) }
+{
+    make_scratch_source(writing)?;
+    make_source_name(writing)
+}
+
+/// Makes the scratch table of binary packages and its indexes.
+fn make_binaries<S: Alter>(writing: &mut Writing<'_, S>) -> Result<(), Error>
+    ensures same_reference { writing.new.conn.ghost_name ≡ writing.old.conn.ghost_name }
+    ensures made { HasCleanDisk (state S.Store writing.new.conn.now) → HasEmptyTables with_source_name (state S.Store writing.old.conn.now) → OnOk result (MakesTables office_schema (state S.Store writing.old.conn.now) (state S.Store writing.new.conn.now)) }
+    ensures survives { Survives (state S.Store writing.old.conn.now) (state S.Store writing.new.conn.now) (λ _. ¬ HasEmptyTables with_source_name (state S.Store writing.old.conn.now)) }
+{
+    make_scratch_binary(writing)?;
+    make_binary_source(writing)?;
+    make_binary_name(writing)
+}
+
+/// Makes all tables and indexes of the office in a database that has none. They have no row. It fails as `Writing::execute` does,
+/// and the caller then rolls back.
+pub fn make_tables<S: Alter>(writing: &mut Writing<'_, S>) -> Result<(), Error>
+    ensures same_reference { writing.new.conn.ghost_name ≡ writing.old.conn.ghost_name }
+    ensures made { HasCleanDisk (state S.Store writing.new.conn.now) → HasEmptyTables empty_schema (state S.Store writing.old.conn.now) → OnOk result (MakesTables office_schema (state S.Store writing.old.conn.now) (state S.Store writing.new.conn.now)) }
+    ensures survives { Survives (state S.Store writing.old.conn.now) (state S.Store writing.new.conn.now) (λ _. ¬ HasEmptyTables empty_schema (state S.Store writing.old.conn.now)) }
+{
+    make_people(writing)?;
+    make_records(writing)?;
+    make_sources(writing)?;
+    make_binaries(writing)
+}
