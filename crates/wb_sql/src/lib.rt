@@ -12,3 +12,6 @@ pub use files::{close, open, surrender};
 pub use power::{Power, cut_power};
 pub use reading::read;
 pub use writing::{CommitError, Writing, begin};
+
+#[cfg(test)]
+mod tests;
