@@ -1,2 +1,3 @@
 pub mod MakingLemmas
+pub mod NameLemmas
 pub mod TableLemmas

@@ -1,3 +1,4 @@
 pub mod Making
+pub mod Statements
 pub mod Tables
 pub mod Texts

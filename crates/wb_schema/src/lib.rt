@@ -2,5 +2,6 @@
 #![tactic(auto)]
 
 mod making;
+pub mod texts;
 
 pub use making::make_tables;

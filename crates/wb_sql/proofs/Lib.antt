@@ -1,3 +1,4 @@
+pub mod AnswerLemmas
 pub mod DefinitionLemmas
 pub mod EndingLemmas
 pub mod ReadingLemmas

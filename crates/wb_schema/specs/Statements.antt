@@ -1,0 +1,65 @@
+-- The statements on the office's tables (this project's own): which rows they write, take out and show.
+use Rattle.std.specs.Prelude.{ℕ, List, [], ◌∷◌, pos, negsuc, true, false}
+use Rattle.sqlite.specs.Collation.TheVariants.{Binary}
+use Rattle.sqlite_value.specs.declared.keys.Key.{Key}
+use Rattle.sqlite_value.specs.Keys.{ascending}
+use Rattle.sqlite.specs.declared.types.Value.TheVariants.{Null, Int}
+use Rattle.sqlite.specs.Term.{Term, lit, col, op2}
+use Rattle.sqlite_sql.specs.declared.ops.BinaryOp.TheVariants.{Compare}
+use Rattle.sqlite_sql.specs.declared.ops.CompareOp.TheVariants.{Eq}
+use Rattle.wb_sql.specs.Queries.{TableQuery}
+
+-- the parameter at this place, counted from 0, and the column at this place of the row, whose rowid is at 0
+abbrev pub parameter : ℕ → Term
+parameter at = col 0 at
+
+abbrev pub cell : ℕ → Term
+cell at = col 1 at
+
+-- a column equals a parameter
+abbrev pub equals : ℕ → ℕ → Term
+equals place at = op2 (Compare Eq Binary) (cell place) (parameter at)
+
+-- a column, in rising order
+abbrev pub rising : ℕ → Term × Key
+rising place = (cell place, ascending Binary)
+
+abbrev pub no_limit : Term
+no_limit = lit (Int (negsuc 0))
+
+abbrev pub none_skipped : Term
+none_skipped = lit (Int (pos 0))
+
+-- a record, with its 16 columns as parameters; the rowid is left to the table
+abbrev pub record_row : List Term
+record_row =
+    lit Null ∷ parameter 0 ∷ parameter 1 ∷ parameter 2 ∷ parameter 3 ∷ parameter 4 ∷ parameter 5 ∷ parameter 6 ∷ parameter 7 ∷ parameter 8 ∷ parameter 9 ∷ parameter 10 ∷ parameter 11 ∷ parameter 12
+    ∷ parameter 13 ∷ parameter 14 ∷ parameter 15 ∷ []
+
+-- the columns of a record
+abbrev pub record_cells : List Term
+record_cells =
+    cell 1 ∷ cell 2 ∷ cell 3 ∷ cell 4 ∷ cell 5 ∷ cell 6 ∷ cell 7 ∷ cell 8 ∷ cell 9 ∷ cell 10 ∷ cell 11 ∷ cell 12 ∷ cell 13 ∷ cell 14 ∷ cell 15 ∷ cell 16 ∷ []
+
+-- the record's key is the first two parameters
+abbrev pub has_record_key : List Term
+has_record_key = equals 1 0 ∷ equals 2 1 ∷ []
+
+-- the records that pass these tests, in this order
+abbrev pub records_where : List Term → List (Term × Key) → Term → TableQuery
+records_where tests order limit = record { tree = 5; filter = tests; project = record_cells; order = order; collations = []; limit = limit; offset = none_skipped }
+
+-- the record of a key
+abbrev pub record_of_key : TableQuery
+record_of_key = records_where has_record_key [] no_limit
+
+-- of one architecture in one state, the records by rank and then by name
+abbrev pub queue_order : List (Term × Key)
+queue_order = rising 16 ∷ rising 2 ∷ []
+
+abbrev pub queue_of : TableQuery
+queue_of = records_where (equals 1 0 ∷ equals 3 1 ∷ []) queue_order no_limit
+
+-- the first of them
+abbrev pub head_of : TableQuery
+head_of = records_where (equals 1 0 ∷ equals 3 1 ∷ []) queue_order (lit (Int (pos 1)))
