@@ -1,5 +1,5 @@
 -- An ordered answer as one list.
-use Rattle.std.proofs.Common.{◌≡◌, ℕ, pos, negsuc, List, [], ◌∷◌, map, take, refl, sym, ap, subst, ◌∙◌, Less, IsPermutation}
+use Rattle.std.proofs.Common.{◌≡◌, ℕ, pos, negsuc, List, [], ◌∷◌, map, take, refl, ◌∙◌, Ordering, Less, IsPermutation}
 use Rattle.std.proofs.lemmas.List.Sorted.{IsPermutation-trans}
 use Rattle.sqlite.specs.declared.types.Value.TheVariants.{Int}
 use Rattle.sqlite.specs.Order.{Row}
@@ -12,7 +12,7 @@ use Rattle.sqlite_keyed.proofs.SortLemmas.{HasNoTies, sorted_unique, sorted_is-s
 use Rattle.wb_sql.specs.Queries.{TableQuery, query_of, outputs, Answers}
 
 module _ (q : TableQuery) (params : Row) (rows answer : List Row) (a : Answers q params rows answer) (from_start : q.offset ≡ lit (Int (pos 0))) where
-  abbrev by : Output → Output → _
+  abbrev by : Output → Output → Ordering
   by = output_cmp (query_of q)
 
   -- without LIMIT the whole order is shown

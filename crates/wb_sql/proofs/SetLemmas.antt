@@ -1,5 +1,5 @@
 -- Rows that are taken out by their rowids, and put in.
-use Rattle.std.proofs.Common.{◌≡◌, ◌⊎◌, inl, inr, ℕ, ℤ, Bool, true, false, not, ◌&&◌, cond, List, [], ◌∷◌, map, filter, Ordering, Less, Equal, Greater, refl, sym, ap, subst, ◌∙◌, IsPermutation}
+use Rattle.std.proofs.Common.{◌≡◌, ◌⊎◌, inl, inr, ℕ, ℤ, Bool, true, false, not, ◌&&◌, cond, List, [], ◌∷◌, map, flat_map, filter, Ordering, Less, Equal, Greater, refl, sym, ap, subst, ◌∙◌, IsPermutation}
 use Rattle.std.specs.List.{AllByRecursion, list_any, list_all}
 use Rattle.std.specs.Ordering.{is_eq, match_ordering}
 use Rattle.std.proofs.lemmas.Bool.{both_ways, cases_Bool, and_parts, or_parts, not-true, false_from_ne_true, true≢false}
@@ -14,13 +14,14 @@ use Rattle.sqlite_trees.specs.View.{is_int}
 use Rattle.sqlite_trees.proofs.TreeLemmas.{IsTable-put_row, all-put_row}
 use Rattle.sqlite_rules.specs.Lists.{Has}
 use Rattle.sqlite_rules.specs.Calls.{ids_of}
-use Rattle.sqlite.specs.Edit.{id_in, without_all, is_taken, have_rowids}
+use Rattle.sqlite.specs.Edit.{id_in, without_all, is_taken, have_rowids, next_rowid}
+use Rattle.sqlite.specs.Ops.{is_null}
 use Rattle.sqlite_rules.proofs.ListLemmas.{test_has, test_from, some_has, some_from, has_filtered, all_from, all_has}
 use Rattle.sqlite_rules.proofs.ProbeLemmas.{has_mapped, mapped_has}
 use Rattle.sqlite_rules.proofs.TableLemmas.{int_is, put_has}
 use Rattle.sqlite_rules.proofs.PlaceLemmas.{tied_same}
-use Rattle.sqlite_keyed.proofs.ListLemmas.{ascending-filter}
-use Rattle.wb_sql.specs.Rows.{cells, cells_of, IsStored}
+use Rattle.sqlite_keyed.proofs.ListLemmas.{ascending-filter, IsPermutation-flat_map}
+use Rattle.wb_sql.specs.Rows.{cells, cells_of, IsStored, with_next_rowid}
 
 filter_same_on : {X : Type 0} (p q : X → Bool) (xs : List X) → ((x : X) → Has xs x → p x ≡ q x) → filter p xs ≡ filter q xs
 filter_same_on p q [] each = refl
@@ -109,3 +110,25 @@ put_beside new (r ∷ rows) free = go (value_cmp (rowid r) (rowid new)) (or_part
     go Less other later = IsPermutation-trans _ _ _ (IsPermutation-middle (new ∷ []) r rows) (IsPermutation-cons r _ _ later)
     go Equal other later = absurd (cc)
     go Greater other later = IsPermutation-refl _
+
+one_each : {A B : Type 0} (f : A → B) (xs : List A) → map f xs ≡ flat_map (λ x. f x ∷ []) xs
+one_each f [] = refl
+one_each f (x ∷ xs) = ap (λ l. f x ∷ l) (one_each f xs)
+
+pub IsPermutation-map : {A B : Type 0} (f : A → B) (xs ys : List A) → IsPermutation xs ys → IsPermutation (map f xs) (map f ys)
+IsPermutation-map f xs ys same = subst (λ l. IsPermutation l (map f ys)) (sym (one_each f xs)) (subst (IsPermutation (flat_map (λ x. f x ∷ []) xs)) (sym (one_each f ys)) (IsPermutation-flat_map (λ x. f x ∷ []) xs ys same))
+
+-- the rowid that is chosen changes no cell
+cells_numbered : (given : Row) (rows : List Row) → cells (with_next_rowid rows given) ≡ cells given
+cells_numbered given rows = go (is_null (rowid given))
+  where
+    go : (b : Bool) → cells (cond b (Int (next_rowid rows) ∷ cells given) given) ≡ cells given
+    go true = refl
+    go false = refl
+
+-- the cells of a row that is put beside others
+pub cells_beside : (given : Row) (rows left : List Row) → is_taken left (with_next_rowid rows given) ≡ false
+    → IsPermutation (cells given ∷ cells_of left) (cells_of (put_row (with_next_rowid rows given) left))
+cells_beside given rows left free =
+    subst (λ c. IsPermutation (c ∷ cells_of left) (cells_of (put_row (with_next_rowid rows given) left))) (cells_numbered given rows)
+    (IsPermutation-map cells (with_next_rowid rows given ∷ left) (put_row (with_next_rowid rows given) left) (put_beside (with_next_rowid rows given) left free))

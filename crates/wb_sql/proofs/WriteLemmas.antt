@@ -33,7 +33,7 @@ use Rattle.sqlite.specs.State.{State, Shows, Writes, Executes, mode_of}
 use Rattle.sqlite.specs.declared.run.Mode.{Mode}
 use Rattle.sqlite.proofs.Callers.{one_step, runs_as}
 use Rattle.wb_sql.proofs.ReadingLemmas.{means_as, answers_from}
-use Rattle.std.proofs.Common.{ap₂, ◌^◌, nat_le}
+use Rattle.std.proofs.Common.{ap₂, ◌^◌, nat_le, IsPermutation}
 use Rattle.std.proofs.lemmas.List.Sorted.{IsPermutation-sym}
 use Rattle.sqlite.specs.Query.{Output, output}
 use Rattle.sqlite.specs.Rows.{Deletes}
@@ -50,8 +50,8 @@ use Rattle.sqlite.specs.Cast.{cast}
 use Rattle.sqlite.specs.Edit.{is_taken, next_rowid}
 use Rattle.sqlite_trees.specs.View.{is_int}
 use Rattle.sqlite_rules.specs.declared.error.Refusal.{Refusal}
-use Rattle.wb_sql.specs.Rows.{cells, IsStored, IsTyped, with_next_rowid, meets, inserted, upserted, without}
-use Rattle.wb_sql.proofs.SetLemmas.{taken_out, stored-filter, stored-put_row}
+use Rattle.wb_sql.specs.Rows.{cells, cells_of, IsStored, IsTyped, with_next_rowid, meets, inserted, apart, upserted, without}
+use Rattle.wb_sql.proofs.SetLemmas.{taken_out, stored-filter, stored-put_row, cells_beside}
 use Rattle.wb_sql.specs.Changes.{is_no_action, never_acts, IsPlainTable, IsOneRow, ReplacesInto, InsertsInto, DeletesFrom, SetsTable}
 
 -- a part that gave a value did not stop on the way
@@ -356,7 +356,8 @@ module _ (sql : List ℕ) (params : Row) (old new : State) (inside : IsTrue old.
 
   -- INSERT OR REPLACE of one row, in a transaction
   pub replaces : (r : Result ℕ Error) → ReplacesInto old.now.schema sql table terms → Executes sql params old new r
-      → OnOk r (SetsTable table (upserted old.now.schema table source rows) old new × IsStored (new.now.trees table.tree))
+      → OnOk r (SetsTable table (upserted old.now.schema table source rows) old new × IsStored (new.now.trees table.tree)
+          × IsPermutation (cells source ∷ cells_of (apart old.now.schema table source rows)) (cells_of (new.now.trees table.tree)))
   replaces (Err e) text h = tt
   replaces (Ok count) text h =
       let plain = text.table_is in
@@ -366,11 +367,17 @@ module _ (sql : List ℕ) (params : Row) (old new : State) (inside : IsTrue old.
       let is = inserts_or old.step_limit old.now.schema text.at table params plain terms text.width text.one_row typed old.now.trees stored step.0 step.1 in
       let set = sets params old new text.at table plain (upserted old.now.schema table source rows) step.0.trees is.rows_are is.spares step.2
       (shown_inside old new None command _ params count inside w) w.marks in
-      (set, subst IsStored (sym set.rows_are) (stored-put_row _ (stored-filter rows stored _) _ is.whole))
+      (
+        set,
+        subst IsStored (sym set.rows_are) (stored-put_row _ (stored-filter rows stored _) _ is.whole),
+        subst (λ all. IsPermutation (cells source ∷ cells_of (apart old.now.schema table source rows)) (cells_of all)) (sym set.rows_are)
+        (cells_beside source rows (apart old.now.schema table source rows) is.free),
+      )
 
   -- INSERT of one row, in a transaction
   pub inserts_one : (r : Result ℕ Error) → InsertsInto old.now.schema sql table terms → Executes sql params old new r
-      → OnOk r (SetsTable table (inserted source rows) old new × IsStored (new.now.trees table.tree))
+      → OnOk r (SetsTable table (inserted source rows) old new × IsStored (new.now.trees table.tree)
+          × IsPermutation (cells source ∷ cells_of rows) (cells_of (new.now.trees table.tree)))
   inserts_one (Err e) text h = tt
   inserts_one (Ok count) text h =
       let plain = text.table_is in
@@ -379,7 +386,11 @@ module _ (sql : List ℕ) (params : Row) (old new : State) (inside : IsTrue old.
       let step = row_step params old new text.at table plain command w.tally w.changed in
       let is = inserts old.step_limit old.now.schema text.at table params plain terms text.width text.one_row typed old.now.trees stored step.0 step.1 in
       let set = sets params old new text.at table plain (inserted source rows) step.0.trees is.0 is.1 step.2 (shown_inside old new None command _ params count inside w) w.marks in
-      (set, subst IsStored (sym set.rows_are) (stored-put_row rows stored _ is.2))
+      (
+        set,
+        subst IsStored (sym set.rows_are) (stored-put_row rows stored _ is.2),
+        subst (λ all. IsPermutation (cells source ∷ cells_of rows) (cells_of all)) (sym set.rows_are) (cells_beside source rows rows is.3),
+      )
 
 -- DELETE, in a transaction
 pub deletes_rows : (sql : List ℕ) (params : Row) (old after : State) → IsTrue old.in_transaction → (table : Table) (tests : List Term) → IsStored (old.now.trees table.tree) → (r : Result ℕ Error)

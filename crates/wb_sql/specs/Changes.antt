@@ -1,5 +1,5 @@
 -- What INSERT, INSERT OR REPLACE and DELETE on one table change of a database.
-use Rattle.std.specs.Prelude.{◌≡◌, ◌≢◌, ℕ, ◌/◌, ◌^◌, nat_le, Bool, true, false, ◌&&◌, List, [], ◌∷◌, length, take, slice_get, Some}
+use Rattle.std.specs.Prelude.{◌≡◌, ◌≢◌, ℕ, ◌/◌, ◌^◌, nat_le, Bool, true, false, ◌&&◌, List, [], ◌∷◌, length, take, slice_get, Some, IsPermutation}
 use Rattle.std.specs.List.{AllByRecursion, list_all}
 use Rattle.sqlite.specs.Order.{Row}
 use Rattle.sqlite.specs.Schema.{Schema}
@@ -15,7 +15,7 @@ use Rattle.sqlite_schema.specs.declared.command.Conflict.TheVariants.{Replace}
 use Rattle.sqlite.specs.Edit.{IsNoIndex}
 use Rattle.sqlite.specs.State.{State, Shows}
 use Rattle.wb_sql.specs.Queries.{query_of, rowids_where}
-use Rattle.wb_sql.specs.Rows.{IsStored, IsTyped, inserted, upserted, without}
+use Rattle.wb_sql.specs.Rows.{cells, cells_of, IsStored, IsTyped, inserted, apart, upserted, without}
 use Rattle.wb_sql.specs.Statements.{Means}
 
 abbrev pub is_no_action : Action → Bool
@@ -70,17 +70,20 @@ pub record DeletesFrom (schema : Schema) (sql : List ℕ) (table : Table) (tests
   pub stored : nat_le (2 ^ 31) table.tree ≡ false
   pub means : Means schema sql (Delete at (record { lets = []; body = query_of (rowids_where table.tree tests) }))
 
--- an INSERT OR REPLACE of one row leaves this, for each table whose statement the text is
+-- an INSERT OR REPLACE of one row leaves this, for each table whose statement the text is: without rowids, the row that is given and
+-- those that do not meet it
 abbrev pub Replaces : List ℕ → Row → State → State → Type 0
 Replaces sql params old new =
     (table : Table) (terms : List Term) → ReplacesInto old.now.schema sql table terms → IsStored (old.now.trees table.tree) → IsTyped table (eval_all terms (params ∷ []))
     → SetsTable table (upserted old.now.schema table (eval_all terms (params ∷ [])) (old.now.trees table.tree)) old new × IsStored (new.now.trees table.tree)
+    × IsPermutation (cells (eval_all terms (params ∷ [])) ∷ cells_of (apart old.now.schema table (eval_all terms (params ∷ [])) (old.now.trees table.tree))) (cells_of (new.now.trees table.tree))
 
 -- an INSERT of one row leaves this
 abbrev pub Inserts : List ℕ → Row → State → State → Type 0
 Inserts sql params old new =
     (table : Table) (terms : List Term) → InsertsInto old.now.schema sql table terms → IsStored (old.now.trees table.tree) → IsTyped table (eval_all terms (params ∷ []))
     → SetsTable table (inserted (eval_all terms (params ∷ [])) (old.now.trees table.tree)) old new × IsStored (new.now.trees table.tree)
+    × IsPermutation (cells (eval_all terms (params ∷ [])) ∷ cells_of (old.now.trees table.tree)) (cells_of (new.now.trees table.tree))
 
 -- a DELETE leaves this
 abbrev pub Deletes : List ℕ → Row → State → State → Type 0
