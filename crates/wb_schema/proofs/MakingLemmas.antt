@@ -49,7 +49,7 @@ module _ (sql : List ℕ) (from to : Schema) where
       record { tables = subst (λ s. HasEmptyTables s new) is tables; shown = set.shown; marks = set.marks }
 
 module _ (sql : List ℕ) (from : Schema) where
-  writes_survives : IsWriting from sql → (old new : State) → Survives old new (λ _. ¬ IsWriting old.now.schema sql) → Survives old new (λ _. ¬ HasEmptyTables from old)
+  pub writes_survives : IsWriting from sql → (old new : State) → Survives old new (λ _. ¬ IsWriting old.now.schema sql) → Survives old new (λ _. ¬ HasEmptyTables from old)
   writes_survives writes old new = survives_weaker old new _ _ (λ clean db none was. none (subst (λ s. IsWriting s sql) (sym was.schema_is) writes))
 
   pub table_survives : (table : Table) → DefinesTable from sql table → (old new : State) → Survives old new (λ _. ¬ IsWriting old.now.schema sql) → Survives old new (λ _. ¬ HasEmptyTables from old)

@@ -63,3 +63,47 @@ queue_of = records_where (equals 1 0 ∷ equals 3 1 ∷ []) queue_order no_limit
 -- the first of them
 abbrev pub head_of : TableQuery
 head_of = records_where (equals 1 0 ∷ equals 3 1 ∷ []) queue_order (lit (Int (pos 1)))
+
+-- the record with a take number, which is the parameter
+abbrev pub record_of_take : TableQuery
+record_of_take = records_where (equals 10 0 ∷ []) [] no_limit
+
+-- the records that a builder holds, by architecture and then by source package
+abbrev pub held_by : TableQuery
+held_by = records_where (equals 9 0 ∷ []) (rising 1 ∷ rising 2 ∷ []) no_limit
+
+-- the records of an architecture, by source package
+abbrev pub records_of_arch : TableQuery
+records_of_arch = records_where (equals 1 0 ∷ []) (rising 2 ∷ []) no_limit
+
+-- all records, by architecture and then by source package
+abbrev pub all_records : TableQuery
+all_records = records_where [] (rising 1 ∷ rising 2 ∷ []) no_limit
+
+-- an architecture: its name and its two words
+abbrev pub arch_row : List Term
+arch_row = lit Null ∷ parameter 0 ∷ parameter 1 ∷ parameter 2 ∷ []
+
+-- all architectures, by name
+abbrev pub all_archs : TableQuery
+all_archs = record { tree = 1; filter = []; project = cell 1 ∷ cell 2 ∷ cell 3 ∷ []; order = rising 1 ∷ []; collations = []; limit = no_limit; offset = none_skipped }
+
+-- a builder and an architecture for which it was added
+abbrev pub builder_row : List Term
+builder_row = lit Null ∷ parameter 0 ∷ parameter 1 ∷ []
+
+-- all such pairs, by builder and then by architecture
+abbrev pub all_builders : TableQuery
+all_builders = record { tree = 3; filter = []; project = cell 1 ∷ cell 2 ∷ []; order = rising 1 ∷ rising 2 ∷ []; collations = []; limit = no_limit; offset = none_skipped }
+
+-- the office's row: its id is 1, the format 2, and the two counts are parameters
+abbrev pub office_row : List Term
+office_row = lit (Int (pos 1)) ∷ lit Null ∷ lit (Int (pos 2)) ∷ parameter 0 ∷ parameter 1 ∷ []
+
+-- the same of an office that has handed out and accepted nothing
+abbrev pub first_office_row : List Term
+first_office_row = lit (Int (pos 1)) ∷ lit Null ∷ lit (Int (pos 2)) ∷ lit (Int (pos 0)) ∷ lit (Int (pos 0)) ∷ []
+
+-- the format and the two counts
+abbrev pub office_counts : TableQuery
+office_counts = record { tree = 0; filter = []; project = cell 2 ∷ cell 3 ∷ cell 4 ∷ []; order = []; collations = []; limit = no_limit; offset = none_skipped }

@@ -4,4 +4,4 @@
 mod making;
 pub mod texts;
 
-pub use making::make_tables;
+pub use making::{make_tables, prepare};

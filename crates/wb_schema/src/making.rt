@@ -3,7 +3,7 @@
 ghost use Rattle.std.specs.Prelude.{◌≡◌, OnOk};
 ghost use Rattle.sqlite.specs.State.{HasCleanDisk, Survives};
 ghost use Rattle.sqlite.specs.Held.{state};
-ghost use Rattle.wb_schema.specs.Making.{HasEmptyTables, MakesTables};
+ghost use Rattle.wb_schema.specs.Making.{HasEmptyTables, MakesTables, MakesOffice};
 ghost use Rattle.wb_schema.specs.Tables.{empty_schema, office_schema, with_arch, with_binary_source, with_builder, with_office, with_record_order, with_record_take, with_scratch_binary, with_scratch_source, with_source_name, with_source_record};
 
 use sqlite::{Alter, Error};
@@ -151,4 +151,27 @@ pub fn make_tables<S: Alter>(writing: &mut Writing<'_, S>) -> Result<(), Error>
     make_records(writing)?;
     make_sources(writing)?;
     make_binaries(writing)
+}
+
+/// Puts in the row of an empty office.
+fn put_first_row<S: Alter>(writing: &mut Writing<'_, S>) -> Result<(), Error>
+    ensures same_reference { writing.new.conn.ghost_name ≡ writing.old.conn.ghost_name }
+    ensures made { HasCleanDisk (state S.Store writing.new.conn.now) → HasEmptyTables office_schema (state S.Store writing.old.conn.now) → OnOk result (MakesOffice (state S.Store writing.old.conn.now) (state S.Store writing.new.conn.now)) }
+    ensures survives { Survives (state S.Store writing.old.conn.now) (state S.Store writing.new.conn.now) (λ _. ¬ HasEmptyTables office_schema (state S.Store writing.old.conn.now)) }
+{
+    writing.replace(
+        "INSERT OR REPLACE INTO office(id, format, handed, accepted) VALUES (1, 2, 0, 0)",
+        &[],
+    )
+}
+
+/// Makes the tables of an empty office, with its row, in a database without tables. It fails as `Writing::execute` does, and the
+/// caller then rolls back.
+pub fn prepare<S: Alter>(writing: &mut Writing<'_, S>) -> Result<(), Error>
+    ensures same_reference { writing.new.conn.ghost_name ≡ writing.old.conn.ghost_name }
+    ensures made { HasCleanDisk (state S.Store writing.new.conn.now) → HasEmptyTables empty_schema (state S.Store writing.old.conn.now) → OnOk result (MakesOffice (state S.Store writing.old.conn.now) (state S.Store writing.new.conn.now)) }
+    ensures survives { Survives (state S.Store writing.old.conn.now) (state S.Store writing.new.conn.now) (λ _. ¬ HasEmptyTables empty_schema (state S.Store writing.old.conn.now)) }
+{
+    make_tables(writing)?;
+    put_first_row(writing)
 }

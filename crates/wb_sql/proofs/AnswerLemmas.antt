@@ -1,5 +1,5 @@
 -- An ordered answer as one list.
-use Rattle.std.proofs.Common.{◌≡◌, ℕ, pos, negsuc, List, [], ◌∷◌, map, take, refl, ◌∙◌, Ordering, Less, IsPermutation}
+use Rattle.std.proofs.Common.{◌≡◌, pos, negsuc, List, map, take, refl, ◌∙◌, Ordering, Less, IsPermutation}
 use Rattle.std.proofs.lemmas.List.Sorted.{IsPermutation-trans}
 use Rattle.sqlite.specs.declared.types.Value.TheVariants.{Int}
 use Rattle.sqlite.specs.Order.{Row}

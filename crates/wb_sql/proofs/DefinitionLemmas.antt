@@ -1,22 +1,17 @@
 -- What CREATE TABLE and CREATE INDEX do.
-use Rattle.std.proofs.Common.{◌≡◌, ◌⊎◌, inl, inr, ℕ, Bool, true, false, cond, List, [], ◌∷◌, slice_get, Option, Some, None, Ok, Err, Result, OnOk, IsTrue, refl, sym, ap, subst, ◌∙◌}
-use Rattle.sqlite.specs.Order.{Row}
+use Rattle.std.proofs.Common.{◌≡◌, ℕ, false, List, [], None, Ok, Err, Result, OnOk, IsTrue, refl, sym, ap, subst, ◌∙◌}
 use Rattle.sqlite.specs.Schema.{Schema}
 use Rattle.sqlite.specs.Table.{Table}
-use Rattle.sqlite.specs.Tree.{Trees}
 use Rattle.sqlite_schema.specs.declared.schema.Index.{Index}
-use Rattle.sqlite_schema.specs.declared.schema.Keys.TheVariants.{Enforced}
-use Rattle.sqlite.specs.Command.{Command}
 use Rattle.sqlite.specs.Command.TheVariants.{CreateTable, CreateIndex}
 use Rattle.sqlite_resolve.specs.declared.compiled.Compiled.{Compiled}
 use Rattle.sqlite_resolve.specs.declared.error.CompileError.{CompileError}
-use Rattle.sqlite.specs.Compile.{table_defined_by, index_defined_by}
 use Rattle.sqlite.specs.Change.{created, indexed, next_tree, KeepsRows}
 use Rattle.sqlite.specs.declared.error.Error.{Error}
 use Rattle.sqlite.specs.Effect.{Database}
 use Rattle.sqlite.specs.Listing.{understood}
-use Rattle.sqlite.specs.Does.{Tally, Does, AtPlace, Defines, MakesIndex, lacks_sequence}
-use Rattle.sqlite.specs.State.{State, Shows, Writes, Executes, mode_of}
+use Rattle.sqlite.specs.Does.{Tally, AtPlace, Defines, MakesIndex, lacks_sequence}
+use Rattle.sqlite.specs.State.{State, Writes, Executes, mode_of}
 use Rattle.sqlite.proofs.Callers.{runs_as, statement_of}
 use Rattle.wb_sql.specs.Statements.{statement_in, IsWriting, changes}
 use Rattle.wb_sql.specs.Definitions.{DefinesTable, DefinesIndex, SetsSchema}
@@ -45,8 +40,7 @@ module _ (sql : List ℕ) (old new : State) (inside : IsTrue old.in_transaction)
       let same : made.table ≡ table = same_value both in
       let schema_is : first.0.schema ≡ created schema table = made.is ∙ ap (created schema) same in
       let plain : lacks_sequence first.0.schema ≡ false = ap lacks_sequence schema_is ∙ text.uncounted in
-      let now : new.now ≡ first.0 = ap (λ (p : Tally × Database). p.1) (same_value all.2) ∙ same_value (rw plain at first.2) in
-      (
+      let now : new.now ≡ first.0 = ap (λ (p : Tally × Database). p.1) (same_value all.2) ∙ same_value (rw plain at first.2) in (
         record {
           schema_is = ap (λ (d : Database). d.schema) now ∙ schema_is;
           rows = subst (λ (d : Database). KeepsRows schema.tables old.now.trees d.trees) (sym now) made.others;

@@ -1,6 +1,6 @@
 -- What the texts COMMIT and ROLLBACK and the empty text do, over any schema.
-use Rattle.std.proofs.Common.{◌≡◌, ◌⊎◌, inl, inr, ℕ, List, [], codes, Bool, true, false, None, Ok, Err, Result, OnOk, OnErr, IsTrue, IsSome, MatchBool, is_some, refl, sym, ap, subst, ◌∙◌, arith}
-use Rattle.std.proofs.lemmas.Bool.{both_ways, cases_Bool}
+use Rattle.std.proofs.Common.{◌≡◌, inl, inr, ℕ, List, [], codes, false, None, Ok, Err, Result, OnOk, OnErr, IsTrue, refl, sym, ap, subst, ◌∙◌, arith}
+use Rattle.std.proofs.lemmas.Bool.{both_ways}
 use Rattle.sqlite.specs.Order.{Row}
 use Rattle.sqlite.specs.Tree.{Trees}
 use Rattle.sqlite.specs.Schema.{Schema}
@@ -8,17 +8,14 @@ use Rattle.sqlite.specs.Command.{Command}
 use Rattle.sqlite.specs.Command.TheVariants.{Commit, Rollback, Nothing}
 use Rattle.sqlite_resolve.specs.declared.compiled.Compiled.{Compiled}
 use Rattle.sqlite_resolve.specs.declared.error.CompileError.{CompileError}
-use Rattle.sqlite_schema.specs.declared.command.Returning.{Returning}
 use Rattle.sqlite_tied.specs.Compute.{everything}
 use Rattle.sqlite.specs.declared.error.Error.{Error}
-use Rattle.sqlite.specs.Does.{Does}
-use Rattle.sqlite.specs.Clock.{timed}
 use Rattle.sqlite.specs.Given.{IsPlain}
 use Rattle.sqlite.specs.Listing.{understood}
-use Rattle.sqlite.specs.State.{State, Executes, ExecutesIn, RunsAlone, RunsCommand, CommitsBy, IsStatement, IsNotRun, IsNoStatement, IsUnchanged, IsRolledBack, Runs, MayCommit, mode_of, text_of, shows_rows}
+use Rattle.sqlite.specs.State.{State, Executes, ExecutesIn, CommitsBy, IsStatement, IsNotRun, IsUnchanged, IsRolledBack}
 use Rattle.sqlite.proofs.Callers.{command_of, runs_as, unchanged_then}
 use Rattle.sqlite.proofs.InsideLemmas.{fails_whole}
-use Rattle.wb_sql.specs.Statements.{command_in, IsWriting, changes}
+use Rattle.wb_sql.specs.Statements.{IsWriting}
 use Rattle.wb_sql.specs.Transactions.{IsKeptOrUndone, IsTakenBack, Commits}
 
 abbrev pub commit_text : List ℕ

@@ -1,17 +1,17 @@
 -- What a query leaves of a connection.
-use Rattle.std.proofs.Common.{◌≡◌, ◌⊎◌, inl, inr, ℕ, ◌^◌, nat_le, Bool, true, false, cond, List, [], ◌∷◌, ◌++◌, map, filter, flat_map, IsPermutation, None, Some, Ok, Err, Result, OnOk, OnErr, IfOk, IfErr, Vec, IsTrue, IsSome, refl, sym, ap, subst, ◌∙◌}
+use Rattle.std.proofs.Common.{◌≡◌, inl, inr, ℕ, ◌^◌, nat_le, Bool, true, false, cond, List, [], ◌∷◌, ◌++◌, map, filter, flat_map, IsPermutation, None, Some, Ok, Err, Result, OnOk, OnErr, IfOk, IfErr, Vec, refl, ap, subst, ◌∙◌}
 use Rattle.sqlite.specs.Order.{Row}
 use Rattle.sqlite.specs.Tree.{Trees}
 use Rattle.sqlite.specs.declared.error.Error.{Error}
 use Rattle.sqlite.specs.Clock.{timed}
 use Rattle.sqlite.specs.Given.{IsPlain}
 use Rattle.sqlite.specs.Listing.{understood}
-use Rattle.sqlite.specs.State.{State, Shown, ShowsRows, FailsToQuery, FailsToShow, IsNotRun, IsUnchanged, CommitsShowing}
+use Rattle.sqlite.specs.State.{State, Shown, ShowsRows, FailsToQuery, FailsToShow, IsNotRun, IsUnchanged}
 use Rattle.sqlite.proofs.Callers.{command_of, reads_as}
 use Rattle.std.specs.List.{list_all}
 use Rattle.sqlite.specs.Schema.{Schema}
-use Rattle.sqlite.specs.Term.{Term, holds}
-use Rattle.sqlite.specs.Query.{Output, IsAnswer, output}
+use Rattle.sqlite.specs.Term.{holds}
+use Rattle.sqlite.specs.Query.{IsAnswer, output}
 use Rattle.sqlite.specs.Program.{overlay}
 use Rattle.sqlite.specs.Command.{Command}
 use Rattle.sqlite.specs.Command.TheVariants.{Select}

@@ -1,22 +1,22 @@
 -- Rows that are taken out by their rowids, and put in.
-use Rattle.std.proofs.Common.{◌≡◌, ◌⊎◌, inl, inr, ℕ, ℤ, Bool, true, false, not, ◌&&◌, cond, List, [], ◌∷◌, map, flat_map, filter, Ordering, Less, Equal, Greater, refl, sym, ap, subst, ◌∙◌, IsPermutation}
+use Rattle.std.proofs.Common.{◌≡◌, inl, inr, ℤ, Bool, true, false, not, ◌&&◌, cond, List, [], ◌∷◌, map, flat_map, filter, Ordering, Less, Equal, Greater, refl, sym, ap, subst, ◌∙◌, IsPermutation}
 use Rattle.std.specs.List.{AllByRecursion, list_any, list_all}
 use Rattle.std.specs.Ordering.{is_eq, match_ordering}
-use Rattle.std.proofs.lemmas.Bool.{both_ways, cases_Bool, and_parts, or_parts, not-true, false_from_ne_true, true≢false}
-use Rattle.std.proofs.lemmas.Cmp.{tied_itself, alike_right, tied_back}
+use Rattle.std.proofs.lemmas.Bool.{both_ways, cases_Bool, or_parts, false_from_ne_true}
+use Rattle.std.proofs.lemmas.Cmp.{tied_itself}
 use Rattle.std.proofs.lemmas.List.Sorted.{IsPermutation-refl, IsPermutation-cons, IsPermutation-trans, IsPermutation-middle}
 use Rattle.sqlite.specs.Order.{Row}
 use Rattle.sqlite_value.specs.Order.{value_cmp}
 use Rattle.sqlite.specs.declared.types.Value.TheVariants.{Int}
 use Rattle.sqlite_value.proofs.OrderLemmas.{value_cmp_total}
-use Rattle.sqlite.specs.Tree.{IsTable, rowid, has_rowid, put_row, without_rowid}
+use Rattle.sqlite.specs.Tree.{rowid, has_rowid, put_row, without_rowid}
 use Rattle.sqlite_trees.specs.View.{is_int}
-use Rattle.sqlite_trees.proofs.TreeLemmas.{IsTable-put_row, all-put_row}
+use Rattle.sqlite_trees.proofs.TreeLemmas.{IsTable-put_row}
 use Rattle.sqlite_rules.specs.Lists.{Has}
 use Rattle.sqlite_rules.specs.Calls.{ids_of}
-use Rattle.sqlite.specs.Edit.{id_in, without_all, is_taken, have_rowids, next_rowid}
+use Rattle.sqlite.specs.Edit.{id_in, without_all, is_taken, next_rowid}
 use Rattle.sqlite.specs.Ops.{is_null}
-use Rattle.sqlite_rules.proofs.ListLemmas.{test_has, test_from, some_has, some_from, has_filtered, all_from, all_has}
+use Rattle.sqlite_rules.proofs.ListLemmas.{test_has, test_from, some_has, some_from, has_filtered}
 use Rattle.sqlite_rules.proofs.ProbeLemmas.{has_mapped, mapped_has}
 use Rattle.sqlite_rules.proofs.TableLemmas.{int_is, put_has}
 use Rattle.sqlite_rules.proofs.PlaceLemmas.{tied_same}

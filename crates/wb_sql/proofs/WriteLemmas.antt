@@ -1,5 +1,5 @@
 -- What INSERT, INSERT OR REPLACE and DELETE on one table do, level by level of the kit's meaning of a statement.
-use Rattle.std.proofs.Common.{◌≡◌, ◌≢◌, ◌⊎◌, inl, inr, ℕ, ◌/◌, ◌-◌, ℤ, Bool, true, false, not, ◌&&◌, cond, List, [], ◌∷◌, ◌++◌, length, take, drop, map, filter, flat_map, slice_get, Option, Some, None, Ok, Err, Result, IsTrue, OnOk, refl, sym, ap, subst, ◌∙◌, append-nil}
+use Rattle.std.proofs.Common.{◌≡◌, ◌≢◌, ◌⊎◌, inl, inr, ℕ, ◌/◌, ◌-◌, ℤ, Bool, true, false, not, ◌&&◌, cond, List, [], ◌∷◌, ◌++◌, length, drop, map, filter, flat_map, slice_get, Option, Some, None, Ok, Err, Result, IsTrue, OnOk, refl, sym, ap, subst, ◌∙◌, append-nil}
 use Rattle.std.specs.List.{AllByRecursion, filter_map, list_all}
 use Rattle.std.proofs.lemmas.Bool.{and_parts}
 use Rattle.sqlite.specs.Order.{Row}
@@ -16,21 +16,18 @@ use Rattle.sqlite_schema.specs.declared.schema.Action.TheVariants.{NoAction, Res
 use Rattle.sqlite_schema.specs.declared.schema.Reference.{Reference}
 use Rattle.sqlite_schema.specs.declared.schema.Keys.TheVariants.{Enforced}
 use Rattle.sqlite_schema.specs.declared.command.Conflict.TheVariants.{Replace}
-use Rattle.sqlite_rules.specs.Keys.{AreConflicts, conflicts}
-use Rattle.sqlite_rules.specs.Action.{works, work_for, work_by, deed_for, deed_of, pairs}
-use Rattle.sqlite_rules.specs.declared.action.Deed.{Deed}
+use Rattle.sqlite_rules.specs.Action.{works, work_for, deed_for, deed_of}
 use Rattle.sqlite_rules.specs.Steps.{IsJudged}
 use Rattle.sqlite_rules.specs.Calls.{ids_of}
 use Rattle.sqlite.specs.Rowids.TheVariants.{Chosen, Above, Given}
-use Rattle.sqlite.specs.Edit.{Edit, edit_of, edited, taken_by, Applies, IsNoIndex, without_all, with_rowid, put_all}
+use Rattle.sqlite.specs.Edit.{Edit, edit_of, taken_by, Applies, IsNoIndex, without_all, with_rowid}
 use Rattle.sqlite.specs.Cast.{cast_row}
 use Rattle.sqlite.specs.Effect.{Database, value_rows}
-use Rattle.sqlite.specs.Rows.{Part, Then, Edited, Written, Task, Puts, Clears, Upserts, Judged, Tries, TriesEach, InsertsOr, Inserts, nothing, mended, stamped, rowids_for, count_of, Counts}
-use Rattle.sqlite.specs.Does.{Tally, Does, AtPlace, OnRows, Concludes, WritesRows}
+use Rattle.sqlite.specs.Rows.{Edited, Written, Task, Puts, Clears, Upserts, Judged, Tries, TriesEach, InsertsOr, Inserts, nothing, mended, stamped, rowids_for, count_of, Counts}
+use Rattle.sqlite.specs.Does.{Tally, AtPlace, OnRows, WritesRows}
 use Rattle.sqlite.specs.declared.error.Error.{Error}
 use Rattle.sqlite_schema.specs.declared.command.Returning.{Returning}
 use Rattle.sqlite.specs.State.{State, Shows, Writes, Executes, mode_of}
-use Rattle.sqlite.specs.declared.run.Mode.{Mode}
 use Rattle.sqlite.proofs.Callers.{one_step, runs_as}
 use Rattle.wb_sql.proofs.ReadingLemmas.{means_as, answers_from}
 use Rattle.std.proofs.Common.{ap₂, ◌^◌, nat_le, IsPermutation}
@@ -241,9 +238,11 @@ module _ (limit : Option ℕ) (schema : Schema) (at : ℕ) (table : Table) (para
         let row : with_rowid (rowids_for table top) (db table.tree) (cast_row table (mended Replace table given)) ≡ new =
         ap (λ how. with_rowid how (db table.tree) (cast_row table (mended Replace table given))) (uncounted_rowids top) ∙ ap (with_next_rowid (db table.tree)) (kept_source table given typed) in
         let tried = tries task refl plain.quiet new db each.0 (subst (λ r. Tries task Replace [] r db (Ok each.0)) row each.1) in
-        let end : done.0.trees ≡ each.0.trees = ap (λ (p : Written × ℤ). p.0.trees) (same_value each.2) in
-        (tried.0, subst (IsPut task refl plain.quiet new (filter (λ row. not (meets schema table new row)) (db table.tree)) db) (sym end)
-        (upserts task refl plain.quiet new db each.0 stored (kept_new table given typed (db table.tree)) tried.1))
+        let end : done.0.trees ≡ each.0.trees = ap (λ (p : Written × ℤ). p.0.trees) (same_value each.2) in (
+          tried.0,
+          subst (IsPut task refl plain.quiet new (filter (λ row. not (meets schema table new row)) (db table.tree)) db) (sym end)
+              (upserts task refl plain.quiet new db each.0 stored (kept_new table given typed (db table.tree)) tried.1),
+        )
 
     pub inserts_or : (w : Written) → InsertsOr task Replace [] (Values terms width) db (Ok w) → IsUpserted given db w.trees
     inserts_or w h =
@@ -292,13 +291,13 @@ module _ (limit : Option ℕ) (schema : Schema) (at : ℕ) (table : Table) (para
         ap (λ rows. without_all (db table.tree) (ids_of rows)) a.shown ∙
         taken_out (db table.tree) stored (map (λ o. o.1) a.ordered) passes
         (λ x h.
-            let o = has_mapped (λ (p : Output). p.1) a.ordered x h in
-            let r = has_mapped shown_rowid (filter passes (db table.tree)) o.0 (all_has (Has outs) a.ordered o.0 there o.1) in
-            let kept = has_filtered passes (db table.tree) r.0 r.1 in
-            (r.0, kept.0, kept.1, ap rowid (o.2 ∙ ap (λ (p : Output). p.1) r.2)))
+        let o = has_mapped (λ (p : Output). p.1) a.ordered x h in
+        let r = has_mapped shown_rowid (filter passes (db table.tree)) o.0 (all_has (Has outs) a.ordered o.0 there o.1) in
+        let kept = has_filtered passes (db table.tree) r.0 r.1 in
+        (r.0, kept.0, kept.1, ap rowid (o.2 ∙ ap (λ (p : Output). p.1) r.2)))
         (λ r h pass.
-            let o = mapped_has shown_rowid (filter passes (db table.tree)) r (has_kept passes (db table.tree) r h pass) in
-            (rowid r ∷ [], mapped_has (λ (p : Output). p.1) a.ordered (shown_rowid r) (all_has (Has a.ordered) outs (shown_rowid r) back o), refl))
+        let o = mapped_has shown_rowid (filter passes (db table.tree)) r (has_kept passes (db table.tree) r h pass) in
+        (rowid r ∷ [], mapped_has (λ (p : Output). p.1) a.ordered (shown_rowid r) (all_has (Has a.ordered) outs (shown_rowid r) back o), refl))
 
     pub deletes : (w : Written) → Deletes task (record { lets = []; body = query_of (rowids_where table.tree tests) }) db (Ok w)
         → (w.trees table.tree ≡ without passes (db table.tree)) × Spares schema table db w.trees
@@ -330,7 +329,7 @@ module _ (params : Row) (old new : State) (at : ℕ) (table : Table) (plain : Is
 
   row_step : (command : Command) (tally : Tally)
       → AtPlace (λ t. OnRows (record { limit = old.step_limit; keys = Enforced; schema = old.now.schema; table = t; params = params }) (mode_of old) None command old.now.trees) (slice_get old.now.schema.tables at)
-          (Ok (tally, new.now))
+      (Ok (tally, new.now))
       → (w : Written) × WritesRows own_task old.now.trees command (Ok w) × (new.now ≡ record { schema = old.now.schema; trees = w.trees })
   row_step command tally h =
       let on = subst (λ o. AtPlace (λ t. OnRows (record { limit = old.step_limit; keys = Enforced; schema = old.now.schema; table = t; params = params }) (mode_of old) None command old.now.trees) o (Ok (tally, new.now)))
@@ -357,7 +356,7 @@ module _ (sql : List ℕ) (params : Row) (old new : State) (inside : IsTrue old.
   -- INSERT OR REPLACE of one row, in a transaction
   pub replaces : (r : Result ℕ Error) → ReplacesInto old.now.schema sql table terms → Executes sql params old new r
       → OnOk r (SetsTable table (upserted old.now.schema table source rows) old new × IsStored (new.now.trees table.tree)
-          × IsPermutation (cells source ∷ cells_of (apart old.now.schema table source rows)) (cells_of (new.now.trees table.tree)))
+      × IsPermutation (cells source ∷ cells_of (apart old.now.schema table source rows)) (cells_of (new.now.trees table.tree)))
   replaces (Err e) text h = tt
   replaces (Ok count) text h =
       let plain = text.table_is in
@@ -366,18 +365,17 @@ module _ (sql : List ℕ) (params : Row) (old new : State) (inside : IsTrue old.
       let step = row_step params old new text.at table plain command w.tally w.changed in
       let is = inserts_or old.step_limit old.now.schema text.at table params plain terms text.width text.one_row typed old.now.trees stored step.0 step.1 in
       let set = sets params old new text.at table plain (upserted old.now.schema table source rows) step.0.trees is.rows_are is.spares step.2
-      (shown_inside old new None command _ params count inside w) w.marks in
-      (
+      (shown_inside old new None command _ params count inside w) w.marks in (
         set,
         subst IsStored (sym set.rows_are) (stored-put_row _ (stored-filter rows stored _) _ is.whole),
         subst (λ all. IsPermutation (cells source ∷ cells_of (apart old.now.schema table source rows)) (cells_of all)) (sym set.rows_are)
-        (cells_beside source rows (apart old.now.schema table source rows) is.free),
+            (cells_beside source rows (apart old.now.schema table source rows) is.free),
       )
 
   -- INSERT of one row, in a transaction
   pub inserts_one : (r : Result ℕ Error) → InsertsInto old.now.schema sql table terms → Executes sql params old new r
       → OnOk r (SetsTable table (inserted source rows) old new × IsStored (new.now.trees table.tree)
-          × IsPermutation (cells source ∷ cells_of rows) (cells_of (new.now.trees table.tree)))
+      × IsPermutation (cells source ∷ cells_of rows) (cells_of (new.now.trees table.tree)))
   inserts_one (Err e) text h = tt
   inserts_one (Ok count) text h =
       let plain = text.table_is in
@@ -385,8 +383,7 @@ module _ (sql : List ℕ) (params : Row) (old new : State) (inside : IsTrue old.
       let w = runs_as sql params old new old.now.schema refl command (means_as old.now.schema sql command text.means) text.means.plain count h in
       let step = row_step params old new text.at table plain command w.tally w.changed in
       let is = inserts old.step_limit old.now.schema text.at table params plain terms text.width text.one_row typed old.now.trees stored step.0 step.1 in
-      let set = sets params old new text.at table plain (inserted source rows) step.0.trees is.0 is.1 step.2 (shown_inside old new None command _ params count inside w) w.marks in
-      (
+      let set = sets params old new text.at table plain (inserted source rows) step.0.trees is.0 is.1 step.2 (shown_inside old new None command _ params count inside w) w.marks in (
         set,
         subst IsStored (sym set.rows_are) (stored-put_row rows stored _ is.2),
         subst (λ all. IsPermutation (cells source ∷ cells_of rows) (cells_of all)) (sym set.rows_are) (cells_beside source rows rows is.3),

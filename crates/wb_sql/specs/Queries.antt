@@ -1,5 +1,5 @@
 -- What a query on one table answers (SQL's SELECT with WHERE, ORDER BY, LIMIT and OFFSET).
-use Rattle.std.specs.Prelude.{◌≡◌, ℕ, ◌^◌, nat_le, pos, negsuc, Bool, false, List, [], ◌∷◌, map, filter, None, IsPermutation, IsSorted}
+use Rattle.std.specs.Prelude.{◌≡◌, ℕ, ◌^◌, nat_le, pos, negsuc, false, List, [], ◌∷◌, map, filter, None, IsPermutation, IsSorted}
 use Rattle.std.specs.List.{list_all}
 use Rattle.sqlite.specs.Collation.{Collation}
 use Rattle.sqlite_value.specs.declared.keys.Key.{Key}

@@ -9,7 +9,6 @@ use Rattle.sqlite.specs.Rowids.TheVariants.{Chosen}
 use Rattle.sqlite.specs.Edit.{have_rowids, with_rowid}
 use Rattle.sqlite.specs.Cast.{cast_all}
 use Rattle.sqlite_rules.specs.Keys.{conflicts}
-use Rattle.sqlite_schema.specs.declared.command.Conflict.TheVariants.{Replace}
 use Rattle.sqlite.specs.Rows.{mended_from}
 
 -- a row without its rowid

@@ -1,5 +1,4 @@
 -- What two files, the database and its log, hold, and what a crash or a power cut may leave of them.
-use Rattle.std.specs.Prelude.{◌≡◌}
 use Rattle.sqlite_disk.specs.declared.Disk.{Ghosts}
 use Rattle.sqlite_disk.specs.declared.Files.{Files}
 use Rattle.sqlite.specs.Tree.{Trees}

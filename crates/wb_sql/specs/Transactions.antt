@@ -1,5 +1,5 @@
 -- Transactions: what they end in, and what a crash at any moment of one may leave (SQL's BEGIN, COMMIT and ROLLBACK).
-use Rattle.std.specs.Prelude.{◌≡◌, ◌⊎◌, true, false, [], IsTrue}
+use Rattle.std.specs.Prelude.{◌≡◌, ◌⊎◌, false, [], IsTrue}
 use Rattle.sqlite.specs.Tree.{Trees}
 use Rattle.sqlite.specs.State.{State, IsUnchanged, IsRolledBack, Shows}
 

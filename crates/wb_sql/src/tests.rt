@@ -49,11 +49,7 @@ fn name_of(row: &Row) -> Result<String, Error> {
 
 /// The first names by number, and how many rows there are.
 fn first_name<S: Alter>(conn: &mut Connection<S>) -> Result<(usize, String), Error> {
-    let rows = read(
-        conn,
-        "SELECT name FROM item ORDER BY number, name",
-        &[],
-    )?;
+    let rows = read(conn, "SELECT name FROM item ORDER BY number, name", &[])?;
     let Some(first) = rows.first() else {
         return Err(Error::QueryReturnedNoRows);
     };
@@ -117,10 +113,7 @@ fn in_memory(rt: HostRuntime) -> Result<(), Fail> {
     Ok(())
 }
 
-fn opened(
-    alloc: Global,
-    files: Files<Memory>,
-) -> Result<Connection<FileStore<Memory>>, Error>
+fn opened(alloc: Global, files: Files<Memory>) -> Result<Connection<FileStore<Memory>>, Error>
     requires { IsTrue (memory_is_usable files.log) × IsTrue (memory_is_usable files.db) }
 {
     match open(alloc, files, Options::new(1)) {
@@ -159,7 +152,11 @@ fn a_transaction_that_is_over_refuses_its_commit(rt: HostRuntime) -> Result<(), 
     let mut conn = Connection::open_in_memory(rt.alloc())?;
     let mut writing = begin(&mut conn);
     assert!(rt; writing.execute("COMMIT", &[]).is_ok());
-    assert!(rt; writing.execute("CREATE TABLE note(title TEXT) STRICT", &[]).is_err());
+    assert!(rt;
+        writing
+            .execute("CREATE TABLE note(title TEXT) STRICT", &[])
+            .is_err()
+    );
     assert!(rt; matches!(writing.commit(), Err(CommitError::InDoubt(_))));
     Ok(())
 }

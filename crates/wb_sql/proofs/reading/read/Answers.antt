@@ -1,4 +1,3 @@
-use Rattle.std.proofs.Common.{Result, Ok, Err, IfOk, OnOk, OnErr}
 use Rattle.sqlite.specs.Held.{state}
 use Rattle.sqlite.specs.Values.{bound}
 use Rattle.sqlite.proofs.StateLemmas.{survives_weaker}

@@ -1,4 +1,4 @@
-use Rattle.std.proofs.Common.{rules, [], IsTrue, Result, Ok, Err, OnOk, OnErr, ◌≡◌, ◌⊎◌, inl, inr}
+use Rattle.std.proofs.Common.{rules, []}
 use Rattle.sqlite.specs.Held.{state}
 use Rattle.sqlite.proofs.StateLemmas.{survives_weaker}
 use Rattle.wb_sql.proofs.EndingLemmas.{kept_or_undone, stays_usable, empty_commits_nothing}
