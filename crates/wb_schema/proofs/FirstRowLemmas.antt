@@ -52,9 +52,13 @@ first_row_made old new (Ok done) h was =
       office_row = set.rows_are ∙ ap (upserted old.now.schema office first_row) none.0;
       others = (
         kept.1.0 (λ e. omega (arith, e)) ∙ none.1.0,
-        (kept.1.1.0 (λ e. omega (arith, e)) ∙ none.1.1.0,
-          (kept.1.1.1.0 (λ e. omega (arith, e)) ∙ none.1.1.1.0,
-            (kept.1.1.1.1.0 (λ e. omega (arith, e)) ∙ none.1.1.1.1.0, (kept.1.1.1.1.1.0 (λ e. omega (arith, e)) ∙ none.1.1.1.1.1.0, tt)))),
+        (
+          kept.1.1.0 (λ e. omega (arith, e)) ∙ none.1.1.0,
+          (
+            kept.1.1.1.0 (λ e. omega (arith, e)) ∙ none.1.1.1.0,
+            (kept.1.1.1.1.0 (λ e. omega (arith, e)) ∙ none.1.1.1.1.0, (kept.1.1.1.1.1.0 (λ e. omega (arith, e)) ∙ none.1.1.1.1.1.0, tt)),
+          ),
+        ),
       );
       shown = set.shown;
       marks = set.marks;

@@ -1,3 +1,4 @@
+pub mod CreateTexts
 pub mod FirstRowLemmas
 pub mod MakingLemmas
 pub mod NameLemmas

@@ -8,7 +8,7 @@ use Rattle.wb_sql.specs.Statements.{Means}
 use Rattle.wb_sql.specs.Definitions.{DefinesTable, DefinesIndex}
 use Rattle.wb_schema.specs.Tables
 use Rattle.wb_schema.specs.Tables.{office, arch, builder, source_record, scratch_source, scratch_binary, record_order, record_take, source_name, binary_source, binary_name, empty_schema, with_office, with_arch, with_builder, with_source_record, with_record_order, with_record_take, with_scratch_source, with_source_name, with_scratch_binary, with_binary_source, office_schema}
-use Rattle.wb_schema.specs.Texts.{office_text, arch_text, builder_text, source_record_text, record_order_text, record_take_text, scratch_source_text, source_name_text, scratch_binary_text, binary_source_text, binary_name_text}
+use Rattle.wb_schema.proofs.CreateTexts.{office_text, arch_text, builder_text, source_record_text, record_order_text, record_take_text, scratch_source_text, source_name_text, scratch_binary_text, binary_source_text, binary_name_text}
 
 pub office_text_is : DefinesTable empty_schema office_text (record office { tree = 0 })
 unfolding understood everything
@@ -86,4 +86,3 @@ binary_name_text_is = record { at = 5; listed = refl; means = record { is = refl
 
 pub makes_binary_name : indexed with_binary_source scratch_binary (record binary_name { tree = 0 }) ≡ office_schema
 makes_binary_name = refl
-

@@ -1,4 +1,3 @@
 pub mod Making
 pub mod Statements
 pub mod Tables
-pub mod Texts

@@ -9,10 +9,11 @@ use Rattle.sqlite_sql.specs.declared.ops.BinaryOp.TheVariants.{Compare}
 use Rattle.sqlite_sql.specs.declared.ops.CompareOp.TheVariants.{Eq}
 use Rattle.wb_sql.specs.Queries.{TableQuery}
 
--- the parameter at this place, counted from 0, and the column at this place of the row, whose rowid is at 0
+-- the parameter at this place, counted from 0
 abbrev pub parameter : ℕ → Term
 parameter at = col 0 at
 
+-- the column at this place of the row, whose rowid is at 0
 abbrev pub cell : ℕ → Term
 cell at = col 1 at
 
@@ -24,9 +25,11 @@ equals place at = op2 (Compare Eq Binary) (cell place) (parameter at)
 abbrev pub rising : ℕ → Term × Key
 rising place = (cell place, ascending Binary)
 
+-- without LIMIT
 abbrev pub no_limit : Term
 no_limit = lit (Int (negsuc 0))
 
+-- without OFFSET
 abbrev pub none_skipped : Term
 none_skipped = lit (Int (pos 0))
 
@@ -53,14 +56,15 @@ records_where tests order limit = record { tree = 5; filter = tests; project = r
 abbrev pub record_of_key : TableQuery
 record_of_key = records_where has_record_key [] no_limit
 
--- of one architecture in one state, the records by rank and then by name
+-- by rank and then by source package
 abbrev pub queue_order : List (Term × Key)
 queue_order = rising 16 ∷ rising 2 ∷ []
 
+-- the records of one architecture in one state, in that order
 abbrev pub queue_of : TableQuery
 queue_of = records_where (equals 1 0 ∷ equals 3 1 ∷ []) queue_order no_limit
 
--- the first of them
+-- the first record of one architecture in one state, in that order
 abbrev pub head_of : TableQuery
 head_of = records_where (equals 1 0 ∷ equals 3 1 ∷ []) queue_order (lit (Int (pos 1)))
 

@@ -14,7 +14,9 @@ fn make_office<S: Alter>(writing: &mut Writing<'_, S>) -> Result<(), Error>
     ensures made { HasCleanDisk (state S.Store writing.new.conn.now) → HasEmptyTables empty_schema (state S.Store writing.old.conn.now) → OnOk result (MakesTables with_office (state S.Store writing.old.conn.now) (state S.Store writing.new.conn.now)) }
     ensures survives { Survives (state S.Store writing.old.conn.now) (state S.Store writing.new.conn.now) (λ _. ¬ HasEmptyTables empty_schema (state S.Store writing.old.conn.now)) }
 {
-    writing.create_table("CREATE TABLE office(id INTEGER PRIMARY KEY CHECK(id = 1), format INTEGER NOT NULL, handed INTEGER NOT NULL, accepted INTEGER NOT NULL) STRICT")
+    writing.create_table(
+        "CREATE TABLE office(id INTEGER PRIMARY KEY CHECK(id = 1), format INTEGER NOT NULL, handed INTEGER NOT NULL, accepted INTEGER NOT NULL) STRICT",
+    )
 }
 
 fn make_arch<S: Alter>(writing: &mut Writing<'_, S>) -> Result<(), Error>
@@ -22,7 +24,9 @@ fn make_arch<S: Alter>(writing: &mut Writing<'_, S>) -> Result<(), Error>
     ensures made { HasCleanDisk (state S.Store writing.new.conn.now) → HasEmptyTables with_office (state S.Store writing.old.conn.now) → OnOk result (MakesTables with_arch (state S.Store writing.old.conn.now) (state S.Store writing.new.conn.now)) }
     ensures survives { Survives (state S.Store writing.old.conn.now) (state S.Store writing.new.conn.now) (λ _. ¬ HasEmptyTables with_office (state S.Store writing.old.conn.now)) }
 {
-    writing.create_table("CREATE TABLE arch(name TEXT NOT NULL PRIMARY KEY, os TEXT NOT NULL, cpu TEXT NOT NULL) STRICT")
+    writing.create_table(
+        "CREATE TABLE arch(name TEXT NOT NULL PRIMARY KEY, os TEXT NOT NULL, cpu TEXT NOT NULL) STRICT",
+    )
 }
 
 fn make_builder<S: Alter>(writing: &mut Writing<'_, S>) -> Result<(), Error>
@@ -30,7 +34,9 @@ fn make_builder<S: Alter>(writing: &mut Writing<'_, S>) -> Result<(), Error>
     ensures made { HasCleanDisk (state S.Store writing.new.conn.now) → HasEmptyTables with_arch (state S.Store writing.old.conn.now) → OnOk result (MakesTables with_builder (state S.Store writing.old.conn.now) (state S.Store writing.new.conn.now)) }
     ensures survives { Survives (state S.Store writing.old.conn.now) (state S.Store writing.new.conn.now) (λ _. ¬ HasEmptyTables with_arch (state S.Store writing.old.conn.now)) }
 {
-    writing.create_table("CREATE TABLE builder(name TEXT NOT NULL, arch TEXT NOT NULL REFERENCES arch(name), PRIMARY KEY(name, arch)) STRICT")
+    writing.create_table(
+        "CREATE TABLE builder(name TEXT NOT NULL, arch TEXT NOT NULL REFERENCES arch(name), PRIMARY KEY(name, arch)) STRICT",
+    )
 }
 
 fn make_source_record<S: Alter>(writing: &mut Writing<'_, S>) -> Result<(), Error>
@@ -38,7 +44,9 @@ fn make_source_record<S: Alter>(writing: &mut Writing<'_, S>) -> Result<(), Erro
     ensures made { HasCleanDisk (state S.Store writing.new.conn.now) → HasEmptyTables with_builder (state S.Store writing.old.conn.now) → OnOk result (MakesTables with_source_record (state S.Store writing.old.conn.now) (state S.Store writing.new.conn.now)) }
     ensures survives { Survives (state S.Store writing.old.conn.now) (state S.Store writing.new.conn.now) (λ _. ¬ HasEmptyTables with_builder (state S.Store writing.old.conn.now)) }
 {
-    writing.create_table("CREATE TABLE source_record(arch TEXT NOT NULL REFERENCES arch(name), source TEXT NOT NULL, state INTEGER NOT NULL, version TEXT NOT NULL, priority TEXT NOT NULL, section TEXT NOT NULL, earlier INTEGER NOT NULL, number INTEGER NOT NULL, holder TEXT, take INTEGER, waits TEXT NOT NULL, depends TEXT, note TEXT NOT NULL, message TEXT NOT NULL, build_priority INTEGER NOT NULL, rank INTEGER NOT NULL, PRIMARY KEY(arch, source)) STRICT")
+    writing.create_table(
+        "CREATE TABLE source_record(arch TEXT NOT NULL REFERENCES arch(name), source TEXT NOT NULL, state INTEGER NOT NULL, version TEXT NOT NULL, priority TEXT NOT NULL, section TEXT NOT NULL, earlier INTEGER NOT NULL, number INTEGER NOT NULL, holder TEXT, take INTEGER, waits TEXT NOT NULL, depends TEXT, note TEXT NOT NULL, message TEXT NOT NULL, build_priority INTEGER NOT NULL, rank INTEGER NOT NULL, PRIMARY KEY(arch, source)) STRICT",
+    )
 }
 
 fn make_record_order<S: Alter>(writing: &mut Writing<'_, S>) -> Result<(), Error>
@@ -62,7 +70,9 @@ fn make_scratch_source<S: Alter>(writing: &mut Writing<'_, S>) -> Result<(), Err
     ensures made { HasCleanDisk (state S.Store writing.new.conn.now) → HasEmptyTables with_record_take (state S.Store writing.old.conn.now) → OnOk result (MakesTables with_scratch_source (state S.Store writing.old.conn.now) (state S.Store writing.new.conn.now)) }
     ensures survives { Survives (state S.Store writing.old.conn.now) (state S.Store writing.new.conn.now) (λ _. ¬ HasEmptyTables with_record_take (state S.Store writing.old.conn.now)) }
 {
-    writing.create_table("CREATE TABLE scratch_source(seq INTEGER PRIMARY KEY, name TEXT NOT NULL, version TEXT NOT NULL, architecture TEXT NOT NULL, extra INTEGER NOT NULL, priority TEXT NOT NULL, section TEXT NOT NULL, depends TEXT NOT NULL, depends_arch TEXT NOT NULL) STRICT")
+    writing.create_table(
+        "CREATE TABLE scratch_source(seq INTEGER PRIMARY KEY, name TEXT NOT NULL, version TEXT NOT NULL, architecture TEXT NOT NULL, extra INTEGER NOT NULL, priority TEXT NOT NULL, section TEXT NOT NULL, depends TEXT NOT NULL, depends_arch TEXT NOT NULL) STRICT",
+    )
 }
 
 fn make_source_name<S: Alter>(writing: &mut Writing<'_, S>) -> Result<(), Error>
@@ -78,7 +88,9 @@ fn make_scratch_binary<S: Alter>(writing: &mut Writing<'_, S>) -> Result<(), Err
     ensures made { HasCleanDisk (state S.Store writing.new.conn.now) → HasEmptyTables with_source_name (state S.Store writing.old.conn.now) → OnOk result (MakesTables with_scratch_binary (state S.Store writing.old.conn.now) (state S.Store writing.new.conn.now)) }
     ensures survives { Survives (state S.Store writing.old.conn.now) (state S.Store writing.new.conn.now) (λ _. ¬ HasEmptyTables with_source_name (state S.Store writing.old.conn.now)) }
 {
-    writing.create_table("CREATE TABLE scratch_binary(seq INTEGER PRIMARY KEY, name TEXT NOT NULL, version TEXT NOT NULL, source TEXT NOT NULL, source_version TEXT NOT NULL, number INTEGER NOT NULL, own INTEGER NOT NULL) STRICT")
+    writing.create_table(
+        "CREATE TABLE scratch_binary(seq INTEGER PRIMARY KEY, name TEXT NOT NULL, version TEXT NOT NULL, source TEXT NOT NULL, source_version TEXT NOT NULL, number INTEGER NOT NULL, own INTEGER NOT NULL) STRICT",
+    )
 }
 
 fn make_binary_source<S: Alter>(writing: &mut Writing<'_, S>) -> Result<(), Error>

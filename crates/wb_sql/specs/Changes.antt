@@ -16,6 +16,7 @@ use Rattle.wb_sql.specs.Queries.{query_of, rowids_where}
 use Rattle.wb_sql.specs.Rows.{cells, cells_of, IsStored, IsTyped, inserted, apart, upserted, without}
 use Rattle.wb_sql.specs.Statements.{Means}
 
+-- a foreign key that does nothing (NO ACTION)
 abbrev pub is_no_action : Action → Bool
 is_no_action NoAction = true
 is_no_action _ = false

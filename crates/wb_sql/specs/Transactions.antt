@@ -3,11 +3,6 @@ use Rattle.std.specs.Prelude.{◌≡◌, ◌⊎◌, false, [], IsTrue}
 use Rattle.sqlite.specs.Tree.{Trees}
 use Rattle.sqlite.specs.State.{State, IsUnchanged, IsRolledBack, Shows}
 
--- a transaction is under way, with no savepoint
-pub record IsInside (s : State) : Type 0 where
-  pub under_way : IsTrue s.in_transaction
-  pub unmarked : s.marks ≡ []
-
 -- nothing was written, or all that the transaction wrote is taken back
 abbrev pub IsKeptOrUndone : State → State → Type 0
 IsKeptOrUndone old new = IsUnchanged old new ⊎ IsRolledBack old new

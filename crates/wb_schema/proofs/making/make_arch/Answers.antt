@@ -1,6 +1,6 @@
 use Rattle.sqlite.specs.Held.{state}
 use Rattle.wb_schema.specs.Tables.{with_office, with_arch}
-use Rattle.wb_schema.specs.Texts.{arch_text}
+use Rattle.wb_schema.proofs.CreateTexts.{arch_text}
 use Rattle.wb_schema.proofs.TableLemmas.{arch_text_is, makes_arch}
 use Rattle.wb_schema.proofs.MakingLemmas.{made_table, table_survives}
 use Rattle.wb_schema.proofs.making.make_arch.Goals as goal

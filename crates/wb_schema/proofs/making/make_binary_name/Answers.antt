@@ -1,6 +1,6 @@
 use Rattle.sqlite.specs.Held.{state}
 use Rattle.wb_schema.specs.Tables.{with_binary_source, office_schema, scratch_binary}
-use Rattle.wb_schema.specs.Texts.{binary_name_text}
+use Rattle.wb_schema.proofs.CreateTexts.{binary_name_text}
 use Rattle.wb_schema.proofs.TableLemmas.{binary_name_text_is, makes_binary_name}
 use Rattle.wb_schema.proofs.MakingLemmas.{made_index, index_survives}
 use Rattle.wb_schema.proofs.making.make_binary_name.Goals as goal

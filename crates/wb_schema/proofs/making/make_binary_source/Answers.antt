@@ -1,6 +1,6 @@
 use Rattle.sqlite.specs.Held.{state}
 use Rattle.wb_schema.specs.Tables.{with_scratch_binary, with_binary_source, scratch_binary}
-use Rattle.wb_schema.specs.Texts.{binary_source_text}
+use Rattle.wb_schema.proofs.CreateTexts.{binary_source_text}
 use Rattle.wb_schema.proofs.TableLemmas.{binary_source_text_is, makes_binary_source}
 use Rattle.wb_schema.proofs.MakingLemmas.{made_index, index_survives}
 use Rattle.wb_schema.proofs.making.make_binary_source.Goals as goal

@@ -1,6 +1,6 @@
 use Rattle.sqlite.specs.Held.{state}
 use Rattle.wb_schema.specs.Tables.{with_arch, with_builder}
-use Rattle.wb_schema.specs.Texts.{builder_text}
+use Rattle.wb_schema.proofs.CreateTexts.{builder_text}
 use Rattle.wb_schema.proofs.TableLemmas.{builder_text_is, makes_builder}
 use Rattle.wb_schema.proofs.MakingLemmas.{made_table, table_survives}
 use Rattle.wb_schema.proofs.making.make_builder.Goals as goal

@@ -1,6 +1,6 @@
 use Rattle.sqlite.specs.Held.{state}
 use Rattle.wb_schema.specs.Tables.{empty_schema, with_office}
-use Rattle.wb_schema.specs.Texts.{office_text}
+use Rattle.wb_schema.proofs.CreateTexts.{office_text}
 use Rattle.wb_schema.proofs.TableLemmas.{office_text_is, makes_office}
 use Rattle.wb_schema.proofs.MakingLemmas.{made_table, table_survives}
 use Rattle.wb_schema.proofs.making.make_office.Goals as goal

@@ -1,6 +1,6 @@
 use Rattle.sqlite.specs.Held.{state}
 use Rattle.wb_schema.specs.Tables.{with_source_record, with_record_order, source_record}
-use Rattle.wb_schema.specs.Texts.{record_order_text}
+use Rattle.wb_schema.proofs.CreateTexts.{record_order_text}
 use Rattle.wb_schema.proofs.TableLemmas.{record_order_text_is, makes_record_order}
 use Rattle.wb_schema.proofs.MakingLemmas.{made_index, index_survives}
 use Rattle.wb_schema.proofs.making.make_record_order.Goals as goal

@@ -1,6 +1,6 @@
 use Rattle.sqlite.specs.Held.{state}
 use Rattle.wb_schema.specs.Tables.{with_record_order, with_record_take, source_record}
-use Rattle.wb_schema.specs.Texts.{record_take_text}
+use Rattle.wb_schema.proofs.CreateTexts.{record_take_text}
 use Rattle.wb_schema.proofs.TableLemmas.{record_take_text_is, makes_record_take}
 use Rattle.wb_schema.proofs.MakingLemmas.{made_index, index_survives}
 use Rattle.wb_schema.proofs.making.make_record_take.Goals as goal

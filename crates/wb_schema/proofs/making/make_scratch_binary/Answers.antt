@@ -1,6 +1,6 @@
 use Rattle.sqlite.specs.Held.{state}
 use Rattle.wb_schema.specs.Tables.{with_source_name, with_scratch_binary}
-use Rattle.wb_schema.specs.Texts.{scratch_binary_text}
+use Rattle.wb_schema.proofs.CreateTexts.{scratch_binary_text}
 use Rattle.wb_schema.proofs.TableLemmas.{scratch_binary_text_is, makes_scratch_binary}
 use Rattle.wb_schema.proofs.MakingLemmas.{made_table, table_survives}
 use Rattle.wb_schema.proofs.making.make_scratch_binary.Goals as goal

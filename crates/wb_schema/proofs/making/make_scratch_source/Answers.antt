@@ -1,6 +1,6 @@
 use Rattle.sqlite.specs.Held.{state}
 use Rattle.wb_schema.specs.Tables.{with_record_take, with_scratch_source}
-use Rattle.wb_schema.specs.Texts.{scratch_source_text}
+use Rattle.wb_schema.proofs.CreateTexts.{scratch_source_text}
 use Rattle.wb_schema.proofs.TableLemmas.{scratch_source_text_is, makes_scratch_source}
 use Rattle.wb_schema.proofs.MakingLemmas.{made_table, table_survives}
 use Rattle.wb_schema.proofs.making.make_scratch_source.Goals as goal

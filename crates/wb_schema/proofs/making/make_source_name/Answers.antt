@@ -1,6 +1,6 @@
 use Rattle.sqlite.specs.Held.{state}
 use Rattle.wb_schema.specs.Tables.{with_scratch_source, with_source_name, scratch_source}
-use Rattle.wb_schema.specs.Texts.{source_name_text}
+use Rattle.wb_schema.proofs.CreateTexts.{source_name_text}
 use Rattle.wb_schema.proofs.TableLemmas.{source_name_text_is, makes_source_name}
 use Rattle.wb_schema.proofs.MakingLemmas.{made_index, index_survives}
 use Rattle.wb_schema.proofs.making.make_source_name.Goals as goal

@@ -1,6 +1,6 @@
 use Rattle.sqlite.specs.Held.{state}
 use Rattle.wb_schema.specs.Tables.{with_builder, with_source_record}
-use Rattle.wb_schema.specs.Texts.{source_record_text}
+use Rattle.wb_schema.proofs.CreateTexts.{source_record_text}
 use Rattle.wb_schema.proofs.TableLemmas.{source_record_text_is, makes_source_record}
 use Rattle.wb_schema.proofs.MakingLemmas.{made_table, table_survives}
 use Rattle.wb_schema.proofs.making.make_source_record.Goals as goal
