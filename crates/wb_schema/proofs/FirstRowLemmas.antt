@@ -1,17 +1,13 @@
 -- The row of an empty office, put into tables that have no row.
-use Rattle.std.proofs.Common.{◌≡◌, ◌≢◌, ℕ, ℤ, pos, List, [], ◌∷◌, codes, inr, Result, Ok, Err, OnOk, refl, arith, sym, ap, ap₂, subst, ◌∙◌}
+use Rattle.std.proofs.Common.{◌≡◌, ◌≢◌, ℕ, pos, List, [], ◌∷◌, codes, inr, Result, Ok, Err, OnOk, refl, arith, sym, ap, ap₂, subst, ◌∙◌}
 use Rattle.std.specs.List.{AllByRecursion}
-use Rattle.sqlite.specs.Order.{Row}
 use Rattle.sqlite.specs.Schema.{Schema}
-use Rattle.sqlite.specs.declared.types.Value.TheVariants.{Null, Int}
-use Rattle.sqlite.specs.Term.{eval_all}
-use Rattle.sqlite.specs.Cast.{cast_all}
 use Rattle.sqlite.specs.declared.error.Error.{Error}
 use Rattle.sqlite.specs.State.{State, Survives}
 use Rattle.sqlite.specs.Listing.{understood}
 use Rattle.sqlite_tied.specs.Compute.{everything}
 use Rattle.wb_sql.specs.Statements.{IsWriting}
-use Rattle.wb_sql.specs.Rows.{cells, IsStored, IsTyped, upserted}
+use Rattle.wb_sql.specs.Rows.{IsStored, IsTyped, upserted}
 use Rattle.wb_sql.specs.Changes.{ReplacesInto, Replaces}
 use Rattle.wb_sql.proofs.WriteLemmas.{cast_int, cast_null, replaces_writes}
 use Rattle.wb_schema.specs.Tables.{office, office_schema}

@@ -1,12 +1,9 @@
 -- Each CREATE text makes the table or the index that the schema has.
-use Rattle.std.proofs.Common.{◌≡◌, Ok, refl}
-use Rattle.sqlite.specs.Compile.{table_defined_by, index_defined_by}
+use Rattle.std.proofs.Common.{◌≡◌, refl}
 use Rattle.sqlite_tied.specs.Compute.{everything}
 use Rattle.sqlite.specs.Listing.{understood}
 use Rattle.sqlite.specs.Change.{created, indexed}
-use Rattle.wb_sql.specs.Statements.{Means}
 use Rattle.wb_sql.specs.Definitions.{DefinesTable, DefinesIndex}
-use Rattle.wb_schema.specs.Tables
 use Rattle.wb_schema.specs.Tables.{office, arch, builder, source_record, scratch_source, scratch_binary, record_order, record_take, source_name, binary_source, binary_name, empty_schema, with_office, with_arch, with_builder, with_source_record, with_record_order, with_record_take, with_scratch_source, with_source_name, with_scratch_binary, with_binary_source, office_schema}
 use Rattle.wb_schema.proofs.CreateTexts.{office_text, arch_text, builder_text, source_record_text, record_order_text, record_take_text, scratch_source_text, source_name_text, scratch_binary_text, binary_source_text, binary_name_text}
 

@@ -1,5 +1,5 @@
 -- The statements on the office's tables (this project's own): which rows they write, take out and show.
-use Rattle.std.specs.Prelude.{ℕ, List, [], ◌∷◌, pos, negsuc, true, false}
+use Rattle.std.specs.Prelude.{ℕ, List, [], ◌∷◌, pos, negsuc}
 use Rattle.sqlite.specs.Collation.TheVariants.{Binary}
 use Rattle.sqlite_value.specs.declared.keys.Key.{Key}
 use Rattle.sqlite_value.specs.Keys.{ascending}

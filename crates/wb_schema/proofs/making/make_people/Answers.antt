@@ -2,7 +2,6 @@ use Rattle.std.proofs.Common.{arith}
 use Rattle.sqlite.specs.State.{HasCleanDisk}
 use Rattle.sqlite.specs.Held.{state}
 use Rattle.wb_schema.specs.Tables.{empty_schema, with_office, with_arch, with_builder}
-use Rattle.wb_schema.specs.Making.{HasEmptyTables, MakesTables}
 use Rattle.wb_schema.proofs.MakingLemmas.{makes_then, survives_makes}
 use Rattle.wb_schema.proofs.making.make_people.Goals as goal
 

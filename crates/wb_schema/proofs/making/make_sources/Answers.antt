@@ -2,7 +2,6 @@ use Rattle.std.proofs.Common.{arith}
 use Rattle.sqlite.specs.State.{HasCleanDisk}
 use Rattle.sqlite.specs.Held.{state}
 use Rattle.wb_schema.specs.Tables.{with_record_take, with_scratch_source, with_source_name}
-use Rattle.wb_schema.specs.Making.{HasEmptyTables, MakesTables}
 use Rattle.wb_schema.proofs.MakingLemmas.{makes_then, survives_makes}
 use Rattle.wb_schema.proofs.making.make_sources.Goals as goal
 
