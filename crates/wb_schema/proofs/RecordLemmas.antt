@@ -1,5 +1,5 @@
 -- Rows of the office's tables: that they are taken as they are given, and when one meets another.
-use Rattle.std.proofs.Common.{◌≡◌, inl, ℕ, ℤ, Bool, true, false, ◌&&◌, ◌||◌, List, [], ◌∷◌, refl, ap₂, ◌∙◌}
+use Rattle.std.proofs.Common.{◌≡◌, inl, ℕ, ℤ, Bool, true, false, ◌&&◌, ◌||◌, List, [], ◌∷◌, refl, ap₂}
 use Rattle.sqlite.specs.Collation.TheVariants.{Binary}
 use Rattle.sqlite.specs.Order.{Row, column}
 use Rattle.sqlite.specs.declared.types.Value.{Value}
@@ -15,7 +15,7 @@ use Rattle.wb_schema.specs.Tables.{arch, builder, source_record, office_schema}
 -- a record's row, whose holder, take number and relations may be NULL
 pub record_typed : (a s v p c w n m : List ℕ) (state earlier number priority rank : ℤ) (holder take depends : Value) → cast Text holder ≡ holder → cast Integer take ≡ take → cast Text depends ≡ depends
     → IsTyped source_record
-        (Null ∷ Words a ∷ Words s ∷ Int state ∷ Words v ∷ Words p ∷ Words c ∷ Int earlier ∷ Int number ∷ holder ∷ take ∷ Words w ∷ depends ∷ Words n ∷ Words m ∷ Int priority ∷ Int rank ∷ [])
+    (Null ∷ Words a ∷ Words s ∷ Int state ∷ Words v ∷ Words p ∷ Words c ∷ Int earlier ∷ Int number ∷ holder ∷ take ∷ Words w ∷ depends ∷ Words n ∷ Words m ∷ Int priority ∷ Int rank ∷ [])
 record_typed a s v p c w n m state earlier number priority rank holder take depends h t d = record {
   row = refl;
   id = inl refl;

@@ -5,3 +5,6 @@ mod making;
 pub mod texts;
 
 pub use making::{make_tables, prepare};
+
+#[cfg(test)]
+mod tests;
