@@ -1,0 +1,3 @@
+pub mod Making
+pub mod Statements
+pub mod Tables

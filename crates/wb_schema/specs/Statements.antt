@@ -1,0 +1,113 @@
+-- The statements on the office's tables (this project's own): which rows they write, take out and show.
+use Rattle.std.specs.Prelude.{ℕ, List, [], ◌∷◌, pos, negsuc}
+use Rattle.sqlite.specs.Collation.TheVariants.{Binary}
+use Rattle.sqlite_value.specs.declared.keys.Key.{Key}
+use Rattle.sqlite_value.specs.Keys.{ascending}
+use Rattle.sqlite.specs.declared.types.Value.TheVariants.{Null, Int}
+use Rattle.sqlite.specs.Term.{Term, lit, col, op2}
+use Rattle.sqlite_sql.specs.declared.ops.BinaryOp.TheVariants.{Compare}
+use Rattle.sqlite_sql.specs.declared.ops.CompareOp.TheVariants.{Eq}
+use Rattle.wb_sql.specs.Queries.{TableQuery}
+
+-- the parameter at this place, counted from 0
+abbrev pub parameter : ℕ → Term
+parameter at = col 0 at
+
+-- the column at this place of the row, whose rowid is at 0
+abbrev pub cell : ℕ → Term
+cell at = col 1 at
+
+-- a column equals a parameter
+abbrev pub equals : ℕ → ℕ → Term
+equals place at = op2 (Compare Eq Binary) (cell place) (parameter at)
+
+-- a column, in rising order
+abbrev pub rising : ℕ → Term × Key
+rising place = (cell place, ascending Binary)
+
+-- without LIMIT
+abbrev pub no_limit : Term
+no_limit = lit (Int (negsuc 0))
+
+-- without OFFSET
+abbrev pub none_skipped : Term
+none_skipped = lit (Int (pos 0))
+
+-- a record, with its 16 columns as parameters; the rowid is left to the table
+abbrev pub record_row : List Term
+record_row =
+    lit Null ∷ parameter 0 ∷ parameter 1 ∷ parameter 2 ∷ parameter 3 ∷ parameter 4 ∷ parameter 5 ∷ parameter 6 ∷ parameter 7 ∷ parameter 8 ∷ parameter 9 ∷ parameter 10 ∷ parameter 11 ∷ parameter 12
+    ∷ parameter 13 ∷ parameter 14 ∷ parameter 15 ∷ []
+
+-- the columns of a record
+abbrev pub record_cells : List Term
+record_cells =
+    cell 1 ∷ cell 2 ∷ cell 3 ∷ cell 4 ∷ cell 5 ∷ cell 6 ∷ cell 7 ∷ cell 8 ∷ cell 9 ∷ cell 10 ∷ cell 11 ∷ cell 12 ∷ cell 13 ∷ cell 14 ∷ cell 15 ∷ cell 16 ∷ []
+
+-- the record's key is the first two parameters
+abbrev pub has_record_key : List Term
+has_record_key = equals 1 0 ∷ equals 2 1 ∷ []
+
+-- the records that pass these tests, in this order
+abbrev pub records_where : List Term → List (Term × Key) → Term → TableQuery
+records_where tests order limit = record { tree = 5; filter = tests; project = record_cells; order = order; collations = []; limit = limit; offset = none_skipped }
+
+-- the record of a key
+abbrev pub record_of_key : TableQuery
+record_of_key = records_where has_record_key [] no_limit
+
+-- by rank and then by source package
+abbrev pub queue_order : List (Term × Key)
+queue_order = rising 16 ∷ rising 2 ∷ []
+
+-- the records of one architecture in one state, in that order
+abbrev pub queue_of : TableQuery
+queue_of = records_where (equals 1 0 ∷ equals 3 1 ∷ []) queue_order no_limit
+
+-- the first record of one architecture in one state, in that order
+abbrev pub head_of : TableQuery
+head_of = records_where (equals 1 0 ∷ equals 3 1 ∷ []) queue_order (lit (Int (pos 1)))
+
+-- the record with a take number, which is the parameter
+abbrev pub record_of_take : TableQuery
+record_of_take = records_where (equals 10 0 ∷ []) [] no_limit
+
+-- the records that a builder holds, by architecture and then by source package
+abbrev pub held_by : TableQuery
+held_by = records_where (equals 9 0 ∷ []) (rising 1 ∷ rising 2 ∷ []) no_limit
+
+-- the records of an architecture, by source package
+abbrev pub records_of_arch : TableQuery
+records_of_arch = records_where (equals 1 0 ∷ []) (rising 2 ∷ []) no_limit
+
+-- all records, by architecture and then by source package
+abbrev pub all_records : TableQuery
+all_records = records_where [] (rising 1 ∷ rising 2 ∷ []) no_limit
+
+-- an architecture: its name and its two words
+abbrev pub arch_row : List Term
+arch_row = lit Null ∷ parameter 0 ∷ parameter 1 ∷ parameter 2 ∷ []
+
+-- all architectures, by name
+abbrev pub all_archs : TableQuery
+all_archs = record { tree = 1; filter = []; project = cell 1 ∷ cell 2 ∷ cell 3 ∷ []; order = rising 1 ∷ []; collations = []; limit = no_limit; offset = none_skipped }
+
+-- a builder and an architecture for which it was added
+abbrev pub builder_row : List Term
+builder_row = lit Null ∷ parameter 0 ∷ parameter 1 ∷ []
+
+-- all such pairs, by builder and then by architecture
+abbrev pub all_builders : TableQuery
+all_builders = record { tree = 3; filter = []; project = cell 1 ∷ cell 2 ∷ []; order = rising 1 ∷ rising 2 ∷ []; collations = []; limit = no_limit; offset = none_skipped }
+
+-- the office's row: its id is 1, the format 2, and the two counts are parameters
+abbrev pub office_row : List Term
+office_row = lit (Int (pos 1)) ∷ lit Null ∷ lit (Int (pos 2)) ∷ parameter 0 ∷ parameter 1 ∷ []
+
+-- the same of an office that has handed out and accepted nothing
+abbrev pub first_office_row : List Term
+first_office_row = lit (Int (pos 1)) ∷ lit Null ∷ lit (Int (pos 2)) ∷ lit (Int (pos 0)) ∷ lit (Int (pos 0)) ∷ []
+
+-- the format and the two counts
+abbrev pub office_counts : TableQuery
+office_counts = record { tree = 0; filter = []; project = cell 2 ∷ cell 3 ∷ cell 4 ∷ []; order = []; collations = []; limit = no_limit; offset = none_skipped }

@@ -1,0 +1,7 @@
+pub mod AnswerLemmas
+pub mod DefinitionLemmas
+pub mod EndingLemmas
+pub mod ReadingLemmas
+pub mod SetLemmas
+pub mod SettledLemmas
+pub mod WriteLemmas

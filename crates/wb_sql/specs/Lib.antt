@@ -1,0 +1,7 @@
+pub mod Changes
+pub mod Definitions
+pub mod Queries
+pub mod Rows
+pub mod Settled
+pub mod Statements
+pub mod Transactions

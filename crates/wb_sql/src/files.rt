@@ -1,0 +1,46 @@
+//! A connection over two files, the database and its log: closed, opened, and given up after a fault.
+
+ghost use Rattle.std.specs.Prelude.{◌≡◌, IsTrue, IfOk};
+ghost use Rattle.sqlite.specs.WalReads.{AreClean};
+ghost use Rattle.sqlite.specs.State.{HasCleanDisk};
+ghost use Rattle.sqlite.specs.Files.{file_state, IsOpened};
+ghost use Rattle.wb_sql.specs.Settled.{AreSettled, LeaveOnly};
+ghost use Rattle.wb_sql.specs.Transactions.{LeavesAlone};
+
+use sqlite::{Connection, Error, FileStore, Files, Leftover, Options};
+use sqlite_disk::Disk;
+use std::alloc::Global;
+
+/// Closes a connection, and gives back its files, which then hold the last commit, also after a crash. What is not
+/// committed is lost. It fails where the store is shut, a file fails or memory runs out.
+pub fn close<D: Disk + Drop>(
+    conn: Connection<FileStore<D>>,
+) -> Result<Files<D>, (Error, FileStore<D>)>
+    ensures settled { IfOk result (λ files. AreClean D.Disk files.log files.db → AreSettled D.Disk files (file_state conn).committed.trees) }
+    ensures usable { IfOk result (λ files. IsTrue (D.Disk.is_usable files.log) × IsTrue (D.Disk.is_usable files.db)) }
+{
+    conn.close_files()
+}
+
+/// Gives up a connection, as after a fault, and hands out its files without a read or a write. They hold what the
+/// connection could leave.
+pub fn surrender<D: Disk + Drop>(conn: Connection<FileStore<D>>) -> Files<D>
+    ensures left { AreClean D.Disk result.log result.db → LeaveOnly D.Disk result (file_state conn).may_leave }
+{
+    conn.into_store().close()
+}
+
+/// Opens files, and finds what they hold. It fails as `Connection::open_files` does, and then hands back what is left of them.
+pub fn open<D: Disk + Drop>(
+    alloc: Global,
+    files: Files<D>,
+    options: Options,
+) -> Result<Connection<FileStore<D>>, (Error, Leftover<D>)>
+    requires log { IsTrue (D.Disk.is_usable files.log) }
+    requires db { IsTrue (D.Disk.is_usable files.db) }
+    ensures opened { IfOk result (λ c. HasCleanDisk (file_state c) → IsOpened c) }
+    ensures found { IfOk result (λ c. HasCleanDisk (file_state c) → (db : _) → AreSettled D.Disk files db → (file_state c).committed.trees ≡ db) }
+    ensures alone { IfOk result (λ c. HasCleanDisk (file_state c) → LeavesAlone (file_state c) (file_state c).committed.trees) }
+{
+    Connection::open_files(alloc, files, options)
+}

@@ -1,0 +1,17 @@
+//! What SQL statements on one table mean, with transactions and crashes, over the kit's `sqlite`.
+#![tactic(auto)]
+
+mod changes;
+mod definitions;
+mod files;
+mod power;
+mod reading;
+mod writing;
+
+pub use files::{close, open, surrender};
+pub use power::{Power, cut_power};
+pub use reading::read;
+pub use writing::{CommitError, Writing, begin};
+
+#[cfg(test)]
+mod tests;
