@@ -1,6 +1,5 @@
 mod moves;
 mod names;
-mod queue;
 mod stores;
 mod tables;
 mod versions;

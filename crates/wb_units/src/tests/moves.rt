@@ -1,10 +1,10 @@
-//! Every pair of a state and a move.
+//! Every pair of a state and a move, and the version of a build.
 use super::stores::{held, waiting};
 use deb_relations::{ArchWords, Relations};
 use deb_text::Text;
 use std::alloc::Global;
 use std::test::Fail;
-use wb_states::{Move, Record, Refusal, State, move_record};
+use wb_states::{Move, Record, Refusal, State, build_text, move_record};
 
 /// For each move the states from which it goes, and the state in which it ends.
 static TABLE: [(&str, &[State], State); 10] = [
@@ -180,5 +180,23 @@ fn each_state_and_move(rt: HostRuntime) -> Result<(), Fail> {
         }
     }
     assert_eq!(rt; done, 28);
+    Ok(())
+}
+
+#[test]
+fn only_what_waits_is_taken(rt: HostRuntime) -> Result<(), Fail> {
+    let alloc = rt.alloc();
+    let mut record = waiting(alloc)?;
+    record.number = 7;
+    assert_eq!(rt; build_text(alloc, &record)?.as_str(), "1.0+b7");
+    record.state = State::Built;
+    let change = Move::Take {
+        holder: Text::copied(alloc, "b1")?,
+        take_number: 1,
+    };
+    match move_record(alloc, &record, &change) {
+        Err(Refusal::WrongState { state }) => assert_eq!(rt; state, State::Built),
+        _ => return Err("not refused")?,
+    }
     Ok(())
 }
