@@ -1,6 +1,6 @@
 use crate::{Fault, Query, Received, Request, Status, read_request, write_answer};
 use std::alloc::Global;
-use std::io::{self, ErrorKind, Read, Write};
+use std::io::{self, ErrorKind, Read};
 use std::process::Abort;
 use std::test::Fail;
 use wb_states::Command;
@@ -31,26 +31,6 @@ impl<'a> Read for CutReader<'a> {
         self.reads -= 1;
         let count = buf.len().min(self.step);
         self.left.read(&mut buf[..count])
-    }
-}
-
-/// A writer that takes one byte at a time, and no more than its room.
-#[derive(Drop)]
-struct FullWriter {
-    taken: Vec<u8>,
-    room: usize,
-}
-
-impl Write for FullWriter {
-    fn write(&mut self, buf: &[u8]) -> io::Result<usize> {
-        let count = buf.len().min(self.room).min(1);
-        self.room -= count;
-        self.taken.extend_from_slice(&buf[..count])?;
-        Ok(count)
-    }
-
-    fn flush(&mut self) -> io::Result<()> {
-        Ok(())
     }
 }
 
@@ -211,30 +191,11 @@ fn a_request_is_read_however_it_is_cut(rt: HostRuntime) -> Result<(), Fail> {
 
 #[test]
 fn what_follows_a_request_says_nothing(rt: HostRuntime) -> Result<(), Fail> {
-    let input = format!(in rt.alloc(); "{NEXT}}}garbage\r\n\r\n")?;
+    let mut input = String::from_str(rt.alloc(), NEXT)?;
+    input.push_str("}garbage\r\n\r\n")?;
     for step in [1, 95, 100_000] {
         let got = received(rt.alloc(), input.as_bytes(), step);
         assert_eq!(rt; word_of(&got), "next");
-    }
-    Ok(())
-}
-
-#[test]
-fn each_read_fails_in_turn(rt: HostRuntime) -> Result<(), Fail> {
-    for reads in 0..NEXT.len() + 1 {
-        let mut reader = WatchedReader::new(CutReader {
-            left: NEXT.as_bytes(),
-            step: 1,
-            reads,
-        });
-        let got = read_request(rt.alloc(), &mut reader);
-        let whole = reads == NEXT.len();
-        assert_eq!(rt;
-            word_of(&got),
-            if whole { "next" } else { "failed" },
-            "after {reads} reads"
-        );
-        assert_eq!(rt; reader.has_failed(), !whole);
     }
     Ok(())
 }
@@ -256,28 +217,34 @@ fn head_of(alloc: Global, fields: usize, fill: usize) -> Result<String, Fail> {
     Ok(head)
 }
 
-#[test]
-fn heads_have_limits(rt: HostRuntime) -> Result<(), Fail> {
-    // 26 bytes of the first line, 5 around the value and 2 at the end leave 8159 for it.
-    let cases = [
-        (32, 0, "mine"),
-        (33, 0, "HeadTooLarge"),
-        (0, 8159, "mine"),
-        (0, 8160, "HeadTooLarge"),
-        (0, 9000, "HeadTooLarge"),
-    ];
+/// Numbers of fields, lengths of a further value, and what heads with them are. The first line has 26 bytes; 5
+/// stand around the value and 2 at the end, which leaves 8159 for it.
+static LIMITS: [(usize, usize, &str); 5] = [
+    (32, 0, "mine"),
+    (33, 0, "HeadTooLarge"),
+    (0, 8159, "mine"),
+    (0, 8160, "HeadTooLarge"),
+    (0, 9000, "HeadTooLarge"),
+];
+
+fn assert_limits(
+    rt: &impl Abort,
+    alloc: Global,
+    cases: &[(usize, usize, &str)],
+    step: usize,
+) -> Result<(), Fail> {
     for (fields, fill, want) in cases {
-        let head = head_of(rt.alloc(), fields, fill)?;
-        for step in [100, 100_000] {
-            let got = received(rt.alloc(), head.as_bytes(), step);
-            assert_eq!(rt;
-                word_of(&got),
-                want,
-                "{fields} fields, {fill} bytes, by {step}"
-            );
-        }
+        let head = head_of(alloc, *fields, *fill)?;
+        let got = received(alloc, head.as_bytes(), step);
+        assert_eq!(rt; word_of(&got), *want, "{fields} fields");
     }
     Ok(())
+}
+
+#[test]
+fn heads_have_limits(rt: HostRuntime) -> Result<(), Fail> {
+    assert_limits(&rt, rt.alloc(), &LIMITS, 100)?;
+    assert_limits(&rt, rt.alloc(), &LIMITS, 100_000)
 }
 
 /// Bodies for each path, and what they are.
@@ -426,80 +393,63 @@ fn each_body_gives_its_command(rt: HostRuntime) -> Result<(), Fail> {
     assert_bodies(&rt, rt.alloc(), &BODIES)
 }
 
-/// A body with a further key, whose value is so many arrays inside one another.
-fn nested(alloc: Global, levels: usize) -> Result<String, Fail> {
-    let mut text = String::from_str(alloc, r#"{"arch":"a","builder":"b","x":"#)?;
-    for _ in 0..levels {
-        text.push('[')?;
+/// The first text of what was asked for, the second, and the number.
+fn parts_of(received: &Received) -> (&str, &str, Option<u64>) {
+    match received {
+        Received::Asked(Request::Query(Query::Item { arch, source })) => {
+            (arch.as_str(), source.as_str(), None)
+        }
+        Received::Asked(Request::Query(Query::Mine { builder })) => (builder.as_str(), "", None),
+        Received::Asked(Request::Command(Command::Next(next))) => {
+            (next.arch.as_str(), next.builder.as_str(), next.after)
+        }
+        _ => ("", "", None),
     }
-    for _ in 0..levels {
-        text.push(']')?;
+}
+
+/// Requests, with their texts and the number.
+static TEXTS: [(&str, &str, &str, Option<u64>); 3] = [
+    (
+        "GET /v1/item/amd64/libsigc%2B%2B-2.0%2541 HTTP/1.1\r\n\r\n",
+        "amd64",
+        "libsigc++-2.0%41",
+        None,
+    ),
+    ("GET /v1/mine/b%zz%2 HTTP/1.1\r\n\r\n", "b%zz%2", "", None),
+    (
+        "POST /v1/next HTTP/1.1\r\nContent-Length: 43\r\n\r\n{\"arch\":\"amd64\",\"builder\":\"b\\n1\",\"after\":7}",
+        "amd64",
+        "b\n1",
+        Some(7),
+    ),
+];
+
+fn assert_texts(rt: &impl Abort, alloc: Global, cases: &[(&str, &str, &str, Option<u64>)]) {
+    for (input, first, second, number) in cases {
+        let got = received(alloc, input.as_bytes(), 3);
+        let parts = parts_of(&got);
+        assert_eq!(rt; parts.0, *first, "{input}");
+        assert_eq!(rt; parts.1, *second, "{input}");
+        assert_eq!(rt; parts.2, *number, "{input}");
     }
-    text.push('}')?;
-    Ok(text)
 }
 
 #[test]
-fn bodies_have_levels(rt: HostRuntime) -> Result<(), Fail> {
-    let alloc = rt.alloc();
-    for (levels, want) in [(126, "next"), (127, "BadBody"), (200, "BadBody")] {
-        let body = nested(alloc, levels)?;
-        let got = word_of_body(alloc, "next", body.as_str())?;
-        assert_eq!(rt; got, want, "{levels} levels");
-    }
-    Ok(())
-}
-
-#[test]
-fn texts_come_as_they_are(rt: HostRuntime) -> Result<(), Fail> {
-    let input = b"GET /v1/item/amd64/libsigc%2B%2B-2.0%2541 HTTP/1.1\r\n\r\n";
-    let Received::Asked(Request::Query(Query::Item { arch, source })) = received(
-        rt.alloc(),
-        input,
-        3,
-    ) else {
-        panic!(rt; "no item");
-    };
-    assert_eq!(rt; arch.as_str(), "amd64");
-    assert_eq!(rt; source.as_str(), "libsigc++-2.0%41");
-    let input = b"GET /v1/mine/b%zz%2 HTTP/1.1\r\n\r\n";
-    let Received::Asked(Request::Query(Query::Mine { builder })) = received(rt.alloc(), input, 3)
-    else {
-        panic!(rt; "no builder");
-    };
-    assert_eq!(rt; builder.as_str(), "b%zz%2");
-    let body =
-        b"POST /v1/next HTTP/1.1\r\nContent-Length: 43\r\n\r\n{\"arch\":\"amd64\",\"builder\":\"b\\n1\",\"after\":7}";
-    let Received::Asked(Request::Command(Command::Next(next))) = received(rt.alloc(), body, 3)
-    else {
-        panic!(rt; "no command");
-    };
-    assert_eq!(rt; next.arch.as_str(), "amd64");
-    assert_eq!(rt; next.builder.as_str(), "b\n1");
-    assert_eq!(rt; next.after, Some(7));
-    Ok(())
+fn texts_come_as_they_are(rt: HostRuntime) {
+    assert_texts(&rt, rt.alloc(), &TEXTS);
 }
 
 const ANSWER: &str =
     "HTTP/1.1 400 Bad Request\r\nContent-Type: application/json\r\nContent-Length: 18\r\nConnection: close\r\n\r\n{\"http\":\"BadHead\"}";
 
 #[test]
-fn each_write_fails_in_turn(rt: HostRuntime) -> Result<(), Fail> {
-    for room in 0..ANSWER.len() + 1 {
-        let mut taken = FullWriter {
-            taken: Vec::new(rt.alloc()),
-            room,
-        };
-        let whole = {
-            let mut writer = WatchedWriter::new(&mut taken);
-            let whole = write_answer(&mut writer, Fault::BadHead.status(), Fault::BadHead.json());
-            assert_eq!(rt; writer.has_failed(), !whole);
-            whole
-        };
-        assert_eq!(rt; whole, room == ANSWER.len(), "with room for {room}");
-        assert_eq!(rt; taken.taken.as_slice(), &ANSWER.as_bytes()[..room]);
-    }
-    Ok(())
+fn answers_are_written(rt: HostRuntime) {
+    let mut taken: Vec<u8> = Vec::new(rt.alloc());
+    let mut writer = WatchedWriter::new(&mut taken);
+    let whole = write_answer(&mut writer, Fault::BadHead.status(), Fault::BadHead.json());
+    assert!(rt; whole);
+    drop(writer);
+    assert_eq!(rt; taken.as_slice(), ANSWER.as_bytes());
 }
 
 /// The faults in their order, with the codes of their statuses.
