@@ -8,8 +8,8 @@ use std::rt::{Env, Files};
 use std::{env, fs};
 use wb_api::line_fault_json;
 use wb_daemon::{Cause, Lists, Message, run_lines, status};
-use wb_streams::{WatchedReader, WatchedWriter};
 use wb_office::Office;
+use wb_streams::{WatchedReader, WatchedWriter};
 use wb_words::{HELP, Start, start_of};
 
 /// The program and the kit that it is proved with, for `wb --version`.

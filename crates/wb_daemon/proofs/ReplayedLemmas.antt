@@ -117,7 +117,6 @@ StopsInLine-replay may_read seen left machine text after (inr (inl (lines, acted
       s.accepted.1 ∙ sym (command_response-machine s.answered.machine s.command),
       ap (λ t. t ++ response.text) (sym s.unwritten),
     )
-
 StopsInLine-replay may_read seen left machine text after (inr (inr (lines, acted, s))) = (
   lines,
   followed s.answered s.response,

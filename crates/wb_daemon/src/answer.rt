@@ -19,7 +19,7 @@ use std::borrow::CowStr;
 use wb_api::{file_fault_json, line_fault_json, refusal_json, reply_json};
 use wb_office::Office;
 use wb_states::{Command, Refusal};
-use wb_words::{Invocation, WordsFault, invocation_of, fault_of};
+use wb_words::{Invocation, WordsFault, fault_of, invocation_of};
 
 /// What is written to a line, without its line feed, the status of the line, and whether the run stops after
 /// it, since the store failed or the office is closed.

@@ -7,10 +7,10 @@ ghost use Rattle.deb_text.specs.Lines.{words_in};
 ghost use Rattle.wb_daemon.specs.Line.{bytes_of, is_failed_byte, is_failed_line, line_limit, TookLine};
 ghost use Rattle.wb_streams.specs.Streams.{Flags};
 
-use wb_streams::WatchedReader;
 use std::alloc::{AllocError, Global};
 use std::io::Read;
 use std::str;
+use wb_streams::WatchedReader;
 
 /// The greatest length of a line, its line feed not counted.
 pub(crate) const LINE_LIMIT: usize = 65536;

@@ -14,13 +14,13 @@ use crate::line::{ByteRead, LINE_LIMIT, LineRead, read_byte, read_line};
 use crate::lists::Lists;
 use crate::message::{Cause, Message};
 use crate::status::{ACCEPTED, LINE_FAULT, STOPPED};
-use wb_streams::{WatchedReader, WatchedWriter};
 use crate::write::write_line;
 use deb_text::is_blank_line;
 use std::alloc::Global;
 use std::io::{Read, Write};
 use wb_api::line_fault_json;
 use wb_office::Office;
+use wb_streams::{WatchedReader, WatchedWriter};
 
 /// The greatest number of line feeds that a run reads.
 const LINES_LIMIT: u64 = 1_000_000_000;

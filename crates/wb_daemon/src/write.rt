@@ -8,9 +8,9 @@ ghost use Rattle.wb_daemon.specs.Line.{with_line_feed};
 ghost use Rattle.wb_streams.specs.Streams.{Flags};
 ghost use Rattle.wb_daemon.specs.Turn.{AppendsFront};
 
-use wb_streams::WatchedWriter;
 use std::alloc::{AllocError, Global};
 use std::io::Write;
+use wb_streams::WatchedWriter;
 
 /// Writes the bytes. Says whether all were written: a write that takes no byte or fails ends it, also one
 /// that was interrupted, and then a front of the bytes was written.

@@ -12,7 +12,8 @@ use wb_states::Counts;
 const LIMIT: u64 = 1_000_000_000_000;
 
 /// The lines after which b1 builds `held`, under one take number more, and `waiting` waits: five are accepted.
-const SETUP: &str = "add-arch amd64 linux amd64\nadd-builder b1 amd64\nenter amd64 held 1.0 optional devel\n\
+const SETUP: &str =
+    "add-arch amd64 linux amd64\nadd-builder b1 amd64\nenter amd64 held 1.0 optional devel\n\
     enter amd64 waiting 1.0 optional devel\ntake amd64 b1 held 1.0\n";
 
 /// An office that has given all take numbers but one and has accepted as many commands, after the lines of the setup.

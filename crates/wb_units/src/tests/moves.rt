@@ -10,7 +10,11 @@ use wb_states::{Move, Record, Refusal, State, build_text, move_record};
 static TABLE: [(&str, &[State], State); 10] = [
     ("take", &[State::NeedsBuild], State::Building),
     ("built", &[State::Building], State::Built),
-    ("uploaded", &[State::Building, State::Built], State::Uploaded),
+    (
+        "uploaded",
+        &[State::Building, State::Built],
+        State::Uploaded,
+    ),
     ("waits", &[State::Building], State::DepWait),
     ("put-back", &[State::Building], State::NeedsBuild),
     (
@@ -175,7 +179,12 @@ fn each_state_and_move(rt: HostRuntime) -> Result<(), Fail> {
         for code in 0..9u8 {
             let state = State::of_code(code).ok_or("no state of this number")?;
             let is_done = is_done(rt.alloc(), name, *goal, state)?;
-            assert_eq!(rt; is_done, states.contains(&state), "{name} from {}", state.name());
+            assert_eq!(rt;
+                is_done,
+                states.contains(&state),
+                "{name} from {}",
+                state.name()
+            );
             done = done.saturating_add(u64::from(is_done));
         }
     }
