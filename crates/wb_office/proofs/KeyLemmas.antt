@@ -6,7 +6,7 @@ use Rattle.deb_version.specs.Syntax.{fault_of}
 use Rattle.deb_relations.specs.declared.arch.ArchWords.{ArchWords}
 use Rattle.deb_relations.specs.declared.relations.Alternative.{Alternative}
 use Rattle.deb_relations.specs.Reading.{reading_of}
-use Rattle.wb_states.specs.Forms.{GiveBack, DepWait, Fail, Rebuild}
+use Rattle.wb_states.specs.Forms.{GiveBack, DepWait, Rebuild}
 use Rattle.wb_states.specs.declared.command.Command.TheVariants as of
 use Rattle.wb_states.specs.declared.command.SetAside.{SetAside}
 use Rattle.wb_states.specs.declared.moves.Move.TheVariants as to
@@ -14,7 +14,7 @@ use Rattle.wb_states.specs.declared.refusal.Refusal.{Refusal}
 use Rattle.wb_states.specs.declared.refusal.Refusal.TheVariants.{BadName, BadVersion, BadRelations, BadNumber, TextTooLong, Memory}
 use Rattle.wb_states.specs.Limits.{note_limit, rebuild_limit}
 use Rattle.wb_states.specs.Machine.{Machine, arch_words}
-use Rattle.wb_office.specs.Checks.{when, has_bad_key, relations_refusal, text_refusal, key_refusal}
+use Rattle.wb_office.specs.Checks.{aside_refusal, when, has_bad_key, relations_refusal, text_refusal, key_refusal}
 use Rattle.wb_office.specs.Outcomes.{named_step}
 use Rattle.wb_office.specs.Step.{step}
 use Rattle.wb_office.proofs.NamedLemmas.{step-GiveBack, step-DepWait, step-Rebuild}
@@ -70,28 +70,29 @@ dep_wait-is machine arch source version relations groups words is reads named =
     ∙ ap (λ reading. option_or (option_map (λ fault. BadRelations (Some fault)) (result_err reading)) None) reads)
     ∙ (λ i. named_step machine arch source version (to.DepWait (result_unwrap_or (reads i) []) (sym named i)))
 
--- the two commands that set a source package aside read the same texts
-pub aside-same : (fields : SetAside) → text_refusal (of.NotForUs fields) ≡ text_refusal (of.Fail fields)
+-- the two commands that set a source package aside are refused for their texts alike
+pub aside-Fail : (fields : SetAside) → text_refusal (of.Fail fields) ≡ aside_refusal fields.arch fields.source fields.version fields.note
 unfolding text_refusal
-aside-same fields = refl
+aside-Fail fields = refl
+
+pub aside-NotForUs : (fields : SetAside) → text_refusal (of.NotForUs fields) ≡ aside_refusal fields.arch fields.source fields.version fields.note
+unfolding text_refusal
+aside-NotForUs fields = refl
 
 pub aside-refused : (arch source version note : List ℕ) (refusal : Refusal) → key_refusal arch source version ≡ Some refusal
-    → text_refusal (Fail arch source version note) ≡ Some refusal
-unfolding text_refusal
+    → aside_refusal arch source version note ≡ Some refusal
 aside-refused arch source version note refusal is =
     two-Some (when (has_bad_key arch source) BadName) (option_map BadVersion (fault_of version)) (option_or (when (nat_lt note_limit (length note)) TextTooLong) None) refusal is
 
 pub aside-long : (arch source version note : List ℕ) (refusal : Refusal)
     → option_or (key_refusal arch source version) (Some TextTooLong) ≡ Some refusal → nat_lt note_limit (length note) ≡ true
-    → text_refusal (Fail arch source version note) ≡ Some refusal
-unfolding text_refusal
+    → aside_refusal arch source version note ≡ Some refusal
 aside-long arch source version note refusal is long =
     two-later (when (has_bad_key arch source) BadName) (option_map BadVersion (fault_of version)) (option_or (when (nat_lt note_limit (length note)) TextTooLong) None) TextTooLong refusal is
     (ap (λ b. option_or (when b TextTooLong) None) long)
 
 pub aside-None : (arch source version note : List ℕ) → key_refusal arch source version ≡ None → nat_lt note_limit (length note) ≡ false
-    → text_refusal (Fail arch source version note) ≡ None
-unfolding text_refusal
+    → aside_refusal arch source version note ≡ None
 aside-None arch source version note is short =
     two-None (when (has_bad_key arch source) BadName) (option_map BadVersion (fault_of version)) (option_or (when (nat_lt note_limit (length note)) TextTooLong) None) is
     ∙ ap (λ b. option_or (when b TextTooLong) None) short

@@ -91,6 +91,11 @@ is_bad_number number = nat_eq number 0 || nat_lt rebuild_limit number
 abbrev pub is_long_text : List ℕ → Bool
 is_long_text text = nat_lt note_limit (length text)
 
+-- the refusal of the texts by which a source package is set aside: one of its key is malformed, or the note is too long
+abbrev pub aside_refusal : List ℕ → List ℕ → List ℕ → List ℕ → Option Refusal
+aside_refusal arch source version note =
+    first_some (when (has_bad_key arch source) BadName ∷ version_refusal version ∷ when (is_long_text note) TextTooLong ∷ [])
+
 -- two parts are for one architecture
 abbrev pub has_repeated_arch : List Part → Bool
 has_repeated_arch [] = false

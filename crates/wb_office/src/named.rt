@@ -5,7 +5,7 @@ ghost use Rattle.wb_states.specs.declared.command.Command.TheVariants as of;
 ghost use Rattle.wb_states.specs.declared.refusal.Refusal.TheVariants.{Memory};
 ghost use Rattle.wb_states.specs.Refusals.{IsOfMachine};
 ghost use Rattle.wb_office.specs.Carries.{Carries, Reaches};
-ghost use Rattle.wb_office.specs.Checks.{text_refusal};
+ghost use Rattle.wb_office.specs.Checks.{aside_refusal};
 ghost use Rattle.wb_office.specs.Outcomes.{named_step};
 
 use crate::checks::{find_source, lacks_arch, words_of};
@@ -96,11 +96,14 @@ struct Aside {
 fn read_aside(alloc: Global, command: &command::SetAside) -> Result<Aside, Refusal>
     ensures value { IfOk result (λ read.
         (read.version ≡ command.now.version) × (read.note ≡ command.now.note)) }
-    ensures ok { OnOk result (text_refusal (of.Fail command.now) ≡ None) }
+    ensures ok { OnOk result (aside_refusal command.now.arch command.now.source
+        command.now.version command.now.note ≡ None) }
     ensures refused { IfErr result (λ refusal. IsOfMachine refusal
-        → text_refusal (of.Fail command.now) ≡ Some refusal) }
+        → aside_refusal command.now.arch command.now.source
+        command.now.version command.now.note ≡ Some refusal) }
     ensures memory { IfErr result (λ refusal. refusal ≡ Memory
-        → text_refusal (of.Fail command.now) ≡ None) }
+        → aside_refusal command.now.arch command.now.source
+        command.now.version command.now.note ≡ None) }
     ensures utf8 { OnOk result (IsUtf8 command.now.note) }
 {
     let command::SetAside {
