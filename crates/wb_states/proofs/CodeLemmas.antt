@@ -4,7 +4,7 @@ use Rattle.std.specs.Prelude.{codes}
 use Rattle.wb_states.specs.declared.refusal.Refusal.{Refusal}
 use Rattle.wb_states.specs.declared.refusal.Refusal.TheVariants.{UnknownArch, UnknownBuilder, WrongArch, UnknownSource, OtherVersion, WrongState, QueueEmpty, NotHeld, AfterAhead, AlreadyThere, BadName, BadVersion, BadRelations, BadNumber, BadListing, TextTooLong, Spent, RepeatedArch, Closed, Store, Memory}
 use Rattle.wb_states.specs.declared.state.State.{State}
-use Rattle.wb_states.specs.declared.state.State.TheVariants.{NeedsBuild, Building, Built, Uploaded, Installed, DepWait, BdUninstallable, Failed, NotForUs}
+use Rattle.wb_states.specs.declared.state.State.TheVariants.{NeedsBuild, Building, Built, Uploaded, Installed, DepWait, BdUninstallable, Failed, NotForUs, BuildAttempted}
 use Rattle.wb_states.specs.Refusals.{code_of_refusal, name_of_refusal}
 use Rattle.wb_states.specs.State.{code_of, name_of}
 
@@ -25,7 +25,8 @@ state_at code =
     (cond (nat_eq code 5) DepWait
     (cond (nat_eq code 6) BdUninstallable
     (cond (nat_eq code 7) Failed
-    NotForUs))))))))
+    (cond (nat_eq code 8) NotForUs
+    BuildAttempted)))))))))
 
 state_at-code_of : (state : State) → state_at (code_of state) ≡ state
 state_at-code_of NeedsBuild = refl
@@ -37,6 +38,7 @@ state_at-code_of DepWait = refl
 state_at-code_of BdUninstallable = refl
 state_at-code_of Failed = refl
 state_at-code_of NotForUs = refl
+state_at-code_of BuildAttempted = refl
 
 pub code_of-differ : (one other : State) → code_of one ≡ code_of other → one ≡ other
 code_of-differ = told-apart code_of state_at state_at-code_of
@@ -52,7 +54,8 @@ state_named name =
     (cond (bytes_eq name (codes "Dep-Wait")) DepWait
     (cond (bytes_eq name (codes "BD-Uninstallable")) BdUninstallable
     (cond (bytes_eq name (codes "Failed")) Failed
-    NotForUs))))))))
+    (cond (bytes_eq name (codes "Not-For-Us")) NotForUs
+    BuildAttempted)))))))))
 
 state_named-name_of : (state : State) → state_named (name_of state) ≡ state
 state_named-name_of NeedsBuild = refl
@@ -64,6 +67,7 @@ state_named-name_of DepWait = refl
 state_named-name_of BdUninstallable = refl
 state_named-name_of Failed = refl
 state_named-name_of NotForUs = refl
+state_named-name_of BuildAttempted = refl
 
 pub name_of-differ : (one other : State) → name_of one ≡ name_of other → one ≡ other
 name_of-differ = told-apart name_of state_named state_named-name_of

@@ -12,7 +12,7 @@ use Rattle.std.proofs.lemmas.Cmp.{ranked, nat_cmp_total}
 use Rattle.std.proofs.lemmas.Slice.Eq.{bytes_eq-Decides}
 use Rattle.wb_states.specs.declared.record.Record.{Record}
 use Rattle.wb_states.specs.declared.state.State.{State}
-use Rattle.wb_states.specs.declared.state.State.TheVariants.{NeedsBuild, Building, Built, Uploaded, Installed, DepWait, BdUninstallable, Failed, NotForUs}
+use Rattle.wb_states.specs.declared.state.State.TheVariants.{NeedsBuild, Building, Built, Uploaded, Installed, DepWait, BdUninstallable, Failed, NotForUs, BuildAttempted}
 use Rattle.wb_states.specs.State.{code_of}
 use Rattle.wb_states.specs.Machine.{Machine, HasDistinctTakes, IsConsistent, IsRecord}
 use Rattle.wb_states.specs.Holds.{is_taken_as, taken_as, is_held_by, take_of, take_cmp, held_of, is_building_after, building_after, IsBuildingAfter}
@@ -236,6 +236,7 @@ building-is DepWait = (λ h. absurd cc, λ h. absurd cc)
 building-is BdUninstallable = (λ h. absurd cc, λ h. absurd cc)
 building-is Failed = (λ h. absurd cc, λ h. absurd cc)
 building-is NotForUs = (λ h. absurd cc, λ h. absurd cc)
+building-is BuildAttempted = (λ h. absurd cc, λ h. absurd cc)
 
 split : (a b : Bool) → (a && b) ≡ true → (a ≡ true) × (b ≡ true)
 split true b h = (refl, h)

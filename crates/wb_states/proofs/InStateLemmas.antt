@@ -4,7 +4,7 @@ use Rattle.std.proofs.lemmas.Str.{IsUtf8-nil}
 use Rattle.deb_version.specs.Syntax.{reading_of}
 use Rattle.wb_states.specs.declared.record.Record.{Record}
 use Rattle.wb_states.specs.declared.state.State.{State}
-use Rattle.wb_states.specs.Limits.{rebuild_limit, note_limit, relations_limit}
+use Rattle.wb_states.specs.Limits.{rebuild_limit, note_limit, relations_limit, is_build_priority}
 use Rattle.wb_states.specs.Moves.{in_state, note_after}
 use Rattle.wb_states.specs.Names.{is_builder_name, is_label_text}
 use Rattle.wb_states.specs.Record.{IsWellFormed}
@@ -24,6 +24,7 @@ pub record HasFields (current : Record) : Type 0 where
   pub waits : IsTextWithin relations_limit current.waits
   pub depends : IfSome current.depends (IsTextWithin relations_limit)
   pub message : IsTextWithin note_limit current.message
+  pub build_priority : IsTrue (is_build_priority current.build_priority)
 
 pub fields-of : (current : Record) → IsWellFormed current → HasFields current
 fields-of current is = record {
@@ -35,6 +36,7 @@ fields-of current is = record {
   waits = is.waits;
   depends = is.depends;
   message = is.message;
+  build_priority = is.build_priority;
 }
 
 -- a record has what a state asks for: a held one its holder and its take number, and Dep-Wait its waits
@@ -102,6 +104,7 @@ settled-well state current note fields short stands = record {
   depends = fields.depends;
   note = short;
   message = fields.message;
+  build_priority = fields.build_priority;
 }
 
 -- a note that is kept or dropped

@@ -5,3 +5,4 @@ pub mod MoveRowLemmas
 pub mod QueueLemmas
 pub mod InStateLemmas
 pub mod WaitLemmas
+pub mod RankLemmas

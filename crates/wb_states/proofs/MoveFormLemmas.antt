@@ -12,7 +12,7 @@ use Rattle.wb_states.specs.declared.record.Record.{Record}
 use Rattle.wb_states.specs.declared.refusal.Refusal.{Refusal}
 use Rattle.wb_states.specs.declared.refusal.Refusal.TheVariants.{BadRelations}
 use Rattle.wb_states.specs.declared.state.State.{State}
-use Rattle.wb_states.specs.declared.state.State.TheVariants.{NeedsBuild, Building, Built, Uploaded, DepWait, Failed, NotForUs}
+use Rattle.wb_states.specs.declared.state.State.TheVariants.{NeedsBuild, Building, Built, Uploaded, DepWait, Failed, NotForUs, BuildAttempted}
 use Rattle.wb_states.specs.Limits.{note_limit, relations_limit}
 use Rattle.wb_states.specs.Moves.{may_go, move_outcome, value_refusal, waits_for, waits_refusal}
 use Rattle.wb_states.specs.Names.{is_builder_name}
@@ -21,7 +21,7 @@ use Rattle.deb_text.specs.Text.{IsTextWithin, is_empty_text}
 use Rattle.wb_states.specs.State.{is_held, is_dep_wait}
 use Rattle.wb_states.specs.Table.{row_of, HasForm}
 use Rattle.wb_states.proofs.InStateLemmas.{empty_within}
-use Rattle.wb_states.proofs.MoveRowLemmas.{move_outcome-done, move_outcome-row, move_outcome-value, take-from, built-from, uploaded-from, put_back-from, rebuild-from, rebuild-free}
+use Rattle.wb_states.proofs.MoveRowLemmas.{move_outcome-done, move_outcome-row, move_outcome-value, take-from, built-from, uploaded-from, put_back-from, attempted-ready, rebuild-from, rebuild-free}
 
 -- ---- waits that are not refused
 
@@ -65,6 +65,7 @@ well-with old well state holder take waits note fits = record {
   depends = well.depends;
   note = fits.short_note;
   message = well.message;
+  build_priority = well.build_priority;
 }
 
 -- in a state in which nothing is held and nothing is waited for
@@ -144,6 +145,15 @@ row-well to.PutBack old well form may allowed =
       short_waits = well.waits;
       short_note = empty_within note_limit;
     })
+row-well (to.Attempted reason) old well form may allowed =
+    well-with old well BuildAttempted None None old.waits reason (record {
+      held = refl;
+      taken = refl;
+      builder = tt;
+      waiting = well.state.waiting ∙ attempted-ready reason old.state may;
+      short_waits = well.waits;
+      short_note = form;
+    })
 row-well to.GiveBack old well form may allowed =
     well-with old well NeedsBuild None None [] [] (fits-free NeedsBuild [] refl refl (empty_within note_limit))
 row-well (to.DepWait relations arch) old well form may allowed =
@@ -167,6 +177,7 @@ row-well (to.Rebuild number message) old well form may allowed = record {
   depends = well.depends;
   note = empty_within note_limit;
   message = form.1;
+  build_priority = well.build_priority;
 }
 
 pub move_outcome-well : (move : Move) (old new : Record) → IsWellFormed old → HasForm move → move_outcome move old ≡ Ok new → IsWellFormed new

@@ -85,6 +85,11 @@ unfolding may_go
 put_back-from Building is = record { other = refl; waits = refl }
 put_back-from _ is = absurd cc
 
+pub attempted-ready : (reason : List ℕ) (state : State) → may_go (to.Attempted reason) state ≡ true → is_dep_wait state ≡ false
+unfolding may_go
+attempted-ready reason Building is = refl
+attempted-ready reason _ is = absurd cc
+
 pub rebuild-from : (number : ℕ) (message : List ℕ) (state : State) → may_go (to.Rebuild number message) state ≡ true → IsLeft NeedsBuild state
 unfolding may_go
 rebuild-from number message Installed is = record { other = refl; waits = refl }
@@ -137,6 +142,8 @@ record_after_move-row (to.Waits relations arch) old well may =
 record_after_move-row to.PutBack old well may =
     let left = put_back-from old.state may in
     λ i. record (row_of to.PutBack old) { waits = sym (no_waits old well left.waits) i; note = no_note NeedsBuild old left.other i }
+record_after_move-row (to.Attempted reason) old well may =
+    λ i. record (row_of (to.Attempted reason) old) { waits = sym (no_waits old well (attempted-ready reason old.state may)) i }
 record_after_move-row to.GiveBack old well may =
     λ i. record (row_of to.GiveBack old) { note = no_note NeedsBuild old (give_back-from old.state may) i }
 record_after_move-row (to.DepWait relations arch) old well may =

@@ -3,14 +3,14 @@ use Rattle.std.proofs.Common.{◌≡◌, ◌≢◌, ℕ, List, [], ◌∷◌, re
 use Rattle.std.specs.List.{AllByRecursion}
 use Rattle.std.specs.List.Sorted.{IsStrictlySortedBy}
 use Rattle.std.specs.declared.cmp.Ordering.TheVariants.{Less, Equal, Greater}
-use Rattle.std.specs.Ordering.{ordering_reverse, ordering_then, nat_cmp, bool_cmp}
+use Rattle.std.specs.Ordering.{ordering_reverse, ordering_then, nat_cmp, int_cmp, bool_cmp}
 use Rattle.std.specs.Cmp.{IsTotalOrder, on_total}
 use Rattle.std.proofs.lemmas.Cmp.{tied_itself}
 use Rattle.std.proofs.lemmas.Slice.Eq.{bytes_eq-Decides}
 use Rattle.std.specs.FinMap as map
 use Rattle.std.specs.FinMap.Entries.{find, is_sorted}
 use Rattle.wb_states.specs.declared.state.State.{State}
-use Rattle.wb_states.specs.declared.state.State.TheVariants.{NeedsBuild, Building, Built, Uploaded, Installed, DepWait, BdUninstallable, Failed, NotForUs}
+use Rattle.wb_states.specs.declared.state.State.TheVariants.{NeedsBuild, Building, Built, Uploaded, Installed, DepWait, BdUninstallable, Failed, NotForUs, BuildAttempted}
 use Rattle.wb_states.specs.declared.record.Record.{Record}
 use Rattle.wb_states.specs.State.{is_needs_build}
 use Rattle.deb_text.specs.Text.{text_cmp, pair_cmp}
@@ -37,6 +37,7 @@ is_needs_build-is DepWait = (λ h. cc, λ h. cc)
 is_needs_build-is BdUninstallable = (λ h. cc, λ h. cc)
 is_needs_build-is Failed = (λ h. cc, λ h. cc)
 is_needs_build-is NotForUs = (λ h. cc, λ h. cc)
+is_needs_build-is BuildAttempted = (λ h. cc, λ h. cc)
 
 -- the records that wait are those that the filter keeps
 is_waiting-is : (arch : List ℕ) (entry : Entry) → (is_waiting arch entry ≡ true) ↔ ((entry.0.0 ≡ arch) × (entry.1.state ≡ NeedsBuild))
@@ -74,7 +75,9 @@ place_cmp-names one other name another tie =
     let by_name = text_cmp p.name q.name in
     let by_section = nat_cmp p.section q.section in
     let by_priority = nat_cmp p.priority q.priority in
-    let later = (then-Equal (bool_cmp p.is_new q.is_new) (ordering_then by_priority (ordering_then by_section by_name)) tie).1 in
+    let by_newness = bool_cmp p.is_new q.is_new in
+    let rest = (then-Equal (int_cmp q.build_priority p.build_priority) (ordering_then by_newness (ordering_then by_priority (ordering_then by_section by_name))) tie).1 in
+    let later = (then-Equal by_newness (ordering_then by_priority (ordering_then by_section by_name)) rest).1 in
     let last = (then-Equal by_priority (ordering_then by_section by_name) later).1 in
     text_cmp-same name another (then-Equal by_section by_name last).1
 

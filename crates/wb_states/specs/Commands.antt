@@ -1,7 +1,7 @@
 -- The names of the commands, which are those of the subcommands that ask for them (this project's own).
 use Rattle.std.specs.Prelude.{ℕ, List, codes}
 use Rattle.wb_states.specs.declared.command.Command.{Command}
-use Rattle.wb_states.specs.declared.command.Command.TheVariants.{AddArch, AddBuilder, Enter, Next, Take, Built, Uploaded, Waits, PutBack, GiveBack, DepWait, Fail, NotForUs, Rebuild, Merge}
+use Rattle.wb_states.specs.declared.command.Command.TheVariants.{AddArch, AddBuilder, Enter, Next, Take, Built, Uploaded, Waits, PutBack, Attempted, GiveBack, DepWait, Fail, NotForUs, Rebuild, BuildPriority, Merge}
 
 -- the name of a command
 abbrev pub name_of_command : Command → List ℕ
@@ -14,9 +14,11 @@ name_of_command (Built fields) = codes "built"
 name_of_command (Uploaded fields) = codes "uploaded"
 name_of_command (Waits fields) = codes "waits"
 name_of_command (PutBack fields) = codes "put-back"
+name_of_command (Attempted fields) = codes "attempted"
 name_of_command (GiveBack fields) = codes "give-back"
 name_of_command (DepWait fields) = codes "dep-wait"
 name_of_command (Fail fields) = codes "fail"
 name_of_command (NotForUs fields) = codes "not-for-us"
 name_of_command (Rebuild fields) = codes "rebuild"
+name_of_command (BuildPriority fields) = codes "build-priority"
 name_of_command (Merge fields) = codes "merge"

@@ -1,5 +1,5 @@
 -- The commands by their fields, one after another (this project's own).
-use Rattle.std.specs.Prelude.{ℕ, List, Option}
+use Rattle.std.specs.Prelude.{ℕ, ℤ, List, Option}
 use Rattle.wb_states.specs.declared.command.Command.{Command}
 use Rattle.wb_states.specs.declared.command.Command.TheVariants as of
 use Rattle.wb_states.specs.declared.command.Part.{Part}
@@ -40,6 +40,10 @@ Waits take_number relations = of.Waits (record { take_number = take_number; rela
 abbrev pub PutBack : ℕ → Command
 PutBack take_number = of.PutBack (record { take_number = take_number })
 
+-- a holder reports a failed build
+abbrev pub Attempted : ℕ → List ℕ → Command
+Attempted take_number reason = of.Attempted (record { take_number = take_number; reason = reason })
+
 -- a source package is given back
 abbrev pub GiveBack : List ℕ → List ℕ → List ℕ → Command
 GiveBack arch source version = of.GiveBack (record { arch = arch; source = source; version = version })
@@ -59,6 +63,10 @@ NotForUs arch source version note = of.NotForUs (record { arch = arch; source = 
 -- it is built once more
 abbrev pub Rebuild : List ℕ → List ℕ → List ℕ → ℕ → List ℕ → Command
 Rebuild arch source version number message = of.Rebuild (record { arch = arch; source = source; version = version; number = number; message = message })
+
+-- it gets another build priority
+abbrev pub BuildPriority : List ℕ → List ℕ → List ℕ → ℤ → Command
+BuildPriority arch source version value = of.BuildPriority (record { arch = arch; source = source; version = version; value = value })
 
 -- lists are merged
 abbrev pub Merge : List ℕ → List Part → Command

@@ -1,7 +1,7 @@
 -- The limits of what is kept (this project's own).
 pub use Rattle.deb_relations.specs.Grammar.{relations_limit}
-use Rattle.std.specs.Prelude.{ℕ}
-use Rattle.wb_states.specs.declared.limits.TheConstants.{COUNT_LIMIT, NOTE_LIMIT, REBUILD_LIMIT}
+use Rattle.std.specs.Prelude.{ℕ, ℤ, neg_ℤ, int_le, Bool, ◌&&◌}
+use Rattle.wb_states.specs.declared.limits.TheConstants.{BUILD_PRIORITY_LIMIT, COUNT_LIMIT, NOTE_LIMIT, REBUILD_LIMIT}
 
 -- the greatest count
 abbrev pub count_limit : ℕ
@@ -14,3 +14,7 @@ rebuild_limit = REBUILD_LIMIT
 -- the most bytes of a note or a message
 abbrev pub note_limit : ℕ
 note_limit = NOTE_LIMIT
+
+-- a build priority lies within its limit on either side of 0
+abbrev pub is_build_priority : ℤ → Bool
+is_build_priority value = int_le (neg_ℤ BUILD_PRIORITY_LIMIT) value && int_le value BUILD_PRIORITY_LIMIT

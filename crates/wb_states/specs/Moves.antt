@@ -13,9 +13,9 @@ use Rattle.wb_states.specs.declared.record.Record.{Record}
 use Rattle.wb_states.specs.declared.refusal.Refusal.{Refusal}
 use Rattle.wb_states.specs.declared.refusal.Refusal.TheVariants.{WrongState, BadRelations, BadNumber}
 use Rattle.wb_states.specs.declared.state.State.{State}
-use Rattle.wb_states.specs.declared.state.State.TheVariants.{NeedsBuild, Building, Built, Uploaded, Installed, DepWait, BdUninstallable, Failed, NotForUs}
+use Rattle.wb_states.specs.declared.state.State.TheVariants.{NeedsBuild, Building, Built, Uploaded, Installed, DepWait, BdUninstallable, Failed, NotForUs, BuildAttempted}
 use Rattle.wb_states.specs.declared.moves.Move.{Move}
-use Rattle.wb_states.specs.declared.moves.Move.TheVariants.{Take, Built as ToBuilt, Uploaded as ToUploaded, Waits, PutBack, GiveBack, DepWait as ToDepWait, Fail, NotForUs as ToNotForUs, Rebuild}
+use Rattle.wb_states.specs.declared.moves.Move.TheVariants.{Take, Built as ToBuilt, Uploaded as ToUploaded, Waits, PutBack, Attempted, GiveBack, DepWait as ToDepWait, Fail, NotForUs as ToNotForUs, Rebuild}
 use Rattle.wb_states.specs.Limits.{relations_limit}
 use Rattle.deb_text.specs.Text.{is_empty_text}
 use Rattle.wb_states.specs.State.{code_of, is_held, is_dep_wait}
@@ -35,10 +35,11 @@ may_go ToBuilt = one_of (Building ∷ [])
 may_go ToUploaded = one_of (Building ∷ Built ∷ [])
 may_go (Waits relations arch) = one_of (Building ∷ [])
 may_go PutBack = one_of (Building ∷ [])
+may_go (Attempted reason) = one_of (Building ∷ [])
 may_go GiveBack = all_but (NeedsBuild ∷ Installed ∷ [])
-may_go (ToDepWait relations arch) = one_of (NeedsBuild ∷ Building ∷ BdUninstallable ∷ Failed ∷ [])
-may_go (Fail note) = one_of (NeedsBuild ∷ Building ∷ Built ∷ DepWait ∷ BdUninstallable ∷ [])
-may_go (ToNotForUs note) = one_of (NeedsBuild ∷ Building ∷ DepWait ∷ BdUninstallable ∷ Failed ∷ [])
+may_go (ToDepWait relations arch) = one_of (NeedsBuild ∷ Building ∷ BdUninstallable ∷ Failed ∷ BuildAttempted ∷ [])
+may_go (Fail note) = one_of (NeedsBuild ∷ Building ∷ Built ∷ DepWait ∷ BdUninstallable ∷ BuildAttempted ∷ [])
+may_go (ToNotForUs note) = one_of (NeedsBuild ∷ Building ∷ DepWait ∷ BdUninstallable ∷ Failed ∷ BuildAttempted ∷ [])
 may_go (Rebuild number message) = one_of (Installed ∷ [])
 
 -- the state in which a move ends
@@ -48,6 +49,7 @@ goal_of ToBuilt = Built
 goal_of ToUploaded = Uploaded
 goal_of (Waits relations arch) = DepWait
 goal_of PutBack = NeedsBuild
+goal_of (Attempted reason) = BuildAttempted
 goal_of GiveBack = NeedsBuild
 goal_of (ToDepWait relations arch) = DepWait
 goal_of (Fail note) = Failed
@@ -68,6 +70,7 @@ set_by _ current = current
 
 -- the note that a move brings
 abbrev pub note_of : Move → Option (List ℕ)
+note_of (Attempted reason) = Some reason
 note_of (Fail note) = Some note
 note_of (ToNotForUs note) = Some note
 note_of _ = None

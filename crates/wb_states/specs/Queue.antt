@@ -1,13 +1,14 @@
 -- The order in which the waiting source packages of an architecture are built (wanna-build's states page; the order of sections is this project's own).
-use Rattle.std.specs.Prelude.{◌≡◌, ℕ, Bool, not, nat_lt, nat_eq, List, [], ◌∷◌, length, codes, bytes_eq, if◌then◌else◌, ◌&&◌, filter, Option, Some}
+use Rattle.std.specs.Prelude.{◌≡◌, ℕ, ◌+◌, ◌*◌, ℤ, ◌-ℤ◌, nat_abs, Bool, not, nat_lt, nat_eq, List, [], ◌∷◌, length, codes, bytes_eq, if◌then◌else◌, ◌&&◌, filter, Option, Some}
 use Rattle.std.specs.List.{position_or_len, after_first}
 use Rattle.std.specs.declared.cmp.Ordering.{Ordering}
-use Rattle.std.specs.Ordering.{nat_cmp, bool_cmp, on, then_cmp}
-use Rattle.std.specs.Cmp.{IsTotalOrder, on_total, then_total, nat_cmp_total, bool_cmp_total}
+use Rattle.std.specs.Ordering.{nat_cmp, int_cmp, bool_cmp, on, flip_args, then_cmp}
+use Rattle.std.specs.Cmp.{IsTotalOrder, on_total, back_total, then_total, nat_cmp_total, int_cmp_total, bool_cmp_total}
 use Rattle.std.specs.Cmp.Lexicographic.{nat_list_cmp_total}
 use Rattle.wb_states.specs.declared.record.Record.{Record}
 use Rattle.std.specs.FinMap as map
 use Rattle.wb_states.specs.declared.state.State.TheVariants.{NeedsBuild}
+use Rattle.wb_states.specs.declared.limits.TheConstants.{BUILD_PRIORITY_LIMIT}
 use Rattle.wb_states.specs.State.{is_needs_build}
 use Rattle.deb_text.specs.Text.{text_cmp}
 use Rattle.wb_states.specs.Machine.{Key, Machine}
@@ -36,6 +37,7 @@ without_area section = if nat_lt (position_or_len is_slash section) (length sect
 
 -- where a source package stands in the queue
 pub record Place : Type 0 where
+  pub build_priority : ℤ
   pub is_new : Bool
   pub priority : ℕ
   pub section : ℕ
@@ -44,23 +46,40 @@ pub record Place : Type 0 where
 -- the place of a record, and the name of its source package
 abbrev pub place_of : Record → List ℕ → Place
 place_of current source = record {
+  build_priority = current.build_priority;
   is_new = not current.earlier;
   priority = position_or_len (bytes_eq current.priority) priorities;
   section = position_or_len (bytes_eq (without_area current.section)) sections;
   name = source;
 }
 
--- what was built earlier before what is new, then by priority, by section, and by the bytes of the name
+-- by build priority, the greatest first, then what was built earlier before what is new, by priority, by section, and by the bytes of the name
 abbrev pub place_cmp : Place → Place → Ordering
 place_cmp =
-    then_cmp (on (λ p. p.is_new) bool_cmp)
-    (then_cmp (on (λ p. p.priority) nat_cmp) (then_cmp (on (λ p. p.section) nat_cmp) (on (λ p. p.name) text_cmp)))
+    then_cmp (on (λ p. p.build_priority) (flip_args int_cmp))
+    (then_cmp (on (λ p. p.is_new) bool_cmp)
+    (then_cmp (on (λ p. p.priority) nat_cmp) (then_cmp (on (λ p. p.section) nat_cmp) (on (λ p. p.name) text_cmp))))
 
 -- the order of places is total
 pub place_cmp_total : IsTotalOrder place_cmp
 place_cmp_total =
-    then_total (on_total (λ p. p.is_new) bool_cmp_total)
-    (then_total (on_total (λ p. p.priority) nat_cmp_total) (then_total (on_total (λ p. p.section) nat_cmp_total) (on_total (λ p. p.name) nat_list_cmp_total)))
+    then_total (on_total (λ p. p.build_priority) (back_total int_cmp_total))
+    (then_total (on_total (λ p. p.is_new) bool_cmp_total)
+    (then_total (on_total (λ p. p.priority) nat_cmp_total) (then_total (on_total (λ p. p.section) nat_cmp_total) (on_total (λ p. p.name) nat_list_cmp_total))))
+
+-- how far the build priority of a record is from the greatest one
+abbrev pub below_greatest : Record → ℕ
+below_greatest current = nat_abs (BUILD_PRIORITY_LIMIT -ℤ current.build_priority)
+
+-- 0 for what was built earlier, 1 for what is new
+abbrev pub newness : Record → ℕ
+newness current = if current.earlier then 0 else 1
+
+-- the number by which the tables order the records of an architecture: for each step of build priority there are 348 places, of priorities and sections
+abbrev pub rank_of : Record → ℕ
+rank_of current =
+    let place = place_of current [] in
+    below_greatest current * 348 + (newness current * 6 + place.priority) * 29 + place.section
 
 -- a key of the records, and the record at it
 abbrev pub Entry : Type 0

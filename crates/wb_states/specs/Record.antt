@@ -4,7 +4,7 @@ use Rattle.deb_version.specs.Syntax.{reading_of}
 use Rattle.wb_states.specs.declared.record.Record.{Record}
 use Rattle.wb_states.specs.State.{is_held, is_dep_wait}
 use Rattle.wb_states.specs.Names.{is_builder_name, is_label_text}
-use Rattle.wb_states.specs.Limits.{rebuild_limit, note_limit, relations_limit}
+use Rattle.wb_states.specs.Limits.{rebuild_limit, note_limit, relations_limit, is_build_priority}
 use Rattle.deb_text.specs.Text.{is_empty_text, IsTextWithin}
 
 -- a record fits its state: exactly a held one has a holder and a take number, and exactly Dep-Wait has waits
@@ -25,3 +25,4 @@ pub record IsWellFormed (current : Record) : Type 0 where
   pub depends : IfSome current.depends (IsTextWithin relations_limit)
   pub note : IsTextWithin note_limit current.note
   pub message : IsTextWithin note_limit current.message
+  pub build_priority : IsTrue (is_build_priority current.build_priority)

@@ -1,7 +1,7 @@
 -- The states of a source package on an architecture: wanna-build's names, and this project's own numbers.
 use Rattle.std.specs.Prelude.{ℕ, Bool, true, false, List, codes}
 use Rattle.wb_states.specs.declared.state.State.{State}
-use Rattle.wb_states.specs.declared.state.State.TheVariants.{NeedsBuild, Building, Built, Uploaded, Installed, DepWait, BdUninstallable, Failed, NotForUs}
+use Rattle.wb_states.specs.declared.state.State.TheVariants.{NeedsBuild, Building, Built, Uploaded, Installed, DepWait, BdUninstallable, Failed, NotForUs, BuildAttempted}
 
 -- the number of a state (this project's own)
 abbrev pub code_of : State → ℕ
@@ -14,6 +14,7 @@ code_of DepWait = 5
 code_of BdUninstallable = 6
 code_of Failed = 7
 code_of NotForUs = 8
+code_of BuildAttempted = 9
 
 -- the name of a state (wanna-build)
 abbrev pub name_of : State → List ℕ
@@ -26,6 +27,7 @@ name_of DepWait = codes "Dep-Wait"
 name_of BdUninstallable = codes "BD-Uninstallable"
 name_of Failed = codes "Failed"
 name_of NotForUs = codes "Not-For-Us"
+name_of BuildAttempted = codes "Build-Attempted"
 
 -- the state in which a source package waits in the queue for a builder
 abbrev pub is_needs_build : State → Bool

@@ -2,9 +2,9 @@
 use Rattle.std.specs.Prelude.{ℕ, ◌≤◌, ⊤, IsTrue, true, List, [], Some, None}
 use Rattle.deb_relations.specs.Grammar.{Reads}
 use Rattle.wb_states.specs.declared.record.Record.{Record}
-use Rattle.wb_states.specs.declared.state.State.TheVariants.{NeedsBuild, Building, Built, Uploaded, DepWait, Failed, NotForUs}
+use Rattle.wb_states.specs.declared.state.State.TheVariants.{NeedsBuild, Building, Built, Uploaded, DepWait, Failed, NotForUs, BuildAttempted}
 use Rattle.wb_states.specs.declared.moves.Move.{Move}
-use Rattle.wb_states.specs.declared.moves.Move.TheVariants.{Take, Built as ToBuilt, Uploaded as ToUploaded, Waits, PutBack, GiveBack, DepWait as ToDepWait, Fail, NotForUs as ToNotForUs, Rebuild}
+use Rattle.wb_states.specs.declared.moves.Move.TheVariants.{Take, Built as ToBuilt, Uploaded as ToUploaded, Waits, PutBack, Attempted, GiveBack, DepWait as ToDepWait, Fail, NotForUs as ToNotForUs, Rebuild}
 use Rattle.wb_states.specs.Limits.{note_limit, rebuild_limit}
 use Rattle.wb_states.specs.Moves.{waits_for}
 use Rattle.wb_states.specs.Names.{is_builder_name}
@@ -17,6 +17,7 @@ row_of ToBuilt old = record old { state = Built; note = [] }
 row_of ToUploaded old = record old { state = Uploaded; note = [] }
 row_of (Waits relations arch) old = record old { state = DepWait; holder = None; take = None; waits = waits_for relations arch; note = [] }
 row_of PutBack old = record old { state = NeedsBuild; holder = None; take = None; note = [] }
+row_of (Attempted reason) old = record old { state = BuildAttempted; holder = None; take = None; note = reason }
 row_of GiveBack old = record old { state = NeedsBuild; holder = None; take = None; waits = []; note = [] }
 row_of (ToDepWait relations arch) old = record old { state = DepWait; holder = None; take = None; waits = waits_for relations arch; note = [] }
 row_of (Fail note) old = record old { state = Failed; holder = None; take = None; waits = []; note = note }
@@ -28,6 +29,7 @@ abbrev pub HasForm : Move → Type 0
 HasForm (Take holder take_number) = IsTrue (is_builder_name holder)
 HasForm (Waits relations arch) = (text : List ℕ) × Reads text relations
 HasForm (ToDepWait relations arch) = (text : List ℕ) × Reads text relations
+HasForm (Attempted reason) = IsTextWithin note_limit reason
 HasForm (Fail note) = IsTextWithin note_limit note
 HasForm (ToNotForUs note) = IsTextWithin note_limit note
 HasForm (Rebuild number message) = (number ≤ rebuild_limit) × IsTextWithin note_limit message

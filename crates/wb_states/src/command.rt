@@ -81,6 +81,15 @@ pub struct Waits {
     pub relations: Text,
 }
 
+/// A holder reports that the build of a source package failed.
+#[derive(Debug, Drop)]
+pub struct Attempted {
+    /// The number under which it is held.
+    pub take_number: u64,
+    /// Why it failed, in at most 1000 bytes.
+    pub reason: Text,
+}
+
 /// Puts a source package back into the queue.
 #[derive(Debug, Drop)]
 pub struct GiveBack {
@@ -133,6 +142,19 @@ pub struct Rebuild {
     pub message: Text,
 }
 
+/// Gives a source package another build priority.
+#[derive(Debug, Drop)]
+pub struct BuildPriority {
+    /// The architecture.
+    pub arch: Text,
+    /// The source package.
+    pub source: Text,
+    /// The version that the record must have, in the order of versions.
+    pub version: Text,
+    /// The build priority, from -1000 to 1000: the greatest is built first.
+    pub value: i64,
+}
+
 /// A part of a merge: what the archive has for one architecture.
 #[derive(Debug, Drop)]
 pub struct Part {
@@ -172,6 +194,8 @@ pub enum Command {
     Waits(Waits),
     /// The holder puts it back into the queue.
     PutBack(Held),
+    /// The holder reports that its build failed.
+    Attempted(Attempted),
     /// Puts a source package back into the queue.
     GiveBack(GiveBack),
     /// Lets a source package wait for other packages.
@@ -182,6 +206,8 @@ pub enum Command {
     NotForUs(SetAside),
     /// Builds an installed source package once more.
     Rebuild(Rebuild),
+    /// Gives a source package another build priority.
+    BuildPriority(BuildPriority),
     /// Brings the records in line with what the archive lists.
     Merge(Merge),
 }
@@ -201,11 +227,13 @@ impl Command {
             Command::Uploaded(_) => "uploaded",
             Command::Waits(_) => "waits",
             Command::PutBack(_) => "put-back",
+            Command::Attempted(_) => "attempted",
             Command::GiveBack(_) => "give-back",
             Command::DepWait(_) => "dep-wait",
             Command::Fail(_) => "fail",
             Command::NotForUs(_) => "not-for-us",
             Command::Rebuild(_) => "rebuild",
+            Command::BuildPriority(_) => "build-priority",
             Command::Merge(_) => "merge",
         }
     }

@@ -1,5 +1,7 @@
 //! Laws of the definitions, each on a function that does nothing.
 ghost use Rattle.std.specs.Prelude.{◌≡◌, ◌≢◌, ◌↔◌, ◌≤◌, ℕ, List, IsTrue, Some, None, Ok};
+ghost use Rattle.std.specs.Ordering.{nat_cmp, ordering_then};
+ghost use Rattle.deb_text.specs.Text.{text_cmp};
 ghost use Rattle.std.specs.FinMap as map;
 ghost use Rattle.std.specs.List.Sorted.{IsStrictlySortedBy};
 ghost use Rattle.std.specs.Cmp.{IsTotalOrder};
@@ -11,7 +13,7 @@ ghost use Rattle.wb_states.specs.declared.state.State.{State};
 ghost use Rattle.wb_states.specs.Holds.{IsBuildingAfter, building_after, held_of, take_cmp, take_of, taken_as};
 ghost use Rattle.wb_states.specs.Machine.{AreRelations, HasDistinctTakes, IsConsistent, Machine, arch_words};
 ghost use Rattle.wb_states.specs.Moves.{may_go, move_outcome};
-ghost use Rattle.wb_states.specs.Queue.{Entry, IsWaitingAt, entry_cmp, head_of, queue_of, place_cmp, place_of};
+ghost use Rattle.wb_states.specs.Queue.{Entry, IsWaitingAt, entry_cmp, head_of, queue_of, place_cmp, place_of, rank_of};
 ghost use Rattle.deb_text.specs.Lists.{IsIn};
 ghost use Rattle.wb_states.specs.Record.{IsWellFormed};
 ghost use Rattle.wb_states.specs.Refusals.{code_of_refusal, name_of_refusal};
@@ -44,6 +46,16 @@ pub fn places_differ()
     ensures total { IsTotalOrder place_cmp }
     ensures names { (one other : Record) (name another : List ℕ)
         → place_cmp (place_of one name) (place_of other another) ≡ Equal → name ≡ another }
+{}
+
+/// The order of the queue is the order of ranks and, among equal ranks, that of the bytes of the names, so that
+/// a table which is ordered by both has the queue; a record in its form has a rank of at most 696347 (this
+/// project's own).
+pub fn ranks_order_the_queue()
+    ensures order { (one other : Record) (name another : List ℕ) → IsWellFormed one → IsWellFormed other
+        → place_cmp (place_of one name) (place_of other another)
+        ≡ ordering_then (nat_cmp (rank_of one) (rank_of other)) (text_cmp name another) }
+    ensures limit { (one : Record) → IsWellFormed one → rank_of one ≤ 696347 }
 {}
 
 /// What a record of a consistent office waits for can be read again: as relations that are reduced for its

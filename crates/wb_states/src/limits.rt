@@ -8,3 +8,6 @@ pub const NOTE_LIMIT: usize = 1000;
 
 /// The greatest number of a binary-only rebuild (this project's own).
 pub const REBUILD_LIMIT: u64 = 999;
+
+/// The greatest build priority; the least is as far below 0 (this project's own).
+pub const BUILD_PRIORITY_LIMIT: i16 = 1000;

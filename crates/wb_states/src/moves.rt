@@ -27,6 +27,10 @@ pub enum Move {
     },
     /// The holder puts it back into the queue.
     PutBack,
+    /// The holder reports that its build failed, for the reason given, of at most 1000 bytes.
+    Attempted {
+        reason: Text,
+    },
     /// An operator puts it back into the queue.
     GiveBack,
     /// It waits for these relations on the architecture.
@@ -57,12 +61,18 @@ impl Move {
     {
         match self {
             Move::Take { .. } => matches!(state, State::NeedsBuild),
-            Move::Built | Move::Waits { .. } | Move::PutBack => matches!(state, State::Building),
+            Move::Built | Move::Waits { .. } | Move::PutBack | Move::Attempted { .. } => {
+                matches!(state, State::Building)
+            }
             Move::Uploaded => matches!(state, State::Building | State::Built),
             Move::GiveBack => !matches!(state, State::NeedsBuild | State::Installed),
             Move::DepWait { .. } => matches!(
                 state,
-                State::NeedsBuild | State::Building | State::BdUninstallable | State::Failed
+                State::NeedsBuild
+                    | State::Building
+                    | State::BdUninstallable
+                    | State::Failed
+                    | State::BuildAttempted
             ),
             Move::Fail { .. } => matches!(
                 state,
@@ -71,6 +81,7 @@ impl Move {
                     | State::Built
                     | State::DepWait
                     | State::BdUninstallable
+                    | State::BuildAttempted
             ),
             Move::NotForUs { .. } => matches!(
                 state,
@@ -79,6 +90,7 @@ impl Move {
                     | State::DepWait
                     | State::BdUninstallable
                     | State::Failed
+                    | State::BuildAttempted
             ),
             Move::Rebuild { .. } => matches!(state, State::Installed),
         }
@@ -93,6 +105,7 @@ impl Move {
             Move::Uploaded => State::Uploaded,
             Move::Waits { .. } | Move::DepWait { .. } => State::DepWait,
             Move::PutBack | Move::GiveBack | Move::Rebuild { .. } => State::NeedsBuild,
+            Move::Attempted { .. } => State::BuildAttempted,
             Move::Fail { .. } => State::Failed,
             Move::NotForUs { .. } => State::NotForUs,
         }
@@ -148,6 +161,7 @@ impl Move {
             note ≡ note_after (note_of self.now) (goal_of self.now) current.now) }
     {
         match self {
+            Move::Attempted { reason } => reason.clone(),
             Move::Fail { note } | Move::NotForUs { note } => note.clone(),
             _ if self.goal() == current.state => current.note.clone(),
             _ => Ok(Text::new(alloc)),

@@ -5,17 +5,19 @@ ghost use Rattle.std.specs.Ordering.{as_partial_cmp, eq_by_cmp};
 ghost use Rattle.std.specs.Cmp.{eq_by_cmp_equiv, partial_equiv_from_equiv, po};
 ghost use Rattle.std.specs.Cmp.Rules.{comparing};
 ghost use Rattle.std.proofs.Common.{rules, refl};
-ghost use Rattle.wb_states.specs.Queue.{place_of, place_cmp, place_cmp_total, priorities, sections, without_area};
+ghost use Rattle.wb_states.specs.Queue.{place_of, place_cmp, place_cmp_total, priorities, rank_of, sections, without_area};
 
-use crate::Record;
+use crate::{BUILD_PRIORITY_LIMIT, Record};
 use std::cmp::Ordering;
 use std::marker::Model;
 
-/// Where a source package stands in the queue of its architecture: what was built earlier before what is
-/// new, then by priority, by section without its archive area, and by the bytes of the name (wanna-build's
-/// states page; the order of sections is this project's own). The least is built first.
+/// Where a source package stands in the queue of its architecture: by build priority, the greatest first, what
+/// was built earlier before what is new, then by priority, by section without its archive area, and by the bytes
+/// of the name (wanna-build's states page; build priorities and the order of sections are this project's own).
+/// The least is built first.
 #[derive(Debug, Drop)]
 pub struct QueueKey<'a> {
+    build_priority: i16,
     is_new: bool,
     priority: u8,
     section: u8,
@@ -28,6 +30,7 @@ impl<'a> Model for QueueKey<'a> {
     ghost Value = { Place };
 
     ghost view = { λ k. record {
+      build_priority = k.build_priority;
       is_new = k.is_new;
       priority = k.priority;
       section = k.section;
@@ -41,6 +44,7 @@ impl<'a> QueueKey<'a> {
         ensures { result ≡ place_of current.now name.now }
     {
         QueueKey {
+            build_priority: current.build_priority,
             is_new: !current.earlier,
             priority: priority_place(current.priority.as_str()),
             section: section_place(without_area(current.section.as_str())),
@@ -73,8 +77,10 @@ impl<'a> Ord for QueueKey<'a> {
     ghost matches_eq = { λ x y. refl };
 
     fn cmp(&self, other: &QueueKey<'a>) -> Ordering {
-        self.is_new
-            .cmp(&other.is_new)
+        other
+            .build_priority
+            .cmp(&self.build_priority)
+            .then(self.is_new.cmp(&other.is_new))
             .then(self.priority.cmp(&other.priority))
             .then(self.section.cmp(&other.section))
             .then(self.name.cmp(other.name))
@@ -89,6 +95,20 @@ impl<'a> PartialOrd for QueueKey<'a> {
     fn partial_cmp(&self, other: &QueueKey<'a>) -> Option<Ordering> {
         Some(self.cmp(other))
     }
+}
+
+/// The number by which a table orders the records that wait on an architecture, those of one number by the
+/// bytes of their names, so that they stand as by [`QueueKey`]: the least is built first. Of a record in its
+/// form it lies between 0 and 696347. Takes no memory (this project's own).
+pub fn rank(current: &Record) -> u32
+    ensures value { result ≡ rank_of current.now }
+{
+    let greatest = i32::from(BUILD_PRIORITY_LIMIT);
+    let below = (greatest - i32::from(current.build_priority)).unsigned_abs();
+    let is_new = u32::from(!current.earlier);
+    let priority = u32::from(priority_place(current.priority.as_str()));
+    let section = u32::from(section_place(without_area(current.section.as_str())));
+    below * 348 + (is_new * 6 + priority) * 29 + section
 }
 
 fn priority_place(priority: &str) -> u8

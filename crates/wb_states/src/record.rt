@@ -31,8 +31,11 @@ pub struct Record {
     pub waits: Text,
     /// What it needs to be built, reduced and printed, or none where that could not be read.
     pub depends: Option<Text>,
-    /// What an operator or a report said of its state, at most 1000 bytes.
+    /// What an operator, its holder or a report said of its state, at most 1000 bytes.
     pub note: Text,
     /// Why it is rebuilt, at most 1000 bytes.
     pub message: Text,
+    /// The build priority that an operator gave it, from -1000 to 1000 and 0 at first: of two packages that wait,
+    /// that of the greater one is built first.
+    pub build_priority: i16,
 }

@@ -24,10 +24,12 @@ pub enum State {
     Failed,
     /// It is not to be built on this architecture.
     NotForUs,
+    /// Its holder reported that its build failed, and nobody has looked yet.
+    BuildAttempted,
 }
 
 impl State {
-    /// The state's number, from 0 to 8 (this project's own).
+    /// The state's number, from 0 to 9 (this project's own).
     pub fn code(self) -> u8
         ensures value { result ≡ code_of self }
     {
@@ -41,13 +43,14 @@ impl State {
             State::BdUninstallable => 6,
             State::Failed => 7,
             State::NotForUs => 8,
+            State::BuildAttempted => 9,
         }
     }
 
     /// The state with this number, or none where no state has it.
     pub fn of_code(code: u8) -> Option<State>
         ensures value { IfSome result (λ state. code_of state ≡ code) }
-        ensures refused { IfNone result (8 < code) }
+        ensures refused { IfNone result (9 < code) }
     {
         match code {
             0 => Some(State::NeedsBuild),
@@ -59,6 +62,7 @@ impl State {
             6 => Some(State::BdUninstallable),
             7 => Some(State::Failed),
             8 => Some(State::NotForUs),
+            9 => Some(State::BuildAttempted),
             _ => None,
         }
     }
@@ -77,6 +81,7 @@ impl State {
             State::BdUninstallable => "BD-Uninstallable",
             State::Failed => "Failed",
             State::NotForUs => "Not-For-Us",
+            State::BuildAttempted => "Build-Attempted",
         }
     }
 
@@ -95,6 +100,7 @@ impl State {
             "BD-Uninstallable" => Some(State::BdUninstallable),
             "Failed" => Some(State::Failed),
             "Not-For-Us" => Some(State::NotForUs),
+            "Build-Attempted" => Some(State::BuildAttempted),
             _ => None,
         }
     }
