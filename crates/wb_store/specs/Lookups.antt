@@ -2,7 +2,7 @@
 use Rattle.std.specs.Prelude.{ℕ, Bool, List, filter, nat_eq, bytes_eq, ◌&&◌, length}
 use Rattle.std.specs.FinMap as finite
 use Rattle.wb_states.specs.declared.state.State.{State}
-use Rattle.wb_states.specs.declared.state.State.TheVariants.{NeedsBuild, Building, Built, Uploaded, Installed, DepWait, BdUninstallable, Failed, NotForUs}
+use Rattle.wb_states.specs.declared.state.State.TheVariants.{NeedsBuild, Building, Built, Uploaded, Installed, DepWait, BdUninstallable, Failed, NotForUs, BuildAttempted}
 use Rattle.wb_states.specs.State.{code_of}
 use Rattle.wb_states.specs.Machine.{Machine}
 use Rattle.wb_states.specs.Queue.{Entry}
@@ -41,4 +41,5 @@ counts_of machine arch = record {
   bd_uninstallable = number_in machine arch BdUninstallable;
   failed = number_in machine arch Failed;
   not_for_us = number_in machine arch NotForUs;
+  build_attempted = number_in machine arch BuildAttempted;
 }

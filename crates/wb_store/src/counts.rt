@@ -27,6 +27,8 @@ pub struct StateCounts {
     pub failed: u64,
     /// Those that are not to be built on the architecture.
     pub not_for_us: u64,
+    /// Those of which the holder reported a failed build and nobody has looked yet.
+    pub build_attempted: u64,
 }
 
 impl Store {
@@ -46,6 +48,7 @@ impl Store {
             bd_uninstallable: self.number_in(arch, State::BdUninstallable),
             failed: self.number_in(arch, State::Failed),
             not_for_us: self.number_in(arch, State::NotForUs),
+            build_attempted: self.number_in(arch, State::BuildAttempted),
         })
     }
 
