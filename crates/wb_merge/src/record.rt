@@ -111,6 +111,7 @@ pub fn blank_record(alloc: Global, version: Version) -> Record
         depends: None,
         note: Text::new(alloc),
         message: Text::new(alloc),
+        build_priority: 0,
     }
 }
 

@@ -1,5 +1,5 @@
 -- A take number whose hold ended is never held again.
-use Rattle.std.proofs.Common.{◌≡◌, ◌≢◌, ℕ, ◌+◌, ◌≤◌, Bool, true, false, List, [], ◌∷◌, filter, Option, Some, None, IfSome, inl, Err, is_none, is_ok, eq-eqb, nat_eq, refl, sym, ap, subst, ◌∙◌, arith}
+use Rattle.std.proofs.Common.{◌≡◌, ◌≢◌, ℕ, ℤ, ◌+◌, ◌≤◌, Bool, true, false, List, [], ◌∷◌, filter, Option, Some, None, IfSome, inl, Err, is_none, is_ok, eq-eqb, nat_eq, refl, sym, ap, subst, ◌∙◌, arith}
 use Rattle.std.proofs.lemmas.Bool.{eqb-true}
 use Rattle.std.specs.FinMap as map
 use Rattle.deb_relations.specs.declared.arch.ArchWords.{ArchWords}
@@ -25,7 +25,7 @@ use Rattle.wb_merge.specs.Merge.{record_after}
 use Rattle.wb_office.specs.Checks.{first_refusal, is_not_held, refused_move, take_named}
 use Rattle.wb_office.specs.Targets.{again_of, move_of_command, transition_of}
 use Rattle.wb_office.specs.Replay.{replay}
-use Rattle.wb_office.specs.Step.{after_move, state_after, entered, outcome, step}
+use Rattle.wb_office.specs.Step.{after_move, after_priority, state_after, entered, outcome, step}
 use Rattle.wb_office.proofs.HandOutLemmas.{step-handed}
 use Rattle.wb_office.proofs.HeldLemmas.{step-Built, taken_step-NotHeld}
 use Rattle.wb_office.proofs.MergedLemmas.{records_after-keeps}
@@ -53,6 +53,7 @@ record_after_move-free take_number to.Built current other old = old
 record_after_move-free take_number to.Uploaded current other old = old
 record_after_move-free take_number (to.Waits relations arch) current other old = tt
 record_after_move-free take_number to.PutBack current other old = tt
+record_after_move-free take_number (to.Attempted reason) current other old = tt
 record_after_move-free take_number to.GiveBack current other old = tt
 record_after_move-free take_number (to.DepWait relations arch) current other old = tt
 record_after_move-free take_number (to.Fail note) current other old = tt
@@ -73,6 +74,7 @@ asked-other take_number machine command words move below is = at command is wher
   at (of.AddArch fields) e = cc
   at (of.AddBuilder fields) e = cc
   at (of.Enter fields) e = cc
+  at (of.BuildPriority fields) e = cc
   at (of.Merge fields) e = cc
   at (of.Next fields) e = made (to.Take fields.builder (machine.handed + 1)) next e
   at (of.Take fields) e = made (to.Take fields.builder (machine.handed + 1)) next e
@@ -80,6 +82,7 @@ asked-other take_number machine command words move below is = at command is wher
   at (of.Uploaded fields) e = made _ tt e
   at (of.Waits fields) e = made _ tt e
   at (of.PutBack fields) e = made _ tt e
+  at (of.Attempted fields) e = made _ tt e
   at (of.GiveBack fields) e = made _ tt e
   at (of.DepWait fields) e = made _ tt e
   at (of.Fail fields) e = made _ tt e
@@ -105,6 +108,14 @@ transition_of-free take_number machine command below old allowed =
           (record_after_move-free take_number asked.1 asked.0.1 (asked-other take_number machine command _ asked.1 below may.asks) had) old
     ]) refl
 
+after_priority-free : (take_number : ℕ) (machine : Machine) (key : List ℕ × List ℕ) (value : ℤ) → IsFree take_number machine
+    → IsFree take_number (after_priority machine key value (map.get machine.records key))
+after_priority-free take_number machine key value old = at (map.get machine.records key) (old key) where
+  at : (found : Option Record) → IfSome found (IsNotTaken take_number) → IsFree take_number (after_priority machine key value found)
+  at None had = old
+  at (Some current) had =
+      insert_all pair_cmp_total pair_cmp-same (λ one. IsNotTaken take_number) machine.records key (record current { build_priority = value }) had old
+
 state_after-free : (take_number : ℕ) (machine : Machine) (command : Command) → take_number ≤ machine.handed → IsFree take_number machine → refused_move machine command ≡ None
     → IsFree take_number (state_after machine command)
 state_after-free take_number machine (of.AddArch fields) below old allowed = old
@@ -120,6 +131,7 @@ state_after-free take_number machine (of.Built fields) below old allowed = trans
 state_after-free take_number machine (of.Uploaded fields) below old allowed = transition_of-free take_number machine (of.Uploaded fields) below old allowed
 state_after-free take_number machine (of.Waits fields) below old allowed = transition_of-free take_number machine (of.Waits fields) below old allowed
 state_after-free take_number machine (of.PutBack fields) below old allowed = transition_of-free take_number machine (of.PutBack fields) below old allowed
+state_after-free take_number machine (of.Attempted fields) below old allowed = transition_of-free take_number machine (of.Attempted fields) below old allowed
 state_after-free take_number machine (of.GiveBack fields) below old allowed = transition_of-free take_number machine (of.GiveBack fields) below old allowed
 state_after-free take_number machine (of.DepWait fields) below old allowed =
     transition_of-free take_number machine (of.DepWait fields) below old allowed
@@ -128,6 +140,8 @@ state_after-free take_number machine (of.NotForUs fields) below old allowed =
     transition_of-free take_number machine (of.NotForUs fields) below old allowed
 state_after-free take_number machine (of.Rebuild fields) below old allowed =
     transition_of-free take_number machine (of.Rebuild fields) below old allowed
+state_after-free take_number machine (of.BuildPriority fields) below old allowed =
+    after_priority-free take_number machine (fields.arch, fields.source) fields.value old
 
 step-free : (take_number : ℕ) (machine : Machine) (command : Command) → take_number ≤ machine.handed → IsFree take_number machine → IsFree take_number (step machine command).1
 step-free take_number machine command below old =

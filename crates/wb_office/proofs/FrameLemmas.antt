@@ -1,5 +1,5 @@
 -- A command changes no record but those that it may change.
-use Rattle.std.proofs.Common.{◌≡◌, ℕ, ◌||◌, Bool, true, false, cond, List, [], ◌∷◌, Some, None, Result, Ok, Err, refl, ap, ◌∙◌, bytes_eq}
+use Rattle.std.proofs.Common.{◌≡◌, ℕ, ℤ, ◌||◌, Bool, true, false, cond, List, [], ◌∷◌, Option, Some, None, Result, Ok, Err, refl, ap, ◌∙◌, bytes_eq}
 use Rattle.std.specs.FinMap as map
 use Rattle.std.specs.List.{list_any}
 use Rattle.std.specs.Ordering.{eq_by_cmp}
@@ -20,7 +20,7 @@ use Rattle.wb_merge.proofs.MergeLemmas.{merged-get}
 use Rattle.wb_office.specs.Checks.{refused_move}
 use Rattle.wb_office.specs.Targets.{MayChange, transition_of, target_of}
 use Rattle.wb_office.specs.Parts.{part_listing, records_after, records_with}
-use Rattle.wb_office.specs.Step.{after_move, state_after, entered, step}
+use Rattle.wb_office.specs.Step.{after_move, after_priority, state_after, entered, step}
 use Rattle.wb_office.proofs.TransitionLemmas.{transition_of-may}
 use Rattle.wb_office.proofs.PassLemmas.{step-either}
 
@@ -68,6 +68,12 @@ transition_of-others machine command key allowed apart =
           insert-other machine.records asked.0.0 key (record_after_move asked.1 asked.0.1) (λ same. apart (asked.0, (may.target, same)))
     ]) refl
 
+after_priority-others : (machine : Machine) (key other : List ℕ × List ℕ) (value : ℤ) (found : Option Record) → (other ≡ key → ⊥)
+    → map.get (after_priority machine key value found).records other ≡ map.get machine.records other
+after_priority-others machine key other value None apart = refl
+after_priority-others machine key other value (Some current) apart =
+    insert-other machine.records key other (record current { build_priority = value }) apart
+
 state_after-others : (machine : Machine) (command : Command) (key : List ℕ × List ℕ) → refused_move machine command ≡ None → (MayChange machine command key → ⊥)
     → map.get (state_after machine command).records key ≡ map.get machine.records key
 state_after-others machine (of.AddArch fields) key allowed apart = refl
@@ -81,12 +87,15 @@ state_after-others machine (of.Built fields) key allowed apart = transition_of-o
 state_after-others machine (of.Uploaded fields) key allowed apart = transition_of-others machine (of.Uploaded fields) key allowed apart
 state_after-others machine (of.Waits fields) key allowed apart = transition_of-others machine (of.Waits fields) key allowed apart
 state_after-others machine (of.PutBack fields) key allowed apart = transition_of-others machine (of.PutBack fields) key allowed apart
+state_after-others machine (of.Attempted fields) key allowed apart = transition_of-others machine (of.Attempted fields) key allowed apart
 state_after-others machine (of.GiveBack fields) key allowed apart = transition_of-others machine (of.GiveBack fields) key allowed apart
 state_after-others machine (of.DepWait fields) key allowed apart = transition_of-others machine (of.DepWait fields) key allowed apart
 state_after-others machine (of.Fail fields) key allowed apart = transition_of-others machine (of.Fail fields) key allowed apart
 state_after-others machine (of.NotForUs fields) key allowed apart = transition_of-others machine (of.NotForUs fields) key allowed apart
 state_after-others machine (of.Rebuild fields) key allowed apart =
     transition_of-others machine (of.Rebuild fields) key allowed apart
+state_after-others machine (of.BuildPriority fields) key allowed apart =
+    after_priority-others machine (fields.arch, fields.source) key fields.value (map.get machine.records (fields.arch, fields.source)) apart
 
 pub step-others : (machine : Machine) (command : Command) (key : List ℕ × List ℕ) → (MayChange machine command key → ⊥)
     → map.get (step machine command).1.records key ≡ map.get machine.records key

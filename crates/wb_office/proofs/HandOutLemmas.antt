@@ -1,5 +1,5 @@
 -- Take numbers rise, and a source package is handed out again only where the hold was ended.
-use Rattle.std.proofs.Common.{◌≡◌, ℕ, ◌+◌, ◌≤◌, true, false, cond, List, [], ◌∷◌, ◌++◌, inl, inr, Option, Some, None, Ok, IfSome, is_ok, is_some, eq-eqb, nat_eq, option_and_then, refl, sym, ap, subst, ◌∙◌, arith}
+use Rattle.std.proofs.Common.{◌≡◌, ℕ, ℤ, ◌+◌, ◌≤◌, true, false, cond, List, [], ◌∷◌, ◌++◌, inl, inr, Option, Some, None, Ok, IfSome, is_ok, is_some, eq-eqb, nat_eq, option_and_then, refl, sym, ap, subst, ◌∙◌, arith}
 use Rattle.std.specs.List.{cons_option}
 use Rattle.std.specs.Ordering.{is_eq}
 use Rattle.std.proofs.lemmas.Cmp.{tied_itself}
@@ -22,7 +22,7 @@ use Rattle.wb_office.specs.Checks.{first_refusal}
 use Rattle.wb_office.specs.HandOuts.{HandOut, IsBeingBuilt, HasTakeByState, HasTakesByState, Ends, Rise, given_by, hand_out, hand_outs, holds, is_held_as}
 use Rattle.wb_office.specs.Targets.{target_of, transition_of, with_move, again_of}
 use Rattle.wb_office.specs.Replay.{replay}
-use Rattle.wb_office.specs.Step.{outcome, step, state_after, counted, after_move, after_take, reply_to, assignment_reply}
+use Rattle.wb_office.specs.Step.{outcome, step, state_after, counted, after_move, after_priority, after_take, reply_to, assignment_reply}
 use Rattle.wb_office.proofs.TransitionLemmas.{MayMove, transition_of-may}
 use Rattle.wb_office.proofs.PassLemmas.{Passes, passes, step-either}
 use Rattle.wb_office.proofs.TakeStateLemmas.{allowed-from, replay-takes, step-takes}
@@ -110,6 +110,10 @@ move-handed : (machine : Machine) (asked : Option (Entry × Move)) → machine.h
 move-handed machine None = omega arith
 move-handed machine (Some asked) = omega arith
 
+priority-handed : (machine : Machine) (key : List ℕ × List ℕ) (value : ℤ) (found : Option Record) → machine.handed ≤ (after_priority machine key value found).handed
+priority-handed machine key value None = omega arith
+priority-handed machine key value (Some current) = omega arith
+
 -- no command takes a take number back
 state_after-handed : (machine : Machine) (command : Command) → machine.handed ≤ (state_after machine command).handed
 state_after-handed machine (of.AddArch fields) = omega arith
@@ -122,11 +126,14 @@ state_after-handed machine (of.Built fields) = move-handed machine (transition_o
 state_after-handed machine (of.Uploaded fields) = move-handed machine (transition_of machine (of.Uploaded fields))
 state_after-handed machine (of.Waits fields) = move-handed machine (transition_of machine (of.Waits fields))
 state_after-handed machine (of.PutBack fields) = move-handed machine (transition_of machine (of.PutBack fields))
+state_after-handed machine (of.Attempted fields) = move-handed machine (transition_of machine (of.Attempted fields))
 state_after-handed machine (of.GiveBack fields) = move-handed machine (transition_of machine (of.GiveBack fields))
 state_after-handed machine (of.DepWait fields) = move-handed machine (transition_of machine (of.DepWait fields))
 state_after-handed machine (of.Fail fields) = move-handed machine (transition_of machine (of.Fail fields))
 state_after-handed machine (of.NotForUs fields) = move-handed machine (transition_of machine (of.NotForUs fields))
 state_after-handed machine (of.Rebuild fields) = move-handed machine (transition_of machine (of.Rebuild fields))
+state_after-handed machine (of.BuildPriority fields) =
+    priority-handed machine (fields.arch, fields.source) fields.value (map.get machine.records (fields.arch, fields.source))
 
 pub step-handed : (machine : Machine) (command : Command) → machine.handed ≤ (step machine command).1.handed
 step-handed machine command = step-either (λ after. machine.handed ≤ after.handed) machine command (omega arith) (λ _ _. state_after-handed machine command)

@@ -1,18 +1,18 @@
 -- What the commands answer that move a record by its take number.
 use Rattle.std.specs.Option.{option_or}
-use Rattle.std.proofs.Common.{◌≡◌, ℕ, ◌+◌, List, [], ◌∷◌, Option, Some, None, Ok, Err, refl, sym, ap, ◌∙◌, nat_le, is_none, option_and_then, option_map}
+use Rattle.std.proofs.Common.{◌≡◌, ℕ, ◌+◌, nat_lt, length, true, false, List, [], ◌∷◌, Option, Some, None, Ok, Err, refl, sym, ap, ◌∙◌, nat_le, is_none, option_and_then, option_map}
 use Rattle.std.specs.Result.{result_err, result_unwrap_or}
 use Rattle.deb_relations.specs.declared.arch.ArchWords.{ArchWords}
 use Rattle.deb_relations.specs.declared.relations.Alternative.{Alternative}
 use Rattle.deb_relations.specs.Reading.{reading_of}
-use Rattle.wb_states.specs.Forms.{Built, Uploaded, Waits, PutBack}
+use Rattle.wb_states.specs.Forms.{Attempted, Built, Uploaded, Waits, PutBack}
 use Rattle.wb_states.specs.declared.moves.Move.{Move}
 use Rattle.wb_states.specs.declared.moves.Move.TheVariants as to
 use Rattle.wb_states.specs.declared.refusal.Refusal.{Refusal}
-use Rattle.wb_states.specs.declared.refusal.Refusal.TheVariants.{BadRelations, NotHeld, Spent}
+use Rattle.wb_states.specs.declared.refusal.Refusal.TheVariants.{BadRelations, NotHeld, Spent, TextTooLong}
 use Rattle.wb_states.specs.declared.reply.Reply.TheVariants.{Done}
 use Rattle.wb_states.specs.Holds.{taken_as}
-use Rattle.wb_states.specs.Limits.{count_limit}
+use Rattle.wb_states.specs.Limits.{count_limit, note_limit}
 use Rattle.wb_states.specs.Machine.{Machine, arch_words}
 use Rattle.wb_states.specs.Moves.{move_refusal}
 use Rattle.wb_states.specs.Queue.{Entry}
@@ -49,6 +49,24 @@ pub step-PutBack : (machine : Machine) (take_number : ℕ) → step machine (Put
 unfolding text_refusal state_refusal transition_of taken_step
 step-PutBack machine take_number =
     step-state machine (PutBack take_number) refl refl ∙ taken-answer machine (λ _. to.PutBack) (taken_as machine take_number)
+
+attempted-text : (take_number : ℕ) (reason : List ℕ) → nat_lt note_limit (length reason) ≡ false → text_refusal (Attempted take_number reason) ≡ None
+unfolding text_refusal
+attempted-text take_number reason short = ap (λ long. option_or (when long TextTooLong) None) short
+
+pub attempted-long : (machine : Machine) (take_number : ℕ) (reason : List ℕ) → nat_lt note_limit (length reason) ≡ true
+    → step machine (Attempted take_number reason) ≡ (Err TextTooLong, machine)
+unfolding text_refusal
+attempted-long machine take_number reason long =
+    step-text machine (Attempted take_number reason) TextTooLong (ap (λ is_long. option_or (when is_long TextTooLong) None) long)
+
+pub attempted-is : (machine : Machine) (take_number : ℕ) (reason own : List ℕ) → nat_lt note_limit (length reason) ≡ false → own ≡ reason
+    → step machine (Attempted take_number reason) ≡ taken_step machine take_number (λ _. to.Attempted own)
+unfolding state_refusal transition_of taken_step
+attempted-is machine take_number reason own short same =
+    step-state machine (Attempted take_number reason) (attempted-text take_number reason short) refl
+    ∙ taken-answer machine (λ _. to.Attempted reason) (taken_as machine take_number)
+    ∙ (λ i. taken_at machine (λ _. to.Attempted (sym same i)) (taken_as machine take_number))
 
 waits_move : Machine → List ℕ → Entry → Move
 waits_move machine relations entry = to.Waits (result_unwrap_or (reading_of relations) []) (arch_words machine entry.0.0)

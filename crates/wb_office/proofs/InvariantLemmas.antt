@@ -1,5 +1,5 @@
 -- Every step keeps the invariant of the office.
-use Rattle.std.proofs.Common.{◌≡◌, ℕ, ◌+◌, ◌<◌, ◌≤◌, false, ◌&&◌, ◌||◌, inl, inr, is_none, Option, Some, None, Result, Ok, Err, OnOk, IsTrue, IfSome, refl, sym, ap, subst, ◌∙◌, List, [], ◌∷◌, nat_le, arith}
+use Rattle.std.proofs.Common.{◌≡◌, ℕ, ℤ, ◌+◌, ◌<◌, ◌≤◌, Bool, true, false, not, ◌&&◌, ◌||◌, inl, inr, is_none, Option, Some, None, Result, Ok, Err, OnOk, IsTrue, IfSome, refl, sym, ap, subst, ◌∙◌, List, [], ◌∷◌, nat_le, arith}
 use Rattle.std.proofs.lemmas.Bool.{and_parts, leb-false, not-false, or_parts, or_right}
 use Rattle.std.specs.FinMap as map
 use Rattle.deb_version.specs.Syntax.{fault_of}
@@ -10,7 +10,7 @@ use Rattle.wb_states.specs.declared.moves.Move.{Move}
 use Rattle.wb_states.specs.declared.record.Record.{Record}
 use Rattle.wb_states.specs.declared.refusal.Refusal.{Refusal}
 use Rattle.wb_states.specs.declared.reply.Reply.{Reply}
-use Rattle.wb_states.specs.Limits.{count_limit, note_limit, relations_limit}
+use Rattle.wb_states.specs.Limits.{count_limit, is_build_priority, note_limit, relations_limit}
 use Rattle.wb_states.specs.Machine.{Machine, arch_words, IsRecord, IsConsistent}
 use Rattle.wb_states.specs.Moves.{record_after_move, move_refusal}
 use Rattle.deb_relations.specs.Names.{is_package_name}
@@ -21,7 +21,7 @@ use Rattle.deb_text.specs.Text.{is_empty_text}
 use Rattle.wb_office.specs.Carries.{Carries}
 use Rattle.wb_office.specs.Targets.{again_of, transition_of}
 use Rattle.wb_office.specs.Replay.{replay}
-use Rattle.wb_office.specs.Step.{step, state_after, counted, entered, after_move, after_take}
+use Rattle.wb_office.specs.Step.{step, state_after, counted, entered, after_move, after_priority, after_take}
 use Rattle.wb_office.specs.Utf8.{HasUtf8Texts, HaveUtf8Texts}
 use Rattle.wb_office.proofs.MoveOfCommandLemmas.{HasHanded, asked-good}
 use Rattle.wb_office.proofs.ConsistencyLemmas.{IsFreshOrKept, with_arch, with_builder, with_record, with_counts}
@@ -50,6 +50,7 @@ entered-well version priority section reads first second = record {
   depends = empty_within relations_limit;
   note = empty_within note_limit;
   message = empty_within note_limit;
+  build_priority = refl;
 }
 
 -- ---- a record that is moved
@@ -106,6 +107,53 @@ transition_of-keeps machine command old utf8 given pass room =
           put-keeps machine machine.handed asked.0 asked.1 old may.stands may.allowed good (omega arith) within room
     ]) refl
 
+-- ---- a record that gets a build priority
+
+-- a value that is not refused is a build priority
+good-priority : (value : ℤ) → (not (is_build_priority value) || false) ≡ false → IsTrue (is_build_priority value)
+good-priority value is = at (is_build_priority value) is where
+  at : (good : Bool) → (not good || false) ≡ false → good ≡ true
+  at true e = refl
+  at false e = cc
+
+prioritized-well : (current : Record) (value : ℤ) → IsWellFormed current → IsTrue (is_build_priority value) → IsWellFormed (record current { build_priority = value })
+prioritized-well current value well good = record {
+  version = well.version;
+  priority = well.priority;
+  section = well.section;
+  number = well.number;
+  state = record { held = well.state.held; taken = well.state.taken; waiting = well.state.waiting };
+  builder = well.builder;
+  waits = well.waits;
+  depends = well.depends;
+  note = well.note;
+  message = well.message;
+  build_priority = good;
+}
+
+priority-keeps : (machine : Machine) (key : List ℕ × List ℕ) (value : ℤ) → IsConsistent machine → IsTrue (is_build_priority value) → machine.accepted < count_limit
+    → IsConsistent (counted machine (after_priority machine key value (map.get machine.records key)))
+unfolding arch_words
+priority-keeps machine key value old good room = at (map.get machine.records key) refl where
+  at : (found : Option Record) → map.get machine.records key ≡ found → IsConsistent (counted machine (after_priority machine key value found))
+  at None there = let within = old.handed in with_counts machine machine.handed old (omega arith) within room
+  at (Some current) there =
+      let had : IfSome (Some current) (IsRecord machine key.0 key.1) = subst (λ r. IfSome r (IsRecord machine key.0 key.1)) there (old.records key.0 key.1) in
+      let is : IsRecord (record machine { handed = machine.handed }) key.0 key.1 (record current { build_priority = value }) = record {
+        name = had.name;
+        known = had.known;
+        fields = prioritized-well current value had.fields good;
+        holder = had.holder;
+        waits = had.waits;
+        given = had.given;
+      } in
+      let within = old.handed in
+      with_record machine key (record current { build_priority = value }) machine.handed old is (kept current.take refl) (omega arith) within room
+    where
+      kept : (taken : Option ℕ) → current.take ≡ taken → IfSome taken (IsFreshOrKept machine key)
+      kept None is = tt
+      kept (Some n) is = inr (current, (there, is))
+
 -- ---- all commands
 
 room-for : (machine : Machine) → nat_le count_limit machine.accepted ≡ false → machine.accepted < count_limit
@@ -147,6 +195,8 @@ state_after-keeps machine (of.Uploaded fields) old utf8 pass again = transition_
 state_after-keeps machine (of.Waits fields) old utf8 pass again =
     transition_of-keeps machine (of.Waits fields) old utf8 tt pass (room-for machine pass.room)
 state_after-keeps machine (of.PutBack fields) old utf8 pass again = transition_of-keeps machine (of.PutBack fields) old utf8 tt pass (room-for machine pass.room)
+state_after-keeps machine (of.Attempted fields) old utf8 pass again =
+    transition_of-keeps machine (of.Attempted fields) old utf8 tt pass (room-for machine pass.room)
 state_after-keeps machine (of.GiveBack fields) old utf8 pass again =
     transition_of-keeps machine (of.GiveBack fields) old utf8 tt pass (room-for machine pass.room)
 state_after-keeps machine (of.DepWait fields) old utf8 pass again =
@@ -157,6 +207,8 @@ state_after-keeps machine (of.NotForUs fields) old utf8 pass again =
     transition_of-keeps machine (of.NotForUs fields) old utf8 tt pass (room-for machine pass.room)
 state_after-keeps machine (of.Rebuild fields) old utf8 pass again =
     transition_of-keeps machine (of.Rebuild fields) old utf8 tt pass (room-for machine pass.room)
+state_after-keeps machine (of.BuildPriority fields) old utf8 pass again =
+    priority-keeps machine (fields.arch, fields.source) fields.value old (good-priority fields.value pass.number) (room-for machine pass.room)
 
 pub step-keeps : (machine : Machine) (command : Command) → HasUtf8Texts command → IsConsistent machine → IsConsistent (step machine command).1
 step-keeps machine command utf8 old = step-either IsConsistent machine command old (state_after-keeps machine command old utf8)

@@ -27,3 +27,4 @@ pub mod TakeLemmas
 pub mod TakeStateLemmas
 pub mod TextLemmas
 pub mod WantLemmas
+pub mod PriorityLemmas

@@ -69,6 +69,7 @@ pub asked-good : (machine : Machine) (handed : ℕ) (command : Command) (entry :
 asked-good machine handed (of.AddArch fields) entry move utf8 given pass target is = none move is
 asked-good machine handed (of.AddBuilder fields) entry move utf8 given pass target is = none move is
 asked-good machine handed (of.Enter fields) entry move utf8 given pass target is = none move is
+asked-good machine handed (of.BuildPriority fields) entry move utf8 given pass target is = none move is
 asked-good machine handed (of.Merge fields) entry move utf8 given pass target is = none move is
 asked-good machine handed (of.Next fields) entry move utf8 given pass target is =
     let names = and_parts (is_arch_name fields.arch) (is_builder_name fields.builder) (not-false _ pass.names) in
@@ -84,6 +85,8 @@ asked-good machine handed (of.Take fields) entry move utf8 given pass target is 
 asked-good machine handed (of.Built fields) entry move utf8 given pass target is = same-move machine handed entry.0.0 to.Built move is tt
 asked-good machine handed (of.Uploaded fields) entry move utf8 given pass target is = same-move machine handed entry.0.0 to.Uploaded move is tt
 asked-good machine handed (of.PutBack fields) entry move utf8 given pass target is = same-move machine handed entry.0.0 to.PutBack move is tt
+asked-good machine handed (of.Attempted fields) entry move utf8 given pass target is =
+    same-move machine handed entry.0.0 (to.Attempted fields.reason) move is (short-text note_limit fields.reason utf8 pass.short)
 asked-good machine handed (of.GiveBack fields) entry move utf8 given pass target is = same-move machine handed entry.0.0 to.GiveBack move is tt
 asked-good machine handed (of.Waits fields) entry move utf8 given pass target is =
     same-move machine handed entry.0.0 (to.Waits (result_unwrap_or (reading_of fields.relations) []) (arch_words machine entry.0.0)) move is

@@ -24,6 +24,7 @@ IsGoodMove machine handed arch (to.Take holder take_number) =
     × (IsTrue (set.contains machine.builders (holder, arch)) × ((take_number ≡ machine.handed + 1) × (handed ≡ machine.handed + 1)))
 IsGoodMove machine handed arch (to.Waits relations words) = (words ≡ arch_words machine arch) × ((text : List ℕ) × Reads text relations)
 IsGoodMove machine handed arch (to.DepWait relations words) = (words ≡ arch_words machine arch) × ((text : List ℕ) × Reads text relations)
+IsGoodMove machine handed arch (to.Attempted reason) = IsTextWithin note_limit reason
 IsGoodMove machine handed arch (to.Fail note) = IsTextWithin note_limit note
 IsGoodMove machine handed arch (to.NotForUs note) = IsTextWithin note_limit note
 IsGoodMove machine handed arch (to.Rebuild number message) = (number ≤ rebuild_limit) × IsTextWithin note_limit message
@@ -38,6 +39,7 @@ good-form machine handed arch (to.Waits relations words) good = good.1
 good-form machine handed arch (to.DepWait relations words) good = good.1
 good-form machine handed arch to.PutBack good = tt
 good-form machine handed arch to.GiveBack good = tt
+good-form machine handed arch (to.Attempted reason) good = good
 good-form machine handed arch (to.Fail note) good = good
 good-form machine handed arch (to.NotForUs note) good = good
 good-form machine handed arch (to.Rebuild number message) good = good
@@ -60,6 +62,7 @@ module _ (machine : Machine) (handed : ℕ) (arch : List ℕ) (current : Record)
   record_after_move-holder (to.Waits relations words) good old = tt
   record_after_move-holder (to.DepWait relations words) good old = tt
   record_after_move-holder to.PutBack good old = tt
+  record_after_move-holder (to.Attempted reason) good old = tt
   record_after_move-holder to.GiveBack good old = tt
   record_after_move-holder (to.Fail note) good old = tt
   record_after_move-holder (to.NotForUs note) good old = tt
@@ -80,6 +83,7 @@ module _ (machine : Machine) (handed : ℕ) (arch : List ℕ) (current : Record)
   record_after_move-number P (to.Waits relations words) good new old = tt
   record_after_move-number P (to.DepWait relations words) good new old = tt
   record_after_move-number P to.PutBack good new old = tt
+  record_after_move-number P (to.Attempted reason) good new old = tt
   record_after_move-number P to.GiveBack good new old = tt
   record_after_move-number P (to.Fail note) good new old = tt
   record_after_move-number P (to.NotForUs note) good new old = tt

@@ -100,30 +100,48 @@ step-DepWait machine arch source version relations text =
     step-state machine (DepWait arch source version relations) text refl
     ∙ depwait-answer machine arch source version relations (map.get machine.records (arch, source))
 
-pub named_step-UnknownArch : (machine : Machine) (arch source version : List ℕ) (move : Move) → not (map.contains_key machine.archs arch) ≡ true
-    → named_step machine arch source version move ≡ (Err UnknownArch, machine)
-unfolding named_step
-named_step-UnknownArch machine arch source version move unknown =
-    λ i. outcome_unless (when (unknown i) UnknownArch) machine (named_at machine version (λ current. move_step machine ((arch, source), current) move) (map.get machine.records (arch, source)))
-
 pub named_at-refused : (machine : Machine) (version : List ℕ) (done : Record → Outcome) (found : Option Record) (refusal : Refusal)
     → first_some (when (not (is_some found)) UnknownSource ∷ option_and_then (differing version) found ∷ []) ≡ Some refusal
     → named_at machine version done found ≡ (Err refusal, machine)
 named_at-refused machine version done None refusal is = ap (λ first. outcome_unless first machine (Err UnknownSource, machine)) is
 named_at-refused machine version done (Some current) refusal is = outcome_unless-last (differing version current) machine (done current) refusal is
 
+-- ---- a record that is sought by its name, and what is done with it
+
+module _ (machine : Machine) (arch source version : List ℕ) (done : Record → Outcome) where
+  abbrev sought : Bool → Option Record → Outcome
+  sought is_unknown found = outcome_unless (when is_unknown UnknownArch) machine (named_at machine version done found)
+
+  pub sought-UnknownArch : not (map.contains_key machine.archs arch) ≡ true
+      → sought (not (map.contains_key machine.archs arch)) (map.get machine.records (arch, source)) ≡ (Err UnknownArch, machine)
+  sought-UnknownArch unknown = λ i. sought (unknown i) (map.get machine.records (arch, source))
+
+  pub sought-found : (refusal : Refusal) → not (map.contains_key machine.archs arch) ≡ false → found_refusal machine arch source version ≡ Some refusal
+      → sought (not (map.contains_key machine.archs arch)) (map.get machine.records (arch, source)) ≡ (Err refusal, machine)
+  sought-found refusal known is =
+      (λ i. sought (known i) (map.get machine.records (arch, source))) ∙ named_at-refused machine version done (map.get machine.records (arch, source)) refusal is
+
+  pub sought-is : (current : Record) → not (map.contains_key machine.archs arch) ≡ false
+      → map.get machine.records (arch, source) ≡ Some current → differing version current ≡ None
+      → sought (not (map.contains_key machine.archs arch)) (map.get machine.records (arch, source)) ≡ done current
+  sought-is current known found same = (λ i. sought (known i) (found i)) ∙ (λ i. outcome_unless (same i) machine (done current))
+
+pub named_step-UnknownArch : (machine : Machine) (arch source version : List ℕ) (move : Move) → not (map.contains_key machine.archs arch) ≡ true
+    → named_step machine arch source version move ≡ (Err UnknownArch, machine)
+unfolding named_step
+named_step-UnknownArch machine arch source version move =
+    sought-UnknownArch machine arch source version (λ current. move_step machine ((arch, source), current) move)
+
 pub named_step-found : (machine : Machine) (arch source version : List ℕ) (move : Move) (refusal : Refusal) → not (map.contains_key machine.archs arch) ≡ false
     → found_refusal machine arch source version ≡ Some refusal
     → named_step machine arch source version move ≡ (Err refusal, machine)
 unfolding named_step
-named_step-found machine arch source version move refusal known is =
-    (λ i. outcome_unless (when (known i) UnknownArch) machine (named_at machine version (λ current. move_step machine ((arch, source), current) move) (map.get machine.records (arch, source))))
-    ∙ named_at-refused machine version (λ current. move_step machine ((arch, source), current) move) (map.get machine.records (arch, source)) refusal is
+named_step-found machine arch source version move =
+    sought-found machine arch source version (λ current. move_step machine ((arch, source), current) move)
 
 pub named_step-moves : (machine : Machine) (arch source version : List ℕ) (move : Move) (current : Record) → not (map.contains_key machine.archs arch) ≡ false
     → map.get machine.records (arch, source) ≡ Some current → differing version current ≡ None
     → named_step machine arch source version move ≡ move_step machine ((arch, source), current) move
 unfolding named_step
-named_step-moves machine arch source version move current known found same =
-    (λ i. outcome_unless (when (known i) UnknownArch) machine (named_at machine version (λ current. move_step machine ((arch, source), current) move) (found i)))
-    ∙ (λ i. outcome_unless (same i) machine (move_step machine ((arch, source), current) move))
+named_step-moves machine arch source version move =
+    sought-is machine arch source version (λ current. move_step machine ((arch, source), current) move)

@@ -1,5 +1,5 @@
 -- Every step keeps that exactly the held records have a take number.
-use Rattle.std.proofs.Common.{◌≡◌, true, false, cond, List, [], ◌∷◌, Option, Some, None, IfSome, is_some, refl, sym, subst, ◌∙◌}
+use Rattle.std.proofs.Common.{◌≡◌, ℕ, ℤ, true, false, cond, List, [], ◌∷◌, Option, Some, None, IfSome, is_some, refl, sym, subst, ◌∙◌}
 use Rattle.std.specs.declared.cmp.Ordering.{Ordering}
 use Rattle.std.specs.declared.cmp.Ordering.TheVariants.{Less, Equal, Greater}
 use Rattle.std.specs.Ordering.{match_ordering}
@@ -27,7 +27,7 @@ use Rattle.wb_office.specs.Checks.{refused_move}
 use Rattle.wb_office.specs.HandOuts.{HasTakeByState, HasTakesByState}
 use Rattle.wb_office.specs.Targets.{transition_of}
 use Rattle.wb_office.specs.Replay.{replay}
-use Rattle.wb_office.specs.Step.{step, state_after, entered, after_move}
+use Rattle.wb_office.specs.Step.{step, state_after, entered, after_move, after_priority}
 use Rattle.wb_merge.proofs.ChosenLemmas.{new-chosen, newer-chosen, same-chosen}
 use Rattle.wb_office.proofs.MergedLemmas.{records_after-keeps}
 use Rattle.wb_office.proofs.TransitionLemmas.{transition_of-may}
@@ -52,6 +52,7 @@ record_after_move-take to.Built current from old = old ∙ held-before-built cur
 record_after_move-take to.Uploaded current from old = old ∙ held-before-uploaded current.state from
 record_after_move-take (to.Waits relations arch) current from old = refl
 record_after_move-take to.PutBack current from old = refl
+record_after_move-take (to.Attempted reason) current from old = refl
 record_after_move-take to.GiveBack current from old = refl
 record_after_move-take (to.DepWait relations arch) current from old = refl
 record_after_move-take (to.Fail note) current from old = refl
@@ -125,6 +126,15 @@ transition_of-takes machine command old allowed =
           (record_after_move-take asked.1 asked.0.1 (allowed-from asked.1 asked.0.1 may.allowed) had) old
     ]) refl
 
+-- a build priority changes no take number and no state
+after_priority-takes : (machine : Machine) (key : List ℕ × List ℕ) (value : ℤ) → HasTakesByState machine
+    → HasTakesByState (after_priority machine key value (map.get machine.records key))
+after_priority-takes machine key value old = at (map.get machine.records key) (old key) where
+  at : (found : Option Record) → IfSome found HasTakeByState → HasTakesByState (after_priority machine key value found)
+  at None had = old
+  at (Some current) had =
+      insert_all pair_cmp_total pair_cmp-same (λ one. HasTakeByState) machine.records key (record current { build_priority = value }) had old
+
 state_after-takes : (machine : Machine) (command : Command) → HasTakesByState machine → refused_move machine command ≡ None → HasTakesByState (state_after machine command)
 state_after-takes machine (of.AddArch fields) old allowed = old
 state_after-takes machine (of.AddBuilder fields) old allowed = old
@@ -139,12 +149,15 @@ state_after-takes machine (of.Built fields) old allowed = transition_of-takes ma
 state_after-takes machine (of.Uploaded fields) old allowed = transition_of-takes machine (of.Uploaded fields) old allowed
 state_after-takes machine (of.Waits fields) old allowed = transition_of-takes machine (of.Waits fields) old allowed
 state_after-takes machine (of.PutBack fields) old allowed = transition_of-takes machine (of.PutBack fields) old allowed
+state_after-takes machine (of.Attempted fields) old allowed = transition_of-takes machine (of.Attempted fields) old allowed
 state_after-takes machine (of.GiveBack fields) old allowed = transition_of-takes machine (of.GiveBack fields) old allowed
 state_after-takes machine (of.DepWait fields) old allowed = transition_of-takes machine (of.DepWait fields) old allowed
 state_after-takes machine (of.Fail fields) old allowed = transition_of-takes machine (of.Fail fields) old allowed
 state_after-takes machine (of.NotForUs fields) old allowed = transition_of-takes machine (of.NotForUs fields) old allowed
 state_after-takes machine (of.Rebuild fields) old allowed =
     transition_of-takes machine (of.Rebuild fields) old allowed
+state_after-takes machine (of.BuildPriority fields) old allowed =
+    after_priority-takes machine (fields.arch, fields.source) fields.value old
 
 pub empty-takes : HasTakesByState empty_office
 unfolding empty_office

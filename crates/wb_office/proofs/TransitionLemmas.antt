@@ -55,12 +55,14 @@ pub target_of-stands : (machine : Machine) (command : Command) (entry : Entry) â
 target_of-stands machine (of.AddArch fields) entry is = cc
 target_of-stands machine (of.AddBuilder fields) entry is = cc
 target_of-stands machine (of.Enter fields) entry is = cc
+target_of-stands machine (of.BuildPriority fields) entry is = cc
 target_of-stands machine (of.Next fields) entry is = (head_of-waits machine fields.arch entry is).0
 target_of-stands machine (of.Take fields) entry is = (record_named-is machine fields.arch fields.source entry is).0
 target_of-stands machine (of.Built fields) entry is = taken_as-stands machine fields.take_number entry is
 target_of-stands machine (of.Uploaded fields) entry is = taken_as-stands machine fields.take_number entry is
 target_of-stands machine (of.Waits fields) entry is = taken_as-stands machine fields.take_number entry is
 target_of-stands machine (of.PutBack fields) entry is = taken_as-stands machine fields.take_number entry is
+target_of-stands machine (of.Attempted fields) entry is = taken_as-stands machine fields.take_number entry is
 target_of-stands machine (of.GiveBack fields) entry is = (record_named-is machine fields.arch fields.source entry is).0
 target_of-stands machine (of.DepWait fields) entry is = (record_named-is machine fields.arch fields.source entry is).0
 target_of-stands machine (of.Fail fields) entry is = (record_named-is machine fields.arch fields.source entry is).0

@@ -3,7 +3,7 @@ use Rattle.std.specs.Option.{option_or}
 use Rattle.std.proofs.Common.{◌≡◌, ℕ, ◌||◌, Bool, true, false, nat_eq, nat_lt, length, List, [], ◌∷◌, Option, Some, None, Result, Ok, Err, IfErr, refl, ap, ◌∙◌, option_map}
 use Rattle.deb_version.specs.declared.fault.VersionFault.{VersionFault}
 use Rattle.deb_version.specs.Syntax.{fault_of}
-use Rattle.wb_states.specs.Forms.{AddArch, AddBuilder, Enter, Next, Take, Built, Uploaded, Waits, PutBack, GiveBack, DepWait, Rebuild}
+use Rattle.wb_states.specs.Forms.{AddArch, AddBuilder, Enter, Next, Take, Attempted, Built, Uploaded, Waits, PutBack, GiveBack, DepWait, Rebuild}
 use Rattle.wb_states.specs.declared.command.Command.{Command}
 use Rattle.wb_states.specs.declared.refusal.Refusal.{Refusal}
 use Rattle.wb_states.specs.declared.refusal.Refusal.TheVariants.{Memory, BadName, BadVersion}
@@ -87,6 +87,10 @@ want-Uploaded take_number = record { names = refl; version = refl; relations = r
 
 pub want-PutBack : (take_number : ℕ) → MayWantMemory (PutBack take_number)
 want-PutBack take_number = record { names = refl; version = refl; relations = refl; number = refl; short = refl; parts = refl }
+
+pub want-Attempted : (take_number : ℕ) (reason : List ℕ) → nat_lt note_limit (length reason) ≡ false → MayWantMemory (Attempted take_number reason)
+want-Attempted take_number reason short =
+    record { names = refl; version = refl; relations = refl; number = refl; short = short; parts = refl }
 
 pub want-Waits : (take_number : ℕ) (relations : List ℕ) → nat_lt relations_limit (length relations) ≡ false → MayWantMemory (Waits take_number relations)
 want-Waits take_number relations short =

@@ -1,12 +1,13 @@
 -- What each command names, of which each is checked alike whatever the command is (this project's own).
-use Rattle.std.specs.Prelude.{ℕ, List, Option, Some, None}
+use Rattle.std.specs.Prelude.{ℕ, ℤ, List, Option, Some, None}
 use Rattle.wb_states.specs.declared.command.Command.{Command}
 use Rattle.wb_states.specs.declared.command.Command.TheVariants as of
 use Rattle.wb_states.specs.declared.command.Merge.{Merge}
 use Rattle.wb_states.specs.declared.command.Next.{Next}
 
 -- what a command may name: an architecture that must be there, a builder that may build for it, a source package that must have a
--- record, its version, relations, the number of a rebuild, a note or a message, a take number, and what two commands ask besides
+-- record, its version, relations, the number of a rebuild, a build priority, a note, a reason or a message, a take number, and what
+-- two commands ask besides
 pub record Arguments : Type 0 where
   pub arch : Option (List ℕ)
   pub builder : Option (List ℕ)
@@ -14,6 +15,7 @@ pub record Arguments : Type 0 where
   pub version : Option (List ℕ)
   pub relations : Option (List ℕ)
   pub number : Option ℕ
+  pub build_priority : Option ℤ
   pub text : Option (List ℕ)
   pub take_number : Option ℕ
   pub next : Option Next
@@ -28,6 +30,7 @@ no_arguments = record {
   version = None;
   relations = None;
   number = None;
+  build_priority = None;
   text = None;
   take_number = None;
   next = None;
@@ -53,6 +56,7 @@ arguments_of (of.Built fields) = held_arguments fields.take_number
 arguments_of (of.Uploaded fields) = held_arguments fields.take_number
 arguments_of (of.Waits fields) = record (held_arguments fields.take_number) { relations = Some fields.relations }
 arguments_of (of.PutBack fields) = held_arguments fields.take_number
+arguments_of (of.Attempted fields) = record (held_arguments fields.take_number) { text = Some fields.reason }
 arguments_of (of.GiveBack fields) = package_arguments fields.arch fields.source fields.version
 arguments_of (of.DepWait fields) =
     record (package_arguments fields.arch fields.source fields.version) { relations = Some fields.relations }
@@ -60,4 +64,6 @@ arguments_of (of.Fail fields) = record (package_arguments fields.arch fields.sou
 arguments_of (of.NotForUs fields) = record (package_arguments fields.arch fields.source fields.version) { text = Some fields.note }
 arguments_of (of.Rebuild fields) =
     record (package_arguments fields.arch fields.source fields.version) { number = Some fields.number; text = Some fields.message }
+arguments_of (of.BuildPriority fields) =
+    record (package_arguments fields.arch fields.source fields.version) { build_priority = Some fields.value }
 arguments_of (of.Merge fields) = record no_arguments { merge = Some fields }

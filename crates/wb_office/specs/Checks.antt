@@ -1,5 +1,5 @@
 -- The checks of a command, in the one order in which they are answered (this project's own).
-use Rattle.std.specs.Prelude.{◌≡◌, ℕ, Bool, true, false, not, ◌||◌, ◌&&◌, nat_le, nat_lt, nat_eq, List, [], ◌∷◌, length, bytes_eq, Option, Some, None, is_none, option_and_then, if◌then◌else◌}
+use Rattle.std.specs.Prelude.{◌≡◌, ℕ, ℤ, Bool, true, false, not, ◌||◌, ◌&&◌, nat_le, nat_lt, nat_eq, List, [], ◌∷◌, length, bytes_eq, Option, Some, None, is_none, option_and_then, if◌then◌else◌}
 use Rattle.std.specs.Result.{result_err}
 use Rattle.std.specs.Option.{option_map, option_or}
 use Rattle.std.specs.List.{list_any}
@@ -21,7 +21,7 @@ use Rattle.wb_states.specs.declared.refusal.Refusal.{Refusal}
 use Rattle.wb_states.specs.declared.refusal.Refusal.TheVariants.{UnknownArch, UnknownBuilder, WrongArch, UnknownSource, OtherVersion, QueueEmpty, NotHeld, AfterAhead, AlreadyThere, BadName, BadVersion, BadRelations, BadNumber, TextTooLong, Spent, RepeatedArch, Memory}
 use Rattle.wb_states.specs.Holds.{taken_as}
 use Rattle.deb_text.specs.Options.{has_value, first_some}
-use Rattle.wb_states.specs.Limits.{count_limit, note_limit, rebuild_limit, relations_limit}
+use Rattle.wb_states.specs.Limits.{count_limit, is_build_priority, note_limit, rebuild_limit, relations_limit}
 use Rattle.wb_states.specs.Machine.{Machine, archs_of}
 use Rattle.wb_states.specs.Moves.{move_refusal}
 use Rattle.deb_relations.specs.Names.{is_package_name}
@@ -87,7 +87,11 @@ key_refusal arch source version = first_some (when (has_bad_key arch source) Bad
 abbrev pub is_bad_number : ℕ → Bool
 is_bad_number number = nat_eq number 0 || nat_lt rebuild_limit number
 
--- a note or a message that is too long
+-- a number that no build priority is
+abbrev pub is_bad_priority : ℤ → Bool
+is_bad_priority value = not (is_build_priority value)
+
+-- a note, a reason or a message that is too long
 abbrev pub is_long_text : List ℕ → Bool
 is_long_text text = nat_lt note_limit (length text)
 
@@ -114,11 +118,13 @@ has_bad_name (of.Built fields) = false
 has_bad_name (of.Uploaded fields) = false
 has_bad_name (of.Waits fields) = false
 has_bad_name (of.PutBack fields) = false
+has_bad_name (of.Attempted fields) = false
 has_bad_name (of.GiveBack fields) = has_bad_key fields.arch fields.source
 has_bad_name (of.DepWait fields) = has_bad_key fields.arch fields.source
 has_bad_name (of.Fail fields) = has_bad_key fields.arch fields.source
 has_bad_name (of.NotForUs fields) = has_bad_key fields.arch fields.source
 has_bad_name (of.Rebuild fields) = has_bad_key fields.arch fields.source
+has_bad_name (of.BuildPriority fields) = has_bad_key fields.arch fields.source
 has_bad_name (of.Merge fields) = has_bad_part fields.parts
 
 -- the fault of the command's version
@@ -133,11 +139,12 @@ relation_fault command = option_and_then relations_fault (arguments_of command).
 abbrev pub refused_relations : Command → Option Refusal
 refused_relations command = option_map (λ fault. BadRelations (Some fault)) (relation_fault command)
 
--- the number is that of no binary-only rebuild
+-- the number is that of no binary-only rebuild, or out of the range of build priorities
 abbrev pub has_bad_number : Command → Bool
-has_bad_number command = has_value is_bad_number (arguments_of command).number
+has_bad_number command =
+    has_value is_bad_priority (arguments_of command).build_priority || has_value is_bad_number (arguments_of command).number
 
--- a note or a message is too long
+-- a note, a reason or a message is too long
 abbrev pub has_long_text : Command → Bool
 has_long_text command = has_value is_long_text (arguments_of command).text
 
@@ -260,11 +267,13 @@ is_there_already machine (of.Built fields) = false
 is_there_already machine (of.Uploaded fields) = false
 is_there_already machine (of.Waits fields) = false
 is_there_already machine (of.PutBack fields) = false
+is_there_already machine (of.Attempted fields) = false
 is_there_already machine (of.GiveBack fields) = false
 is_there_already machine (of.DepWait fields) = false
 is_there_already machine (of.Fail fields) = false
 is_there_already machine (of.NotForUs fields) = false
 is_there_already machine (of.Rebuild fields) = false
+is_there_already machine (of.BuildPriority fields) = false
 is_there_already machine (of.Merge fields) = false
 
 -- a count that it would raise is at its limit
@@ -280,11 +289,13 @@ is_spent machine (of.Built fields) = nat_le count_limit machine.accepted
 is_spent machine (of.Uploaded fields) = nat_le count_limit machine.accepted
 is_spent machine (of.Waits fields) = nat_le count_limit machine.accepted
 is_spent machine (of.PutBack fields) = nat_le count_limit machine.accepted
+is_spent machine (of.Attempted fields) = nat_le count_limit machine.accepted
 is_spent machine (of.GiveBack fields) = nat_le count_limit machine.accepted
 is_spent machine (of.DepWait fields) = nat_le count_limit machine.accepted
 is_spent machine (of.Fail fields) = nat_le count_limit machine.accepted
 is_spent machine (of.NotForUs fields) = nat_le count_limit machine.accepted
 is_spent machine (of.Rebuild fields) = nat_le count_limit machine.accepted
+is_spent machine (of.BuildPriority fields) = nat_le count_limit machine.accepted
 is_spent machine (of.Merge fields) = nat_le count_limit machine.accepted
 
 -- ---- the one order

@@ -37,11 +37,13 @@ handed_by (of.Built fields) answer = None
 handed_by (of.Uploaded fields) answer = None
 handed_by (of.Waits fields) answer = None
 handed_by (of.PutBack fields) answer = None
+handed_by (of.Attempted fields) answer = None
 handed_by (of.GiveBack fields) answer = None
 handed_by (of.DepWait fields) answer = None
 handed_by (of.Fail fields) answer = None
 handed_by (of.NotForUs fields) answer = None
 handed_by (of.Rebuild fields) answer = None
+handed_by (of.BuildPriority fields) answer = None
 handed_by (of.Merge fields) answer = None
 
 -- what a command hands out

@@ -1,5 +1,5 @@
 -- What is answered and done once it is known which record a command moves (this project's own).
-use Rattle.std.specs.Prelude.{ℕ, ◌+◌, ◌||◌, nat_le, List, [], ◌∷◌, Option, Some, None, Ok, Err}
+use Rattle.std.specs.Prelude.{ℕ, ℤ, ◌+◌, ◌||◌, nat_le, List, [], ◌∷◌, Option, Some, None, Ok, Err}
 use Rattle.std.specs.FinMap as map
 use Rattle.wb_states.specs.declared.moves.Move.{Move}
 use Rattle.wb_states.specs.declared.moves.Move.TheVariants as to
@@ -15,7 +15,7 @@ use Rattle.wb_states.specs.Moves.{move_refusal}
 use Rattle.wb_states.specs.Queue.{Entry, head_of}
 use Rattle.deb_text.specs.Options.{first_some}
 use Rattle.wb_office.specs.Checks.{builder_refusal, differing, is_unknown_arch, when}
-use Rattle.wb_office.specs.Step.{Outcome, assignment_of, counted, after_move, after_take, assignment_reply}
+use Rattle.wb_office.specs.Step.{Outcome, assignment_of, counted, after_move, after_priority, after_take, assignment_reply}
 
 -- the refusal of a check, which leaves the state as it was, or else this outcome
 abbrev pub outcome_unless : Option Refusal → Machine → Outcome → Outcome
@@ -36,6 +36,12 @@ move_step machine entry move =
     ∷ when (nat_le count_limit machine.accepted) Spent
     ∷ [])) machine
     (Ok (Done (machine.accepted + 1)), counted machine (after_move machine (Some (entry, move))))
+
+-- a record gets a build priority and the command is counted, where the count is not refused
+unfoldable pub priority_step : Machine → Entry → ℤ → Outcome
+priority_step machine entry value =
+    outcome_unless (when (nat_le count_limit machine.accepted) Spent) machine
+    (Ok (Done (machine.accepted + 1)), counted machine (after_priority machine entry.0 value (Some entry.1)))
 
 -- the move by which a builder takes a record, under the take number after the last
 abbrev pub take_move : Machine → List ℕ → Move
@@ -86,3 +92,9 @@ unfoldable pub take_step : Machine → List ℕ → List ℕ → List ℕ → Li
 take_step machine arch builder source version =
     outcome_unless (builder_refusal machine arch builder) machine
     (named_at machine version (λ current. assignment_step machine builder ((arch, source), current)) (map.get machine.records (arch, source)))
+
+-- the record of a source package gets a build priority, if it is of the version
+unfoldable pub prioritized_step : Machine → List ℕ → List ℕ → List ℕ → ℤ → Outcome
+prioritized_step machine arch source version value =
+    outcome_unless (when (is_unknown_arch machine arch) UnknownArch) machine
+    (named_at machine version (λ current. priority_step machine ((arch, source), current) value) (map.get machine.records (arch, source)))

@@ -1,5 +1,5 @@
 -- What a command does to the office: the reply or the refusal, and the state after it (this project's own).
-use Rattle.std.specs.Prelude.{ℕ, ◌+◌, List, [], Option, Some, None, Result, Ok, Err}
+use Rattle.std.specs.Prelude.{ℕ, ℤ, ◌+◌, List, [], Option, Some, None, Result, Ok, Err}
 use Rattle.std.specs.FinMap as map
 use Rattle.std.specs.FinSet as set
 use Rattle.wb_states.specs.declared.command.Command.{Command}
@@ -40,6 +40,12 @@ after_move machine (Some asked) =
 abbrev pub after_take : Machine → Option (Entry × Move) → Machine
 after_take machine asked = record (after_move machine asked) { handed = machine.handed + 1 }
 
+-- a record that was found gets a build priority
+abbrev pub after_priority : Machine → List ℕ × List ℕ → ℤ → Option Record → Machine
+after_priority machine key value None = machine
+after_priority machine key value (Some current) =
+    record machine { records = map.insert machine.records key (record current { build_priority = value }) }
+
 -- the state after a command
 abbrev pub state_after : Machine → Command → Machine
 state_after machine (of.AddArch fields) =
@@ -55,11 +61,14 @@ state_after machine (of.Built fields) = after_move machine (transition_of machin
 state_after machine (of.Uploaded fields) = after_move machine (transition_of machine (of.Uploaded fields))
 state_after machine (of.Waits fields) = after_move machine (transition_of machine (of.Waits fields))
 state_after machine (of.PutBack fields) = after_move machine (transition_of machine (of.PutBack fields))
+state_after machine (of.Attempted fields) = after_move machine (transition_of machine (of.Attempted fields))
 state_after machine (of.GiveBack fields) = after_move machine (transition_of machine (of.GiveBack fields))
 state_after machine (of.DepWait fields) = after_move machine (transition_of machine (of.DepWait fields))
 state_after machine (of.Fail fields) = after_move machine (transition_of machine (of.Fail fields))
 state_after machine (of.NotForUs fields) = after_move machine (transition_of machine (of.NotForUs fields))
 state_after machine (of.Rebuild fields) = after_move machine (transition_of machine (of.Rebuild fields))
+state_after machine (of.BuildPriority fields) =
+    after_priority machine (fields.arch, fields.source) fields.value (map.get machine.records (fields.arch, fields.source))
 
 -- ---- the reply to a command that is accepted
 
@@ -93,11 +102,13 @@ reply_to machine (of.Built fields) = Done (machine.accepted + 1)
 reply_to machine (of.Uploaded fields) = Done (machine.accepted + 1)
 reply_to machine (of.Waits fields) = Done (machine.accepted + 1)
 reply_to machine (of.PutBack fields) = Done (machine.accepted + 1)
+reply_to machine (of.Attempted fields) = Done (machine.accepted + 1)
 reply_to machine (of.GiveBack fields) = Done (machine.accepted + 1)
 reply_to machine (of.DepWait fields) = Done (machine.accepted + 1)
 reply_to machine (of.Fail fields) = Done (machine.accepted + 1)
 reply_to machine (of.NotForUs fields) = Done (machine.accepted + 1)
 reply_to machine (of.Rebuild fields) = Done (machine.accepted + 1)
+reply_to machine (of.BuildPriority fields) = Done (machine.accepted + 1)
 
 -- ---- the step
 

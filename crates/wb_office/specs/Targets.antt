@@ -27,6 +27,7 @@ target_of machine (of.Built fields) = taken_as machine fields.take_number
 target_of machine (of.Uploaded fields) = taken_as machine fields.take_number
 target_of machine (of.Waits fields) = taken_as machine fields.take_number
 target_of machine (of.PutBack fields) = taken_as machine fields.take_number
+target_of machine (of.Attempted fields) = taken_as machine fields.take_number
 target_of machine (of.GiveBack fields) = record_named machine fields.arch fields.source
 target_of machine (of.DepWait fields) = record_named machine fields.arch fields.source
 target_of machine (of.Fail fields) = record_named machine fields.arch fields.source
@@ -35,6 +36,7 @@ target_of machine (of.Rebuild fields) = record_named machine fields.arch fields.
 target_of machine (of.AddArch fields) = None
 target_of machine (of.AddBuilder fields) = None
 target_of machine (of.Enter fields) = None
+target_of machine (of.BuildPriority fields) = None
 target_of machine (of.Merge fields) = None
 
 -- the move that a command makes of a record of an architecture with these words
@@ -45,6 +47,7 @@ move_of_command machine (of.Built fields) words = Some to.Built
 move_of_command machine (of.Uploaded fields) words = Some to.Uploaded
 move_of_command machine (of.Waits fields) words = Some (to.Waits (result_unwrap_or (reading_of fields.relations) []) words)
 move_of_command machine (of.PutBack fields) words = Some to.PutBack
+move_of_command machine (of.Attempted fields) words = Some (to.Attempted fields.reason)
 move_of_command machine (of.GiveBack fields) words = Some to.GiveBack
 move_of_command machine (of.DepWait fields) words =
     Some (to.DepWait (result_unwrap_or (reading_of fields.relations) []) words)
@@ -54,6 +57,7 @@ move_of_command machine (of.Rebuild fields) words = Some (to.Rebuild fields.numb
 move_of_command machine (of.AddArch fields) words = None
 move_of_command machine (of.AddBuilder fields) words = None
 move_of_command machine (of.Enter fields) words = None
+move_of_command machine (of.BuildPriority fields) words = None
 move_of_command machine (of.Merge fields) words = None
 
 -- a record with its key, and the move that a command makes of it
@@ -74,9 +78,11 @@ again_of machine command =
 abbrev pub MayMove : Machine → Command → List ℕ × List ℕ → Type 0
 MayMove machine command key = (entry : Entry) × ((target_of machine command ≡ Some entry) × (key ≡ entry.0))
 
--- a command may change the record at a key: the one that it enters or moves, and of a merge those of its parts' architectures
+-- a command may change the record at a key: the one that it enters or moves or that gets a build priority, and of a merge those of its
+-- parts' architectures
 abbrev pub MayChange : Machine → Command → List ℕ × List ℕ → Type 0
 MayChange machine (of.Enter fields) key = key ≡ (fields.arch, fields.source)
+MayChange machine (of.BuildPriority fields) key = key ≡ (fields.arch, fields.source)
 MayChange machine (of.Merge fields) key = IsTrue (list_any (λ part. bytes_eq key.0 part.arch) fields.parts)
 MayChange machine (of.AddArch fields) key = MayMove machine (of.AddArch fields) key
 MayChange machine (of.AddBuilder fields) key = MayMove machine (of.AddBuilder fields) key
@@ -86,6 +92,7 @@ MayChange machine (of.Built fields) key = MayMove machine (of.Built fields) key
 MayChange machine (of.Uploaded fields) key = MayMove machine (of.Uploaded fields) key
 MayChange machine (of.Waits fields) key = MayMove machine (of.Waits fields) key
 MayChange machine (of.PutBack fields) key = MayMove machine (of.PutBack fields) key
+MayChange machine (of.Attempted fields) key = MayMove machine (of.Attempted fields) key
 MayChange machine (of.GiveBack fields) key = MayMove machine (of.GiveBack fields) key
 MayChange machine (of.DepWait fields) key = MayMove machine (of.DepWait fields) key
 MayChange machine (of.Fail fields) key = MayMove machine (of.Fail fields) key

@@ -1,11 +1,13 @@
 //! The commands by which holders tell of what they hold.
+ghost use Rattle.std.specs.Prelude.{OnOk};
+ghost use Rattle.std.specs.Str.{IsUtf8};
 ghost use Rattle.wb_states.specs.declared.command.Command.TheVariants as of;
 ghost use Rattle.wb_office.specs.Carries.{Carries, Reaches};
 ghost use Rattle.wb_office.specs.Outcomes.{taken_step};
 
 use crate::checks::words_of;
-use crate::texts::read_relations;
-use crate::transition::{keep_move, prepare_move};
+use crate::texts::{is_long, read_relations};
+use crate::transition::{keep_record, prepare_move};
 use std::alloc::Global;
 use wb_states::{Move, Refusal, Reply, command};
 use wb_store::Store;
@@ -14,18 +16,36 @@ use wb_store::Store;
 pub(crate) fn move_taken(
     alloc: Global,
     store: &mut Store,
-    command: &command::Held,
+    take_number: u64,
     change: &Move,
 ) -> Result<Reply, Refusal>
     ensures reaches { Reaches store.old store.new
-        (taken_step store.old command.now.take_number (λ _. change.now)) result }
+        (taken_step store.old take_number (λ _. change.now)) result }
 {
-    let found = store.by_take(command.take_number)?;
+    let found = store.by_take(take_number)?;
     let Some(row) = found else {
         return Err(Refusal::NotHeld);
     };
     let made = prepare_move(alloc, store, row, change)?;
-    keep_move(store, made)
+    keep_record(store, made)
+}
+
+/// Says that its build failed.
+pub(crate) fn attempted(
+    alloc: Global,
+    store: &mut Store,
+    command: &command::Attempted,
+) -> Result<Reply, Refusal>
+    ensures carries { Carries store.old store.new (of.Attempted command.now) result }
+    ensures utf8 { OnOk result (IsUtf8 command.now.reason) }
+{
+    if is_long(&command.reason) {
+        return Err(Refusal::TextTooLong);
+    }
+    let change = Move::Attempted {
+        reason: command.reason.clone()?,
+    };
+    move_taken(alloc, store, command.take_number, &change)
 }
 
 /// Lets it wait for what the relations ask for.
@@ -47,5 +67,5 @@ pub(crate) fn waits(
         arch: words,
     };
     let made = prepare_move(alloc, store, row, &change)?;
-    keep_move(store, made)
+    keep_record(store, made)
 }

@@ -13,6 +13,7 @@ mod named;
 mod office;
 mod operator;
 mod part;
+mod priority;
 mod texts;
 mod transition;
 

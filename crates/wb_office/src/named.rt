@@ -10,7 +10,7 @@ ghost use Rattle.wb_office.specs.Outcomes.{named_step};
 
 use crate::checks::{find_source, lacks_arch, words_of};
 use crate::texts::{is_long, read_key, read_refusal_or, read_relations, rebuild_number};
-use crate::transition::{keep_move, prepare_move};
+use crate::transition::{keep_record, prepare_move};
 use deb_text::Text;
 use deb_version::Version;
 use std::alloc::Global;
@@ -35,7 +35,7 @@ fn move_named(
     }
     let row = find_source(alloc, store, arch, source, version)?;
     let made = prepare_move(alloc, store, row, change)?;
-    keep_move(store, made)
+    keep_record(store, made)
 }
 
 /// Puts it back into the queue.

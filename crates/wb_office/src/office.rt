@@ -9,7 +9,7 @@ ghost use Rattle.wb_office.specs.Checks.{MayWantMemory};
 ghost use Rattle.wb_office.specs.Step.{step};
 ghost use Rattle.wb_office.specs.Utf8.{HasUtf8Texts};
 
-use crate::{builder, holder, merging, named, operator};
+use crate::{builder, holder, merging, named, operator, priority};
 use std::alloc::Global;
 use std::marker::Model;
 use wb_states::{Command, Counts, Move, Refusal, Reply, StoreFault};
@@ -114,15 +114,23 @@ fn carry_out(alloc: Global, store: &mut Store, command: &Command) -> Result<Repl
         Command::Enter(command) => operator::enter(alloc, store, command),
         Command::Next(command) => builder::next(alloc, store, command),
         Command::Take(command) => builder::take(alloc, store, command),
-        Command::Built(command) => holder::move_taken(alloc, store, command, &Move::Built),
-        Command::Uploaded(command) => holder::move_taken(alloc, store, command, &Move::Uploaded),
+        Command::Built(command) => {
+            holder::move_taken(alloc, store, command.take_number, &Move::Built)
+        }
+        Command::Uploaded(command) => {
+            holder::move_taken(alloc, store, command.take_number, &Move::Uploaded)
+        }
         Command::Waits(command) => holder::waits(alloc, store, command),
-        Command::PutBack(command) => holder::move_taken(alloc, store, command, &Move::PutBack),
+        Command::PutBack(command) => {
+            holder::move_taken(alloc, store, command.take_number, &Move::PutBack)
+        }
+        Command::Attempted(command) => holder::attempted(alloc, store, command),
         Command::GiveBack(command) => named::give_back(alloc, store, command),
         Command::DepWait(command) => named::dep_wait(alloc, store, command),
         Command::Fail(command) => named::fail(alloc, store, command),
         Command::NotForUs(command) => named::not_for_us(alloc, store, command),
         Command::Rebuild(command) => named::rebuild(alloc, store, command),
+        Command::BuildPriority(command) => priority::build_priority(alloc, store, command),
         Command::Merge(command) => merging::merge(alloc, store, command),
     }
 }

@@ -9,14 +9,14 @@ ghost use Rattle.wb_states.specs.declared.refusal.Refusal.{Refusal};
 ghost use Rattle.wb_states.specs.declared.refusal.Refusal.TheVariants.{Memory, BadVersion, BadRelations};
 ghost use Rattle.wb_states.specs.Limits.{relations_limit};
 ghost use Rattle.wb_states.specs.Refusals.{IsOfMachine};
-ghost use Rattle.wb_office.specs.Checks.{is_bad_number, is_long_text, key_refusal, refusal_of_fault, relations_refusal, version_refusal};
+ghost use Rattle.wb_office.specs.Checks.{is_bad_number, is_bad_priority, is_long_text, key_refusal, refusal_of_fault, relations_refusal, version_refusal};
 
 use crate::forms::has_bad_key;
 use deb_relations::{RelationFault, Relations};
 use deb_text::Text;
 use deb_version::{Version, VersionFault};
 use std::alloc::Global;
-use wb_states::{NOTE_LIMIT, REBUILD_LIMIT, Refusal};
+use wb_states::{BUILD_PRIORITY_LIMIT, NOTE_LIMIT, REBUILD_LIMIT, Refusal};
 
 /// The version that a text is.
 pub(crate) fn read_version(alloc: Global, text: &Text) -> Result<Version, Refusal>
@@ -103,7 +103,7 @@ pub(crate) fn read_refusal_or(read: Result<Version, Refusal>, later: Refusal) ->
     }
 }
 
-/// Whether a note or a message, which is UTF-8 as each text is, has more than 1000 bytes.
+/// Whether a note, a reason or a message, which is UTF-8 as each text is, has more than 1000 bytes.
 pub(crate) fn is_long(text: &Text) -> bool
     ensures value { result ≡ is_long_text text.now }
     ensures utf8 { IsUtf8 text.now }
@@ -120,4 +120,17 @@ pub(crate) fn rebuild_number(number: u64) -> Option<u16>
         return None;
     }
     Some(number as u16)
+}
+
+/// The build priority as a record keeps it, or none where the value is out of range.
+pub(crate) fn build_priority(value: i64) -> Option<i16>
+    ensures value { result
+        ≡ (if is_bad_priority value then None else Some value) }
+{
+    let limit = i64::from(BUILD_PRIORITY_LIMIT);
+    if -limit <= value && value <= limit {
+        Some(value as i16)
+    } else {
+        None
+    }
 }

@@ -56,8 +56,8 @@ pub(crate) fn prepare_move(
     })
 }
 
-/// Writes a record after a move, and counts the command.
-pub(crate) fn keep_move(store: &mut Store, made: KeyedRecord) -> Result<Reply, Refusal>
+/// Writes a record that a command changed, and counts the command.
+pub(crate) fn keep_record(store: &mut Store, made: KeyedRecord) -> Result<Reply, Refusal>
     requires { nat_le count_limit store.old.accepted ≡ false }
     ensures reply { IfOk result (λ reply. reply ≡ Done (store.old.accepted + 1)) }
     ensures ok { OnOk result (store.new ≡ counted store.old

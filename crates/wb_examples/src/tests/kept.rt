@@ -18,10 +18,11 @@ struct Kept<'a> {
     depends: Option<&'a str>,
     note: &'a str,
     message: &'a str,
+    build_priority: i16,
 }
 
 /// The lists that the lines name.
-static LISTS: [(&str, &str); 7] = [
+static LISTS: [(&str, &str); 8] = [
     (
         "sources",
         "Package: ss\nVersion: 1.0\nArchitecture: any\nPriority: extra\nSection: net\nBuild-Depends: debhelper-compat (= 13), libx-dev (>= 2) [linux-any],\n libz-dev [arm64] | libz2-dev [arm64], gcc:native <!nocheck>, doxygen <doc>\nBuild-Depends-Arch: liby-dev\n",
@@ -41,6 +42,10 @@ static LISTS: [(&str, &str); 7] = [
     ),
     ("built", "Package: ss\nVersion: 1.0\nArchitecture: amd64\n"),
     (
+        "newly-built",
+        "Package: ss\nVersion: 1.1\nArchitecture: amd64\n",
+    ),
+    (
         "rebuilt",
         "Package: ss-bin\nSource: ss (1.0)\nVersion: 1.0+b3\nArchitecture: amd64\n",
     ),
@@ -58,6 +63,7 @@ const LISTED: Kept<'static> = Kept {
     depends: Some("debhelper-compat (= 13), libx-dev (>= 2), gcc:native, liby-dev"),
     note: "",
     message: "",
+    build_priority: 0,
 };
 
 /// What is kept of one that waits as the list `newer` has it.
@@ -72,6 +78,7 @@ const BARE: Kept<'static> = Kept {
     depends: Some(""),
     note: "",
     message: "",
+    build_priority: 0,
 };
 
 /// Lines in a row, and what is kept of `ss` after them.
@@ -213,6 +220,70 @@ static REBUILD: [(&str, Kept<'static>); 8] = [
     ),
 ];
 
+/// The same of one whose build fails, and which is given build priorities.
+static ATTEMPTS: [(&str, Kept<'static>); 7] = [
+    (
+        "add-arch amd64 linux amd64\nadd-builder b1 amd64\nmerge sources amd64=before\nnext amd64 b1\nattempted 1 cc died",
+        Kept {
+            state: State::BuildAttempted,
+            note: "cc died",
+            ..LISTED
+        },
+    ),
+    (
+        "merge sources amd64=before\nbuild-priority amd64 ss 1.0-0 -- -1000",
+        Kept {
+            state: State::BuildAttempted,
+            note: "cc died",
+            build_priority: -1000,
+            ..LISTED
+        },
+    ),
+    (
+        "merge newer amd64=before",
+        Kept {
+            build_priority: -1000,
+            ..BARE
+        },
+    ),
+    (
+        "build-priority amd64 ss 1.1 1000\nnext amd64 b1\nattempted 2",
+        Kept {
+            state: State::BuildAttempted,
+            build_priority: 1000,
+            ..BARE
+        },
+    ),
+    (
+        "merge newer amd64=newly-built",
+        Kept {
+            state: State::Installed,
+            earlier: true,
+            build_priority: 1000,
+            ..BARE
+        },
+    ),
+    (
+        "rebuild amd64 ss 1.1 1 again",
+        Kept {
+            earlier: true,
+            number: 1,
+            message: "again",
+            build_priority: 1000,
+            ..BARE
+        },
+    ),
+    (
+        "build-priority amd64 ss 1.1 +0\nmerge newer amd64=before",
+        Kept {
+            earlier: true,
+            number: 1,
+            message: "again",
+            ..BARE
+        },
+    ),
+];
+
 fn assert_kept(
     rt: &(impl Abort + AllocGlobal),
     office: &Office,
@@ -236,6 +307,7 @@ fn assert_kept(
     );
     assert_eq!(rt; current.note.as_str(), want.note, "{lines}");
     assert_eq!(rt; current.message.as_str(), want.message, "{lines}");
+    assert_eq!(rt; current.build_priority, want.build_priority, "{lines}");
     assert!(rt; current.holder.is_none(), "{lines}");
     assert!(rt; current.take.is_none(), "{lines}");
     Ok(())
@@ -259,4 +331,9 @@ fn after_waits_and_notes(rt: HostRuntime) -> Result<(), Fail> {
 #[test]
 fn after_rebuilds(rt: HostRuntime) -> Result<(), Fail> {
     in_a_row(&rt, &REBUILD)
+}
+
+#[test]
+fn after_attempts_and_priorities(rt: HostRuntime) -> Result<(), Fail> {
+    in_a_row(&rt, &ATTEMPTS)
 }

@@ -36,13 +36,13 @@ returns-in_err-made c = record {
 pub returns : goal.returns
 returns c = record {
   carries = carries-reached
-      (reaches-kept (IfOk-weaker c.keep_move.result _ _ (λ _ is.
+      (reaches-kept (IfOk-weaker c.keep_record.result _ _ (λ _ is.
       waits-moves c.args.store.now c.args.command.now.take_number c.args.command.now.relations c.in_ok-read.read c.in_ok-words.words
       (entry_of c.in-Some.row) c.in_ok-read.ensures.value (sym (sym (ap (option_map entry_of) c.in-Some.is) ∙ c.in_ok-found.ensures.value)) c.in_ok-words.ensures.value
       ∙ move_step-made c.args.store.now _ (entry_of c.in-Some.row) (to.Waits c.in_ok-read.read c.in_ok-words.words) c.in_ok-made.made _
       c.in_ok-made.ensures.ok c.in_ok-made.ensures.room c.in_ok-made.ensures.value is.0 is.1)
-      (with-known c.keep_move.result _ _ c.keep_move.ensures.reply c.keep_move.ensures.ok))
-      c.keep_move.ensures.refused c.keep_move.ensures.unchanged)
+      (with-known c.keep_record.result _ _ c.keep_record.ensures.reply c.keep_record.ensures.ok))
+      c.keep_record.ensures.refused c.keep_record.ensures.unchanged)
       refl
       (want-Waits c.args.command.now.take_number c.args.command.now.relations c.in_ok-read.ensures.short);
 }

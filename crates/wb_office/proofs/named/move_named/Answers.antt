@@ -29,12 +29,12 @@ returns-in_err-made c = record {
 
 pub returns : goal.returns
 returns c = record {
-  reaches = reaches-kept (IfOk-weaker c.keep_move.result _ _ (λ _ is.
+  reaches = reaches-kept (IfOk-weaker c.keep_record.result _ _ (λ _ is.
       named_step-moves c.args.store.now c.args.arch.now c.args.source.now c.args.version.now c.args.change.now c.in_ok-row.row.current (sym c.in_ok-is_unknown.ensures.value ∙ c.if-is_unknown.false)
       c.in_ok-row.ensures.value c.in_ok-row.ensures.ok
       ∙ (λ i. move_step c.args.store.now ((sym c.in_ok-row.ensures.key.0 i, sym c.in_ok-row.ensures.key.1 i), c.in_ok-row.row.current) c.args.change.now)
       ∙ move_step-made c.args.store.now _ (entry_of c.in_ok-row.row) c.args.change.now c.in_ok-made.made _
       c.in_ok-made.ensures.ok c.in_ok-made.ensures.room c.in_ok-made.ensures.value is.0 is.1)
-      (with-known c.keep_move.result _ _ c.keep_move.ensures.reply c.keep_move.ensures.ok))
-      c.keep_move.ensures.refused c.keep_move.ensures.unchanged;
+      (with-known c.keep_record.result _ _ c.keep_record.ensures.reply c.keep_record.ensures.ok))
+      c.keep_record.ensures.refused c.keep_record.ensures.unchanged;
 }
