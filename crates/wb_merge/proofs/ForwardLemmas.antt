@@ -1,5 +1,5 @@
 -- A merge never brings a record back to an earlier version or a lower number.
-use Rattle.std.proofs.Common.{◌≡◌, ◌≢◌, ℕ, ◌≤◌, Bool, true, false, cond, ◌||◌, List, refl, sym, ap, subst, ◌∙◌, Option, Some, None, is_some, bytes_eq, nat_le, arith}
+use Rattle.std.proofs.Common.{◌≡◌, ◌≢◌, ℕ, pos, ◌≤◌, Bool, true, false, cond, ◌||◌, List, refl, sym, ap, subst, ◌∙◌, Option, Some, None, is_some, bytes_eq, nat_le, arith}
 use Rattle.std.specs.declared.cmp.Ordering.{Ordering}
 use Rattle.std.specs.declared.cmp.Ordering.TheVariants.{Less, Equal, Greater}
 use Rattle.std.specs.Ordering.{ordering_reverse, match_ordering}
@@ -17,8 +17,8 @@ use Rattle.wb_states.specs.State.{is_held, is_not_for_us, is_installed, is_dep_w
 use Rattle.wb_merge.specs.declared.listing.Listed.{Listed}
 use Rattle.wb_merge.specs.declared.listing.Built.{Built}
 use Rattle.wb_merge.specs.Listing.{ArchiveListing}
-use Rattle.wb_merge.specs.Merge.{record_after, covers, built_number, are_waits_met, relisted, newer_record, same_record, same_state, newer_state, listed_record, ends_hold, HasSameHold}
-use Rattle.wb_merge.specs.Merged.{Records, record_after_at, BecomesAt}
+use Rattle.wb_merge.specs.Merge.{record_after, covers, built_number, are_waits_met, relisted, new_record, newer_record, same_record, same_state, newer_state, listed_record, ends_hold, HasSameHold}
+use Rattle.wb_merge.specs.Merged.{Records, record_after_at, merged, BecomesAt}
 use Rattle.wb_merge.specs.Steps.{Key}
 use Rattle.wb_merge.proofs.MergeLemmas.{merged-get}
 
@@ -67,6 +67,30 @@ module _ (old : Records) (arch : List ℕ) (listing : ArchiveListing) (key : Key
       (ap (λ (b : Bool). cond b (record_after (Some current) (finite.get listing.listed key.1) built_there listing.available) (Some current)) (sym same)
       ∙ ap (λ (o : Option Record). cond (bytes_eq key.0 arch) (record_after o (finite.get listing.listed key.1) built_there listing.available) o) (sym h.was)
       ∙ sym (merged-get old arch listing key) ∙ h.is)
+
+-- ---- what a merge makes of a source package that has no record
+
+module _ (old : Records) (arch : List ℕ) (listing : ArchiveListing) (key : Key) (new : Record) where
+  by_new : (P : Record → Type 0) → ((listed : Listed) → P (new_record listed (finite.get listing.built key.1)))
+      → (is_of : Bool) (found : Option Listed)
+      → cond is_of (record_after None found (finite.get listing.built key.1) listing.available) None ≡ Some new → P new
+  by_new P starts false found is = absurd cc
+  by_new P starts true None is = absurd cc
+  by_new P starts true (Some listed) is =
+      let same : new_record listed (finite.get listing.built key.1) ≡ new = cc in
+      subst P same (starts listed)
+
+  pub at-starts : (P : Record → Type 0) → finite.get old key ≡ None → finite.get (merged old arch listing) key ≡ Some new
+      → ((listed : Listed) → P (new_record listed (finite.get listing.built key.1))) → P new
+  unfolding record_after_at
+  at-starts P none is starts =
+      by_new P starts (bytes_eq key.0 arch) (finite.get listing.listed key.1)
+      (ap (λ (o : Option Record). cond (bytes_eq key.0 arch) (record_after o (finite.get listing.listed key.1) (finite.get listing.built key.1) listing.available) o) (sym none)
+      ∙ sym (merged-get old arch listing key) ∙ is)
+
+pub build_priority-new : (listed : Listed) (built : Option Built) → (new_record listed built).build_priority ≡ pos 0
+unfolding new_record relisted
+build_priority-new listed built = refl
 
 -- ---- versions
 
@@ -146,6 +170,16 @@ module _ (listed : Listed) (built : Option Built) (available : Pairs) (current :
   pub not_for_us-forward : current.state ≡ NotForUs → (listed_record listed built available current).state ≡ NotForUs
   unfolding listed_record
   not_for_us-forward = not_for_us-by (version_cmp current.version listed.version)
+
+  build_priority-by : (r : Ordering) → (made_by r).build_priority ≡ current.build_priority
+  unfolding newer_record same_record relisted
+  build_priority-by Less = refl
+  build_priority-by Equal = refl
+  build_priority-by Greater = refl
+
+  pub build_priority-kept : (listed_record listed built available current).build_priority ≡ current.build_priority
+  unfolding listed_record
+  build_priority-kept = build_priority-by (version_cmp current.version listed.version)
 
   -- the state of a held record that is not covered
   held-state : (state : State) → is_held state ≡ true

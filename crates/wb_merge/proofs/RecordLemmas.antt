@@ -2,7 +2,7 @@
 use Rattle.std.proofs.Common.{◌≡◌, ◌↔◌, ℕ, Bool, true, false, cond, ◌&&◌, refl, sym, ap, ◌∙◌, Option, Some, None, bytes_eq, nat_eq}
 use Rattle.std.proofs.lemmas.Bool.{and_parts, eq-eqb, eqb-true}
 use Rattle.std.specs.Ordering.{eq_by_cmp}
-use Rattle.std.specs.Cmp.{booleans_Decides, eq_by_cmp_equiv}
+use Rattle.std.specs.Cmp.{booleans_Decides, signed_Decides, eq_by_cmp_equiv}
 use Rattle.std.specs.Option.{option_eq}
 use Rattle.std.proofs.lemmas.Cmp.{nat_list_eq_equiv}
 use Rattle.std.specs.FinMap as finite
@@ -56,6 +56,7 @@ same-record one other e =
     let others = and_parts _ _ groups.1 in
     let place = and_parts _ _ others.0 in
     let place_1 = and_parts _ _ place.1 in
+    let place_2 = and_parts _ _ place_1.1 in
     let texts = and_parts _ _ others.1 in
     let texts_1 = and_parts _ _ texts.1 in
     let texts_2 = and_parts _ _ texts_1.1 in
@@ -67,11 +68,12 @@ same-record one other e =
       earlier = (booleans_Decides one.earlier other.earlier).0 source_3.0 i;
       number = eqb-true one.number other.number source_3.1 i;
       holder = same-option bytes_eq bytes_eq-is one.holder other.holder place_1.0 i;
-      take = same-option nat_eq eqb-true one.take other.take place_1.1 i;
+      take = same-option nat_eq eqb-true one.take other.take place_2.0 i;
       waits = bytes_eq-is one.waits other.waits texts.0 i;
       depends = same-option bytes_eq bytes_eq-is one.depends other.depends texts_1.0 i;
       note = bytes_eq-is one.note other.note texts_2.0 i;
       message = bytes_eq-is one.message other.message texts_2.1 i;
+      build_priority = (signed_Decides one.build_priority other.build_priority).0 place_2.1 i;
     }
 
 option-itself : {X : Type 0} (test : X → X → Bool) → ((x : X) → test x x ≡ true) → (o : Option X) → option_eq test o o ≡ true
@@ -87,7 +89,7 @@ record-itself current = λ i.
     (nat_list_eq_equiv.refl current.version i && (nat_list_eq_equiv.refl current.priority i
     && (nat_list_eq_equiv.refl current.section i && ((booleans_Decides current.earlier current.earlier).1 refl i && number-itself current.number i))))
     && ((number-itself (code_of current.state) i && (option-itself bytes_eq nat_list_eq_equiv.refl current.holder i
-    && option-itself nat_eq number-itself current.take i))
+    && (option-itself nat_eq number-itself current.take i && (signed_Decides current.build_priority current.build_priority).1 refl i)))
     && (nat_list_eq_equiv.refl current.waits i && (option-itself bytes_eq nat_list_eq_equiv.refl current.depends i
     && (nat_list_eq_equiv.refl current.note i && nat_list_eq_equiv.refl current.message i))))
 

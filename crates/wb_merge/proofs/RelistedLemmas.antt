@@ -70,6 +70,7 @@ relisted-well source state number listed built current good small fields note st
       waits = fields.waits;
       depends = good.depends;
       message = fields.message;
+      build_priority = fields.build_priority;
     })
     (kept-note state current note)
     (record { held = stands.held; taken = stands.taken; waiting = stands.waiting }) in
@@ -84,6 +85,7 @@ relisted-well source state number listed built current good small fields note st
       depends = well.depends;
       note = well.note;
       message = well.message;
+      build_priority = well.build_priority;
     }
 
 new-well : (source : List ℕ) (listed : Listed) (built : Option Built) → IsGoodListed source listed → IfSome built IsSmallBuilt → IsWellFormed (new_record listed built)
@@ -100,6 +102,7 @@ new-well source listed built good small =
       waits = empty_within relations_limit;
       depends = tt;
       message = empty_within note_limit;
+      build_priority = refl;
     })
     (empty_within note_limit)
     (new-chosen (MayStand blank) listed built (stands-free blank Installed refl refl) (stands-free blank NeedsBuild refl refl))
@@ -119,6 +122,7 @@ newer-well source listed built current good small old =
       waits = old.waits;
       depends = old.depends;
       message = empty_within note_limit;
+      build_priority = old.build_priority;
     })
     old.note
     (newer-chosen (MayStand bare) listed built current (stands-free bare NotForUs refl refl) (stands-free bare Installed refl refl) (stands-free bare NeedsBuild refl refl))

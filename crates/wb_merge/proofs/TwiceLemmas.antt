@@ -10,7 +10,7 @@ use Rattle.deb_version.specs.OrderLaws.{version_cmp_total}
 use Rattle.deb_relations.specs.Satisfaction.{Pairs}
 use Rattle.wb_states.specs.declared.record.Record.{Record}
 use Rattle.wb_states.specs.declared.state.State.{State}
-use Rattle.wb_states.specs.declared.state.State.TheVariants.{NeedsBuild, Building, Built as IsBuilt, Uploaded, Installed, DepWait, BdUninstallable, Failed, NotForUs}
+use Rattle.wb_states.specs.declared.state.State.TheVariants.{NeedsBuild, Building, Built as IsBuilt, Uploaded, Installed, DepWait, BdUninstallable, Failed, NotForUs, BuildAttempted}
 use Rattle.wb_states.specs.State.{is_dep_wait, is_installed, is_not_for_us}
 use Rattle.deb_text.proofs.KeyLemmas.{pair_cmp_total, pair_cmp-same}
 use Rattle.wb_merge.specs.declared.listing.Listed.{Listed}
@@ -52,6 +52,8 @@ relisted-twice Failed number listed built current =
     ap (with_earlier (relisted Failed number listed built current)) (or-twice current.earlier (is_some built || false))
 relisted-twice NotForUs number listed built current =
     ap (with_earlier (relisted NotForUs number listed built current)) (or-twice current.earlier (is_some built || false))
+relisted-twice BuildAttempted number listed built current =
+    ap (with_earlier (relisted BuildAttempted number listed built current)) (or-twice current.earlier (is_some built || false))
 
 -- ---- what is covered stays covered
 
@@ -130,6 +132,8 @@ module _ (built : Option Built) (available : Pairs) (version : List ℕ) where
   state-twice BdUninstallable number waits false is_met e f = open_state BdUninstallable number e
   state-twice Failed number waits true is_met e f = covered_state number e
   state-twice Failed number waits false is_met e f = open_state Failed number e
+  state-twice BuildAttempted number waits true is_met e f = covered_state number e
+  state-twice BuildAttempted number waits false is_met e f = open_state BuildAttempted number e
 
   covered_number : (number : ℕ) → covers built version number ≡ true
       → cond (covers built version (built_number built version number)) (built_number built version (built_number built version number)) (built_number built version number)
@@ -163,6 +167,8 @@ module _ (built : Option Built) (available : Pairs) (version : List ℕ) where
   numbers-twice BdUninstallable number false is_met e = open_number number e
   numbers-twice Failed number true is_met e = covered_number number e
   numbers-twice Failed number false is_met e = open_number number e
+  numbers-twice BuildAttempted number true is_met e = covered_number number e
+  numbers-twice BuildAttempted number false is_met e = open_number number e
 
 -- ---- a record after a merge
 

@@ -1,5 +1,5 @@
 -- What a merge makes of the record of one source package, case by case (this project's own, in wanna-build's terms).
-use Rattle.std.specs.Prelude.{◌≡◌, ℕ, Bool, true, false, ◌||◌, nat_le, List, [], Option, Some, None, Result, Ok, Err, is_some, if◌then◌else◌}
+use Rattle.std.specs.Prelude.{◌≡◌, ℕ, pos, Bool, true, false, ◌||◌, nat_le, List, [], Option, Some, None, Result, Ok, Err, is_some, if◌then◌else◌}
 use Rattle.std.specs.Ordering.{match_ordering}
 use Rattle.deb_version.specs.Order.{version_cmp}
 use Rattle.deb_relations.specs.declared.fault.RelationFault.{RelationFault}
@@ -61,6 +61,7 @@ blank_record version = record {
   depends = None;
   note = [];
   message = [];
+  build_priority = pos 0;
 }
 
 -- the state of a new record: Installed where the version is built, else Needs-Build
@@ -86,7 +87,7 @@ newer_state listed built current = if is_not_for_us current.state then NotForUs 
 abbrev pub newer_number : Listed → Option Built → Record → ℕ
 newer_number listed built current = if is_not_for_us current.state then 0 else new_number listed built
 
--- the record at a later version, without its message, its holder and its take number
+-- the record at a later version, without its message, its holder and its take number; its build priority stays
 unfoldable pub newer_record : Listed → Option Built → Record → Record
 newer_record listed built current =
     relisted (newer_state listed built current) (newer_number listed built current) listed built

@@ -1,6 +1,7 @@
 -- The records after a merge of one architecture, at each key, and what it counts (this project's own).
 use Rattle.std.specs.Prelude.{◌≡◌, ℕ, Bool, true, false, not, ◌&&◌, nat_eq, List, ◌++◌, length, filter, map, bytes_eq, Option, Some, None, if◌then◌else◌}
 use Rattle.std.specs.Bool.{beq}
+use Rattle.std.specs.Ordering.{int_eq}
 use Rattle.std.specs.Option.{option_eq}
 use Rattle.std.specs.FinMap as finite
 use Rattle.wb_states.specs.declared.record.Record.{Record}
@@ -46,11 +47,11 @@ has_same_source one other =
     bytes_eq one.version other.version && (bytes_eq one.priority other.priority
     && (bytes_eq one.section other.section && (beq one.earlier other.earlier && nat_eq one.number other.number)))
 
--- whether the fields that say where it stands are equal
+-- whether the fields that say where it stands, who holds it and how soon it is built are equal
 unfoldable pub has_same_place : Record → Record → Bool
 has_same_place one other =
     nat_eq (code_of one.state) (code_of other.state) && (option_eq bytes_eq one.holder other.holder
-    && option_eq nat_eq one.take other.take)
+    && (option_eq nat_eq one.take other.take && int_eq one.build_priority other.build_priority))
 
 -- whether the texts of relations, notes and messages are equal
 unfoldable pub has_same_texts : Record → Record → Bool

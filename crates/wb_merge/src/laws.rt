@@ -1,5 +1,5 @@
 //! Laws of the listing and of the merge, each on a function that does nothing.
-ghost use Rattle.std.specs.Prelude.{◌≡◌, ◌≢◌, ℕ, ◌+◌, ◌≤◌, List, ◌++◌, length, codes, Option, Some, None, Ok, Err, ◌↔◌, ◌⊎◌, IsTrue, true, false};
+ghost use Rattle.std.specs.Prelude.{◌≡◌, ◌≢◌, ℕ, pos, ◌+◌, ◌≤◌, List, ◌++◌, length, codes, Option, Some, None, Ok, Err, ◌↔◌, ◌⊎◌, IsTrue, true, false};
 ghost use Rattle.std.specs.List.{list_all};
 ghost use Rattle.std.specs.Char.{is_ascii_digit};
 ghost use Rattle.std.specs.declared.cmp.Ordering.TheVariants.{Less, Equal};
@@ -139,6 +139,17 @@ pub fn merges_never_go_back()
         → key.0 ≡ arch → map.get listing.listed key.1 ≡ Some listed
         → ends_hold listed (map.get listing.built key.1) current ≡ true
         → is_held new.state ≡ false }
+{}
+
+/// A merge leaves each record the build priority that an operator gave it, also at a later version, and a record
+/// that was not there before has build priority 0 (this project's own).
+pub fn merges_keep_build_priorities()
+    ensures stays { (old : Records) (arch : List ℕ) (listing : ArchiveListing) (key : Key)
+        (current new : Record) → BecomesAt old arch listing key current new
+        → new.build_priority ≡ current.build_priority }
+    ensures starts { (old : Records) (arch : List ℕ) (listing : ArchiveListing) (key : Key) (new : Record)
+        → map.get old key ≡ None → map.get (merged old arch listing) key ≡ Some new
+        → new.build_priority ≡ pos 0 }
 {}
 
 /// The number of a binary-only rebuild is read back from the version that its binaries are given, and so

@@ -36,7 +36,9 @@ fn has_same_source(one: &Record, other: &Record) -> bool
 fn has_same_place(one: &Record, other: &Record) -> bool
     ensures { result ≡ has_same_place one.now other.now }
 {
-    one.state == other.state && (one.holder == other.holder && one.take == other.take)
+    one.state == other.state
+        && (one.holder == other.holder
+            && (one.take == other.take && one.build_priority == other.build_priority))
 }
 
 #[tactic(auto, unfolding(crate::specs::Merged::has_same_texts))]
