@@ -93,8 +93,8 @@ fn copied(current: &Record) -> Result<Record, Refusal>
     Ok(current.clone()?)
 }
 
-/// A record of which nothing is known yet but its version: it waits for its first build. Takes no memory; the
-/// allocator is kept for its texts (this project's own).
+/// A record of which nothing is known yet but its version: it waits for its first build, with build priority 0.
+/// Takes no memory; the allocator is kept for its texts (this project's own).
 pub fn blank_record(alloc: Global, version: Version) -> Record
     ensures value { result ≡ blank_record version }
 {
@@ -265,7 +265,8 @@ fn listed_record(
 /// version than the record's, but Not-For-Us stays. A record of a later version than is listed stays as it
 /// is. Of one of an equal version Not-For-Us stays; it is Installed where it is built with at least its
 /// number, Needs-Build where it was Installed and is built no more or where all that it waits for is
-/// available, and else stays in its state. The cases are this project's own, in wanna-build's terms.
+/// available, and else stays in its state. A record that there was keeps its build priority, and a new one has
+/// 0. The cases are this project's own, in wanna-build's terms.
 pub fn after(
     alloc: Global,
     current: Option<&Record>,
