@@ -6,8 +6,8 @@ use Rattle.std.specs.Option.{option_or}
 use Rattle.clap.specs.Words.{Row, Text}
 use Rattle.wb_states.specs.Commands.{name_of_command}
 use Rattle.wb_states.specs.declared.command.Command.{Command}
-use Rattle.wb_words.specs.Arguments.{word_of, number_of, optional_number_of, subject_of}
-use Rattle.wb_words.specs.Words.{add_arch_of, add_builder_of, enter_of, give_back_of, dep_wait_of, fail_of, not_for_us_of, rebuild_of, next_of, take_of, built_of, uploaded_of, put_back_of, waits_of, operator_command, builder_command, command_named}
+use Rattle.wb_words.specs.Arguments.{word_of, number_of, integer_of, optional_number_of, subject_of}
+use Rattle.wb_words.specs.Words.{add_arch_of, add_builder_of, enter_of, give_back_of, dep_wait_of, fail_of, not_for_us_of, rebuild_of, build_priority_of, next_of, take_of, built_of, uploaded_of, put_back_of, waits_of, attempted_of, operator_command, builder_command, command_named}
 
 -- what may be there is a command of this name
 abbrev IsNamed : Text → Option Command → Type 0
@@ -63,6 +63,10 @@ rebuild_of-named : (rows : List Row) → IsNamed (codes "rebuild") (rebuild_of r
 unfolding rebuild_of
 rebuild_of-named rows = behind-named _ _ (λ _. mapped-named _ _ (λ _. refl) (number_of (codes "number") rows)) (subject_of rows)
 
+build_priority_of-named : (rows : List Row) → IsNamed (codes "build-priority") (build_priority_of rows)
+unfolding build_priority_of
+build_priority_of-named rows = behind-named _ _ (λ _. mapped-named _ _ (λ _. refl) (integer_of (codes "value") rows)) (subject_of rows)
+
 next_of-named : (rows : List Row) → IsNamed (codes "next") (next_of rows)
 unfolding next_of
 next_of-named rows = behind-named _ _ (λ _. behind-named _ _ (λ _. mapped-named _ _ (λ _. refl) (optional_number_of (codes "after") rows)) (word_of (codes "builder") rows)) (word_of (codes "arch") rows)
@@ -87,6 +91,10 @@ waits_of-named : (rows : List Row) → IsNamed (codes "waits") (waits_of rows)
 unfolding waits_of
 waits_of-named rows = mapped-named _ _ (λ _. refl) (number_of (codes "take") rows)
 
+attempted_of-named : (rows : List Row) → IsNamed (codes "attempted") (attempted_of rows)
+unfolding attempted_of
+attempted_of-named rows = mapped-named _ _ (λ _. refl) (number_of (codes "take") rows)
+
 operator-named : (name : Text) (rows : List Row) (command : Command) → operator_command name rows ≡ Some command → name ≡ name_of_command command
 unfolding operator_command
 operator-named name rows = ask-named name (codes "add-arch") (add_arch_of rows) _ (add_arch_of-named rows)
@@ -97,7 +105,8 @@ operator-named name rows = ask-named name (codes "add-arch") (add_arch_of rows) 
     (ask-named name (codes "fail") (fail_of rows) _ (fail_of-named rows)
     (ask-named name (codes "not-for-us") (not_for_us_of rows) _ (not_for_us_of-named rows)
     (ask-named name (codes "rebuild") (rebuild_of rows) _ (rebuild_of-named rows)
-    (λ command e. absurd (none-some command e)))))))))
+    (ask-named name (codes "build-priority") (build_priority_of rows) _ (build_priority_of-named rows)
+    (λ command e. absurd (none-some command e))))))))))
 
 builder-named : (name : Text) (rows : List Row) (command : Command) → builder_command name rows ≡ Some command → name ≡ name_of_command command
 unfolding builder_command
@@ -107,7 +116,8 @@ builder-named name rows = ask-named name (codes "next") (next_of rows) _ (next_o
     (ask-named name (codes "uploaded") (uploaded_of rows) _ (uploaded_of-named rows)
     (ask-named name (codes "put-back") (put_back_of rows) _ (put_back_of-named rows)
     (ask-named name (codes "waits") (waits_of rows) _ (waits_of-named rows)
-    (λ command e. absurd (none-some command e)))))))
+    (ask-named name (codes "attempted") (attempted_of rows) _ (attempted_of-named rows)
+    (λ command e. absurd (none-some command e))))))))
 
 -- one of two
 either-named : (name : Text) (found others : Option Command)

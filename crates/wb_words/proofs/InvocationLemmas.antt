@@ -14,7 +14,7 @@ builder-invocation command None = refl
 builder-invocation command (Some n) = refl
 
 -- an operator's command is asked for where there is one
-pub operator-invocation : (command : ℕ → Command) (number : Option ℕ)
+pub operator-invocation : {N : Type 0} (command : N → Command) (number : Option N)
     → or_asked (option_or (option_map command number) None) None ≡ option_map (λ n. invocation.Command (command n)) number
 operator-invocation command None = refl
 operator-invocation command (Some n) = refl

@@ -1,10 +1,10 @@
 -- What the arguments of a subcommand are, by the rows that `clap` found (this project's own).
-use Rattle.std.specs.Prelude.{ℕ, ◌==◌, Bool, List, [], Option, Some, None, codes}
+use Rattle.std.specs.Prelude.{ℕ, ◌==◌, ℤ, pos, neg_ℤ, Bool, List, [], Option, Some, None, codes}
 use Rattle.std.specs.Prelude.{if◌then◌else◌, length, nat_lt, option_and_then, option_map, unwrap_or}
 use Rattle.std.specs.List.{after_first, before_first, join_by, position_or_len}
-use Rattle.std.specs.Str.Parse.{digits_value, without_leading_plus}
+use Rattle.std.specs.Str.Parse.{digits_value, signed_digits_value, without_leading_plus}
 use Rattle.clap.specs.Words.{Row, Text, all_of, first_of}
-use Rattle.clap.specs.ValueTests.{is_unsigned_in}
+use Rattle.clap.specs.ValueTests.{is_signed_in, is_unsigned_in}
 use Rattle.deb_text.specs.Options.{all_some}
 use Rattle.wb_words.specs.declared.argument.Subject.{Subject}
 use Rattle.wb_words.specs.declared.words.PartNames.{PartNames}
@@ -48,6 +48,23 @@ number_if (Some text) = option_map (λ number. Some number) (number_in text)
 -- the number that may be left out, as it was given for an argument
 unfoldable pub optional_number_of : Text → List Row → Option (Option ℕ)
 optional_number_of id rows = number_if (word_of id rows)
+
+-- the least integer that is read, -2^63
+abbrev pub least_integer : ℤ
+least_integer = neg_ℤ (pos 9223372036854775808)
+
+-- the greatest integer that is read, 2^63 - 1
+abbrev pub greatest_integer : ℤ
+greatest_integer = pos 9223372036854775807
+
+-- the integer that a text writes in decimal digits, one plus or minus sign before them allowed
+unfoldable pub integer_in : Text → Option ℤ
+integer_in text = if is_signed_in least_integer greatest_integer text
+    then Some (signed_digits_value 10 text) else None
+
+-- the integer that was given for an argument
+unfoldable pub integer_of : Text → List Row → Option ℤ
+integer_of id rows = option_and_then integer_in (word_of id rows)
 
 -- the source package that the arguments name
 unfoldable pub subject_of : List Row → Option Subject

@@ -48,6 +48,7 @@ operator_usages = (codes "add-arch", word_arguments (codes "name" ∷ codes "os"
     ∷ (codes "fail", subject ++ (codes "note", AnyWords) ∷ [])
     ∷ (codes "not-for-us", subject ++ (codes "note", AnyWords) ∷ [])
     ∷ (codes "rebuild", subject ++ (codes "number", Word) ∷ (codes "message", AnyWords) ∷ [])
+    ∷ (codes "build-priority", subject ++ word_arguments (codes "value" ∷ []))
     ∷ []
 
 -- the subcommands of builders
@@ -58,6 +59,7 @@ builder_usages = (codes "next", arch_and_builder ++ (codes "after", NamedWord) �
     ∷ (codes "uploaded", word_arguments (codes "take" ∷ []))
     ∷ (codes "put-back", word_arguments (codes "take" ∷ []))
     ∷ (codes "waits", (codes "take", Word) ∷ (codes "relations", SomeWords) ∷ [])
+    ∷ (codes "attempted", (codes "take", Word) ∷ (codes "reason", AnyWords) ∷ [])
     ∷ []
 
 -- the subcommands that read lists of the archive

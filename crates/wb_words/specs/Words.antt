@@ -6,10 +6,11 @@ use Rattle.std.specs.Option.{option_or}
 use Rattle.std.specs.Str.{bytes_eq}
 use Rattle.clap.specs.Words.{Kinds, Row, Text, fault_of, subcommand_of}
 use Rattle.wb_states.specs.declared.command.Command.{Command}
-use Rattle.wb_states.specs.Forms.{AddArch, AddBuilder, Built, DepWait}
+use Rattle.wb_states.specs.Forms.{AddArch, AddBuilder, Attempted, BuildPriority, Built, DepWait}
 use Rattle.wb_states.specs.Forms.{Enter, Fail, GiveBack, Next, NotForUs}
 use Rattle.wb_states.specs.Forms.{PutBack, Rebuild, Take, Uploaded, Waits}
-use Rattle.wb_words.specs.Arguments.{number_of, optional_number_of, parts_of, subject_of, word_of, words_of}
+use Rattle.wb_words.specs.Arguments.{integer_of, number_of, optional_number_of, parts_of, subject_of, word_of}
+use Rattle.wb_words.specs.Arguments.{words_of}
 use Rattle.wb_words.specs.Usages.{wb_app}
 use Rattle.wb_words.specs.declared.words.Invocation.{Invocation}
 use Rattle.wb_words.specs.declared.words.Invocation.TheVariants as invocation
@@ -59,6 +60,12 @@ rebuild_of rows = option_and_then (λ subject. option_map (λ number.
     Rebuild subject.arch subject.source subject.version number
     (words_of (codes "message") rows)) (number_of (codes "number") rows)) (subject_of rows)
 
+-- to give a source package another build priority
+unfoldable pub build_priority_of : List Row → Option Command
+build_priority_of rows = option_and_then (λ subject. option_map (λ value.
+    BuildPriority subject.arch subject.source subject.version value)
+    (integer_of (codes "value") rows)) (subject_of rows)
+
 -- the operator's command of this name with these arguments
 unfoldable pub operator_command : Text → List Row → Option Command
 operator_command name rows = if bytes_eq name (codes "add-arch") then add_arch_of rows
@@ -68,7 +75,8 @@ operator_command name rows = if bytes_eq name (codes "add-arch") then add_arch_o
     else (if bytes_eq name (codes "dep-wait") then dep_wait_of rows
     else (if bytes_eq name (codes "fail") then fail_of rows
     else (if bytes_eq name (codes "not-for-us") then not_for_us_of rows
-    else (if bytes_eq name (codes "rebuild") then rebuild_of rows else None)))))))
+    else (if bytes_eq name (codes "rebuild") then rebuild_of rows
+    else (if bytes_eq name (codes "build-priority") then build_priority_of rows else None))))))))
 
 -- ---- the commands of builders
 
@@ -102,6 +110,11 @@ unfoldable pub waits_of : List Row → Option Command
 waits_of rows = option_map (λ take_number. Waits take_number (words_of (codes "relations") rows))
     (number_of (codes "take") rows)
 
+-- to report a failed build
+unfoldable pub attempted_of : List Row → Option Command
+attempted_of rows = option_map (λ take_number. Attempted take_number (words_of (codes "reason") rows))
+    (number_of (codes "take") rows)
+
 -- the builder's command of this name with these arguments
 unfoldable pub builder_command : Text → List Row → Option Command
 builder_command name rows = if bytes_eq name (codes "next") then next_of rows
@@ -109,7 +122,8 @@ builder_command name rows = if bytes_eq name (codes "next") then next_of rows
     else (if bytes_eq name (codes "built") then built_of rows
     else (if bytes_eq name (codes "uploaded") then uploaded_of rows
     else (if bytes_eq name (codes "put-back") then put_back_of rows
-    else (if bytes_eq name (codes "waits") then waits_of rows else None)))))
+    else (if bytes_eq name (codes "waits") then waits_of rows
+    else (if bytes_eq name (codes "attempted") then attempted_of rows else None))))))
 
 -- ---- what reads lists
 

@@ -1,8 +1,8 @@
 //! The arguments of a subcommand, one by one.
 ghost use Rattle.std.specs.Prelude.{◌≡◌, map, IfErr, IfOk};
 ghost use Rattle.clap.specs.Words.{found_of, rows_of};
-ghost use Rattle.wb_words.specs.Arguments.{joined, number_in, number_of, optional_number_of, subject_of};
-ghost use Rattle.wb_words.specs.Arguments.{word_of, words_of};
+ghost use Rattle.wb_words.specs.Arguments.{integer_in, integer_of, joined, number_in, number_of};
+ghost use Rattle.wb_words.specs.Arguments.{optional_number_of, subject_of, word_of, words_of};
 ghost use Rattle.wb_words.specs.Faults.{Reads};
 ghost use Rattle.wb_words.specs.declared.fault.WordsFault.TheVariants.{NoCommand};
 
@@ -85,6 +85,24 @@ pub(crate) fn optional_number(
         Some(word) => Ok(Some(number_in(word).ok_or(WordsFault::NoCommand)?)),
         None => Ok(None),
     }
+}
+
+/// The integer from -2^63 to 2^63 - 1 that the text writes in decimal digits, leading zeros and one
+/// plus or minus sign before them allowed; `None` for any other text.
+fn integer_in(text: &str) -> Option<i64>
+    ensures value { result ≡ integer_in text.now }
+{
+    text.parse::<i64>().ok()
+}
+
+/// The integer that was given for the argument `id`. The error is `NoCommand` if no integer was given.
+#[tactic(auto, using(crate::proofs::RowLemmas::row_laws), unfolding(crate::specs::Arguments::word_of, crate::specs::Arguments::integer_of))]
+pub(crate) fn integer(arguments: &ArgMatches<'_>, id: &str) -> Result<i64, WordsFault>
+    ensures value { Reads (integer_of id.now (rows_of (found_of arguments.now))) result }
+    ensures memory { IfErr result (λ fault. fault ≡ NoCommand) }
+{
+    let word = arguments.get_str(id).ok_or(WordsFault::NoCommand)?;
+    integer_in(word).ok_or(WordsFault::NoCommand)
 }
 
 /// The source package that the arguments `arch`, `source` and `version` name. The errors are

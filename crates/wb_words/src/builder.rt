@@ -1,8 +1,8 @@
 //! The subcommands of builders.
 ghost use Rattle.clap.specs.Words.{found_of, rows_of};
 ghost use Rattle.wb_words.specs.Faults.{Reads};
-ghost use Rattle.wb_words.specs.Words.{builder_command, built_of, next_of, put_back_of, take_of};
-ghost use Rattle.wb_words.specs.Words.{uploaded_of, waits_of};
+ghost use Rattle.wb_words.specs.Words.{attempted_of, builder_command, built_of, next_of, put_back_of};
+ghost use Rattle.wb_words.specs.Words.{take_of, uploaded_of, waits_of};
 
 use crate::WordsFault;
 use crate::argument::{number, optional_number, read_subject, word, words};
@@ -12,7 +12,7 @@ use std::alloc::Global;
 use wb_states::{Command, command};
 
 /// The subcommands with their arguments.
-pub static USAGES: [(&str, &[(&str, ArgumentKind)]); 6] = [
+pub static USAGES: [(&str, &[(&str, ArgumentKind)]); 7] = [
     (
         "next",
         &[
@@ -40,6 +40,13 @@ pub static USAGES: [(&str, &[(&str, ArgumentKind)]); 6] = [
             ("relations", ArgumentKind::SomeWords),
         ],
     ),
+    (
+        "attempted",
+        &[
+            ("take", ArgumentKind::Word),
+            ("reason", ArgumentKind::AnyWords),
+        ],
+    ),
 ];
 
 /// The builder's command `name` with these arguments. The errors are `NoCommand` if `name` is no
@@ -60,6 +67,7 @@ pub(crate) fn builder_command(
         "uploaded" => uploaded(arguments),
         "put-back" => put_back(arguments),
         "waits" => waits(alloc, arguments),
+        "attempted" => attempted(alloc, arguments),
         _ => Err(WordsFault::NoCommand),
     }
 }
@@ -119,5 +127,15 @@ fn waits(alloc: Global, arguments: &ArgMatches<'_>) -> Result<Command, WordsFaul
     Ok(Command::Waits(command::Waits {
         take_number: number(arguments, "take")?,
         relations: words(alloc, arguments, "relations")?,
+    }))
+}
+
+#[tactic(auto, unfolding(crate::specs::Words::attempted_of))]
+fn attempted(alloc: Global, arguments: &ArgMatches<'_>) -> Result<Command, WordsFault>
+    ensures value { Reads (attempted_of (rows_of (found_of arguments.now))) result }
+{
+    Ok(Command::Attempted(command::Attempted {
+        take_number: number(arguments, "take")?,
+        reason: words(alloc, arguments, "reason")?,
     }))
 }

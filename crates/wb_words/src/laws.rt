@@ -1,16 +1,16 @@
 //! What lines ask for and what the program is started for, by examples. The functions run nothing:
 //! their contracts are proved.
-ghost use Rattle.std.specs.Prelude.{◌≡◌, ◌∷◌, ◌++◌, [], ℕ, List, None, Some, codes};
+ghost use Rattle.std.specs.Prelude.{◌≡◌, ◌∷◌, ◌++◌, [], ℕ, pos, neg_ℤ, List, None, Some, codes};
 ghost use Rattle.std.specs.Prelude.{option_map};
 ghost use Rattle.clap.specs.Words.{Row, Text};
 ghost use Rattle.wb_states.specs.Commands.{name_of_command};
 ghost use Rattle.wb_states.specs.declared.command.Command.{Command as AnyCommand};
-ghost use Rattle.wb_states.specs.Forms.{AddArch, AddBuilder, Built};
+ghost use Rattle.wb_states.specs.Forms.{AddArch, AddBuilder, Attempted, BuildPriority, Built};
 ghost use Rattle.wb_states.specs.Forms.{DepWait, Enter, Fail};
 ghost use Rattle.wb_states.specs.Forms.{GiveBack, Next, NotForUs};
 ghost use Rattle.wb_states.specs.Forms.{PutBack, Rebuild, Take};
 ghost use Rattle.wb_states.specs.Forms.{Uploaded, Waits};
-ghost use Rattle.wb_words.specs.Arguments.{joined, number_in, parts_in};
+ghost use Rattle.wb_words.specs.Arguments.{integer_in, joined, number_in, parts_in};
 ghost use Rattle.wb_words.specs.Start.{IsNoStart, Starts};
 ghost use Rattle.wb_words.specs.Usages.{usage_named, wb_usages};
 ghost use Rattle.wb_words.specs.Words.{command_named, invocation_by, invocation_in};
@@ -39,6 +39,8 @@ pub fn operator_lines_are_commands()
         ≡ Some (Command (NotForUs (codes "amd64") (codes "hello") (codes "1.0-1") [])) }
     ensures rebuild { invocation_by (codes "rebuild amd64 hello 1.0-1 2")
         ≡ Some (Command (Rebuild (codes "amd64") (codes "hello") (codes "1.0-1") 2 [])) }
+    ensures build_priority { invocation_by (codes "build-priority amd64 hello 1.0-1 5")
+        ≡ Some (Command (BuildPriority (codes "amd64") (codes "hello") (codes "1.0-1") (pos 5))) }
 {}
 
 /// Each subcommand of builders with its arguments is a command.
@@ -54,6 +56,8 @@ pub fn builder_lines_are_commands()
     ensures put_back { invocation_by (codes "put-back 1") ≡ Some (Command (PutBack 1)) }
     ensures waits { invocation_by (codes "waits 1 libc6")
         ≡ Some (Command (Waits 1 (codes "libc6"))) }
+    ensures attempted { invocation_by (codes "attempted 1")
+        ≡ Some (Command (Attempted 1 [])) }
 {}
 
 /// A merge names the file of the Sources list, and then parts. Each part is cut at its first `=`. Its
@@ -83,6 +87,8 @@ pub fn last_words_are_joined()
         ≡ Some (Command (NotForUs (codes "a") (codes "s") (codes "v") (codes "-x"))) }
     ensures message { invocation_by (codes "rebuild a s v 1 help - me")
         ≡ Some (Command (Rebuild (codes "a") (codes "s") (codes "v") 1 (codes "help - me"))) }
+    ensures reason { invocation_by (codes "attempted 1 no -- -lm found")
+        ≡ Some (Command (Attempted 1 (codes "no -lm found"))) }
 {}
 
 /// The option `--after` may be anywhere before `--`. Its number comes after a space or `=`.
@@ -111,6 +117,36 @@ pub fn numbers_are_read()
     ensures negative { invocation_by (codes "built -- -1") ≡ None }
     ensures number { invocation_by (codes "rebuild a s v 1x") ≡ None }
     ensures after { invocation_by (codes "next a b --after=") ≡ None }
+    ensures attempted { invocation_by (codes "attempted no 1") ≡ None }
+{}
+
+/// Build priorities are read with a plus or a minus sign and leading zeros, from -2^63 to 2^63 - 1, and
+/// no others are. One with a minus sign comes after `--`: before it that word is an option.
+pub fn integers_are_read()
+    // integers
+    ensures plus { invocation_by (codes "build-priority a s v +7")
+        ≡ Some (Command (BuildPriority (codes "a") (codes "s") (codes "v") (pos 7))) }
+    ensures zeros { invocation_by (codes "build-priority a s v 007")
+        ≡ Some (Command (BuildPriority (codes "a") (codes "s") (codes "v") (pos 7))) }
+    ensures minus { invocation_by (codes "build-priority a s v -- -5")
+        ≡ Some (Command (BuildPriority (codes "a") (codes "s") (codes "v") (neg_ℤ (pos 5)))) }
+    ensures nought { invocation_by (codes "build-priority a s v -- -0")
+        ≡ Some (Command (BuildPriority (codes "a") (codes "s") (codes "v") (pos 0))) }
+    ensures greatest { invocation_by (codes "build-priority a s v 9223372036854775807")
+        ≡ Some (Command (BuildPriority (codes "a") (codes "s") (codes "v") (pos 9223372036854775807))) }
+    ensures least { invocation_by (codes "build-priority a s v -- -9223372036854775808")
+        ≡ Some (Command (BuildPriority (codes "a") (codes "s") (codes "v")
+        (neg_ℤ (pos 9223372036854775808)))) }
+    // other words
+    ensures too_great { invocation_by (codes "build-priority a s v 9223372036854775808") ≡ None }
+    ensures too_small { invocation_by (codes "build-priority a s v -- -9223372036854775809") ≡ None }
+    ensures option { invocation_by (codes "build-priority a s v -5") ≡ None }
+    ensures signs { invocation_by (codes "build-priority a s v -- +-5") ≡ None }
+    ensures lone_sign { invocation_by (codes "build-priority a s v -") ≡ None }
+    ensures number { invocation_by (codes "build-priority a s v 5x") ≡ None }
+    // the arguments
+    ensures missing { invocation_by (codes "build-priority a s v") ≡ None }
+    ensures many { invocation_by (codes "build-priority a s v 5 6") ≡ None }
 {}
 
 /// After `--` each word is an argument, whatever its bytes are, and so is what comes after `--after=`:
@@ -139,6 +175,9 @@ pub fn any_words_are_arguments()
         → invocation_in (codes "rebuild" ∷ codes "--" ∷ arch ∷ source ∷ version ∷ number ∷ first
         ∷ second ∷ []) ≡ option_map (λ n. Command (Rebuild arch source version n
         (joined (first ∷ second ∷ [])))) (number_in number) }
+    ensures build_priority { (arch source version value : List ℕ)
+        → invocation_in (codes "build-priority" ∷ codes "--" ∷ arch ∷ source ∷ version ∷ value ∷ [])
+        ≡ option_map (λ n. Command (BuildPriority arch source version n)) (integer_in value) }
     // of builders
     ensures next { (arch builder : List ℕ) → invocation_in (codes "next" ∷ codes "--" ∷ arch ∷ builder
         ∷ []) ≡ Some (Command (Next arch builder None)) }
@@ -157,6 +196,10 @@ pub fn any_words_are_arguments()
     ensures waits { (take_number first second : List ℕ) → invocation_in (codes "waits" ∷ codes "--"
         ∷ take_number ∷ first ∷ second ∷ [])
         ≡ option_map (λ n. Command (Waits n (joined (first ∷ second ∷ []))))
+        (number_in take_number) }
+    ensures attempted { (take_number first second : List ℕ) → invocation_in (codes "attempted"
+        ∷ codes "--" ∷ take_number ∷ first ∷ second ∷ [])
+        ≡ option_map (λ n. Command (Attempted n (joined (first ∷ second ∷ []))))
         (number_in take_number) }
     // of lists
     ensures merge { (sources first second : List ℕ) → invocation_in (codes "merge" ∷ codes "--"
@@ -186,12 +229,13 @@ pub fn other_names_are_none()
         → invocation_in (name ∷ others) ≡ None }
 {}
 
-/// These words ask for nothing: `waits` without relations, an option in a note, a merge without a part,
-/// a part without `=`, and an option `--after` that comes twice or has no number.
+/// These words ask for nothing: `waits` without relations, an option in a note or a reason, a merge
+/// without a part, a part without `=`, and an option `--after` that comes twice or has no number.
 pub fn other_arguments_are_none()
     // the last words
     ensures relations { invocation_by (codes "waits 1") ≡ None }
     ensures note { invocation_by (codes "fail a s v a -h") ≡ None }
+    ensures reason { invocation_by (codes "attempted 1 a -h") ≡ None }
     ensures no_part { invocation_by (codes "merge S") ≡ None }
     ensures part { invocation_by (codes "merge S a=P b") ≡ None }
     // the option

@@ -1,18 +1,19 @@
 //! The subcommands of operators.
 ghost use Rattle.clap.specs.Words.{found_of, rows_of};
 ghost use Rattle.wb_words.specs.Faults.{Reads};
-ghost use Rattle.wb_words.specs.Words.{add_arch_of, add_builder_of, dep_wait_of, enter_of, fail_of};
-ghost use Rattle.wb_words.specs.Words.{give_back_of, not_for_us_of, operator_command, rebuild_of};
+ghost use Rattle.wb_words.specs.Words.{add_arch_of, add_builder_of, build_priority_of, dep_wait_of};
+ghost use Rattle.wb_words.specs.Words.{enter_of, fail_of, give_back_of, not_for_us_of};
+ghost use Rattle.wb_words.specs.Words.{operator_command, rebuild_of};
 
 use crate::WordsFault;
-use crate::argument::{number, read_subject, word, words};
+use crate::argument::{integer, number, read_subject, word, words};
 use crate::usage::ArgumentKind;
 use clap::ArgMatches;
 use std::alloc::Global;
 use wb_states::{Command, command};
 
 /// The subcommands with their arguments.
-pub static USAGES: [(&str, &[(&str, ArgumentKind)]); 8] = [
+pub static USAGES: [(&str, &[(&str, ArgumentKind)]); 9] = [
     (
         "add-arch",
         &[
@@ -80,11 +81,20 @@ pub static USAGES: [(&str, &[(&str, ArgumentKind)]); 8] = [
             ("message", ArgumentKind::AnyWords),
         ],
     ),
+    (
+        "build-priority",
+        &[
+            ("arch", ArgumentKind::Word),
+            ("source", ArgumentKind::Word),
+            ("version", ArgumentKind::Word),
+            ("value", ArgumentKind::Word),
+        ],
+    ),
 ];
 
 /// The operator's command `name` with these arguments. The errors are `NoCommand` if `name` is no
-/// subcommand of operators, an argument was not given, or the number of a rebuild is no number; and
-/// `Memory` if there is no memory for its texts.
+/// subcommand of operators, an argument was not given, the number of a rebuild is no number, or the
+/// value of a build priority is no integer; and `Memory` if there is no memory for its texts.
 #[tactic(auto, unfolding(crate::specs::Words::operator_command))]
 pub(crate) fn operator_command(
     alloc: Global,
@@ -102,6 +112,7 @@ pub(crate) fn operator_command(
         "fail" => fail(alloc, arguments),
         "not-for-us" => not_for_us(alloc, arguments),
         "rebuild" => rebuild(alloc, arguments),
+        "build-priority" => build_priority(alloc, arguments),
         _ => Err(WordsFault::NoCommand),
     }
 }
@@ -203,5 +214,18 @@ fn rebuild(alloc: Global, arguments: &ArgMatches<'_>) -> Result<Command, WordsFa
         version: subject.version,
         number: number(arguments, "number")?,
         message: words(alloc, arguments, "message")?,
+    }))
+}
+
+#[tactic(auto, unfolding(crate::specs::Words::build_priority_of))]
+fn build_priority(alloc: Global, arguments: &ArgMatches<'_>) -> Result<Command, WordsFault>
+    ensures value { Reads (build_priority_of (rows_of (found_of arguments.now))) result }
+{
+    let subject = read_subject(alloc, arguments)?;
+    Ok(Command::BuildPriority(command::BuildPriority {
+        arch: subject.arch,
+        source: subject.source,
+        version: subject.version,
+        value: integer(arguments, "value")?,
     }))
 }

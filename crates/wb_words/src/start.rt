@@ -47,6 +47,8 @@ with one line of JSON. The commands are:
           Reports that the builder uploaded what it built
   waits TAKE RELATIONS..
           Reports that the source package waits for these relations
+  attempted TAKE [REASON..]
+          Reports that the builder's build failed
   put-back TAKE
           Puts the source package back into the queue
   give-back ARCH SOURCE VERSION
@@ -59,6 +61,9 @@ with one line of JSON. The commands are:
           Says that the source package is not built on this architecture
   rebuild ARCH SOURCE VERSION NUMBER [MESSAGE..]
           Builds an installed source package again, under this number
+  build-priority ARCH SOURCE VERSION VALUE
+          Gives a source package another build priority, from -1000 to 1000. The
+          greatest is built first. A negative VALUE comes after the word --
   merge SOURCESFILE PART..
           Brings the records in line with the lists of the archive. A PART is
           ARCH=PACKAGESFILE. Give one for each architecture

@@ -75,9 +75,10 @@ fn invocation_named(
 /// Each word is one argument, whatever bytes it has. One space joins the words of a last argument, but
 /// each part of a merge is an argument of its own. A word of two or more bytes that begins with a
 /// hyphen is an option, unless the word `--` came before it. The only option is `--after` of `next`.
-/// Numbers are whole, from 0 to 2^64 - 1, in decimal digits, after at most one plus sign. The errors
-/// are `NoCommand` if the words are no command, and `Memory`, which may come at any words. The grammar
-/// is this project's own.
+/// Numbers are whole, from 0 to 2^64 - 1, in decimal digits, after at most one plus sign. A build
+/// priority is from -2^63 to 2^63 - 1, after at most one plus or minus sign; one with a minus sign comes
+/// after `--`. The errors are `NoCommand` if the words are no command, and `Memory`, which may come at
+/// any words. The grammar is this project's own.
 pub fn invocation_of<'a>(alloc: Global, words: &'a [&'a str]) -> Result<Invocation, WordsFault>
     ensures value { IfOk result (λ invocation.
         invocation_in (map (λ word. word.now) words.entry.now) ≡ Some invocation) }

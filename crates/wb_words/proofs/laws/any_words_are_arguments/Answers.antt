@@ -1,7 +1,7 @@
 use Rattle.std.proofs.Common.{◌∷◌, [], refl}
 use Rattle.clap.proofs.OnLiterals.{clap_on_literals}
-use Rattle.wb_states.specs.Forms.{Built, PutBack, Rebuild, Uploaded, Waits}
-use Rattle.wb_words.specs.Arguments.{joined, number_in}
+use Rattle.wb_states.specs.Forms.{Attempted, BuildPriority, Built, PutBack, Rebuild, Uploaded, Waits}
+use Rattle.wb_words.specs.Arguments.{integer_in, joined, number_in}
 use Rattle.wb_words.proofs.InvocationLemmas.{operator-invocation, builder-invocation, next-invocation}
 use Rattle.wb_words.proofs.LiteralLemmas.{words_on_literals}
 use Rattle.wb_words.proofs.laws.any_words_are_arguments.Goals as goal
@@ -18,6 +18,8 @@ returns c = record {
   not_for_us = λ arch source version first second. refl;
   rebuild = λ arch source version number first second.
       operator-invocation (λ n. Rebuild arch source version n (joined (first ∷ second ∷ []))) (number_in number);
+  build_priority = λ arch source version value.
+      operator-invocation (λ n. BuildPriority arch source version n) (integer_in value);
   next = λ arch builder. refl;
   after = λ arch builder after. next-invocation arch builder (number_in after);
   take = λ arch builder source version. refl;
@@ -26,5 +28,7 @@ returns c = record {
   put_back = λ take_number. builder-invocation (λ n. PutBack n) (number_in take_number);
   waits = λ take_number first second.
       builder-invocation (λ n. Waits n (joined (first ∷ second ∷ []))) (number_in take_number);
+  attempted = λ take_number first second.
+      builder-invocation (λ n. Attempted n (joined (first ∷ second ∷ []))) (number_in take_number);
   merge = λ sources first second. refl;
 }

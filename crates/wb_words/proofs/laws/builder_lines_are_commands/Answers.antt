@@ -13,4 +13,5 @@ returns c = record {
   uploaded = refl;
   put_back = refl;
   waits = refl;
+  attempted = refl;
 }

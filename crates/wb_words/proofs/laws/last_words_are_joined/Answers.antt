@@ -12,4 +12,5 @@ returns c = record {
   note = refl;
   not_for_us = refl;
   message = refl;
+  reason = refl;
 }

@@ -14,4 +14,5 @@ returns c = record {
   negative = refl;
   number = refl;
   after = refl;
+  attempted = refl;
 }

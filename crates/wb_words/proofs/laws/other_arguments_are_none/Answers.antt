@@ -9,6 +9,7 @@ unfolding words_on_literals clap_on_literals number_in part_in
 returns c = record {
   relations = refl;
   note = refl;
+  reason = refl;
   no_part = refl;
   part = refl;
   twice = refl;
