@@ -123,7 +123,7 @@ fn read_aside(alloc: Global, command: &command::SetAside) -> Result<Aside, Refus
     })
 }
 
-/// Says that its build failed.
+/// Says that a person found that its build fails.
 pub(crate) fn fail(
     alloc: Global,
     store: &mut Store,

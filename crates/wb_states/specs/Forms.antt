@@ -52,7 +52,7 @@ GiveBack arch source version = of.GiveBack (record { arch = arch; source = sourc
 abbrev pub DepWait : List ℕ → List ℕ → List ℕ → List ℕ → Command
 DepWait arch source version relations = of.DepWait (record { arch = arch; source = source; version = version; relations = relations })
 
--- its build failed
+-- a person found that its build fails
 abbrev pub Fail : List ℕ → List ℕ → List ℕ → List ℕ → Command
 Fail arch source version note = of.Fail (record { arch = arch; source = source; version = version; note = note })
 

@@ -11,7 +11,7 @@ count_limit = COUNT_LIMIT
 abbrev pub rebuild_limit : ℕ
 rebuild_limit = REBUILD_LIMIT
 
--- the most bytes of a note or a message
+-- the most bytes of a note, a reason or a message
 abbrev pub note_limit : ℕ
 note_limit = NOTE_LIMIT
 

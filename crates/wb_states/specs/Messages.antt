@@ -25,12 +25,12 @@ message_of_refusal BadName = codes "a name, a word, a priority or a section is m
 message_of_refusal (BadVersion fault) = codes "the version is malformed: " ++ version_fault_text fault
 message_of_refusal (BadRelations (Some fault)) = codes "the relations are refused: " ++ relation_fault_text fault
 message_of_refusal (BadRelations None) = codes "nothing of the relations is left for the architecture"
-message_of_refusal BadNumber = codes "the rebuild number is out of range, or not above the current one"
+message_of_refusal BadNumber = codes "the number is out of range, or the rebuild number is not above the current one"
 message_of_refusal (BadListing Sources paragraph fault) =
     name_of_listing_fault fault ++ (codes " in paragraph " ++ (decimal paragraph ++ codes " of Sources"))
 message_of_refusal (BadListing Packages paragraph fault) =
     name_of_listing_fault fault ++ (codes " in paragraph " ++ (decimal paragraph ++ codes " of Packages"))
-message_of_refusal TextTooLong = codes "a note or a message has more than 1000 bytes"
+message_of_refusal TextTooLong = codes "a note, a reason or a message has more than 1000 bytes"
 message_of_refusal Spent = codes "a count of the office is at its limit"
 message_of_refusal RepeatedArch = codes "two parts are for one architecture"
 message_of_refusal Closed = codes "the office is closed until it is opened again"

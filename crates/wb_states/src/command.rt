@@ -200,7 +200,7 @@ pub enum Command {
     GiveBack(GiveBack),
     /// Lets a source package wait for other packages.
     DepWait(DepWait),
-    /// Its build failed.
+    /// A person found that its build fails.
     Fail(SetAside),
     /// It is not to be built on the architecture.
     NotForUs(SetAside),

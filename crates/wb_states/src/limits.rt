@@ -3,7 +3,7 @@
 /// The greatest value of a count (this project's own).
 pub const COUNT_LIMIT: u64 = 1_000_000_000_000;
 
-/// The greatest length of a note or a message, in bytes (this project's own).
+/// The greatest length of a note, a reason or a message, in bytes (this project's own).
 pub const NOTE_LIMIT: usize = 1000;
 
 /// The greatest number of a binary-only rebuild (this project's own).

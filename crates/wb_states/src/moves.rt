@@ -38,7 +38,7 @@ pub enum Move {
         relations: Relations,
         arch: ArchWords,
     },
-    /// Its build failed, as the note says, of at most 1000 bytes.
+    /// A person found that its build fails, as the note says, of at most 1000 bytes.
     Fail {
         note: Text,
     },

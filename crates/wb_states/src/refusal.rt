@@ -103,7 +103,7 @@ impl fmt::Display for ListingFault {
 ///
 /// If several apply to a command, the first is answered, in this order. `Closed`. The forms of its texts:
 /// `BadName`, `BadVersion`, `BadRelations` for relations that cannot be read, `BadNumber` for a number
-/// that no rebuild has, `TextTooLong`, `RepeatedArch`. Then what the office has: `UnknownArch`,
+/// that no rebuild and no build priority has, `TextTooLong`, `RepeatedArch`. Then what the office has: `UnknownArch`,
 /// `BadListing`, `UnknownBuilder`, `WrongArch`, `AfterAhead`, `NotHeld`, `UnknownSource`,
 /// `OtherVersion`, `WrongState`, `QueueEmpty`, `AlreadyThere`, `BadRelations` for waits that reduce to
 /// nothing or to too much, `BadNumber` for a number that is not above the record's, `Spent`. `Memory` and,
@@ -147,7 +147,8 @@ pub enum Refusal {
     BadRelations {
         fault: Option<RelationFault>,
     },
-    /// The number of the rebuild is 0, above 999, or not above the record's.
+    /// The number of the rebuild is 0, above 999, or not above the record's; or the build priority is out of
+    /// its range.
     BadNumber,
     /// A list has this fault in the paragraph of this number, counted from 1.
     BadListing {
@@ -155,7 +156,7 @@ pub enum Refusal {
         paragraph: u64,
         fault: ListingFault,
     },
-    /// A note or a message has more than 1000 bytes.
+    /// A note, a reason or a message has more than 1000 bytes.
     TextTooLong,
     /// There is no count left: a count of the office is at its limit of 10^12.
     Spent,
@@ -264,7 +265,7 @@ impl fmt::Display for Refusal {
                 f.write_str("nothing of the relations is left for the architecture")
             }
             Refusal::BadNumber => f.write_str(
-                "the rebuild number is out of range, or not above the current one",
+                "the number is out of range, or the rebuild number is not above the current one",
             ),
             Refusal::BadListing {
                 which: ListKind::Sources,
@@ -276,7 +277,9 @@ impl fmt::Display for Refusal {
                 paragraph,
                 fault,
             } => write!(f, "{fault} in paragraph {paragraph} of Packages"),
-            Refusal::TextTooLong => f.write_str("a note or a message has more than 1000 bytes"),
+            Refusal::TextTooLong => f.write_str(
+                "a note, a reason or a message has more than 1000 bytes",
+            ),
             Refusal::Spent => f.write_str("a count of the office is at its limit"),
             Refusal::Closed => f.write_str("the office is closed until it is opened again"),
             Refusal::Memory => f.write_str("out of memory"),

@@ -20,7 +20,7 @@ pub enum State {
     DepWait,
     /// What it needs to be built cannot be installed.
     BdUninstallable,
-    /// Its build failed, and a person has to look.
+    /// A person found that its build fails.
     Failed,
     /// It is not to be built on this architecture.
     NotForUs,

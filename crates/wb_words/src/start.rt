@@ -56,7 +56,7 @@ with one line of JSON. The commands are:
   dep-wait ARCH SOURCE VERSION RELATIONS..
           Lets a source package wait for these relations
   fail ARCH SOURCE VERSION [NOTE..]
-          Reports that the build failed
+          Says that the build fails, as a person who looked at it found
   not-for-us ARCH SOURCE VERSION [NOTE..]
           Says that the source package is not built on this architecture
   rebuild ARCH SOURCE VERSION NUMBER [MESSAGE..]
