@@ -1,4 +1,4 @@
-use Rattle.std.proofs.Common.{◌≡◌, ◌∙◌, ap, sym, None, Some, false, if◌then◌else◌, SFits, rules}
+use Rattle.std.proofs.Common.{◌∙◌, ap, sym, None, Some, if◌then◌else◌, SFits, rules}
 use Rattle.std.proofs.lemmas.Int.{to_z-of_z}
 use mir.Syntax.{w16, w64}
 use Rattle.wb_office.specs.Checks.{is_bad_priority, key_refusal}
