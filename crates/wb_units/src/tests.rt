@@ -1,5 +1,6 @@
 mod moves;
 mod names;
+mod ranks;
 mod stores;
 mod tables;
 mod versions;

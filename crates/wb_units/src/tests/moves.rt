@@ -7,7 +7,7 @@ use std::test::Fail;
 use wb_states::{Move, Record, Refusal, State, build_text, move_record};
 
 /// For each move the states from which it goes, and the state in which it ends.
-static TABLE: [(&str, &[State], State); 10] = [
+static TABLE: [(&str, &[State], State); 11] = [
     ("take", &[State::NeedsBuild], State::Building),
     ("built", &[State::Building], State::Built),
     (
@@ -17,6 +17,7 @@ static TABLE: [(&str, &[State], State); 10] = [
     ),
     ("waits", &[State::Building], State::DepWait),
     ("put-back", &[State::Building], State::NeedsBuild),
+    ("attempted", &[State::Building], State::BuildAttempted),
     (
         "give-back",
         &[
@@ -27,6 +28,7 @@ static TABLE: [(&str, &[State], State); 10] = [
             State::BdUninstallable,
             State::Failed,
             State::NotForUs,
+            State::BuildAttempted,
         ],
         State::NeedsBuild,
     ),
@@ -37,6 +39,7 @@ static TABLE: [(&str, &[State], State); 10] = [
             State::Building,
             State::BdUninstallable,
             State::Failed,
+            State::BuildAttempted,
         ],
         State::DepWait,
     ),
@@ -48,6 +51,7 @@ static TABLE: [(&str, &[State], State); 10] = [
             State::Built,
             State::DepWait,
             State::BdUninstallable,
+            State::BuildAttempted,
         ],
         State::Failed,
     ),
@@ -59,11 +63,15 @@ static TABLE: [(&str, &[State], State); 10] = [
             State::DepWait,
             State::BdUninstallable,
             State::Failed,
+            State::BuildAttempted,
         ],
         State::NotForUs,
     ),
     ("rebuild", &[State::Installed], State::NeedsBuild),
 ];
+
+/// Rebuild numbers, and the versions of their builds of 1.0.
+static BUILDS: [(u16, &str); 3] = [(0, "1.0"), (7, "1.0+b7"), (999, "1.0+b999")];
 
 fn text(alloc: Global, text: &str) -> Result<Text, Fail> {
     Ok(Text::copied(alloc, text)?)
@@ -114,6 +122,12 @@ fn dep_wait(alloc: Global) -> Result<Move, Fail> {
     })
 }
 
+fn attempted(alloc: Global) -> Result<Move, Fail> {
+    Ok(Move::Attempted {
+        reason: text(alloc, "after")?,
+    })
+}
+
 fn fail(alloc: Global) -> Result<Move, Fail> {
     Ok(Move::Fail {
         note: text(alloc, "after")?,
@@ -140,6 +154,7 @@ fn move_named(alloc: Global, name: &str) -> Result<Move, Fail> {
         "uploaded" => Ok(Move::Uploaded),
         "waits" => waits(alloc),
         "put-back" => Ok(Move::PutBack),
+        "attempted" => attempted(alloc),
         "give-back" => Ok(Move::GiveBack),
         "dep-wait" => dep_wait(alloc),
         "fail" => fail(alloc),
@@ -176,7 +191,7 @@ fn is_done(alloc: Global, name: &str, goal: State, state: State) -> Result<bool,
 fn each_state_and_move(rt: HostRuntime) -> Result<(), Fail> {
     let mut done: u64 = 0;
     for (name, states, goal) in TABLE.iter() {
-        for code in 0..9u8 {
+        for code in 0..10u8 {
             let state = State::of_code(code).ok_or("no state of this number")?;
             let is_done = is_done(rt.alloc(), name, *goal, state)?;
             assert_eq!(rt;
@@ -188,24 +203,22 @@ fn each_state_and_move(rt: HostRuntime) -> Result<(), Fail> {
             done = done.saturating_add(u64::from(is_done));
         }
     }
-    assert_eq!(rt; done, 28);
+    assert_eq!(rt; done, 33);
     Ok(())
 }
 
-#[test]
-fn only_what_waits_is_taken(rt: HostRuntime) -> Result<(), Fail> {
-    let alloc = rt.alloc();
+/// Whether the builds of this rebuild number of the source package have this version.
+fn is_build_text(alloc: Global, number: u16, want: &str) -> Result<bool, Fail> {
     let mut record = waiting(alloc)?;
-    record.number = 7;
-    assert_eq!(rt; build_text(alloc, &record)?.as_str(), "1.0+b7");
-    record.state = State::Built;
-    let change = Move::Take {
-        holder: Text::copied(alloc, "b1")?,
-        take_number: 1,
-    };
-    match move_record(alloc, &record, &change) {
-        Err(Refusal::WrongState { state }) => assert_eq!(rt; state, State::Built),
-        _ => return Err("not refused")?,
+    record.number = number;
+    let text = build_text(alloc, &record)?;
+    Ok(text.as_str() == want)
+}
+
+#[test]
+fn versions_of_builds(rt: HostRuntime) -> Result<(), Fail> {
+    for (number, want) in BUILDS.iter() {
+        assert!(rt; is_build_text(rt.alloc(), *number, want)?, "{number}");
     }
     Ok(())
 }

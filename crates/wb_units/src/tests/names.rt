@@ -81,13 +81,14 @@ fn states(rt: HostRuntime) -> Result<(), Fail> {
         (6, "BD-Uninstallable"),
         (7, "Failed"),
         (8, "Not-For-Us"),
+        (9, "Build-Attempted"),
     ];
     for (code, name) in cases {
         let state = State::of_code(code).ok_or("no state of this number")?;
         assert_eq!(rt; state.name(), name);
         assert_eq!(rt; State::of_name(name), Some(state), "{name}");
     }
-    assert_eq!(rt; State::of_code(9), None);
+    assert_eq!(rt; State::of_code(10), None);
     assert_eq!(rt; State::of_name("needs-build"), None);
     Ok(())
 }

@@ -21,6 +21,7 @@ pub(super) fn waiting(alloc: Global) -> Result<Record, Fail> {
         depends: None,
         note: Text::new(alloc),
         message: Text::new(alloc),
+        build_priority: 0,
     })
 }
 

@@ -1,8 +1,13 @@
 //! The calls of the store, each once.
-use super::stores::{add, held, put};
+use super::stores::{add, held, put, waiting};
 use deb_text::Text;
+use std::alloc::Global;
 use std::test::Fail;
-use wb_store::Store;
+use wb_states::{Record, State};
+use wb_store::{StateCounts, Store};
+
+/// Take numbers, and whether a record has them where `b1` holds `hello` on two architectures.
+static TAKES: [(u64, bool); 3] = [(7, true), (5, true), (6, false)];
 
 #[test]
 fn builders(rt: HostRuntime) -> Result<(), Fail> {
@@ -19,32 +24,99 @@ fn builders(rt: HostRuntime) -> Result<(), Fail> {
     Ok(())
 }
 
-#[test]
-fn holds(rt: HostRuntime) -> Result<(), Fail> {
-    let alloc = rt.alloc();
+/// A store in which `b1` holds `hello` on two architectures.
+fn holding(alloc: Global) -> Result<Store, Fail> {
     let mut store = Store::new(alloc);
     put(alloc, &mut store, "amd64", "hello", held(alloc, 7)?)?;
     put(alloc, &mut store, "arm64", "hello", held(alloc, 5)?)?;
+    Ok(store)
+}
+
+/// Whether a record has the take number.
+fn is_taken(store: &Store, take_number: u64) -> Result<bool, Fail> {
+    Ok(store.by_take(take_number)?.is_some())
+}
+
+/// How many records `b1` holds, if the one of the least take number is of the architecture.
+fn held_from(alloc: Global, store: &Store, arch: &str) -> Result<Option<usize>, Fail> {
     let builder = Text::copied(alloc, "b1")?;
     let rows = store.held_by(&builder)?;
-    assert_eq!(rt; rows.len(), 2);
-    assert_eq!(rt; rows[0].arch.as_str(), "arm64");
-    assert!(rt; store.by_take(7)?.is_some());
-    assert!(rt; store.by_take(6)?.is_none());
+    match rows.first() {
+        Some(row) if row.arch.as_str() == arch => Ok(Some(rows.len())),
+        _ => Ok(None),
+    }
+}
+
+#[test]
+fn holds(rt: HostRuntime) -> Result<(), Fail> {
+    let store = holding(rt.alloc())?;
+    assert_eq!(rt; held_from(rt.alloc(), &store, "arm64")?, Some(2));
+    for (take_number, want) in TAKES.iter() {
+        assert_eq!(rt; is_taken(&store, *take_number)?, *want, "{take_number}");
+    }
+    Ok(())
+}
+
+/// How many records of the architecture are in each state.
+fn state_counts(alloc: Global, store: &Store, arch: &str) -> Result<StateCounts, Fail> {
+    let arch = Text::copied(alloc, arch)?;
+    Ok(store.counts(&arch)?)
+}
+
+/// How many records the architecture has.
+fn number_of_records(alloc: Global, store: &Store, arch: &str) -> Result<usize, Fail> {
+    let arch = Text::copied(alloc, arch)?;
+    Ok(store.all_of(&arch)?.len())
+}
+
+/// Whether the source package has a record on the architecture.
+fn is_there(alloc: Global, store: &Store, arch: &str, source: &str) -> Result<bool, Fail> {
+    let arch = Text::copied(alloc, arch)?;
+    let source = Text::copied(alloc, source)?;
+    Ok(store.get(&arch, &source)?.is_some())
+}
+
+/// Removes the record of the source package on the architecture.
+fn remove(alloc: Global, store: &mut Store, arch: &str, source: &str) -> Result<(), Fail> {
+    let arch = Text::copied(alloc, arch)?;
+    let source = Text::copied(alloc, source)?;
+    store.remove(&arch, &source)?;
     Ok(())
 }
 
 #[test]
 fn records(rt: HostRuntime) -> Result<(), Fail> {
     let alloc = rt.alloc();
-    let mut store = Store::new(alloc);
-    put(alloc, &mut store, "amd64", "hello", held(alloc, 1)?)?;
-    let arch = Text::copied(alloc, "amd64")?;
-    let source = Text::copied(alloc, "hello")?;
-    assert_eq!(rt; store.all_of(&arch)?.len(), 1);
-    assert_eq!(rt; store.counts(&arch)?.building, 1);
-    store.remove(&arch, &source)?;
-    assert!(rt; store.get(&arch, &source)?.is_none());
-    assert_eq!(rt; store.counts(&arch)?.building, 0);
+    let mut store = holding(alloc)?;
+    assert_eq!(rt; number_of_records(alloc, &store, "amd64")?, 1);
+    assert_eq!(rt; state_counts(alloc, &store, "amd64")?.building, 1);
+    remove(alloc, &mut store, "amd64", "hello")?;
+    assert!(rt; !is_there(alloc, &store, "amd64", "hello")?);
+    assert_eq!(rt; state_counts(alloc, &store, "amd64")?.building, 0);
+    Ok(())
+}
+
+/// A record in a state in which nobody holds it.
+fn free_in(alloc: Global, state: State) -> Result<Record, Fail> {
+    let mut record = waiting(alloc)?;
+    record.state = state;
+    Ok(record)
+}
+
+#[test]
+fn failed_builds_are_counted(rt: HostRuntime) -> Result<(), Fail> {
+    let alloc = rt.alloc();
+    let mut store = holding(alloc)?;
+    put(
+        alloc,
+        &mut store,
+        "amd64",
+        "bash",
+        free_in(alloc, State::BuildAttempted)?,
+    )?;
+    let counts = state_counts(alloc, &store, "amd64")?;
+    assert_eq!(rt; counts.build_attempted, 1);
+    assert_eq!(rt; counts.failed, 0);
+    assert_eq!(rt; counts.building, 1);
     Ok(())
 }
