@@ -16,7 +16,8 @@ use std::alloc::Global;
 pub fn close<D: Disk + Drop>(
     conn: Connection<FileStore<D>>,
 ) -> Result<Files<D>, (Error, FileStore<D>)>
-    ensures settled { IfOk result (λ files. AreClean D.Disk files.log files.db → AreSettled D.Disk files (file_state conn).committed.trees) }
+    ensures settled { IfOk result (λ files. AreClean D.Disk files.log files.db
+        → AreSettled D.Disk files (file_state conn).committed.trees) }
     ensures usable { IfOk result (λ files. IsTrue (D.Disk.is_usable files.log) × IsTrue (D.Disk.is_usable files.db)) }
 {
     conn.close_files()
@@ -30,7 +31,8 @@ pub fn surrender<D: Disk + Drop>(conn: Connection<FileStore<D>>) -> Files<D>
     conn.into_store().close()
 }
 
-/// Opens files, and finds what they hold. It fails as `Connection::open_files` does, and then hands back what is left of them.
+/// Opens files, and finds what they hold. It fails as `Connection::open_files` does, and then hands back what is left
+/// of them.
 pub fn open<D: Disk + Drop>(
     alloc: Global,
     files: Files<D>,
@@ -39,8 +41,10 @@ pub fn open<D: Disk + Drop>(
     requires log { IsTrue (D.Disk.is_usable files.log) }
     requires db { IsTrue (D.Disk.is_usable files.db) }
     ensures opened { IfOk result (λ c. HasCleanDisk (file_state c) → IsOpened c) }
-    ensures found { IfOk result (λ c. HasCleanDisk (file_state c) → (db : _) → AreSettled D.Disk files db → (file_state c).committed.trees ≡ db) }
-    ensures alone { IfOk result (λ c. HasCleanDisk (file_state c) → LeavesAlone (file_state c) (file_state c).committed.trees) }
+    ensures found { IfOk result (λ c. HasCleanDisk (file_state c)
+        → (db : _) → AreSettled D.Disk files db → (file_state c).committed.trees ≡ db) }
+    ensures alone { IfOk result (λ c. HasCleanDisk (file_state c)
+        → LeavesAlone (file_state c) (file_state c).committed.trees) }
 {
     Connection::open_files(alloc, files, options)
 }

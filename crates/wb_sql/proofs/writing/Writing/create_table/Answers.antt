@@ -1,11 +1,14 @@
-use Rattle.std.proofs.Common.{Ok}
+use Rattle.std.proofs.Common.{[]}
 use Rattle.sqlite.specs.Held.{state}
-use Rattle.wb_sql.proofs.WriteLemmas.{inside_if_made}
+use Rattle.wb_sql.specs.Calls.{RanInside}
+use Rattle.wb_sql.specs.Definitions.{CreatesTable}
+use Rattle.wb_sql.proofs.CallLemmas.{runs_weaker}
 use Rattle.wb_sql.proofs.DefinitionLemmas.{creates_table}
 use Rattle.wb_sql.proofs.writing.Writing.create_table.Goals as goal
 
-pub returns-clause-ok : goal.returns-clause-ok
-returns-clause-ok g c clean table text =
-    let old = state g.S.Store c.args.self.now.conn.now in
-    let inside = inside_if_made old.in_transaction c.in_ok-execute.field-0 (λ over. (c.in_ok-execute.ensures.ended over).0) in
-    creates_table c.args.sql.now old (state g.S.Store c.execute.new.self.conn.now) inside table (Ok c.in_ok-execute.field-0) text (c.in_ok-execute.ensures.runs clean inside)
+pub returns-clause-runs : goal.returns-clause-runs
+returns-clause-runs g c =
+    let sql = c.args.sql.now in
+    let old = c.args.self.now.conn.now in
+    let new = c.run.new.self.conn.now in
+    runs_weaker g.S.Store sql (RanInside sql []) (CreatesTable sql) old new c.run.result (creates_table sql (state g.S.Store old) (state g.S.Store new)) c.run.ensures.runs

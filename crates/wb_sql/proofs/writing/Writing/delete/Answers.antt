@@ -1,11 +1,15 @@
-use Rattle.std.proofs.Common.{Ok}
 use Rattle.sqlite.specs.Values.{bound}
 use Rattle.sqlite.specs.Held.{state}
-use Rattle.wb_sql.proofs.WriteLemmas.{deletes_rows, inside_if_made}
+use Rattle.wb_sql.specs.Calls.{RanInside}
+use Rattle.wb_sql.specs.Changes.{Deletes}
+use Rattle.wb_sql.proofs.CallLemmas.{runs_weaker}
+use Rattle.wb_sql.proofs.WriteLemmas.{deletes_rows}
 use Rattle.wb_sql.proofs.writing.Writing.delete.Goals as goal
 
-pub returns-clause-ok : goal.returns-clause-ok
-returns-clause-ok g c clean table tests text stored =
-    let old = state g.S.Store c.args.self.now.conn.now in
-    let inside = inside_if_made old.in_transaction c.in_ok-execute.field-0 (λ over. (c.in_ok-execute.ensures.ended over).0) in
-    deletes_rows c.args.sql.now (bound c.args.params.now) old (state g.S.Store c.execute.new.self.conn.now) inside table tests stored (Ok c.in_ok-execute.field-0) text (c.in_ok-execute.ensures.runs clean inside)
+pub returns-clause-runs : goal.returns-clause-runs
+returns-clause-runs g c =
+    let sql = c.args.sql.now in
+    let params = bound c.args.params.now in
+    let old = c.args.self.now.conn.now in
+    let new = c.run.new.self.conn.now in
+    runs_weaker g.S.Store sql (RanInside sql params) (Deletes sql params) old new c.run.result (deletes_rows sql params (state g.S.Store old) (state g.S.Store new)) c.run.ensures.runs
