@@ -1,11 +1,11 @@
 -- The row of an empty office, put into tables that have no row.
-use Rattle.std.proofs.Common.{◌≡◌, ◌≢◌, ℕ, pos, List, [], ◌∷◌, codes, inr, Result, refl, arith, sym, ap, ap₂, subst, ◌∙◌}
+use Rattle.std.proofs.Common.{◌≡◌, ◌≢◌, ℕ, pos, List, [], ◌∷◌, codes, inr, Result, OnOk, refl, arith, sym, ap, ap₂, subst, ◌∙◌}
 use Rattle.std.specs.List.{AllByRecursion}
 use Rattle.sqlite.specs.Schema.{Schema}
 use Rattle.sqlite.specs.declared.error.Error.{Error}
 use Rattle.sqlite_trees.specs.declared.store.Store.{Ghosts}
 use Rattle.sqlite.specs.Held.{Held, state}
-use Rattle.sqlite.specs.State.{State}
+use Rattle.sqlite.specs.State.{State, HasCleanDisk}
 use Rattle.wb_sql.specs.Calls.{RunsStatement}
 use Rattle.sqlite.specs.Listing.{understood}
 use Rattle.sqlite_tied.specs.Compute.{everything}
@@ -61,8 +61,9 @@ first_row_made old new was h =
       marks = set.marks;
     }
 
-pub first_row_makes : {S A : Type 0} {g : Ghosts S} {old new : Held S} {r : Result A Error} → RunsStatement g first_row_text (Replaces first_row_text []) old new r → Makes g office_schema MakesOffice old new r
-first_row_makes {g} {old} {new} = statement_makes (replaces_writes office_schema first_row_text office first_office_row first_row_is) (first_row_made (state g old) (state g new))
+pub first_row_makes : {S A : Type 0} {g : Ghosts S} {old new : Held S} {r : Result A Error} → RunsStatement g first_row_text [] old new r
+    → (HasCleanDisk (state g new) → OnOk r (Replaces first_row_text [] (state g old) (state g new))) → Makes g office_schema MakesOffice old new r
+first_row_makes {g} {old} {new} = statement_makes (Replaces first_row_text []) (replaces_writes office_schema first_row_text office first_office_row first_row_is) (first_row_made (state g old) (state g new))
 
 pub office_follows : Follows MakesOffice
 office_follows mid a b c p q = record {

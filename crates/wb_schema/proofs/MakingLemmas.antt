@@ -2,6 +2,7 @@
 use Rattle.std.proofs.Common.{◌≡◌, ℕ, List, [], ◌∷◌, ◌++◌, Result, Ok, Err, IsErr, OnOk, refl, arith, sym, ap, subst, ◌∙◌}
 use Rattle.std.specs.List.{AllByRecursion}
 use Rattle.sqlite_trees.specs.declared.store.Store.{Ghosts}
+use Rattle.sqlite.specs.Order.{Row}
 use Rattle.sqlite.specs.Schema.{Schema}
 use Rattle.sqlite.specs.Table.{Table}
 use Rattle.sqlite.specs.Tree.{Trees}
@@ -49,24 +50,25 @@ module _ (from to : Schema) (sql : List ℕ) (old new : State) (was : HasEmptyTa
 
 module _ {S A : Type 0} {g : Ghosts S} where
   -- what a statement that writes makes of tables without a row
-  pub statement_makes : {sql : List ℕ} {Done : State → State → Type 0} {from : Schema} {Made : State → State → Type 0} {old new : Held S} {r : Result A Error} → IsWriting from sql
-      → (HasEmptyTables from (state g old) → Done (state g old) (state g new) → Made (state g old) (state g new)) → RunsStatement g sql Done old new r → Makes g from Made old new r
-  statement_makes {sql} {Done} {from} {Made} {old} {new} {r} writes makes ran = record {
-    made = λ clean was. on_ok r (makes was) (ran.ok clean);
+  pub statement_makes : {sql : List ℕ} {params : Row} (Done : State → State → Type 0) {from : Schema} {Made : State → State → Type 0} {old new : Held S} {r : Result A Error} → IsWriting from sql
+      → (HasEmptyTables from (state g old) → Done (state g old) (state g new) → Made (state g old) (state g new)) → RunsStatement g sql params old new r
+      → (HasCleanDisk (state g new) → OnOk r (Done (state g old) (state g new))) → Makes g from Made old new r
+  statement_makes {sql} Done {from} {old} {new} {r} writes makes ran ok = record {
+    made = λ clean was. on_ok r (makes was) (ok clean);
     survives = survives_weaker (state g old) (state g new) _ _ (λ clean db none was. none (subst (λ s. IsWriting s sql) (sym was.schema_is) writes)) ran.survives;
   }
 
   -- a CREATE TABLE
-  pub table_makes : {sql : List ℕ} {from to : Schema} {old new : Held S} {r : Result A Error} → IsCreateTable from to sql → RunsStatement g sql (CreatesTable sql) old new r
-      → Makes g from (MakesTables to) old new r
+  pub table_makes : {sql : List ℕ} {from to : Schema} {old new : Held S} {r : Result A Error} → IsCreateTable from to sql → RunsStatement g sql [] old new r
+      → (HasCleanDisk (state g new) → OnOk r (CreatesTable sql (state g old) (state g new))) → Makes g from (MakesTables to) old new r
   table_makes {sql} {from} {to} {old} {new} text =
-      statement_makes (defines_table_writes from sql text.table text.defines) (λ was. table_made from to sql (state g old) (state g new) was text)
+      statement_makes (CreatesTable sql) (defines_table_writes from sql text.table text.defines) (λ was. table_made from to sql (state g old) (state g new) was text)
 
   -- a CREATE INDEX
-  pub index_makes : {sql : List ℕ} {from to : Schema} {old new : Held S} {r : Result A Error} → IsCreateIndex from to sql → RunsStatement g sql (CreatesIndex sql) old new r
-      → Makes g from (MakesTables to) old new r
+  pub index_makes : {sql : List ℕ} {from to : Schema} {old new : Held S} {r : Result A Error} → IsCreateIndex from to sql → RunsStatement g sql [] old new r
+      → (HasCleanDisk (state g new) → OnOk r (CreatesIndex sql (state g old) (state g new))) → Makes g from (MakesTables to) old new r
   index_makes {sql} {from} {to} {old} {new} text =
-      statement_makes (defines_index_writes from sql text.table text.index text.defines) (λ was. index_made from to sql (state g old) (state g new) was text)
+      statement_makes (CreatesIndex sql) (defines_index_writes from sql text.table text.index text.defines) (λ was. index_made from to sql (state g old) (state g new) was text)
 
 no_ok : {B E : Type 0} (P : Type 0) (r : Result B E) → IsErr r → OnOk r P
 no_ok P (Ok x) failed = absurd (cc)

@@ -32,6 +32,7 @@ pub fn cut_power<D: Disk, P: Power<D>>(power: &mut P, files: Files<D>) -> Files<
     ensures left { P.Power.cuts power.new + 1 ≡ P.Power.cuts power.old }
     ensures fewer { (image : _) → outcomes D.Disk result.log result.db image
         → outcomes D.Disk files.log files.db image }
+    ensures alone { (image : _) → outcomes D.Disk result.log result.db image → image ≡ image_of D.Disk result }
     ensures settled { (db : _) → AreSettled D.Disk files db → AreSettled D.Disk result db }
     ensures usable { IsTrue (D.Disk.is_usable result.log) × IsTrue (D.Disk.is_usable result.db) }
 {

@@ -2,7 +2,7 @@ ghost use Rattle.std.specs.Prelude.{◌≡◌, true, false, [], IsTrue, OnOk, On
 ghost use Rattle.sqlite.specs.State.{HasCleanDisk, IsUnchanged, IsRolledBack, Shows, Survives, Executes};
 ghost use Rattle.sqlite.specs.Values.{bound};
 ghost use Rattle.sqlite.specs.Held.{state};
-ghost use Rattle.wb_sql.specs.Calls.{RanInside, RunsStatement};
+ghost use Rattle.wb_sql.specs.Calls.{RunsStatement};
 ghost use Rattle.wb_sql.specs.Statements.{IsWriting};
 ghost use Rattle.wb_sql.specs.Transactions.{IsKeptOrUndone, IsTakenBack, Commits, LeavesAlone, LeavesNoMore};
 
@@ -85,8 +85,7 @@ impl<S: Alter> Writing<'_, S> {
     /// Runs one statement that writes, without the number of its rows. It fails as `execute` does.
     pub(crate) fn run(&mut self, sql: &str, params: &[ValueRef<'_>]) -> Result<(), Error>
         ensures same_reference { self.new.conn.ghost_name ≡ self.old.conn.ghost_name }
-        ensures runs { RunsStatement S.Store sql.now (RanInside sql.now (bound params.now))
-            self.old.conn.now self.new.conn.now result }
+        ensures runs { RunsStatement S.Store sql.now (bound params.now) self.old.conn.now self.new.conn.now result }
     {
         self.execute(sql, params)?;
         Ok(())

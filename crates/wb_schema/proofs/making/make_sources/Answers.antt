@@ -3,4 +3,4 @@ use Rattle.wb_schema.proofs.MakingLemmas.{table_makes, index_makes, tables_follo
 use Rattle.wb_schema.proofs.making.make_sources.Goals as goal
 
 pub returns-clause-makes : goal.returns-clause-makes
-returns-clause-makes g c = makes_then (tables_follow with_source_name) (table_makes c.scratch_source.ensures c.in_ok-create_table.ensures.runs) (index_makes c.source_name.ensures c.create_index.ensures.runs)
+returns-clause-makes g c = makes_then (tables_follow with_source_name) (table_makes c.scratch_source.ensures c.in_ok-create_table.ensures.runs c.in_ok-create_table.ensures.ok) (index_makes c.source_name.ensures c.create_index.ensures.runs c.create_index.ensures.ok)

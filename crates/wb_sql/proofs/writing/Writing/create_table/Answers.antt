@@ -1,14 +1,8 @@
-use Rattle.std.proofs.Common.{[]}
 use Rattle.sqlite.specs.Held.{state}
-use Rattle.wb_sql.specs.Calls.{RanInside}
-use Rattle.wb_sql.specs.Definitions.{CreatesTable}
-use Rattle.wb_sql.proofs.CallLemmas.{runs_weaker}
+use Rattle.wb_sql.proofs.CallLemmas.{on_ok}
 use Rattle.wb_sql.proofs.DefinitionLemmas.{creates_table}
 use Rattle.wb_sql.proofs.writing.Writing.create_table.Goals as goal
 
-pub returns-clause-runs : goal.returns-clause-runs
-returns-clause-runs g c =
-    let sql = c.args.sql.now in
-    let old = c.args.self.now.conn.now in
-    let new = c.run.new.self.conn.now in
-    runs_weaker g.S.Store sql (RanInside sql []) (CreatesTable sql) old new c.run.result (creates_table sql (state g.S.Store old) (state g.S.Store new)) c.run.ensures.runs
+pub returns-clause-ok : goal.returns-clause-ok
+returns-clause-ok g c clean =
+    on_ok c.run.result (creates_table c.args.sql.now (state g.S.Store c.args.self.now.conn.now) (state g.S.Store c.run.new.self.conn.now)) (c.run.ensures.runs.ok clean)
