@@ -6,9 +6,4 @@ use Rattle.wb_schema.proofs.create.binary_source.Goals as goal
 
 pub returns : goal.returns
 unfolding understood everything
-returns c = record {
-  table = scratch_binary;
-  index = record binary_source { tree = 0 };
-  defines = record { at = 5; listed = refl; means = record { is = refl; plain = (refl, refl) }; alone = refl; defines = refl };
-  makes = refl;
-}
+returns c = record { table = scratch_binary; index = record binary_source { tree = 0 }; defines = record { at = 5; listed = refl; means = record { is = refl; plain = (refl, refl) }; alone = refl; defines = refl }; makes = refl }

@@ -6,9 +6,4 @@ use Rattle.wb_schema.proofs.create.record_order.Goals as goal
 
 pub returns : goal.returns
 unfolding understood everything
-returns c = record {
-  table = source_record;
-  index = record record_order { tree = 0 };
-  defines = record { at = 3; listed = refl; means = record { is = refl; plain = (refl, refl) }; alone = refl; defines = refl };
-  makes = refl;
-}
+returns c = record { table = source_record; index = record record_order { tree = 0 }; defines = record { at = 3; listed = refl; means = record { is = refl; plain = (refl, refl) }; alone = refl; defines = refl }; makes = refl }

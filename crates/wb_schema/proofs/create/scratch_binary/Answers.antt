@@ -6,8 +6,4 @@ use Rattle.wb_schema.proofs.create.scratch_binary.Goals as goal
 
 pub returns : goal.returns
 unfolding understood everything
-returns c = record {
-  table = record scratch_binary { tree = 0 };
-  defines = record { means = record { is = refl; plain = (refl, refl) }; alone = refl; defines = refl; uncounted = refl };
-  makes = refl;
-}
+returns c = record { table = record scratch_binary { tree = 0 }; defines = record { means = record { is = refl; plain = (refl, refl) }; alone = refl; defines = refl; uncounted = refl }; makes = refl }

@@ -6,9 +6,4 @@ use Rattle.wb_schema.proofs.create.source_name.Goals as goal
 
 pub returns : goal.returns
 unfolding understood everything
-returns c = record {
-  table = scratch_source;
-  index = record source_name { tree = 0 };
-  defines = record { at = 4; listed = refl; means = record { is = refl; plain = (refl, refl) }; alone = refl; defines = refl };
-  makes = refl;
-}
+returns c = record { table = scratch_source; index = record source_name { tree = 0 }; defines = record { at = 4; listed = refl; means = record { is = refl; plain = (refl, refl) }; alone = refl; defines = refl }; makes = refl }
