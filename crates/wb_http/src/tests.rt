@@ -247,44 +247,20 @@ fn heads_have_limits(rt: HostRuntime) -> Result<(), Fail> {
     assert_limits(&rt, rt.alloc(), &LIMITS, 100_000)
 }
 
+/// Values of `after` in a request for the next source package, and what the request with each is.
+static AFTERS: [(&str, &str); 8] = [
+    ("null", "next"),
+    ("18446744073709551615", "next"),
+    ("18446744073709551616", "BadBody"),
+    ("1.0", "BadBody"),
+    ("1e3", "BadBody"),
+    ("-0", "BadBody"),
+    ("-1", "BadBody"),
+    ("\"1\"", "BadBody"),
+];
+
 /// Bodies for each path, and what they are.
-static BODIES: [(&str, &str, &str); 38] = [
-    ("next", r#"{"arch":"a","builder":"b","after":null}"#, "next"),
-    (
-        "next",
-        r#"{"arch":"a","builder":"b","after":18446744073709551615}"#,
-        "next",
-    ),
-    (
-        "next",
-        r#"{"arch":"a","builder":"b","after":18446744073709551616}"#,
-        "BadBody",
-    ),
-    (
-        "next",
-        r#"{"arch":"a","builder":"b","after":1.0}"#,
-        "BadBody",
-    ),
-    (
-        "next",
-        r#"{"arch":"a","builder":"b","after":1e3}"#,
-        "BadBody",
-    ),
-    (
-        "next",
-        r#"{"arch":"a","builder":"b","after":-0}"#,
-        "BadBody",
-    ),
-    (
-        "next",
-        r#"{"arch":"a","builder":"b","after":-1}"#,
-        "BadBody",
-    ),
-    (
-        "next",
-        r#"{"arch":"a","builder":"b","after":"1"}"#,
-        "BadBody",
-    ),
+static BODIES: [(&str, &str, &str); 30] = [
     ("next", r#"{"arch":"a","builder":null}"#, "BadBody"),
     ("next", r#"{"arch":"a","builder":7}"#, "BadBody"),
     ("next", r#"{"arch":"a"}"#, "BadBody"),
@@ -378,6 +354,22 @@ fn word_of_body(alloc: Global, path: &str, body: &str) -> Result<&'static str, F
     input.push_str("\r\n\r\n")?;
     input.push_str(body)?;
     Ok(word_of(&received(alloc, input.as_bytes(), 100_000)))
+}
+
+fn assert_afters(rt: &impl Abort, alloc: Global, cases: &[(&str, &str)]) -> Result<(), Fail> {
+    for (after, want) in cases {
+        let mut body = String::from_str(alloc, r#"{"arch":"a","builder":"b","after":"#)?;
+        body.push_str(after)?;
+        body.push('}')?;
+        let got = word_of_body(alloc, "next", body.as_str())?;
+        assert_eq!(rt; got, *want, "after {after}");
+    }
+    Ok(())
+}
+
+#[test]
+fn a_number_to_go_on_after_is_a_whole_one(rt: HostRuntime) -> Result<(), Fail> {
+    assert_afters(&rt, rt.alloc(), &AFTERS)
 }
 
 fn assert_bodies(rt: &impl Abort, alloc: Global, cases: &[(&str, &str, &str)]) -> Result<(), Fail> {

@@ -1,19 +1,21 @@
 -- The row of an empty office, put into tables that have no row.
-use Rattle.std.proofs.Common.{◌≡◌, ◌≢◌, ℕ, pos, List, [], ◌∷◌, codes, inr, Result, Ok, Err, OnOk, refl, arith, sym, ap, ap₂, subst, ◌∙◌}
+use Rattle.std.proofs.Common.{◌≡◌, ◌≢◌, ℕ, pos, List, [], ◌∷◌, codes, inr, Result, OnOk, refl, arith, sym, ap, ap₂, subst, ◌∙◌}
 use Rattle.std.specs.List.{AllByRecursion}
 use Rattle.sqlite.specs.Schema.{Schema}
 use Rattle.sqlite.specs.declared.error.Error.{Error}
-use Rattle.sqlite.specs.State.{State, Survives}
+use Rattle.sqlite_trees.specs.declared.store.Store.{Ghosts}
+use Rattle.sqlite.specs.Held.{Held, state}
+use Rattle.sqlite.specs.State.{State, HasCleanDisk}
+use Rattle.wb_sql.specs.Calls.{RunsStatement}
 use Rattle.sqlite.specs.Listing.{understood}
 use Rattle.sqlite_tied.specs.Compute.{everything}
-use Rattle.wb_sql.specs.Statements.{IsWriting}
 use Rattle.wb_sql.specs.Rows.{IsStored, IsTyped, upserted}
 use Rattle.wb_sql.specs.Changes.{ReplacesInto, Replaces}
 use Rattle.wb_sql.proofs.WriteLemmas.{cast_int, cast_null, replaces_writes}
 use Rattle.wb_schema.specs.Tables.{office, office_schema}
 use Rattle.wb_schema.specs.Statements.{first_office_row}
-use Rattle.wb_schema.specs.Making.{HasEmptyTables, MakesTables, MakesOffice, first_row}
-use Rattle.wb_schema.proofs.MakingLemmas.{writes_survives}
+use Rattle.wb_schema.specs.Making.{HasEmptyTables, MakesOffice, first_row, Makes}
+use Rattle.wb_schema.proofs.MakingLemmas.{statement_makes, Follows}
 
 abbrev first_row_text : List ℕ
 first_row_text = codes "INSERT OR REPLACE INTO office(id, format, handed, accepted) VALUES (1, 2, 0, 0)"
@@ -36,9 +38,8 @@ first_row_typed = record {
   present = refl;
 }
 
-pub first_row_made : (old new : State) (r : Result (Unit {0}) Error) → OnOk r (Replaces first_row_text [] old new) → HasEmptyTables office_schema old → OnOk r (MakesOffice old new)
-first_row_made old new (Err e) h was = tt
-first_row_made old new (Ok done) h was =
+first_row_made : (old new : State) → HasEmptyTables office_schema old → Replaces first_row_text [] old new → MakesOffice old new
+first_row_made old new was h =
     let none = was.empty in
     let stored : IsStored (old.now.trees 0) = subst IsStored (sym none.0) (record { whole = refl; rising = tt }) in
     let set = (h office first_office_row (subst (λ s. ReplacesInto s first_row_text office first_office_row) (sym was.schema_is) first_row_is) stored first_row_typed).0 in
@@ -60,12 +61,12 @@ first_row_made old new (Ok done) h was =
       marks = set.marks;
     }
 
-pub first_row_survives : (old new : State) → Survives old new (λ _. ¬ IsWriting old.now.schema first_row_text) → Survives old new (λ _. ¬ HasEmptyTables office_schema old)
-first_row_survives = writes_survives first_row_text office_schema (replaces_writes office_schema first_row_text office first_office_row first_row_is)
+pub first_row_makes : {S A : Type 0} {g : Ghosts S} {old new : Held S} {r : Result A Error} → RunsStatement g first_row_text [] old new r
+    → (HasCleanDisk (state g new) → OnOk r (Replaces first_row_text [] (state g old) (state g new))) → Makes g office_schema MakesOffice old new r
+first_row_makes {g} {old} {new} = statement_makes (Replaces first_row_text []) (replaces_writes office_schema first_row_text office first_office_row first_row_is) (first_row_made (state g old) (state g new))
 
-pub office_then : (a b c : State) (r : Result (Unit {0}) Error) → MakesTables office_schema a b → OnOk r (MakesOffice b c) → OnOk r (MakesOffice a c)
-office_then a b c (Err e) p q = tt
-office_then a b c (Ok done) p q = record {
+pub office_follows : Follows MakesOffice
+office_follows mid a b c p q = record {
   schema_is = q.schema_is;
   office_row = q.office_row;
   others = q.others;

@@ -1,6 +1,4 @@
-pub mod CreateTexts
 pub mod FirstRowLemmas
 pub mod MakingLemmas
 pub mod NameLemmas
 pub mod RecordLemmas
-pub mod TableLemmas

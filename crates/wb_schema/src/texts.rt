@@ -3,13 +3,17 @@
 ghost use Rattle.wb_sql.specs.Changes.{ReplacesInto, InsertsInto, DeletesFrom};
 ghost use Rattle.wb_sql.specs.Queries.{Asks};
 ghost use Rattle.wb_schema.specs.Tables.{office_schema, office, arch, builder, source_record};
-ghost use Rattle.wb_schema.specs.Statements.{record_row, has_record_key, record_of_key, queue_of, head_of, record_of_take, held_by, records_of_arch, all_records, arch_row, all_archs, builder_row, all_builders, office_row, office_counts};
+ghost use Rattle.wb_schema.specs.Statements.{record_row, has_record_key, record_of_key, queue_of, head_of};
+ghost use Rattle.wb_schema.specs.Statements.{record_of_take, held_by, records_of_arch, all_records};
+ghost use Rattle.wb_schema.specs.Statements.{arch_row, all_archs, builder_row, all_builders, office_row, office_counts};
 
 /// Puts a record in place of the one with its key. The parameters are its 16 columns.
 pub fn put_record() -> &'static str
     ensures { ReplacesInto office_schema result.now source_record record_row }
 {
-    "INSERT OR REPLACE INTO source_record(arch, source, state, version, priority, section, earlier, number, holder, take, waits, depends, note, message, build_priority, rank) VALUES (?1, ?2, ?3, ?4, ?5, ?6, ?7, ?8, ?9, ?10, ?11, ?12, ?13, ?14, ?15, ?16)"
+    "INSERT OR REPLACE INTO source_record(arch, source, state, version, priority, section, earlier, number, \
+     holder, take, waits, depends, note, message, build_priority, rank) \
+     VALUES (?1, ?2, ?3, ?4, ?5, ?6, ?7, ?8, ?9, ?10, ?11, ?12, ?13, ?14, ?15, ?16)"
 }
 
 /// Takes out the record of an architecture and a source package.
@@ -23,49 +27,63 @@ pub fn remove_record() -> &'static str
 pub fn record() -> &'static str
     ensures { Asks office_schema result.now record_of_key }
 {
-    "SELECT arch, source, state, version, priority, section, earlier, number, holder, take, waits, depends, note, message, build_priority, rank FROM source_record WHERE arch = ?1 AND source = ?2"
+    "SELECT arch, source, state, version, priority, section, earlier, number, holder, take, waits, \
+     depends, note, message, build_priority, rank \
+     FROM source_record WHERE arch = ?1 AND source = ?2"
 }
 
 /// The records of an architecture in a state, by rank and then by source package.
 pub fn queue() -> &'static str
     ensures { Asks office_schema result.now queue_of }
 {
-    "SELECT arch, source, state, version, priority, section, earlier, number, holder, take, waits, depends, note, message, build_priority, rank FROM source_record WHERE arch = ?1 AND state = ?2 ORDER BY rank, source"
+    "SELECT arch, source, state, version, priority, section, earlier, number, holder, take, waits, \
+     depends, note, message, build_priority, rank \
+     FROM source_record WHERE arch = ?1 AND state = ?2 ORDER BY rank, source"
 }
 
 /// The first record of an architecture in a state, by rank and then by source package.
 pub fn head() -> &'static str
     ensures { Asks office_schema result.now head_of }
 {
-    "SELECT arch, source, state, version, priority, section, earlier, number, holder, take, waits, depends, note, message, build_priority, rank FROM source_record WHERE arch = ?1 AND state = ?2 ORDER BY rank, source LIMIT 1"
+    "SELECT arch, source, state, version, priority, section, earlier, number, holder, take, waits, \
+     depends, note, message, build_priority, rank \
+     FROM source_record WHERE arch = ?1 AND state = ?2 ORDER BY rank, source LIMIT 1"
 }
 
 /// The record with a take number.
 pub fn record_of_take() -> &'static str
     ensures { Asks office_schema result.now record_of_take }
 {
-    "SELECT arch, source, state, version, priority, section, earlier, number, holder, take, waits, depends, note, message, build_priority, rank FROM source_record WHERE take = ?1"
+    "SELECT arch, source, state, version, priority, section, earlier, number, holder, take, waits, \
+     depends, note, message, build_priority, rank \
+     FROM source_record WHERE take = ?1"
 }
 
 /// The records that a builder holds, by architecture and then by source package.
 pub fn held_by() -> &'static str
     ensures { Asks office_schema result.now held_by }
 {
-    "SELECT arch, source, state, version, priority, section, earlier, number, holder, take, waits, depends, note, message, build_priority, rank FROM source_record WHERE holder = ?1 ORDER BY arch, source"
+    "SELECT arch, source, state, version, priority, section, earlier, number, holder, take, waits, \
+     depends, note, message, build_priority, rank \
+     FROM source_record WHERE holder = ?1 ORDER BY arch, source"
 }
 
 /// The records of an architecture, by source package.
 pub fn records_of_arch() -> &'static str
     ensures { Asks office_schema result.now records_of_arch }
 {
-    "SELECT arch, source, state, version, priority, section, earlier, number, holder, take, waits, depends, note, message, build_priority, rank FROM source_record WHERE arch = ?1 ORDER BY source"
+    "SELECT arch, source, state, version, priority, section, earlier, number, holder, take, waits, \
+     depends, note, message, build_priority, rank \
+     FROM source_record WHERE arch = ?1 ORDER BY source"
 }
 
 /// All records, by architecture and then by source package.
 pub fn all_records() -> &'static str
     ensures { Asks office_schema result.now all_records }
 {
-    "SELECT arch, source, state, version, priority, section, earlier, number, holder, take, waits, depends, note, message, build_priority, rank FROM source_record ORDER BY arch, source"
+    "SELECT arch, source, state, version, priority, section, earlier, number, holder, take, waits, \
+     depends, note, message, build_priority, rank \
+     FROM source_record ORDER BY arch, source"
 }
 
 /// All architectures with their two words, by name.

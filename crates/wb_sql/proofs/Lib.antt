@@ -1,4 +1,5 @@
 pub mod AnswerLemmas
+pub mod CallLemmas
 pub mod DefinitionLemmas
 pub mod EndingLemmas
 pub mod ReadingLemmas

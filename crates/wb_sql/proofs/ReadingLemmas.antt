@@ -1,5 +1,5 @@
 -- What a query leaves of a connection.
-use Rattle.std.proofs.Common.{◌≡◌, inl, inr, ℕ, ◌^◌, nat_le, Bool, true, false, cond, List, [], ◌∷◌, ◌++◌, map, filter, flat_map, IsPermutation, None, Some, Ok, Err, Result, OnOk, OnErr, IfOk, IfErr, Vec, refl, ap, subst, ◌∙◌}
+use Rattle.std.proofs.Common.{◌≡◌, inl, inr, ℕ, ◌^◌, nat_le, Bool, true, false, cond, List, [], ◌∷◌, ◌++◌, map, filter, flat_map, IsPermutation, None, Some, Ok, Err, Result, OnOk, IfOk, IfErr, Vec, refl, ap, subst, ◌∙◌}
 use Rattle.sqlite.specs.Order.{Row}
 use Rattle.sqlite.specs.Tree.{Trees}
 use Rattle.sqlite.specs.declared.error.Error.{Error}
@@ -44,9 +44,9 @@ module _ (sql : List ℕ) (params : Row) (old new : State) where
   answered_same (Ok rows) plain h = shown_same rows.items plain h
   answered_same (Err e) plain h = tt
 
-  pub failed_kept : {A : Type 0} (r : Result A Error) → IfErr r (FailsToQuery sql params old new) → OnErr r (IsKeptOrUndone old new)
+  pub failed_kept : {A : Type 0} (r : Result A Error) → IfErr r (FailsToQuery sql params old new) → IfErr r (λ e. FailsToQuery sql params old new e × IsKeptOrUndone old new)
   failed_kept (Ok rows) h = tt
-  failed_kept (Err e) h = query_kept e h
+  failed_kept (Err e) h = (h, query_kept e h)
 
 -- a `flat_map` that keeps what passes a test
 kept_by : {A B : Type 0} (p : A → Bool) (f : A → B) (xs : List A) → flat_map (λ x. cond (p x) (f x ∷ []) []) xs ≡ map f (filter p xs)

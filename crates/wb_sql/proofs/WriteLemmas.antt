@@ -1,5 +1,5 @@
 -- What INSERT, INSERT OR REPLACE and DELETE on one table do, level by level of the kit's meaning of a statement.
-use Rattle.std.proofs.Common.{◌≡◌, ◌≢◌, ◌⊎◌, inl, inr, ℕ, ◌/◌, ◌-◌, ℤ, Bool, true, false, not, ◌&&◌, cond, List, [], ◌∷◌, ◌++◌, length, drop, map, filter, flat_map, slice_get, Option, Some, None, Ok, Err, Result, IsTrue, OnOk, refl, sym, ap, subst, ◌∙◌, append-nil}
+use Rattle.std.proofs.Common.{◌≡◌, ◌≢◌, ◌⊎◌, inl, inr, ℕ, ◌/◌, ◌-◌, ℤ, Bool, true, false, not, ◌&&◌, cond, List, [], ◌∷◌, ◌++◌, length, drop, map, filter, flat_map, slice_get, Option, Some, None, Ok, Err, Result, IsTrue, refl, sym, ap, subst, ◌∙◌, append-nil}
 use Rattle.std.specs.List.{AllByRecursion, filter_map, list_all}
 use Rattle.std.proofs.lemmas.Bool.{and_parts}
 use Rattle.sqlite.specs.Order.{Row}
@@ -25,9 +25,8 @@ use Rattle.sqlite.specs.Cast.{cast_row}
 use Rattle.sqlite.specs.Effect.{Database, value_rows}
 use Rattle.sqlite.specs.Rows.{Edited, Written, Task, Puts, Clears, Upserts, Judged, Tries, TriesEach, InsertsOr, Inserts, nothing, mended, stamped, rowids_for, count_of, Counts}
 use Rattle.sqlite.specs.Does.{Tally, AtPlace, OnRows, WritesRows}
-use Rattle.sqlite.specs.declared.error.Error.{Error}
 use Rattle.sqlite_schema.specs.declared.command.Returning.{Returning}
-use Rattle.sqlite.specs.State.{State, Shows, Writes, Executes, mode_of}
+use Rattle.sqlite.specs.State.{State, Shows, Writes, mode_of}
 use Rattle.sqlite.proofs.Callers.{one_step, runs_as}
 use Rattle.wb_sql.proofs.ReadingLemmas.{means_as, answers_from}
 use Rattle.std.proofs.Common.{ap₂, ◌^◌, nat_le, IsPermutation}
@@ -38,6 +37,7 @@ use Rattle.sqlite_trees.proofs.ListLemmas.{all-permutation}
 use Rattle.sqlite_rules.specs.Lists.{Has}
 use Rattle.sqlite_rules.proofs.ListLemmas.{all_from, all_has, has_filtered, has_kept}
 use Rattle.sqlite_rules.proofs.ProbeLemmas.{has_mapped, mapped_has}
+use Rattle.wb_sql.specs.Calls.{RanInside}
 use Rattle.wb_sql.specs.Queries.{query_of, rowids_where, outputs, Answers}
 use Rattle.wb_sql.specs.Statements.{IsWriting, changes}
 use Rattle.std.proofs.lemmas.Bool.{not-true}
@@ -49,7 +49,7 @@ use Rattle.sqlite_trees.specs.View.{is_int}
 use Rattle.sqlite_rules.specs.declared.error.Refusal.{Refusal}
 use Rattle.wb_sql.specs.Rows.{cells, cells_of, IsStored, IsTyped, with_next_rowid, meets, inserted, apart, upserted, without}
 use Rattle.wb_sql.proofs.SetLemmas.{taken_out, stored-filter, stored-put_row, cells_beside}
-use Rattle.wb_sql.specs.Changes.{is_no_action, never_acts, IsPlainTable, IsOneRow, ReplacesInto, InsertsInto, DeletesFrom, SetsTable}
+use Rattle.wb_sql.specs.Changes.{is_no_action, never_acts, IsPlainTable, IsOneRow, ReplacesInto, InsertsInto, DeletesFrom, SetsTable, Deletes as DeletesRows}
 
 -- a part that gave a value did not stop on the way
 pub went : {B E R : Type 0} {b : B} {Stops : E → Type 0} → ((stop : E) × Stops stop × (Ok b ≡ Err stop)) ⊎ R → R
@@ -345,8 +345,7 @@ module _ (params : Row) (old new : State) (at : ℕ) (table : Table) (plain : Is
       subst (λ t. t table.tree ≡ rows → Spares old.now.schema table old.now.trees t → SetsTable table rows old new) trees
       (λ is kept. record { rows_are = is; tables = kept.tables; others = kept.others; schema = ap (λ (d : Database). d.schema) now; shown = shown; marks = marks }) rows_are spares
 
-module _ (sql : List ℕ) (params : Row) (old new : State) (inside : IsTrue old.in_transaction) (table : Table) (terms : List Term) (stored : IsStored (old.now.trees table.tree))
-    (typed : IsTyped table (eval_all terms (params ∷ []))) where
+module _ (sql : List ℕ) (params : Row) (old new : State) (ran : RanInside sql params old new) (table : Table) (terms : List Term) where
   abbrev source : Row
   source = eval_all terms (params ∷ [])
 
@@ -354,18 +353,17 @@ module _ (sql : List ℕ) (params : Row) (old new : State) (inside : IsTrue old.
   rows = old.now.trees table.tree
 
   -- INSERT OR REPLACE of one row, in a transaction
-  pub replaces : (r : Result ℕ Error) → ReplacesInto old.now.schema sql table terms → Executes sql params old new r
-      → OnOk r (SetsTable table (upserted old.now.schema table source rows) old new × IsStored (new.now.trees table.tree)
-      × IsPermutation (cells source ∷ cells_of (apart old.now.schema table source rows)) (cells_of (new.now.trees table.tree)))
-  replaces (Err e) text h = tt
-  replaces (Ok count) text h =
+  pub replaces : ReplacesInto old.now.schema sql table terms → IsStored rows → IsTyped table source
+      → SetsTable table (upserted old.now.schema table source rows) old new × IsStored (new.now.trees table.tree)
+      × IsPermutation (cells source ∷ cells_of (apart old.now.schema table source rows)) (cells_of (new.now.trees table.tree))
+  replaces text stored typed =
       let plain = text.table_is in
       let command = InsertOr text.at Replace (Values terms text.width) [] in
-      let w = runs_as sql params old new old.now.schema refl command (means_as old.now.schema sql command text.means) text.means.plain count h in
+      let w = runs_as sql params old new old.now.schema refl command (means_as old.now.schema sql command text.means) text.means.plain ran.1.0 ran.1.1 in
       let step = row_step params old new text.at table plain command w.tally w.changed in
       let is = inserts_or old.step_limit old.now.schema text.at table params plain terms text.width text.one_row typed old.now.trees stored step.0 step.1 in
       let set = sets params old new text.at table plain (upserted old.now.schema table source rows) step.0.trees is.rows_are is.spares step.2
-      (shown_inside old new None command _ params count inside w) w.marks in (
+      (shown_inside old new None command _ params ran.1.0 ran.0 w) w.marks in (
         set,
         subst IsStored (sym set.rows_are) (stored-put_row _ (stored-filter rows stored _) _ is.whole),
         subst (λ all. IsPermutation (cells source ∷ cells_of (apart old.now.schema table source rows)) (cells_of all)) (sym set.rows_are)
@@ -373,35 +371,30 @@ module _ (sql : List ℕ) (params : Row) (old new : State) (inside : IsTrue old.
       )
 
   -- INSERT of one row, in a transaction
-  pub inserts_one : (r : Result ℕ Error) → InsertsInto old.now.schema sql table terms → Executes sql params old new r
-      → OnOk r (SetsTable table (inserted source rows) old new × IsStored (new.now.trees table.tree)
-      × IsPermutation (cells source ∷ cells_of rows) (cells_of (new.now.trees table.tree)))
-  inserts_one (Err e) text h = tt
-  inserts_one (Ok count) text h =
+  pub inserts_one : InsertsInto old.now.schema sql table terms → IsStored rows → IsTyped table source
+      → SetsTable table (inserted source rows) old new × IsStored (new.now.trees table.tree) × IsPermutation (cells source ∷ cells_of rows) (cells_of (new.now.trees table.tree))
+  inserts_one text stored typed =
       let plain = text.table_is in
       let command = Insert text.at (Values terms text.width) in
-      let w = runs_as sql params old new old.now.schema refl command (means_as old.now.schema sql command text.means) text.means.plain count h in
+      let w = runs_as sql params old new old.now.schema refl command (means_as old.now.schema sql command text.means) text.means.plain ran.1.0 ran.1.1 in
       let step = row_step params old new text.at table plain command w.tally w.changed in
       let is = inserts old.step_limit old.now.schema text.at table params plain terms text.width text.one_row typed old.now.trees stored step.0 step.1 in
-      let set = sets params old new text.at table plain (inserted source rows) step.0.trees is.0 is.1 step.2 (shown_inside old new None command _ params count inside w) w.marks in (
+      let set = sets params old new text.at table plain (inserted source rows) step.0.trees is.0 is.1 step.2 (shown_inside old new None command _ params ran.1.0 ran.0 w) w.marks in (
         set,
         subst IsStored (sym set.rows_are) (stored-put_row rows stored _ is.2),
         subst (λ all. IsPermutation (cells source ∷ cells_of rows) (cells_of all)) (sym set.rows_are) (cells_beside source rows rows is.3),
       )
 
 -- DELETE, in a transaction
-pub deletes_rows : (sql : List ℕ) (params : Row) (old after : State) → IsTrue old.in_transaction → (table : Table) (tests : List Term) → IsStored (old.now.trees table.tree) → (r : Result ℕ Error)
-    → DeletesFrom old.now.schema sql table tests → Executes sql params old after r
-    → OnOk r (SetsTable table (without (λ row. list_all (holds (params ∷ row ∷ [])) tests) (old.now.trees table.tree)) old after × IsStored (after.now.trees table.tree))
-deletes_rows sql params old after inside table tests stored (Err e) text h = tt
-deletes_rows sql params old after inside table tests stored (Ok count) text h =
+pub deletes_rows : (sql : List ℕ) (params : Row) (old after : State) → RanInside sql params old after → DeletesRows sql params old after
+deletes_rows sql params old after ran table tests text stored =
     let plain = text.table_is in
     let command = Delete text.at (record { lets = []; body = query_of (rowids_where table.tree tests) }) in
-    let w = runs_as sql params old after old.now.schema refl command (means_as old.now.schema sql command text.means) text.means.plain count h in
+    let w = runs_as sql params old after old.now.schema refl command (means_as old.now.schema sql command text.means) text.means.plain ran.1.0 ran.1.1 in
     let step = row_step params old after text.at table plain command w.tally w.changed in
     let is = deletes old.step_limit old.now.schema text.at table params plain tests text.stored old.now.trees stored step.0 step.1 in
     let rows = without (λ row. list_all (holds (params ∷ row ∷ [])) tests) (old.now.trees table.tree) in
-    let set = sets params old after text.at table plain rows step.0.trees is.0 is.1 step.2 (shown_inside old after None command _ params count inside w) w.marks in
+    let set = sets params old after text.at table plain rows step.0.trees is.0 is.1 step.2 (shown_inside old after None command _ params ran.1.0 ran.0 w) w.marks in
     (set, subst IsStored (sym set.rows_are) (stored-filter (old.now.trees table.tree) stored _))
 
 -- ---- such texts write
@@ -414,11 +407,6 @@ inserts_writes schema sql table terms text = ap changes text.means.is
 
 pub deletes_writes : (schema : Schema) (sql : List ℕ) (table : Table) (tests : List Term) → DeletesFrom schema sql table tests → IsWriting schema sql
 deletes_writes schema sql table tests text = ap changes text.means.is
-
--- a statement that was made was made in a transaction
-pub inside_if_made : {E : Type 0} {e : E} (inside : Bool) (count : ℕ) → (inside ≡ false → ◌≡◌ {A = Result ℕ E} (Ok count) (Err e)) → IsTrue inside
-inside_if_made true count over = refl
-inside_if_made false count over = absurd (let e = over refl in cc)
 
 -- a DELETE with no test leaves no row
 pub none_without_tests : (params : Row) (rows : List Row) → without (λ row. list_all (holds (params ∷ row ∷ [])) []) rows ≡ []

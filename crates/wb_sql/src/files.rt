@@ -1,9 +1,13 @@
 //! A connection over two files, the database and its log: closed, opened, and given up after a fault.
 
-ghost use Rattle.std.specs.Prelude.{◌≡◌, IsTrue, IfOk};
+ghost use Rattle.std.specs.Prelude.{◌≡◌, IsTrue, IfOk, IfErr};
 ghost use Rattle.sqlite.specs.WalReads.{AreClean};
 ghost use Rattle.sqlite.specs.State.{HasCleanDisk};
-ghost use Rattle.sqlite.specs.Files.{file_state, IsOpened};
+ghost use Rattle.sqlite.specs.Held.{IsNew};
+ghost use Rattle.sqlite.specs.Files.{file_state, IsOpened, IsClosed, FailsToClose};
+ghost use Rattle.sqlite.specs.Files.{IsCleanLeft, FailsToOpenFiles, LeavesFiles};
+ghost use Rattle.sqlite_store.specs.FileStore.{view};
+ghost use Rattle.sqlite_trees.specs.View.{IsClean};
 ghost use Rattle.wb_sql.specs.Settled.{AreSettled, LeaveOnly};
 ghost use Rattle.wb_sql.specs.Transactions.{LeavesAlone};
 
@@ -16,8 +20,10 @@ use std::alloc::Global;
 pub fn close<D: Disk + Drop>(
     conn: Connection<FileStore<D>>,
 ) -> Result<Files<D>, (Error, FileStore<D>)>
-    ensures settled { IfOk result (λ files. AreClean D.Disk files.log files.db → AreSettled D.Disk files (file_state conn).committed.trees) }
+    ensures settled { IfOk result (λ files. AreClean D.Disk files.log files.db
+        → AreSettled D.Disk files (file_state conn).committed.trees) }
     ensures usable { IfOk result (λ files. IsTrue (D.Disk.is_usable files.log) × IsTrue (D.Disk.is_usable files.db)) }
+    ensures err { IfErr result (λ e. IsClosed conn e.1 × (IsClean (view e.1) → FailsToClose conn e.1 e.0)) }
 {
     conn.close_files()
 }
@@ -30,7 +36,8 @@ pub fn surrender<D: Disk + Drop>(conn: Connection<FileStore<D>>) -> Files<D>
     conn.into_store().close()
 }
 
-/// Opens files, and finds what they hold. It fails as `Connection::open_files` does, and then hands back what is left of them.
+/// Opens files, and finds what they hold. It fails as `Connection::open_files` does, and then hands back what is left
+/// of them.
 pub fn open<D: Disk + Drop>(
     alloc: Global,
     files: Files<D>,
@@ -39,8 +46,13 @@ pub fn open<D: Disk + Drop>(
     requires log { IsTrue (D.Disk.is_usable files.log) }
     requires db { IsTrue (D.Disk.is_usable files.db) }
     ensures opened { IfOk result (λ c. HasCleanDisk (file_state c) → IsOpened c) }
-    ensures found { IfOk result (λ c. HasCleanDisk (file_state c) → (db : _) → AreSettled D.Disk files db → (file_state c).committed.trees ≡ db) }
-    ensures alone { IfOk result (λ c. HasCleanDisk (file_state c) → LeavesAlone (file_state c) (file_state c).committed.trees) }
+    ensures found { IfOk result (λ c. HasCleanDisk (file_state c)
+        → (db : _) → AreSettled D.Disk files db → (file_state c).committed.trees ≡ db) }
+    ensures alone { IfOk result (λ c. HasCleanDisk (file_state c)
+        → LeavesAlone (file_state c) (file_state c).committed.trees) }
+    ensures fresh { IfOk result IsNew }
+    ensures err { IfErr result (λ e. IsCleanLeft e.1 → FailsToOpenFiles files e.1 e.0) }
+    ensures unharmed { IfErr result (λ e. IsCleanLeft e.1 → LeavesFiles files e.1) }
 {
     Connection::open_files(alloc, files, options)
 }

@@ -16,7 +16,8 @@ pub trait Power<D: Disk> {
     fn left(&self) -> u64
         ensures { result ≡ cuts self.now };
 
-    /// Cuts the power. The files that come back are one of those that a crash could leave, and nothing of them is in doubt.
+    /// Cuts the power. The files that come back are one of those that a crash could leave, and nothing of them is in
+    /// doubt.
     fn back(&mut self, files: Files<D>) -> Files<D>
         requires { 0 < cuts self.old }
         ensures left { cuts self.new + 1 ≡ cuts self.old }
@@ -29,7 +30,9 @@ pub trait Power<D: Disk> {
 pub fn cut_power<D: Disk, P: Power<D>>(power: &mut P, files: Files<D>) -> Files<D>
     requires { 0 < P.Power.cuts power.old }
     ensures left { P.Power.cuts power.new + 1 ≡ P.Power.cuts power.old }
-    ensures fewer { (image : _) → outcomes D.Disk result.log result.db image → outcomes D.Disk files.log files.db image }
+    ensures fewer { (image : _) → outcomes D.Disk result.log result.db image
+        → outcomes D.Disk files.log files.db image }
+    ensures alone { (image : _) → outcomes D.Disk result.log result.db image → image ≡ image_of D.Disk result }
     ensures settled { (db : _) → AreSettled D.Disk files db → AreSettled D.Disk result db }
     ensures usable { IsTrue (D.Disk.is_usable result.log) × IsTrue (D.Disk.is_usable result.db) }
 {

@@ -10,7 +10,8 @@ use std::test::Fail;
 // These have no clause, so that the proof of a test does not carry the state of each call.
 fn make<S: Alter>(writing: &mut Writing<'_, S>) -> Result<(), Error> {
     writing.create_table(
-        "CREATE TABLE item(name TEXT NOT NULL, place TEXT NOT NULL, number INTEGER NOT NULL, PRIMARY KEY(name, place)) STRICT",
+        "CREATE TABLE item(name TEXT NOT NULL, place TEXT NOT NULL, number INTEGER NOT NULL, \
+         PRIMARY KEY(name, place)) STRICT",
     )?;
     writing.create_index("CREATE INDEX item_number ON item(number)")
 }

@@ -2,6 +2,7 @@ ghost use Rattle.std.specs.Prelude.{◌≡◌, true, false, [], IsTrue, OnOk, On
 ghost use Rattle.sqlite.specs.State.{HasCleanDisk, IsUnchanged, IsRolledBack, Shows, Survives, Executes};
 ghost use Rattle.sqlite.specs.Values.{bound};
 ghost use Rattle.sqlite.specs.Held.{state};
+ghost use Rattle.wb_sql.specs.Calls.{RunsStatement};
 ghost use Rattle.wb_sql.specs.Statements.{IsWriting};
 ghost use Rattle.wb_sql.specs.Transactions.{IsKeptOrUndone, IsTakenBack, Commits, LeavesAlone, LeavesNoMore};
 
@@ -9,8 +10,9 @@ use sqlite::types::ValueRef;
 use sqlite::{Alter, Connection, Error, ErrorCode};
 use std::mem::ManuallyDrop;
 
-/// A transaction under way on a connection. It is ended by `commit` or `roll_back`, and cannot be let go without one of the two.
-/// A failure of the store or of memory ends it too, and takes back what it wrote. After that its writes are refused.
+/// A transaction under way on a connection. It is ended by `commit` or `roll_back`, and cannot be let go without one of
+/// the two. A failure of the store or of memory ends it too, and takes back what it wrote. After that its writes are
+/// refused.
 pub struct Writing<'conn, S: Alter> {
     pub(crate) conn: &'conn mut Connection<S>,
 }
@@ -38,7 +40,8 @@ pub fn begin<S: Alter>(conn: &mut Connection<S>) -> Writing<'_, S>
     requires { conn.old.in_transaction ≡ false }
     ensures same_reference { result.conn.ghost_name ≡ conn.entry.ghost_name }
     ensures begun { result.conn.now ≡ record conn.old { in_transaction = true } }
-    ensures settled { IsTrue (state S.Store conn.old).is_open → (state S.Store conn.old).now ≡ (state S.Store conn.old).committed }
+    ensures settled { IsTrue (state S.Store conn.old).is_open
+        → (state S.Store conn.old).now ≡ (state S.Store conn.old).committed }
 {
     let _settled = conn.is_autocommit();
     enter(conn);
@@ -47,8 +50,10 @@ pub fn begin<S: Alter>(conn: &mut Connection<S>) -> Writing<'_, S>
 
 /// Whether the connection can still be used: the empty text runs where its store is open and memory suffices.
 fn is_usable<S: Alter>(conn: &mut Connection<S>) -> bool
-    ensures open { HasCleanDisk (state S.Store conn.new) → IsTrue result → IsUnchanged (state S.Store conn.old) (state S.Store conn.new) }
-    ensures unchanged { HasCleanDisk (state S.Store conn.new) → IsKeptOrUndone (state S.Store conn.old) (state S.Store conn.new) }
+    ensures open { HasCleanDisk (state S.Store conn.new) → IsTrue result
+        → IsUnchanged (state S.Store conn.old) (state S.Store conn.new) }
+    ensures unchanged { HasCleanDisk (state S.Store conn.new)
+        → IsKeptOrUndone (state S.Store conn.old) (state S.Store conn.new) }
     ensures survives { Survives (state S.Store conn.old) (state S.Store conn.new) (λ _. ⊥) }
 {
     conn.execute("", &[]).is_ok()
@@ -58,10 +63,18 @@ impl<S: Alter> Writing<'_, S> {
     /// Runs one statement that writes. A transaction that is over refuses it.
     pub fn execute(&mut self, sql: &str, params: &[ValueRef<'_>]) -> Result<usize, Error>
         ensures same_reference { self.new.conn.ghost_name ≡ self.old.conn.ghost_name }
-        ensures ended { (state S.Store self.old.conn.now).in_transaction ≡ false → (result ≡ Err (Error.SqliteFailure ErrorCode.TransactionState)) × (self.new.conn.now ≡ self.old.conn.now) }
-        ensures runs { HasCleanDisk (state S.Store self.new.conn.now) → IsTrue (state S.Store self.old.conn.now).in_transaction → Executes sql.now (bound params.now) (state S.Store self.old.conn.now) (state S.Store self.new.conn.now) result }
-        ensures err { HasCleanDisk (state S.Store self.new.conn.now) → IsTrue (state S.Store self.old.conn.now).in_transaction → OnErr result (IsKeptOrUndone (state S.Store self.old.conn.now) (state S.Store self.new.conn.now)) }
-        ensures survives { Survives (state S.Store self.old.conn.now) (state S.Store self.new.conn.now) (λ _. ¬ IsWriting (state S.Store self.old.conn.now).now.schema sql.now) }
+        ensures ended { (state S.Store self.old.conn.now).in_transaction ≡ false
+            → (result ≡ Err (Error.SqliteFailure ErrorCode.TransactionState))
+            × (self.new.conn.now ≡ self.old.conn.now) }
+        ensures runs { HasCleanDisk (state S.Store self.new.conn.now)
+            → IsTrue (state S.Store self.old.conn.now).in_transaction
+            → Executes sql.now (bound params.now) (state S.Store self.old.conn.now) (state S.Store self.new.conn.now)
+            result }
+        ensures err { HasCleanDisk (state S.Store self.new.conn.now)
+            → IsTrue (state S.Store self.old.conn.now).in_transaction
+            → OnErr result (IsKeptOrUndone (state S.Store self.old.conn.now) (state S.Store self.new.conn.now)) }
+        ensures survives { Survives (state S.Store self.old.conn.now) (state S.Store self.new.conn.now)
+            (λ _. ¬ IsWriting (state S.Store self.old.conn.now).now.schema sql.now) }
     {
         if self.conn.is_autocommit() {
             return Err(Error::SqliteFailure(ErrorCode::TransactionState));
@@ -69,10 +82,21 @@ impl<S: Alter> Writing<'_, S> {
         self.conn.execute(sql, params)
     }
 
+    /// Runs one statement that writes, without the number of its rows. It fails as `execute` does.
+    pub(crate) fn run(&mut self, sql: &str, params: &[ValueRef<'_>]) -> Result<(), Error>
+        ensures same_reference { self.new.conn.ghost_name ≡ self.old.conn.ghost_name }
+        ensures runs { RunsStatement S.Store sql.now (bound params.now) self.old.conn.now self.new.conn.now result }
+    {
+        self.execute(sql, params)?;
+        Ok(())
+    }
+
     /// Ends the transaction, and takes back what it wrote.
     pub fn roll_back(self) -> Result<(), Error>
-        ensures ok { HasCleanDisk (state S.Store self.exit.0.now) → OnOk result (IsRolledBack (state S.Store self.entry.conn.now) (state S.Store self.exit.0.now)) }
-        ensures err { HasCleanDisk (state S.Store self.exit.0.now) → OnErr result (IsTakenBack (state S.Store self.entry.conn.now) (state S.Store self.exit.0.now)) }
+        ensures ok { HasCleanDisk (state S.Store self.exit.0.now)
+            → OnOk result (IsRolledBack (state S.Store self.entry.conn.now) (state S.Store self.exit.0.now)) }
+        ensures err { HasCleanDisk (state S.Store self.exit.0.now)
+            → OnErr result (IsTakenBack (state S.Store self.entry.conn.now) (state S.Store self.exit.0.now)) }
         ensures survives { Survives (state S.Store self.entry.conn.now) (state S.Store self.exit.0.now) (λ _. ⊥) }
     {
         let Writing { conn } = self;
@@ -82,11 +106,16 @@ impl<S: Alter> Writing<'_, S> {
 
     /// Ends the transaction, and makes what it wrote last.
     pub fn commit(self) -> Result<(), CommitError>
-        ensures ok { HasCleanDisk (state S.Store self.exit.0.now) → OnOk result (Commits (state S.Store self.entry.conn.now) (state S.Store self.exit.0.now)) }
-        ensures alone { HasCleanDisk (state S.Store self.exit.0.now) → OnOk result (LeavesAlone (state S.Store self.exit.0.now) (state S.Store self.entry.conn.now).now.trees) }
-        ensures memory { HasCleanDisk (state S.Store self.exit.0.now) → result ≡ Err CommitError.Memory → LeavesNoMore (state S.Store self.entry.conn.now) (state S.Store self.exit.0.now) }
-        ensures err { HasCleanDisk (state S.Store self.exit.0.now) → OnErr result (IsKeptOrUndone (state S.Store self.entry.conn.now) (state S.Store self.exit.0.now)) }
-        ensures crash { Survives (state S.Store self.entry.conn.now) (state S.Store self.exit.0.now) (λ db. db ≡ (state S.Store self.entry.conn.now).now.trees) }
+        ensures ok { HasCleanDisk (state S.Store self.exit.0.now)
+            → OnOk result (Commits (state S.Store self.entry.conn.now) (state S.Store self.exit.0.now)) }
+        ensures alone { HasCleanDisk (state S.Store self.exit.0.now)
+            → OnOk result (LeavesAlone (state S.Store self.exit.0.now) (state S.Store self.entry.conn.now).now.trees) }
+        ensures memory { HasCleanDisk (state S.Store self.exit.0.now) → result ≡ Err CommitError.Memory
+            → LeavesNoMore (state S.Store self.entry.conn.now) (state S.Store self.exit.0.now) }
+        ensures err { HasCleanDisk (state S.Store self.exit.0.now)
+            → OnErr result (IsKeptOrUndone (state S.Store self.entry.conn.now) (state S.Store self.exit.0.now)) }
+        ensures crash { Survives (state S.Store self.entry.conn.now) (state S.Store self.exit.0.now)
+            (λ db. db ≡ (state S.Store self.entry.conn.now).now.trees) }
     {
         let Writing { conn } = self;
         let Err(error) = conn.execute("COMMIT", &[]) else {

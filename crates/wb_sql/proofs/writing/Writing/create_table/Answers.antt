@@ -1,11 +1,8 @@
-use Rattle.std.proofs.Common.{Ok}
 use Rattle.sqlite.specs.Held.{state}
-use Rattle.wb_sql.proofs.WriteLemmas.{inside_if_made}
+use Rattle.wb_sql.proofs.CallLemmas.{on_ok}
 use Rattle.wb_sql.proofs.DefinitionLemmas.{creates_table}
 use Rattle.wb_sql.proofs.writing.Writing.create_table.Goals as goal
 
 pub returns-clause-ok : goal.returns-clause-ok
-returns-clause-ok g c clean table text =
-    let old = state g.S.Store c.args.self.now.conn.now in
-    let inside = inside_if_made old.in_transaction c.in_ok-execute.field-0 (λ over. (c.in_ok-execute.ensures.ended over).0) in
-    creates_table c.args.sql.now old (state g.S.Store c.execute.new.self.conn.now) inside table (Ok c.in_ok-execute.field-0) text (c.in_ok-execute.ensures.runs clean inside)
+returns-clause-ok g c clean =
+    on_ok c.run.result (creates_table c.args.sql.now (state g.S.Store c.args.self.now.conn.now) (state g.S.Store c.run.new.self.conn.now)) (c.run.ensures.runs.ok clean)

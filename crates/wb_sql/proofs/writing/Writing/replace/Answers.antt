@@ -1,11 +1,9 @@
-use Rattle.std.proofs.Common.{Ok}
 use Rattle.sqlite.specs.Values.{bound}
 use Rattle.sqlite.specs.Held.{state}
-use Rattle.wb_sql.proofs.WriteLemmas.{replaces, inside_if_made}
+use Rattle.wb_sql.proofs.CallLemmas.{on_ok}
+use Rattle.wb_sql.proofs.WriteLemmas.{replaces}
 use Rattle.wb_sql.proofs.writing.Writing.replace.Goals as goal
 
 pub returns-clause-ok : goal.returns-clause-ok
-returns-clause-ok g c clean table terms text stored typed =
-    let old = state g.S.Store c.args.self.now.conn.now in
-    let inside = inside_if_made old.in_transaction c.in_ok-execute.field-0 (λ over. (c.in_ok-execute.ensures.ended over).0) in
-    replaces c.args.sql.now (bound c.args.params.now) old (state g.S.Store c.execute.new.self.conn.now) inside table terms stored typed (Ok c.in_ok-execute.field-0) text (c.in_ok-execute.ensures.runs clean inside)
+returns-clause-ok g c clean =
+    on_ok c.run.result (replaces c.args.sql.now (bound c.args.params.now) (state g.S.Store c.args.self.now.conn.now) (state g.S.Store c.run.new.self.conn.now)) (c.run.ensures.runs.ok clean)
