@@ -43,7 +43,8 @@ pub fn takes_stand_by_state()
 
 /// The take numbers of what is handed out rise strictly from above the last one that was given, so that
 /// none is given twice. Where one source package is handed out twice on an architecture, a command
-/// between the two was accepted and ended the first hold.
+/// between the two was accepted and ended the first hold: a report of its holder, such as `attempted`, a
+/// command that names it, or a merge.
 pub fn takes_rise()
     ensures rise { (machine : Machine) (commands : List Command)
         → Rise machine.handed (hand_outs machine commands) }
