@@ -1,5 +1,6 @@
 pub mod FieldLemmas
 pub mod LawLemmas
+pub mod LiteralLemmas
 pub mod NumberLemmas
 pub mod RequestLemmas
 pub mod RouteLemmas

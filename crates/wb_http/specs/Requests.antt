@@ -1,9 +1,9 @@
 -- What the bytes of a connection ask for: one request (RFC 9112, section 2.1), and what follows it says nothing.
-use Rattle.std.specs.Prelude.{◌≡◌, ◌⊎◌, ℕ, ◌<◌, ◌≤◌, Bool, true, false, nat_le, List, [], length, take, map, codes, if◌then◌else◌}
+use Rattle.std.specs.Prelude.{◌≡◌, ◌⊎◌, ℕ, ◌<◌, ◌≤◌, Bool, true, false, nat_le, List, [], ◌∷◌, length, take, map, codes, decimal, if◌then◌else◌}
 use Rattle.std.specs.Prelude.{Option, None, Some, option_map, Result, Ok, Err, ⊤}
 use Rattle.std.specs.Option.{option_or}
 use Rattle.std.specs.Str.{bytes_eq}
-use Rattle.httparse.specs.Grammar.{HasNoRequest, NeverHasRequest, ReadsRequest, RequestHead, print_request}
+use Rattle.httparse.specs.Grammar.{HasNoRequest, NeverHasRequest, ReadsRequest, RequestHead, crlf, print_request}
 use Rattle.httparse.specs.Spans.{name_and_value}
 use Rattle.wb_http.specs.Commands.{command_of}
 use Rattle.wb_http.specs.Fields.{NameAndValue, content_length, has_field, length_stated, values_of}
@@ -58,6 +58,18 @@ asked_by (wanted.Body kind count) rest = body_asked kind count rest
 -- what a head and what follows it ask for
 abbrev pub asked : RequestHead → List ℕ → Result Request Fault
 asked head rest = and_then (wanted_of head) (λ w. asked_by w rest)
+
+-- what a POST with this target and this body asks for, whose only field states the length of the body
+abbrev pub posted : List ℕ → List ℕ → Result Request Fault
+posted target body = asked (record {
+  blank = [];
+  method = codes "POST";
+  target = target;
+  minor = 1;
+  line_end = crlf;
+  fields = record { name = content_length; raw = decimal (length body); end = crlf } ∷ [];
+  last = crlf;
+}) body
 
 -- an input begins with this head, which is within the limits
 pub record IsHead (input : List ℕ) (head : RequestHead) (rest : List ℕ) : Type 0 where

@@ -7,7 +7,7 @@ use Rattle.percent_encoding.specs.Percent.{percent_decode}
 use Rattle.wb_http.specs.declared.fault.Fault.{Fault}
 use Rattle.wb_http.specs.declared.fault.Fault.TheVariants.{BadPath}
 use Rattle.wb_http.specs.declared.route.CommandKind.{CommandKind}
-use Rattle.wb_http.specs.declared.route.CommandKind.TheVariants.{Next, Take, Built, Uploaded, Waits, PutBack, GiveBack, DepWait, Fail, NotForUs, Rebuild}
+use Rattle.wb_http.specs.declared.route.CommandKind.TheVariants.{Next, Take, Built, Uploaded, Waits, PutBack, Attempted, GiveBack, DepWait, Fail, NotForUs, Rebuild, BuildPriority}
 use Rattle.wb_http.specs.declared.route.Query.{Query}
 use Rattle.wb_http.specs.declared.route.Query.TheVariants as query
 
@@ -19,11 +19,13 @@ command_at target = if bytes_eq target (codes "/v1/next") then Some Next
     else (if bytes_eq target (codes "/v1/uploaded") then Some Uploaded
     else (if bytes_eq target (codes "/v1/waits") then Some Waits
     else (if bytes_eq target (codes "/v1/put-back") then Some PutBack
+    else (if bytes_eq target (codes "/v1/attempted") then Some Attempted
     else (if bytes_eq target (codes "/v1/give-back") then Some GiveBack
     else (if bytes_eq target (codes "/v1/dep-wait") then Some DepWait
     else (if bytes_eq target (codes "/v1/fail") then Some Fail
     else (if bytes_eq target (codes "/v1/not-for-us") then Some NotForUs
-    else (if bytes_eq target (codes "/v1/rebuild") then Some Rebuild else None))))))))))
+    else (if bytes_eq target (codes "/v1/rebuild") then Some Rebuild
+    else (if bytes_eq target (codes "/v1/build-priority") then Some BuildPriority else None))))))))))))
 
 -- what stands after a prefix
 abbrev pub after_prefix : List ℕ → List ℕ → Option (List ℕ)

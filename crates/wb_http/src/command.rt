@@ -1,9 +1,9 @@
 //! The bodies of requests that give a command: JSON objects (RFC 8259).
 ghost use Rattle.std.specs.Prelude.{◌≡◌, codes, IfOk, option_map};
 ghost use Rattle.serde_json.specs.View.{view};
-ghost use Rattle.wb_http.specs.Commands.{command_in, command_of, dep_wait_in, fail_in, give_back_in, json_of, next_in};
-ghost use Rattle.wb_http.specs.Commands.{not_for_us_in, number_in, number_or_none_in, rebuild_in, subject_in};
-ghost use Rattle.wb_http.specs.Commands.{take_in, text_in, waits_in};
+ghost use Rattle.wb_http.specs.Commands.{attempted_in, build_priority_in, command_in, command_of, dep_wait_in, fail_in};
+ghost use Rattle.wb_http.specs.Commands.{give_back_in, integer_in, json_of, next_in, not_for_us_in, number_in};
+ghost use Rattle.wb_http.specs.Commands.{number_or_none_in, rebuild_in, subject_in, take_in, text_in, waits_in};
 ghost use Rattle.wb_http.specs.Outcomes.{GivesOr};
 
 use crate::fault::{Fault, RequestError};
@@ -37,6 +37,14 @@ fn number_in(key: &str, body: &Value) -> Option<u64>
     ensures value { result ≡ number_in key.now (view body.now) }
 {
     body.get(key).and_then(Value::as_u64)
+}
+
+/// The integer under a key; `None` if there is none in digits alone or after a minus sign, if it is -0, or if it
+/// does not fit 64 bits.
+fn integer_in(key: &str, body: &Value) -> Option<i64>
+    ensures value { result ≡ integer_in key.now (view body.now) }
+{
+    body.get(key).and_then(Value::as_i64)
 }
 
 /// The whole number under a key, if the key is there and not null; `None` if it has something else.
@@ -136,6 +144,22 @@ fn waits_in(alloc: Global, body: &Value) -> Result<Option<Command>, AllocError>
     })))
 }
 
+#[tactic(auto, unfolding(crate::specs::Commands::attempted_in))]
+fn attempted_in(alloc: Global, body: &Value) -> Result<Option<Command>, AllocError>
+    ensures value { IfOk result (λ command. command ≡ attempted_in (view body.now)) }
+{
+    let Some(take_number) = number_in("take", body) else {
+        return Ok(None);
+    };
+    let Some(reason) = text_in(alloc, "reason", body)? else {
+        return Ok(None);
+    };
+    Ok(Some(Command::Attempted(command::Attempted {
+        take_number,
+        reason,
+    })))
+}
+
 #[tactic(auto, unfolding(crate::specs::Commands::give_back_in))]
 fn give_back_in(alloc: Global, body: &Value) -> Result<Option<Command>, AllocError>
     ensures value { IfOk result (λ command. command ≡ give_back_in (view body.now)) }
@@ -226,6 +250,24 @@ fn rebuild_in(alloc: Global, body: &Value) -> Result<Option<Command>, AllocError
     })))
 }
 
+#[tactic(auto, unfolding(crate::specs::Commands::build_priority_in))]
+fn build_priority_in(alloc: Global, body: &Value) -> Result<Option<Command>, AllocError>
+    ensures value { IfOk result (λ command. command ≡ build_priority_in (view body.now)) }
+{
+    let Some(subject) = subject_in(alloc, body)? else {
+        return Ok(None);
+    };
+    let Some(value) = integer_in("value", body) else {
+        return Ok(None);
+    };
+    Ok(Some(Command::BuildPriority(command::BuildPriority {
+        arch: subject.arch,
+        source: subject.source,
+        version: subject.version,
+        value,
+    })))
+}
+
 /// The command of this kind that a body gives; `None` if a key is missing or has another kind of value.
 /// The only error is that memory ran out.
 fn command_in(alloc: Global, kind: CommandKind, body: &Value) -> Result<Option<Command>, AllocError>
@@ -238,11 +280,13 @@ fn command_in(alloc: Global, kind: CommandKind, body: &Value) -> Result<Option<C
         CommandKind::Uploaded => Ok(held_in(body).map(Command::Uploaded)),
         CommandKind::Waits => waits_in(alloc, body),
         CommandKind::PutBack => Ok(held_in(body).map(Command::PutBack)),
+        CommandKind::Attempted => attempted_in(alloc, body),
         CommandKind::GiveBack => give_back_in(alloc, body),
         CommandKind::DepWait => dep_wait_in(alloc, body),
         CommandKind::Fail => fail_in(alloc, body),
         CommandKind::NotForUs => not_for_us_in(alloc, body),
         CommandKind::Rebuild => rebuild_in(alloc, body),
+        CommandKind::BuildPriority => build_priority_in(alloc, body),
     }
 }
 

@@ -17,11 +17,13 @@ pub(crate) enum CommandKind {
     Uploaded,
     Waits,
     PutBack,
+    Attempted,
     GiveBack,
     DepWait,
     Fail,
     NotForUs,
     Rebuild,
+    BuildPriority,
 }
 
 /// What is asked of the office that changes nothing. Its texts are taken as they came, once decoded: the
@@ -54,11 +56,13 @@ pub(crate) fn command_at(target: &str) -> Option<CommandKind>
         "/v1/uploaded" => Some(CommandKind::Uploaded),
         "/v1/waits" => Some(CommandKind::Waits),
         "/v1/put-back" => Some(CommandKind::PutBack),
+        "/v1/attempted" => Some(CommandKind::Attempted),
         "/v1/give-back" => Some(CommandKind::GiveBack),
         "/v1/dep-wait" => Some(CommandKind::DepWait),
         "/v1/fail" => Some(CommandKind::Fail),
         "/v1/not-for-us" => Some(CommandKind::NotForUs),
         "/v1/rebuild" => Some(CommandKind::Rebuild),
+        "/v1/build-priority" => Some(CommandKind::BuildPriority),
         _ => None,
     }
 }

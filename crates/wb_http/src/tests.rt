@@ -60,7 +60,7 @@ const NEXT: &str =
     "POST /v1/next HTTP/1.1\r\nHost: localhost\r\nContent-Length: 31\r\n\r\n{\"arch\":\"amd64\",\"builder\":\"b1\"}";
 
 /// Requests without a body, or with one that plays no part, and what they are.
-static HEADS: [(&str, &str); 36] = [
+static HEADS: [(&str, &str); 39] = [
     ("", "nothing"),
     ("\u{1}", "BadHead"),
     ("GET /v1/item/a/b HTTP/1.1\r\n", "BadHead"),
@@ -88,7 +88,10 @@ static HEADS: [(&str, &str); 36] = [
     ("POST /v1/%6eext HTTP/1.1\r\n\r\n", "NoRoute"),
     ("POST http://x/v1/next HTTP/1.1\r\n\r\n", "NoRoute"),
     ("OPTIONS * HTTP/1.1\r\n\r\n", "NoRoute"),
+    ("POST /v1/build_priority HTTP/1.1\r\n\r\n", "NoRoute"),
     ("GET /v1/next HTTP/1.1\r\n\r\n", "WrongMethod"),
+    ("GET /v1/attempted HTTP/1.1\r\n\r\n", "WrongMethod"),
+    ("PUT /v1/build-priority HTTP/1.1\r\n\r\n", "WrongMethod"),
     ("HEAD /v1/mine/b1 HTTP/1.1\r\n\r\n", "WrongMethod"),
     ("post /v1/next HTTP/1.1\r\n\r\n", "WrongMethod"),
     (
@@ -260,7 +263,7 @@ static AFTERS: [(&str, &str); 8] = [
 ];
 
 /// Bodies for each path, and what they are.
-static BODIES: [(&str, &str, &str); 30] = [
+static BODIES: [(&str, &str, &str); 42] = [
     ("next", r#"{"arch":"a","builder":null}"#, "BadBody"),
     ("next", r#"{"arch":"a","builder":7}"#, "BadBody"),
     ("next", r#"{"arch":"a"}"#, "BadBody"),
@@ -292,6 +295,21 @@ static BODIES: [(&str, &str, &str); 30] = [
     ("waits", r#"{"take":1,"relations":"a"}"#, "waits"),
     ("waits", r#"{"take":1}"#, "BadBody"),
     ("put-back", r#"{"take":1}"#, "put-back"),
+    ("attempted", r#"{"take":1,"reason":"r"}"#, "attempted"),
+    (
+        "attempted",
+        r#"{"reason":"","take":18446744073709551615}"#,
+        "attempted",
+    ),
+    (
+        "attempted",
+        r#"{"reason":"","take":18446744073709551616}"#,
+        "BadBody",
+    ),
+    ("attempted", r#"{"take":-1,"reason":"r"}"#, "BadBody"),
+    ("attempted", r#"{"take":1,"reason":null}"#, "BadBody"),
+    ("attempted", r#"{"take":1,"relations":"a"}"#, "BadBody"),
+    ("attempted", r#"{"reason":"r"}"#, "BadBody"),
     (
         "give-back",
         r#"{"arch":"a","source":"s","version":"1"}"#,
@@ -343,17 +361,66 @@ static BODIES: [(&str, &str, &str); 30] = [
         r#"{"arch":"a","source":"s","version":"1","message":"m"}"#,
         "BadBody",
     ),
+    (
+        "build-priority",
+        r#"{"arch":"a","source":"s","version":"1","value":-5}"#,
+        "build-priority",
+    ),
+    (
+        "build-priority",
+        r#"{"arch":"a","source":"s","version":"1"}"#,
+        "BadBody",
+    ),
+    (
+        "build-priority",
+        r#"{"arch":"a","source":"s","value":5}"#,
+        "BadBody",
+    ),
+    (
+        "build-priority",
+        r#"{"arch":"a","version":"1","value":5}"#,
+        "BadBody",
+    ),
+    (
+        "build-priority",
+        r#"{"source":"s","version":"1","value":5}"#,
+        "BadBody",
+    ),
 ];
 
-/// What a command with this path and this body is.
-fn word_of_body(alloc: Global, path: &str, body: &str) -> Result<&'static str, Fail> {
+/// Values of a build priority, and what is read of each.
+static VALUES: [(&str, Option<i64>); 15] = [
+    ("5", Some(5)),
+    ("-5", Some(-5)),
+    ("0", Some(0)),
+    ("9223372036854775807", Some(9223372036854775807)),
+    ("9223372036854775808", None),
+    ("-9223372036854775808", Some(-9223372036854775808)),
+    ("-9223372036854775809", None),
+    ("-0", None),
+    ("5.0", None),
+    ("-5.0", None),
+    ("1e3", None),
+    ("+5", None),
+    ("05", None),
+    ("\"5\"", None),
+    ("null", None),
+];
+
+/// What is received of a command with this path and this body.
+fn posted(alloc: Global, path: &str, body: &str) -> Result<Received, Fail> {
     let mut input = String::from_str(alloc, "POST /v1/")?;
     input.push_str(path)?;
     input.push_str(" HTTP/1.1\r\nContent-Length: ")?;
     input.push_str(itoa::Buffer::new().format(body.len()))?;
     input.push_str("\r\n\r\n")?;
     input.push_str(body)?;
-    Ok(word_of(&received(alloc, input.as_bytes(), 100_000)))
+    Ok(received(alloc, input.as_bytes(), 100_000))
+}
+
+/// What a command with this path and this body is.
+fn word_of_body(alloc: Global, path: &str, body: &str) -> Result<&'static str, Fail> {
+    Ok(word_of(&posted(alloc, path, body)?))
 }
 
 fn assert_afters(rt: &impl Abort, alloc: Global, cases: &[(&str, &str)]) -> Result<(), Fail> {
@@ -370,6 +437,43 @@ fn assert_afters(rt: &impl Abort, alloc: Global, cases: &[(&str, &str)]) -> Resu
 #[test]
 fn a_number_to_go_on_after_is_a_whole_one(rt: HostRuntime) -> Result<(), Fail> {
     assert_afters(&rt, rt.alloc(), &AFTERS)
+}
+
+/// The value of the build priority that is asked for.
+fn value_of(received: &Received) -> Option<i64> {
+    match received {
+        Received::Asked(Request::Command(Command::BuildPriority(fields))) => Some(fields.value),
+        _ => None,
+    }
+}
+
+fn assert_values(
+    rt: &impl Abort,
+    alloc: Global,
+    cases: &[(&str, Option<i64>)],
+) -> Result<(), Fail> {
+    for (value, want) in cases {
+        let mut body = String::from_str(
+            alloc,
+            r#"{"arch":"a","source":"s","version":"1","value":"#,
+        )?;
+        body.push_str(value)?;
+        body.push('}')?;
+        let got = posted(alloc, "build-priority", body.as_str())?;
+        assert_eq!(rt; value_of(&got), *want, "value {value}");
+        let word = if want.is_some() {
+            "build-priority"
+        } else {
+            "BadBody"
+        };
+        assert_eq!(rt; word_of(&got), word, "value {value}");
+    }
+    Ok(())
+}
+
+#[test]
+fn a_build_priority_is_an_integer(rt: HostRuntime) -> Result<(), Fail> {
+    assert_values(&rt, rt.alloc(), &VALUES)
 }
 
 fn assert_bodies(rt: &impl Abort, alloc: Global, cases: &[(&str, &str, &str)]) -> Result<(), Fail> {
@@ -395,12 +499,15 @@ fn parts_of(received: &Received) -> (&str, &str, Option<u64>) {
         Received::Asked(Request::Command(Command::Next(next))) => {
             (next.arch.as_str(), next.builder.as_str(), next.after)
         }
+        Received::Asked(Request::Command(Command::Attempted(fields))) => {
+            (fields.reason.as_str(), "", Some(fields.take_number))
+        }
         _ => ("", "", None),
     }
 }
 
 /// Requests, with their texts and the number.
-static TEXTS: [(&str, &str, &str, Option<u64>); 3] = [
+static TEXTS: [(&str, &str, &str, Option<u64>); 4] = [
     (
         "GET /v1/item/amd64/libsigc%2B%2B-2.0%2541 HTTP/1.1\r\n\r\n",
         "amd64",
@@ -412,6 +519,12 @@ static TEXTS: [(&str, &str, &str, Option<u64>); 3] = [
         "POST /v1/next HTTP/1.1\r\nContent-Length: 43\r\n\r\n{\"arch\":\"amd64\",\"builder\":\"b\\n1\",\"after\":7}",
         "amd64",
         "b\n1",
+        Some(7),
+    ),
+    (
+        "POST /v1/attempted HTTP/1.1\r\nContent-Length: 29\r\n\r\n{\"take\":7,\"reason\":\"no\\t-lm\"}",
+        "no\t-lm",
+        "",
         Some(7),
     ),
 ];
