@@ -22,6 +22,7 @@ pub mod PartLemmas
 pub mod PassLemmas
 pub mod RefusalLemmas
 pub mod RetryLemmas
+pub mod SoughtLemmas
 pub mod StepLemmas
 pub mod TakeLemmas
 pub mod TakeStateLemmas

@@ -1,12 +1,11 @@
 -- What the commands answer that move the record of a source package by its name.
-use Rattle.std.proofs.Common.{◌≡◌, ℕ, ◌+◌, Bool, true, false, not, List, [], ◌∷◌, Option, Some, None, Ok, Err, refl, ap, ◌∙◌, nat_le, is_some, option_and_then, option_map}
+use Rattle.std.proofs.Common.{◌≡◌, ℕ, ◌+◌, Bool, not, List, [], ◌∷◌, Option, Some, None, Ok, refl, ap, ◌∙◌, nat_le, is_some, option_and_then, option_map}
 use Rattle.std.specs.Result.{result_unwrap_or}
 use Rattle.std.specs.FinMap as map
 use Rattle.wb_states.specs.Forms.{GiveBack, DepWait, Fail, NotForUs, Rebuild}
 use Rattle.wb_states.specs.declared.moves.Move.{Move}
 use Rattle.wb_states.specs.declared.moves.Move.TheVariants as to
 use Rattle.wb_states.specs.declared.record.Record.{Record}
-use Rattle.wb_states.specs.declared.refusal.Refusal.{Refusal}
 use Rattle.wb_states.specs.declared.refusal.Refusal.TheVariants.{UnknownArch, UnknownSource, Spent}
 use Rattle.wb_states.specs.declared.reply.Reply.TheVariants.{Done}
 use Rattle.wb_states.specs.Limits.{count_limit}
@@ -15,11 +14,11 @@ use Rattle.wb_states.specs.Moves.{move_refusal}
 use Rattle.wb_states.specs.Queue.{Entry}
 use Rattle.deb_relations.specs.Reading.{reading_of}
 use Rattle.deb_text.specs.Options.{first_some}
-use Rattle.wb_office.specs.Checks.{when, differing, text_refusal, state_refusal, found_refusal}
-use Rattle.wb_office.specs.Outcomes.{outcome_unless, move_step, named_at, named_step}
+use Rattle.wb_office.specs.Checks.{when, differing, text_refusal, state_refusal}
+use Rattle.wb_office.specs.Outcomes.{outcome_unless, move_step, named_at, named_step, sought_step}
 use Rattle.wb_office.specs.Targets.{transition_of, record_named, with_move}
-use Rattle.wb_office.specs.Step.{Outcome, step, counted, after_move}
-use Rattle.wb_office.proofs.StepLemmas.{step-state, outcome_unless-option_or, outcome_unless-last}
+use Rattle.wb_office.specs.Step.{step, counted, after_move}
+use Rattle.wb_office.proofs.StepLemmas.{step-state, outcome_unless-option_or}
 
 named-answer : (machine : Machine) (arch source version : List ℕ) (move : Move) (is_unknown : Bool) (found : Option Record)
     → outcome_unless (first_some (
@@ -44,21 +43,21 @@ named-answer machine arch source version move is_unknown (Some current) =
 
 pub step-GiveBack : (machine : Machine) (arch source version : List ℕ) → text_refusal (GiveBack arch source version) ≡ None
     → step machine (GiveBack arch source version) ≡ named_step machine arch source version to.GiveBack
-unfolding state_refusal transition_of record_named named_step
+unfolding state_refusal transition_of record_named sought_step
 step-GiveBack machine arch source version text =
     step-state machine (GiveBack arch source version) text refl
     ∙ named-answer machine arch source version to.GiveBack (not (map.contains_key machine.archs arch)) (map.get machine.records (arch, source))
 
 pub step-Fail : (machine : Machine) (arch source version note : List ℕ) → text_refusal (Fail arch source version note) ≡ None
     → step machine (Fail arch source version note) ≡ named_step machine arch source version (to.Fail note)
-unfolding state_refusal transition_of record_named named_step
+unfolding state_refusal transition_of record_named sought_step
 step-Fail machine arch source version note text =
     step-state machine (Fail arch source version note) text refl
     ∙ named-answer machine arch source version (to.Fail note) (not (map.contains_key machine.archs arch)) (map.get machine.records (arch, source))
 
 pub step-NotForUs : (machine : Machine) (arch source version note : List ℕ) → text_refusal (NotForUs arch source version note) ≡ None
     → step machine (NotForUs arch source version note) ≡ named_step machine arch source version (to.NotForUs note)
-unfolding state_refusal transition_of record_named named_step
+unfolding state_refusal transition_of record_named sought_step
 step-NotForUs machine arch source version note text =
     step-state machine (NotForUs arch source version note) text refl
     ∙ named-answer machine arch source version (to.NotForUs note) (not (map.contains_key machine.archs arch)) (map.get machine.records (arch, source))
@@ -66,7 +65,7 @@ step-NotForUs machine arch source version note text =
 pub step-Rebuild : (machine : Machine) (arch source version : List ℕ) (number : ℕ) (message : List ℕ)
     → text_refusal (Rebuild arch source version number message) ≡ None
     → step machine (Rebuild arch source version number message) ≡ named_step machine arch source version (to.Rebuild number message)
-unfolding state_refusal transition_of record_named named_step
+unfolding state_refusal transition_of record_named sought_step
 step-Rebuild machine arch source version number message text =
     step-state machine (Rebuild arch source version number message) text refl
     ∙ named-answer machine arch source version (to.Rebuild number message) (not (map.contains_key machine.archs arch)) (map.get machine.records (arch, source))
@@ -95,53 +94,7 @@ depwait-answer machine arch source version relations (Some current) =
 pub step-DepWait : (machine : Machine) (arch source version relations : List ℕ) → text_refusal (DepWait arch source version relations) ≡ None
     → step machine (DepWait arch source version relations)
     ≡ named_step machine arch source version (to.DepWait (result_unwrap_or (reading_of relations) []) (arch_words machine arch))
-unfolding state_refusal transition_of record_named named_step
+unfolding state_refusal transition_of record_named sought_step
 step-DepWait machine arch source version relations text =
     step-state machine (DepWait arch source version relations) text refl
     ∙ depwait-answer machine arch source version relations (map.get machine.records (arch, source))
-
-pub named_at-refused : (machine : Machine) (version : List ℕ) (done : Record → Outcome) (found : Option Record) (refusal : Refusal)
-    → first_some (when (not (is_some found)) UnknownSource ∷ option_and_then (differing version) found ∷ []) ≡ Some refusal
-    → named_at machine version done found ≡ (Err refusal, machine)
-named_at-refused machine version done None refusal is = ap (λ first. outcome_unless first machine (Err UnknownSource, machine)) is
-named_at-refused machine version done (Some current) refusal is = outcome_unless-last (differing version current) machine (done current) refusal is
-
--- ---- a record that is sought by its name, and what is done with it
-
-module _ (machine : Machine) (arch source version : List ℕ) (done : Record → Outcome) where
-  abbrev sought : Bool → Option Record → Outcome
-  sought is_unknown found = outcome_unless (when is_unknown UnknownArch) machine (named_at machine version done found)
-
-  pub sought-UnknownArch : not (map.contains_key machine.archs arch) ≡ true
-      → sought (not (map.contains_key machine.archs arch)) (map.get machine.records (arch, source)) ≡ (Err UnknownArch, machine)
-  sought-UnknownArch unknown = λ i. sought (unknown i) (map.get machine.records (arch, source))
-
-  pub sought-found : (refusal : Refusal) → not (map.contains_key machine.archs arch) ≡ false → found_refusal machine arch source version ≡ Some refusal
-      → sought (not (map.contains_key machine.archs arch)) (map.get machine.records (arch, source)) ≡ (Err refusal, machine)
-  sought-found refusal known is =
-      (λ i. sought (known i) (map.get machine.records (arch, source))) ∙ named_at-refused machine version done (map.get machine.records (arch, source)) refusal is
-
-  pub sought-is : (current : Record) → not (map.contains_key machine.archs arch) ≡ false
-      → map.get machine.records (arch, source) ≡ Some current → differing version current ≡ None
-      → sought (not (map.contains_key machine.archs arch)) (map.get machine.records (arch, source)) ≡ done current
-  sought-is current known found same = (λ i. sought (known i) (found i)) ∙ (λ i. outcome_unless (same i) machine (done current))
-
-pub named_step-UnknownArch : (machine : Machine) (arch source version : List ℕ) (move : Move) → not (map.contains_key machine.archs arch) ≡ true
-    → named_step machine arch source version move ≡ (Err UnknownArch, machine)
-unfolding named_step
-named_step-UnknownArch machine arch source version move =
-    sought-UnknownArch machine arch source version (λ current. move_step machine ((arch, source), current) move)
-
-pub named_step-found : (machine : Machine) (arch source version : List ℕ) (move : Move) (refusal : Refusal) → not (map.contains_key machine.archs arch) ≡ false
-    → found_refusal machine arch source version ≡ Some refusal
-    → named_step machine arch source version move ≡ (Err refusal, machine)
-unfolding named_step
-named_step-found machine arch source version move =
-    sought-found machine arch source version (λ current. move_step machine ((arch, source), current) move)
-
-pub named_step-moves : (machine : Machine) (arch source version : List ℕ) (move : Move) (current : Record) → not (map.contains_key machine.archs arch) ≡ false
-    → map.get machine.records (arch, source) ≡ Some current → differing version current ≡ None
-    → named_step machine arch source version move ≡ move_step machine ((arch, source), current) move
-unfolding named_step
-named_step-moves machine arch source version move =
-    sought-is machine arch source version (λ current. move_step machine ((arch, source), current) move)

@@ -15,11 +15,10 @@ use Rattle.wb_states.specs.Queue.{Entry}
 use Rattle.wb_store.specs.declared.keyed.KeyedRecord.{KeyedRecord}
 use Rattle.wb_store.specs.Lookups.{entry_of}
 use Rattle.deb_text.specs.Options.{first_some}
-use Rattle.wb_office.specs.Checks.{MayWantMemory, when, differing, found_refusal, has_bad_key, is_bad_priority, key_refusal, text_refusal, state_refusal}
-use Rattle.wb_office.specs.Outcomes.{outcome_unless, named_at, priority_step, prioritized_step}
+use Rattle.wb_office.specs.Checks.{MayWantMemory, when, differing, has_bad_key, is_bad_priority, key_refusal, text_refusal, state_refusal}
+use Rattle.wb_office.specs.Outcomes.{outcome_unless, named_at, priority_step, prioritized_step, sought_step}
 use Rattle.wb_office.specs.Targets.{transition_of}
 use Rattle.wb_office.specs.Step.{step, counted, after_priority}
-use Rattle.wb_office.proofs.NamedLemmas.{sought-UnknownArch, sought-found, sought-is}
 use Rattle.wb_office.proofs.StepLemmas.{step-state, step-text, outcome_unless-option_or, two-None, two-Some, two-later}
 use Rattle.wb_office.proofs.WantLemmas.{key-good}
 
@@ -49,7 +48,7 @@ priority-answer machine arch source version value is_unknown (Some current) =
 
 step-BuildPriority : (machine : Machine) (arch source version : List ℕ) (value : ℤ) → text_refusal (BuildPriority arch source version value) ≡ None
     → step machine (BuildPriority arch source version value) ≡ prioritized_step machine arch source version value
-unfolding state_refusal transition_of prioritized_step
+unfolding state_refusal transition_of sought_step
 step-BuildPriority machine arch source version value text =
     step-state machine (BuildPriority arch source version value) text refl
     ∙ priority-answer machine arch source version value (not (map.contains_key machine.archs arch)) (map.get machine.records (arch, source))
@@ -105,26 +104,6 @@ want-BuildPriority arch source version value key good =
     record { names = names.0; version = names.1; relations = refl; number = ap (λ b. b || false) good; short = refl; parts = refl }
 
 -- ---- the record
-
-pub prioritized-UnknownArch : (machine : Machine) (arch source version : List ℕ) (value : ℤ) → not (map.contains_key machine.archs arch) ≡ true
-    → prioritized_step machine arch source version value ≡ (Err UnknownArch, machine)
-unfolding prioritized_step
-prioritized-UnknownArch machine arch source version value =
-    sought-UnknownArch machine arch source version (λ current. priority_step machine ((arch, source), current) value)
-
-pub prioritized-found : (machine : Machine) (arch source version : List ℕ) (value : ℤ) (refusal : Refusal) → not (map.contains_key machine.archs arch) ≡ false
-    → found_refusal machine arch source version ≡ Some refusal
-    → prioritized_step machine arch source version value ≡ (Err refusal, machine)
-unfolding prioritized_step
-prioritized-found machine arch source version value =
-    sought-found machine arch source version (λ current. priority_step machine ((arch, source), current) value)
-
-pub prioritized-is : (machine : Machine) (arch source version : List ℕ) (value : ℤ) (current : Record) → not (map.contains_key machine.archs arch) ≡ false
-    → map.get machine.records (arch, source) ≡ Some current → differing version current ≡ None
-    → prioritized_step machine arch source version value ≡ priority_step machine ((arch, source), current) value
-unfolding prioritized_step
-prioritized-is machine arch source version value =
-    sought-is machine arch source version (λ current. priority_step machine ((arch, source), current) value)
 
 pub priority_step-Spent : (machine : Machine) (entry : Entry) (value : ℤ) → nat_le count_limit machine.accepted ≡ true
     → priority_step machine entry value ≡ (Err Spent, machine)

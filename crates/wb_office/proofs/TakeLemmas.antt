@@ -13,11 +13,10 @@ use Rattle.wb_states.specs.Machine.{Machine}
 use Rattle.wb_states.specs.Moves.{move_refusal}
 use Rattle.wb_states.specs.Queue.{Entry}
 use Rattle.deb_text.specs.Options.{first_some}
-use Rattle.wb_office.specs.Checks.{when, differing, has_bad_name, lacks_arch, lacks_builder, is_for_other_archs, text_refusal, state_refusal, builder_refusal, found_refusal}
-use Rattle.wb_office.specs.Outcomes.{outcome_unless, assignment_step, named_at, take_move, take_step}
+use Rattle.wb_office.specs.Checks.{when, differing, has_bad_name, lacks_arch, lacks_builder, is_for_other_archs, text_refusal, state_refusal, builder_refusal}
+use Rattle.wb_office.specs.Outcomes.{outcome_unless, assignment_step, named_at, sought_step, take_move, take_step}
 use Rattle.wb_office.specs.Targets.{transition_of, record_named}
 use Rattle.wb_office.specs.Step.{Outcome, step, counted, after_take, assignment_reply}
-use Rattle.wb_office.proofs.NamedLemmas.{named_at-refused}
 use Rattle.wb_office.proofs.StepLemmas.{step-state, step-text, outcome_unless-option_or}
 
 outcome_unless-three : (a b c rest : Option Refusal) (machine : Machine) (accepted : Outcome)
@@ -47,7 +46,7 @@ take-answer machine arch builder source version (Some current) = outcome_unless-
 
 step-Take : (machine : Machine) (arch builder source version : List ℕ) → text_refusal (Take arch builder source version) ≡ None
     → step machine (Take arch builder source version) ≡ take_step machine arch builder source version
-unfolding state_refusal transition_of record_named take_step builder_refusal
+unfolding state_refusal transition_of record_named sought_step builder_refusal
 step-Take machine arch builder source version text =
     step-state machine (Take arch builder source version) text refl
     ∙ outcome_unless-three
@@ -82,25 +81,3 @@ pub take-is : (machine : Machine) (arch builder source version : List ℕ) → h
     → step machine (Take arch builder source version) ≡ take_step machine arch builder source version
 take-is machine arch builder source version bad faulty =
     step-Take machine arch builder source version (take-text arch builder source version bad faulty)
-
-pub take_step-builder : (machine : Machine) (arch builder source version : List ℕ) (refusal : Refusal) → builder_refusal machine arch builder ≡ Some refusal
-    → take_step machine arch builder source version ≡ (Err refusal, machine)
-unfolding take_step
-take_step-builder machine arch builder source version refusal is =
-    λ i. outcome_unless (is i) machine (named_at machine version (λ current. assignment_step machine builder ((arch, source), current)) (map.get machine.records (arch, source)))
-
-pub take_step-found : (machine : Machine) (arch builder source version : List ℕ) (refusal : Refusal) → builder_refusal machine arch builder ≡ None
-    → found_refusal machine arch source version ≡ Some refusal
-    → take_step machine arch builder source version ≡ (Err refusal, machine)
-unfolding take_step
-take_step-found machine arch builder source version refusal may is =
-    (λ i. outcome_unless (may i) machine (named_at machine version (λ current. assignment_step machine builder ((arch, source), current)) (map.get machine.records (arch, source))))
-    ∙ named_at-refused machine version (λ current. assignment_step machine builder ((arch, source), current)) (map.get machine.records (arch, source)) refusal is
-
-pub take_step-assignment : (machine : Machine) (arch builder source version : List ℕ) (current : Record) → builder_refusal machine arch builder ≡ None
-    → map.get machine.records (arch, source) ≡ Some current → differing version current ≡ None
-    → take_step machine arch builder source version ≡ assignment_step machine builder ((arch, source), current)
-unfolding take_step
-take_step-assignment machine arch builder source version current may found same =
-    (λ i. outcome_unless (may i) machine (named_at machine version (λ current. assignment_step machine builder ((arch, source), current)) (found i)))
-    ∙ (λ i. outcome_unless (same i) machine (assignment_step machine builder ((arch, source), current)))

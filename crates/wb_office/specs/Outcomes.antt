@@ -81,20 +81,23 @@ abbrev pub named_at : Machine → List ℕ → (Record → Outcome) → Option R
 named_at machine version done None = (Err UnknownSource, machine)
 named_at machine version done (Some current) = outcome_unless (differing version current) machine (done current)
 
+-- what is done with the record of a source package, if the checks before refuse nothing and it is of the version
+unfoldable pub sought_step : Option Refusal → Machine → List ℕ → List ℕ → List ℕ → (Entry → Outcome) → Outcome
+sought_step refusal machine arch source version done =
+    outcome_unless refusal machine
+    (named_at machine version (λ current. done ((arch, source), current)) (map.get machine.records (arch, source)))
+
 -- the record of a source package is moved, if it is of the version
-unfoldable pub named_step : Machine → List ℕ → List ℕ → List ℕ → Move → Outcome
+abbrev pub named_step : Machine → List ℕ → List ℕ → List ℕ → Move → Outcome
 named_step machine arch source version move =
-    outcome_unless (when (is_unknown_arch machine arch) UnknownArch) machine
-    (named_at machine version (λ current. move_step machine ((arch, source), current) move) (map.get machine.records (arch, source)))
+    sought_step (when (is_unknown_arch machine arch) UnknownArch) machine arch source version (λ entry. move_step machine entry move)
 
 -- the record of a source package is handed to a builder, if it is of the version
-unfoldable pub take_step : Machine → List ℕ → List ℕ → List ℕ → List ℕ → Outcome
+abbrev pub take_step : Machine → List ℕ → List ℕ → List ℕ → List ℕ → Outcome
 take_step machine arch builder source version =
-    outcome_unless (builder_refusal machine arch builder) machine
-    (named_at machine version (λ current. assignment_step machine builder ((arch, source), current)) (map.get machine.records (arch, source)))
+    sought_step (builder_refusal machine arch builder) machine arch source version (assignment_step machine builder)
 
 -- the record of a source package gets a build priority, if it is of the version
-unfoldable pub prioritized_step : Machine → List ℕ → List ℕ → List ℕ → ℤ → Outcome
+abbrev pub prioritized_step : Machine → List ℕ → List ℕ → List ℕ → ℤ → Outcome
 prioritized_step machine arch source version value =
-    outcome_unless (when (is_unknown_arch machine arch) UnknownArch) machine
-    (named_at machine version (λ current. priority_step machine ((arch, source), current) value) (map.get machine.records (arch, source)))
+    sought_step (when (is_unknown_arch machine arch) UnknownArch) machine arch source version (λ entry. priority_step machine entry value)

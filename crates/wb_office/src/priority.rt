@@ -6,8 +6,7 @@ ghost use Rattle.wb_office.specs.Carries.{Carries, Reaches};
 ghost use Rattle.wb_office.specs.Outcomes.{prioritized_step};
 
 use crate::checks::{find_source, is_spent, lacks_arch};
-use crate::texts;
-use crate::texts::{read_key, read_refusal_or};
+use crate::texts::{self, read_key, read_refusal_or};
 use crate::transition::keep_record;
 use deb_text::Text;
 use deb_version::Version;

@@ -3,7 +3,7 @@ use Rattle.std.proofs.lemmas.Result.{IfOk-weaker}
 use Rattle.wb_store.specs.Lookups.{entry_of}
 use Rattle.wb_office.specs.Outcomes.{assignment_step}
 use Rattle.wb_office.proofs.CarriesLemmas.{reaches-returned, reaches-kept}
-use Rattle.wb_office.proofs.TakeLemmas.{take_step-builder, take_step-found, take_step-assignment}
+use Rattle.wb_office.proofs.SoughtLemmas.{sought-first, sought-found, sought-is}
 use Rattle.wb_office.proofs.AssignmentLemmas.{assignment_step-kept}
 use Rattle.wb_office.proofs.StepLemmas.{with-known}
 use Rattle.wb_office.proofs.builder.take_by_name.Goals as goal
@@ -11,28 +11,28 @@ use Rattle.wb_office.proofs.builder.take_by_name.Goals as goal
 pub returns-in_err-check_builds : goal.returns-in_err-check_builds
 returns-in_err-check_builds c = record {
   reaches = reaches-returned c.from_residual.result c.from_residual.ensures.1
-      (λ differs. take_step-builder c.args.store.now c.args.arch.now c.args.builder.now c.args.source.now c.args.version.now _
+      (λ differs. sought-first c.args.store.now c.args.arch.now c.args.source.now c.args.version.now (assignment_step c.args.store.now c.args.builder.now) _ _
       (c.in_err-check_builds.ensures.refused differs));
 }
 
 pub returns-in_err-row : goal.returns-in_err-row
 returns-in_err-row c = record {
   reaches = reaches-returned c.from_residual-in_err-row.result c.from_residual-in_err-row.ensures.1
-      (λ differs. take_step-found c.args.store.now c.args.arch.now c.args.builder.now c.args.source.now c.args.version.now _
+      (λ differs. sought-found c.args.store.now c.args.arch.now c.args.source.now c.args.version.now (assignment_step c.args.store.now c.args.builder.now) _ _
       c.in_ok-check_builds.ensures.ok (c.in_err-row.ensures.refused differs));
 }
 
 pub returns-in_err-given : goal.returns-in_err-given
 returns-in_err-given c = record {
   reaches = reaches-returned c.from_residual-in_err-given.result c.from_residual-in_err-given.ensures.1
-      (λ differs. take_step-assignment c.args.store.now c.args.arch.now c.args.builder.now c.args.source.now c.args.version.now c.in_ok-row.row.current
+      (λ differs. sought-is c.args.store.now c.args.arch.now c.args.source.now c.args.version.now (assignment_step c.args.store.now c.args.builder.now) _ c.in_ok-row.row.current
       c.in_ok-check_builds.ensures.ok c.in_ok-row.ensures.value c.in_ok-row.ensures.ok ∙ (λ i. assignment_step c.args.store.now c.args.builder.now ((sym c.in_ok-row.ensures.key.0 i, sym c.in_ok-row.ensures.key.1 i), c.in_ok-row.row.current)) ∙ c.in_err-given.ensures.refused differs);
 }
 
 pub returns : goal.returns
 returns c = record {
   reaches = reaches-kept (IfOk-weaker c.keep_assignment.result _ _ (λ _ is.
-      take_step-assignment c.args.store.now c.args.arch.now c.args.builder.now c.args.source.now c.args.version.now c.in_ok-row.row.current
+      sought-is c.args.store.now c.args.arch.now c.args.source.now c.args.version.now (assignment_step c.args.store.now c.args.builder.now) _ c.in_ok-row.row.current
       c.in_ok-check_builds.ensures.ok c.in_ok-row.ensures.value c.in_ok-row.ensures.ok
       ∙ (λ i. assignment_step c.args.store.now c.args.builder.now ((sym c.in_ok-row.ensures.key.0 i, sym c.in_ok-row.ensures.key.1 i), c.in_ok-row.row.current))
       ∙ assignment_step-kept c.args.store.now _ c.args.builder.now (entry_of c.in_ok-row.row) _ _ _
