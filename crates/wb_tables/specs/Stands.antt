@@ -1,0 +1,42 @@
+-- When a database stands for a state of the office: its tables are the office's alone, and hold the rows of that state (this project's own).
+use Rattle.std.specs.Prelude.{◌≡◌, List, [], ◌∷◌, map, pos, IsPermutation}
+use Rattle.std.specs.FinMap as finite
+use Rattle.std.specs.FinSet as set
+use Rattle.sqlite.specs.declared.types.Value.TheVariants.{Null, Int}
+use Rattle.sqlite.specs.Order.{Row}
+use Rattle.sqlite.specs.Effect.{Database}
+use Rattle.wb_sql.specs.Rows.{cells_of, IsStored}
+use Rattle.wb_schema.specs.Tables.{office, arch, builder, source_record, scratch_source, scratch_binary, office_schema}
+use Rattle.wb_states.specs.Machine.{Machine}
+use Rattle.wb_rows.specs.Cells.{record_cells, arch_cells, builder_cells, number}
+
+-- a table holds rows with these columns, each once, and no other row
+pub record HoldsRows (columns : List Row) (rows : List Row) : Type 0 where
+  pub stored : IsStored rows
+  pub same : IsPermutation columns (cells_of rows)
+
+-- the row of the office, with its rowid: its id is 1, the format 2, and then stand the two counts
+abbrev pub office_row : Machine → Row
+office_row machine = Int (pos 1) ∷ Null ∷ Int (pos 2) ∷ number machine.handed ∷ number machine.accepted ∷ []
+
+-- the columns of each record of the state
+abbrev pub record_rows : Machine → List Row
+record_rows machine = map record_cells (finite.entries machine.records)
+
+-- the columns of each architecture of the state
+abbrev pub arch_rows : Machine → List Row
+arch_rows machine = map arch_cells (finite.entries machine.archs)
+
+-- the columns of each builder of the state and each architecture for which it was added
+abbrev pub builder_rows : Machine → List Row
+builder_rows machine = map builder_cells (set.items machine.builders)
+
+-- the database has the office's tables and indexes alone, and they hold the rows of this state, and no other row
+pub record StandsFor (machine : Machine) (db : Database) : Type 0 where
+  pub schema_is : db.schema ≡ office_schema
+  pub counts : db.trees office.tree ≡ office_row machine ∷ []
+  pub archs : HoldsRows (arch_rows machine) (db.trees arch.tree)
+  pub builders : HoldsRows (builder_rows machine) (db.trees builder.tree)
+  pub records : HoldsRows (record_rows machine) (db.trees source_record.tree)
+  pub sources : db.trees scratch_source.tree ≡ []
+  pub binaries : db.trees scratch_binary.tree ≡ []
