@@ -1,0 +1,3 @@
+pub mod ChangeLemmas
+pub mod ChangeRowLemmas
+pub mod MapLemmas

@@ -1,0 +1,6 @@
+//! The state of the office in the tables of a database: its changes.
+#![tactic(auto)]
+
+mod changes;
+
+pub use changes::{add_arch, add_builder, remove, set_counts};
