@@ -119,7 +119,7 @@ module _ (sql : List ℕ) (machine : Machine) (old new : State) (stands : Stands
       }
 
   -- one more architecture
-  pub arch_put : (name : List ℕ) (words : OsCpu) → InsertsInto office_schema sql arch arch_terms → finite.get machine.archs name ≡ None → Inserts sql (Text name ∷ Text words.os ∷ Text words.cpu ∷ []) old new
+  pub arch_put : (name : List ℕ) (words : OsCpu) → InsertsInto office_schema sql arch arch_terms → finite.get machine.archs name ≡ None → Inserts sql (arch_cells (name, words)) old new
       → Becomes (record machine { archs = finite.insert machine.archs name words }) old new
   arch_put name words text unknown does =
       let put = does arch arch_terms (subst (λ s. InsertsInto s sql arch arch_terms) (sym stands.schema_is) text) stands.archs.stored (arch_typed name words.os words.cpu) in
@@ -140,7 +140,7 @@ module _ (sql : List ℕ) (machine : Machine) (old new : State) (stands : Stands
       }
 
   -- one more pair of a builder and an architecture
-  pub builder_put : (name of : List ℕ) → InsertsInto office_schema sql builder builder_terms → set.contains machine.builders (name, of) ≡ false → Inserts sql (Text name ∷ Text of ∷ []) old new
+  pub builder_put : (name of : List ℕ) → InsertsInto office_schema sql builder builder_terms → set.contains machine.builders (name, of) ≡ false → Inserts sql (builder_cells (name, of)) old new
       → Becomes (record machine { builders = set.insert machine.builders (name, of) }) old new
   builder_put name of text unknown does =
       let after : Machine = record machine { builders = set.insert machine.builders (name, of) } in
@@ -224,14 +224,14 @@ module _ {S A : Type 0} {g : Ghosts S} {sql : List ℕ} {params : Row} {old new 
       statement_changes (Replaces sql params) (replaces_writes office_schema sql office office_terms text)
       (λ machine stands allows does. counts_put sql machine (state g old) (state g new) stands handed accepted text (subst (λ p. Replaces sql p (state g old) (state g new)) is does))
 
-  pub arch_change : (name : List ℕ) (words : OsCpu) → InsertsInto office_schema sql arch arch_terms → params ≡ Text name ∷ Text words.os ∷ Text words.cpu ∷ [] → RunsStatement g sql params old new r
+  pub arch_change : (name : List ℕ) (words : OsCpu) → InsertsInto office_schema sql arch arch_terms → params ≡ arch_cells (name, words) → RunsStatement g sql params old new r
       → (HasCleanDisk (state g new) → OnOk r (Inserts sql params (state g old) (state g new)))
       → Changes g (λ machine. finite.get machine.archs name ≡ None) (λ machine. record machine { archs = finite.insert machine.archs name words }) old new r
   arch_change name words text is =
       statement_changes (Inserts sql params) (inserts_writes office_schema sql arch arch_terms text)
       (λ machine stands unknown does. arch_put sql machine (state g old) (state g new) stands name words text unknown (subst (λ p. Inserts sql p (state g old) (state g new)) is does))
 
-  pub builder_change : (name of : List ℕ) → InsertsInto office_schema sql builder builder_terms → params ≡ Text name ∷ Text of ∷ [] → RunsStatement g sql params old new r
+  pub builder_change : (name of : List ℕ) → InsertsInto office_schema sql builder builder_terms → params ≡ builder_cells (name, of) → RunsStatement g sql params old new r
       → (HasCleanDisk (state g new) → OnOk r (Inserts sql params (state g old) (state g new)))
       → Changes g (λ machine. set.contains machine.builders (name, of) ≡ false) (λ machine. record machine { builders = set.insert machine.builders (name, of) }) old new r
   builder_change name of text is =

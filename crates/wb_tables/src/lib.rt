@@ -3,4 +3,4 @@
 
 mod changes;
 
-pub use changes::{add_arch, add_builder, remove, set_counts};
+pub use changes::{add_arch, add_builder, put, remove, set_counts};
