@@ -1,5 +1,5 @@
 -- A CREATE in a transaction, over a database whose tables have no row.
-use Rattle.std.proofs.Common.{◌≡◌, ℕ, List, [], ◌∷◌, ◌++◌, Result, Ok, Err, IsErr, OnOk, refl, arith, sym, ap, subst, ◌∙◌}
+use Rattle.std.proofs.Common.{◌≡◌, inl, inr, ℕ, Bool, true, false, List, [], ◌∷◌, ◌++◌, Result, Ok, Err, IsErr, IsErrAnd, IfErr, OnOk, refl, arith, sym, ap, subst, ◌∙◌}
 use Rattle.std.specs.List.{AllByRecursion}
 use Rattle.sqlite_trees.specs.declared.store.Store.{Ghosts}
 use Rattle.sqlite.specs.Order.{Row}
@@ -8,6 +8,8 @@ use Rattle.sqlite.specs.Table.{Table}
 use Rattle.sqlite.specs.Tree.{Trees}
 use Rattle.sqlite.specs.Change.{created, indexed, next_tree, KeepsRows}
 use Rattle.sqlite.specs.declared.error.Error.{Error}
+use Rattle.sqlite.specs.declared.error.Error.TheVariants.{SqliteFailure}
+use Rattle.sqlite.specs.declared.error.ErrorCode.TheVariants.{TransactionState}
 use Rattle.sqlite.specs.Held.{Held, state}
 use Rattle.sqlite.specs.State.{State, HasCleanDisk, Survives}
 use Rattle.sqlite.proofs.StateLemmas.{survives_weaker, survives_then}
@@ -16,7 +18,7 @@ use Rattle.wb_sql.specs.Calls.{RunsStatement}
 use Rattle.wb_sql.specs.Definitions.{DefinesTable, DefinesIndex, CreatesTable, CreatesIndex}
 use Rattle.wb_sql.proofs.CallLemmas.{on_ok}
 use Rattle.wb_sql.proofs.DefinitionLemmas.{defines_table_writes, defines_index_writes}
-use Rattle.wb_schema.specs.Making.{IsCreateTable, IsCreateIndex, HasEmptyTables, MakesTables, Makes}
+use Rattle.wb_schema.specs.Making.{IsCreateTable, IsCreateIndex, HasEmptyTables, MakesTables, FailsAt, Makes}
 
 still_empty : (tables : List Table) (old new : Trees) → KeepsRows tables old new → AllByRecursion (λ table. old table.tree ≡ []) tables → AllByRecursion (λ table. new table.tree ≡ []) tables
 still_empty [] old new kept empty = tt
@@ -48,6 +50,19 @@ module _ (from to : Schema) (sql : List ℕ) (old new : State) (was : HasEmptyTa
       } in
       record { tables = subst (λ s. HasEmptyTables s new) text.makes tables; shown = set.shown; marks = set.marks }
 
+abbrev error_in : {A : Type 0} → Result A Error → Error
+error_in (Ok x) = SqliteFailure TransactionState
+error_in (Err e) = e
+
+-- a statement of a transaction fails as itself, or finds the transaction over
+failed_at : {S A : Type 0} {g : Ghosts S} {sql : List ℕ} {params : Row} {old new : Held S} {r : Result A Error} → RunsStatement g sql params old new r → HasCleanDisk (state g new) → IfErr r (FailsAt g new)
+failed_at {r = Ok x} ran clean = tt
+failed_at {g = g} {sql = sql} {params = params} {old = old} {new = new} {r = Err e} ran clean =
+    elim old.in_transaction as (λ b. old.in_transaction ≡ b → FailsAt g new e) [
+      | true ↦ λ inside. (old, inl (sql, params, (ran.err clean inside).0))
+      | false ↦ λ over. (old, inr (over, ap error_in (ran.ended over).0, (ran.ended over).1))
+    ] refl
+
 module _ {S A : Type 0} {g : Ghosts S} where
   -- what a statement that writes makes of tables without a row
   pub statement_makes : {sql : List ℕ} {params : Row} (Done : State → State → Type 0) {from : Schema} {Made : State → State → Type 0} {old new : Held S} {r : Result A Error} → IsWriting from sql
@@ -55,6 +70,7 @@ module _ {S A : Type 0} {g : Ghosts S} where
       → (HasCleanDisk (state g new) → OnOk r (Done (state g old) (state g new))) → Makes g from Made old new r
   statement_makes {sql} Done {from} {old} {new} {r} writes makes ran ok = record {
     made = λ clean was. on_ok r (makes was) (ok clean);
+    err = failed_at ran;
     survives = survives_weaker (state g old) (state g new) _ _ (λ clean db none was. none (subst (λ s. IsWriting s sql) (sym was.schema_is) writes)) ran.survives;
   }
 
@@ -77,10 +93,14 @@ no_ok P (Err e) failed = tt
 early : {a b : State} {Made : Trees → Type 0} → Survives a b Made → HasCleanDisk b → HasCleanDisk a
 early two clean = omega (arith, two.clean)
 
+if_err : {B E : Type 0} (P : E → Type 0) (e : E) (f : Result B E) → IsErrAnd f (λ x. x ≡ e) → P e → IfErr f P
+if_err P e (Ok x) is p = tt
+if_err P e (Err x) is p = subst P (sym is) p
+
 -- a call that fails makes nothing
-pub fails : {S A B : Type 0} {g : Ghosts S} {from : Schema} {Made Other : State → State → Type 0} {old new : Held S} {r : Result A Error} {f : Result B Error} → IsErr f → Makes g from Made old new r
-    → Makes g from Other old new f
-fails {f} failed step = record { made = λ clean was. no_ok _ f failed; survives = step.survives }
+pub fails : {S A B : Type 0} {g : Ghosts S} {from : Schema} {Made Other : State → State → Type 0} {old new : Held S} {e : Error} {f : Result B Error} → IsErr f × IsErrAnd f (λ x. x ≡ e)
+    → Makes {A = A} g from Made old new (Err e) → Makes g from Other old new f
+fails {g = g} {new = new} {e = e} {f = f} failed step = record { made = λ clean was. no_ok _ f failed.0; err = λ clean. if_err (FailsAt g new) e f failed.1 (step.err clean); survives = step.survives }
 
 -- what may come after tables were made, and then comes from the tables before them
 abbrev pub Follows : (State → State → Type 0) → Type 1
@@ -104,5 +124,6 @@ pub makes_then : {S A B : Type 0} {g : Ghosts S} {from mid : Schema} {Made : Sta
     → Makes g from (MakesTables mid) a b (Ok x) → Makes g mid Made b c r → Makes g from Made a c r
 makes_then {g} {mid} {a} {b} {c} {r} follows one two = record {
   made = λ clean was. let step = one.made (early two.survives clean) was in on_ok r (follows mid (state g a) (state g b) (state g c) step) (two.made clean step.tables);
+  err = two.err;
   survives = survives_then (state g a) (state g b) (state g c) _ _ _ (λ clean db none. none) (λ clean db none was. none (one.made (early two.survives clean) was).tables) one.survives two.survives;
 }

@@ -1,14 +1,16 @@
 -- A database whose tables are made and have no row yet.
-use Rattle.std.specs.Prelude.{◌≡◌, ℕ, true, List, [], ◌∷◌, pos, Result, OnOk}
+use Rattle.std.specs.Prelude.{◌≡◌, ◌⊎◌, ℕ, true, false, List, [], ◌∷◌, pos, Result, Err, IfErr, OnOk}
 use Rattle.std.specs.List.{AllByRecursion}
 use Rattle.sqlite.specs.Change.{created, indexed}
 use Rattle.sqlite.specs.Schema.{Schema}
 use Rattle.sqlite.specs.Order.{Row}
 use Rattle.sqlite.specs.Table.{Table}
 use Rattle.sqlite.specs.declared.error.Error.{Error}
+use Rattle.sqlite.specs.declared.error.Error.TheVariants.{SqliteFailure}
+use Rattle.sqlite.specs.declared.error.ErrorCode.TheVariants.{TransactionState}
 use Rattle.sqlite.specs.declared.types.Value.TheVariants.{Null, Int}
 use Rattle.sqlite.specs.Held.{Held, state}
-use Rattle.sqlite.specs.State.{State, HasCleanDisk, Shows, Survives}
+use Rattle.sqlite.specs.State.{State, HasCleanDisk, Shows, Survives, Executes}
 use Rattle.sqlite_schema.specs.declared.schema.Index.{Index}
 use Rattle.sqlite_trees.specs.declared.store.Store.{Ghosts}
 use Rattle.wb_sql.specs.Definitions.{DefinesTable, DefinesIndex}
@@ -50,7 +52,16 @@ pub record MakesOffice (old new : State) : Type 0 where
   pub shown : Shows old new new.now old.committed true
   pub marks : new.marks ≡ old.marks
 
--- a call that, in a transaction over tables of this schema without a row, makes this if it succeeds, and leaves a crash no more than before
+-- a statement of the call failed with this error, or found the transaction over
+abbrev pub FailsAt : {S : Type 0} → Ghosts S → Held S → Error → Type 0
+FailsAt {S} g new e =
+    (at : Held S)
+    × (((sql : List ℕ) × (params : Row) × Executes sql params (state g at) (state g new) (Err e))
+    ⊎ ((at.in_transaction ≡ false) × (e ≡ SqliteFailure TransactionState) × (new ≡ at)))
+
+-- a call that, in a transaction over tables of this schema without a row, makes this if it succeeds; if it fails, it fails as one of its statements
+-- does; and it leaves a crash no more than before
 pub record Makes {S A : Type 0} (g : Ghosts S) (from : Schema) (Made : State → State → Type 0) (old new : Held S) (result : Result A Error) : Type 0 where
   pub made : HasCleanDisk (state g new) → HasEmptyTables from (state g old) → OnOk result (Made (state g old) (state g new))
+  pub err : HasCleanDisk (state g new) → IfErr result (FailsAt g new)
   pub survives : Survives (state g old) (state g new) (λ _. ¬ HasEmptyTables from (state g old))

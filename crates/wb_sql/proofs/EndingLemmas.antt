@@ -1,5 +1,5 @@
 -- What the texts COMMIT and ROLLBACK and the empty text do, over any schema.
-use Rattle.std.proofs.Common.{◌≡◌, inl, inr, ℕ, List, [], codes, false, None, Ok, Err, Result, OnOk, OnErr, IsTrue, refl, sym, ap, subst, ◌∙◌, arith}
+use Rattle.std.proofs.Common.{◌≡◌, inl, inr, ℕ, List, [], false, None, Ok, Err, Result, OnOk, OnErr, IsTrue, refl, sym, ap, subst, ◌∙◌, arith}
 use Rattle.std.proofs.lemmas.Bool.{both_ways}
 use Rattle.sqlite.specs.Order.{Row}
 use Rattle.sqlite.specs.Tree.{Trees}
@@ -16,13 +16,7 @@ use Rattle.sqlite.specs.State.{State, Executes, ExecutesIn, CommitsBy, IsStateme
 use Rattle.sqlite.proofs.Callers.{command_of, runs_as, unchanged_then}
 use Rattle.sqlite.proofs.InsideLemmas.{fails_whole}
 use Rattle.wb_sql.specs.Statements.{IsWriting}
-use Rattle.wb_sql.specs.Transactions.{IsKeptOrUndone, IsTakenBack, Commits}
-
-abbrev pub commit_text : List ℕ
-commit_text = codes "COMMIT"
-
-abbrev pub rollback_text : List ℕ
-rollback_text = codes "ROLLBACK"
+use Rattle.wb_sql.specs.Transactions.{commit_text, rollback_text, IsKeptOrUndone, IsTakenBack, Commits}
 
 abbrev tail_in : Result Compiled CompileError → ℕ
 tail_in (Ok c) = c.tail

@@ -1,7 +1,14 @@
 -- Transactions: what they end in, and what a crash at any moment of one may leave (SQL's BEGIN, COMMIT and ROLLBACK).
-use Rattle.std.specs.Prelude.{◌≡◌, ◌⊎◌, false, [], IsTrue}
+use Rattle.std.specs.Prelude.{◌≡◌, ◌⊎◌, ℕ, false, List, [], codes, Err, IsTrue}
+use Rattle.sqlite_trees.specs.declared.store.Store.{Ghosts}
+use Rattle.sqlite.specs.declared.error.Error.{Error}
+use Rattle.sqlite.specs.declared.error.Error.TheVariants.{SqliteFailure}
+use Rattle.sqlite.specs.declared.error.ErrorCode.TheVariants.{OutOfMemory}
 use Rattle.sqlite.specs.Tree.{Trees}
-use Rattle.sqlite.specs.State.{State, IsUnchanged, IsRolledBack, Shows}
+use Rattle.sqlite.specs.Held.{Held, state}
+use Rattle.sqlite.specs.State.{State, IsUnchanged, IsRolledBack, Shows, Executes}
+use Rattle.wb_sql.specs.declared.writing.CommitError.{CommitError}
+use Rattle.wb_sql.specs.declared.writing.CommitError.TheVariants.{Memory, InDoubt}
 
 -- nothing was written, or all that the transaction wrote is taken back
 abbrev pub IsKeptOrUndone : State → State → Type 0
@@ -16,6 +23,23 @@ pub record Commits (old new : State) : Type 0 where
   pub under_way : IsTrue old.in_transaction
   pub shown : Shows old new old.now old.now false
   pub unmarked : new.marks ≡ []
+
+-- the text that ends a transaction and makes what it wrote last
+abbrev pub commit_text : List ℕ
+commit_text = codes "COMMIT"
+
+-- the text that ends a transaction and takes back what it wrote
+abbrev pub rollback_text : List ℕ
+rollback_text = codes "ROLLBACK"
+
+-- the error of `sqlite` for which a commit is not known to be made
+abbrev pub cause_of : CommitError → Error
+cause_of Memory = SqliteFailure OutOfMemory
+cause_of (InDoubt error) = error
+
+-- COMMIT failed with this error, at some moment of the call
+abbrev pub FailsToCommit : {S : Type 0} → Ghosts S → Held S → Error → Type 0
+FailsToCommit {S} g old error = (at : Held S) × Executes commit_text [] (state g old) (state g at) (Err error)
 
 -- a crash leaves these rows alone
 abbrev pub LeavesAlone : State → Trees → Type 0

@@ -1,9 +1,10 @@
-ghost use Rattle.std.specs.Prelude.{◌≡◌, true, false, [], IsTrue, OnOk, OnErr};
-ghost use Rattle.sqlite.specs.State.{HasCleanDisk, IsUnchanged, IsRolledBack, Shows, Survives, Executes};
+ghost use Rattle.std.specs.Prelude.{◌≡◌, true, false, [], IsTrue, IfErr, OnOk, OnErr};
+ghost use Rattle.sqlite.specs.State.{HasCleanDisk, IsLive, IsUnchanged, IsRolledBack, Shows, Survives, Executes};
 ghost use Rattle.sqlite.specs.Values.{bound};
 ghost use Rattle.sqlite.specs.Held.{state};
 ghost use Rattle.wb_sql.specs.Calls.{RunsStatement};
 ghost use Rattle.wb_sql.specs.Statements.{IsWriting};
+ghost use Rattle.wb_sql.specs.Transactions.{rollback_text, cause_of, FailsToCommit};
 ghost use Rattle.wb_sql.specs.Transactions.{IsKeptOrUndone, IsTakenBack, Commits, LeavesAlone, LeavesNoMore};
 
 use sqlite::types::ValueRef;
@@ -97,6 +98,8 @@ impl<S: Alter> Writing<'_, S> {
             → OnOk result (IsRolledBack (state S.Store self.entry.conn.now) (state S.Store self.exit.0.now)) }
         ensures err { HasCleanDisk (state S.Store self.exit.0.now)
             → OnErr result (IsTakenBack (state S.Store self.entry.conn.now) (state S.Store self.exit.0.now)) }
+        ensures cause { HasCleanDisk (state S.Store self.exit.0.now) → IfErr result (λ e. Executes rollback_text []
+            (state S.Store self.entry.conn.now) (state S.Store self.exit.0.now) (Err e)) }
         ensures survives { Survives (state S.Store self.entry.conn.now) (state S.Store self.exit.0.now) (λ _. ⊥) }
     {
         let Writing { conn } = self;
@@ -114,10 +117,14 @@ impl<S: Alter> Writing<'_, S> {
             → LeavesNoMore (state S.Store self.entry.conn.now) (state S.Store self.exit.0.now) }
         ensures err { HasCleanDisk (state S.Store self.exit.0.now)
             → OnErr result (IsKeptOrUndone (state S.Store self.entry.conn.now) (state S.Store self.exit.0.now)) }
+        ensures cause { HasCleanDisk (state S.Store self.exit.0.now)
+            → IfErr result (λ e. FailsToCommit S.Store self.entry.conn.now (cause_of e)) }
+        ensures sound { IsLive (state S.Store self.entry.conn.now) }
         ensures crash { Survives (state S.Store self.entry.conn.now) (state S.Store self.exit.0.now)
             (λ db. db ≡ (state S.Store self.entry.conn.now).now.trees) }
     {
         let Writing { conn } = self;
+        let _sound = conn.schema();
         let Err(error) = conn.execute("COMMIT", &[]) else {
             return Ok(());
         };

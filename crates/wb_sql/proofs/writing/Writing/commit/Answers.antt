@@ -1,10 +1,13 @@
-use Rattle.std.proofs.Common.{[], ◌≡◌, ◌∙◌, refl, sym, ap, subst, arith}
+use Rattle.std.proofs.Common.{rules, [], ◌≡◌, ◌∙◌, refl, sym, ap, subst, arith, Err}
+use Rattle.sqlite.specs.declared.error.Error.{Error}
+use Rattle.sqlite.specs.declared.error.Error.TheVariants.{SqliteFailure}
+use Rattle.sqlite.specs.declared.error.ErrorCode.TheVariants.{OutOfMemory}
 use Rattle.sqlite.specs.Effect.{Database}
-use Rattle.sqlite.specs.State.{HasCleanDisk, Survives}
+use Rattle.sqlite.specs.State.{HasCleanDisk, Survives, Executes}
 use Rattle.sqlite.specs.Held.{Held, state}
 use Rattle.sqlite.specs.Tree.{Trees}
 use Rattle.sqlite.proofs.StateLemmas.{survives_weaker, survives_then}
-use Rattle.wb_sql.specs.Transactions.{IsKeptOrUndone}
+use Rattle.wb_sql.specs.Transactions.{commit_text, IsKeptOrUndone}
 use Rattle.wb_sql.proofs.EndingLemmas.{commits, commits_as, kept_or_undone, kept_or_undone_then, kept_commit}
 use Rattle.wb_sql.proofs.writing.Writing.commit.Goals.{else-eq-via-then-eq+else-is_usable, else-eq-via-else-eq}
 use Rattle.wb_sql.proofs.writing.Writing.commit.Goals as goal
@@ -40,6 +43,14 @@ returns-then-is_usable-clause-err g c clean =
     let early : HasCleanDisk mid = omega (arith, c.is_usable.ensures.survives.clean) in
     kept_or_undone_then old mid (state g.S.Store c.is_usable.new.conn) (kept_or_undone _ [] old mid _ (c.in-Err.ensures.runs early)) (c.is_usable.ensures.unchanged clean)
 
+pub returns-then-is_usable-clause-cause : goal.returns-then-is_usable-clause-cause
+returns-then-is_usable-clause-cause g c clean =
+    let old = state g.S.Store c.args.self.conn.now in
+    let mid = state g.S.Store c.execute.new.self in
+    let early : HasCleanDisk mid = omega (arith, c.is_usable.ensures.survives.clean) in
+    let is : c.in-Err.error ≡ SqliteFailure OutOfMemory = search rules in
+    (c.execute.new.self, subst (λ (e : Error). Executes commit_text [] old mid (Err e)) is (c.in-Err.ensures.runs early))
+
 pub returns-then-is_usable-clause-crash : goal.returns-then-is_usable-clause-crash
 returns-then-is_usable-clause-crash g c =
     let old = state g.S.Store c.args.self.conn.now in
@@ -59,6 +70,19 @@ returns-clause-err g c clean =
       | else-eq-via-else-eq w ↦
           let late : HasCleanDisk mid = subst (λ (h : Held g.row.S.Denot). HasCleanDisk (state g.S.Store h)) w.conn-is clean in
           subst (λ (h : Held g.row.S.Denot). IsKeptOrUndone old (state g.S.Store h)) (sym w.conn-is) (kept_or_undone _ [] old mid _ (c.in-Err.ensures.runs late))
+    ]
+
+pub returns-clause-cause : goal.returns-clause-cause
+returns-clause-cause g c clean =
+    let mid = state g.S.Store c.execute.new.self in
+    elim c.else-eq.branch [
+      | else-eq-via-then-eq+else-is_usable w ↦
+          let late : HasCleanDisk (state g.S.Store w.is_usable.new.conn) = subst (λ (h : Held g.row.S.Denot). HasCleanDisk (state g.S.Store h)) w.conn-is clean in
+          let early : HasCleanDisk mid = omega (arith, w.is_usable.ensures.survives.clean) in
+          (c.execute.new.self, c.in-Err.ensures.runs early)
+      | else-eq-via-else-eq w ↦
+          let late : HasCleanDisk mid = subst (λ (h : Held g.row.S.Denot). HasCleanDisk (state g.S.Store h)) w.conn-is clean in
+          (c.execute.new.self, c.in-Err.ensures.runs late)
     ]
 
 pub returns-clause-crash : goal.returns-clause-crash
