@@ -1,0 +1,7 @@
+pub mod EqualLemmas
+pub mod FormLemmas
+pub mod FoundLemmas
+pub mod LookupLemmas
+pub mod OrderLemmas
+pub mod ReadLemmas
+pub mod TableLemmas
