@@ -2,6 +2,8 @@
 use Rattle.std.proofs.Common.{◌≡◌, ◌≢◌, inl, inr, ℕ, List, [], ◌∷◌, ◌++◌, append_assoc, map, Result, Ok, Err, IfOk, IfErr, IsErrAnd, Vec, refl, sym, ap, subst, ◌∙◌}
 use Rattle.std.proofs.lemmas.List.{map-append}
 use Rattle.sqlite.specs.declared.error.Error.{Error}
+use Rattle.sqlite.specs.declared.error.Error.TheVariants.{SqliteFailure}
+use Rattle.sqlite.specs.declared.error.ErrorCode.TheVariants.{OutOfMemory}
 use Rattle.sqlite.specs.Given.{IsPlain}
 use Rattle.sqlite.specs.Held.{Held, state}
 use Rattle.sqlite.specs.Listing.{understood}
@@ -147,6 +149,16 @@ module _ {S : Type 0} {g : Ghosts S} {sql : List ℕ} {params : Row} {old new : 
         why office (inr (kept, (rows, answers, inl memory))) = inr (inl (memory, kept))
         why office (inr (kept, (rows, answers, inr corrupt))) =
             inr (inr (corrupt.0, kept, λ machine sound stands. corrupt.1 (fits machine sound stands rows (answers q (asked_over asks stands.schema_is)))))
+
+    -- a look-up that is out of memory for its answer
+    pub lacks_memory : {A X : Type 0} {rows : Vec KeyedRecord X} {Answer : Machine → A → Type 0} {r : Result A Error} → ReadsRecords g sql params old new (Ok rows)
+        → r ≡ Err (SqliteFailure OutOfMemory) → LooksUp g Answer old new r
+    lacks_memory {A} {Answer} read is = subst (λ (r : Result A Error). LooksUp g Answer old new r) (sym is) (record {
+      value = λ clean. tt;
+      same = λ clean office. tt;
+      err = λ clean office. inr (inl (refl, read.same clean (plain_over asks office)));
+      survives = crash_over asks g old new read.survives;
+    })
 
     -- all the records of a look-up
     pub looks_up_all : {X : Type 0} {Answer : Machine → Vec KeyedRecord X → Type 0} (r : Result (Vec KeyedRecord X) Error) → ReadsRecords g sql params old new r
