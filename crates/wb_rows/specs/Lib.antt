@@ -1,1 +1,3 @@
 pub mod Cells
+pub mod Forms
+pub mod Reading

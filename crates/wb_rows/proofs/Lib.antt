@@ -1,0 +1,7 @@
+pub mod FaultLemmas
+pub mod CellsLemmas
+pub mod ColumnLemmas
+pub mod ReadLemmas
+pub mod TextLemmas
+pub mod ValueLemmas
+pub mod FormLemmas

@@ -1,0 +1,14 @@
+//! The rows of the office's tables: what is kept, as the values of a row, and a row, as what it stands for.
+#![tactic(auto)]
+
+mod columns;
+mod fault;
+mod fields;
+mod form;
+pub mod laws;
+mod read;
+mod write;
+
+pub use form::is_well_formed;
+pub use read::{arch_of, builder_of, record_of};
+pub use write::{arch_values, builder_values, record_values};
