@@ -1,5 +1,5 @@
 -- The records of a consistent office can be read from their rows.
-use Rattle.std.proofs.Common.{◌≡◌, ◌⊎◌, inl, inr, ℕ, zero, suc, ◌<◌, ℤ, Bool, true, false, ◌||◌, List, [], ◌∷◌, Option, None, Some, IfSome, IsUtf8, IsAscii, FitsSigned, refl, subst, arith, is_some}
+use Rattle.std.proofs.Common.{◌≡◌, ◌⊎◌, inl, inr, ℕ, zero, suc, ◌<◌, ℤ, Bool, true, false, ◌||◌, List, [], ◌∷◌, Option, None, Some, IfSome, IsUtf8, IsAscii, FitsSigned, refl, ◌∙◌, subst, arith, is_some}
 use Rattle.std.specs.Int.{w16}
 use Rattle.std.specs.List.{list_all}
 use Rattle.std.specs.FinMap as finite
@@ -14,10 +14,13 @@ use Rattle.deb_relations.specs.Names.{is_lower_or_digit, is_package_char, is_pac
 use Rattle.wb_states.specs.declared.arch.OsCpu.{OsCpu}
 use Rattle.wb_states.specs.Limits.{is_build_priority, relations_limit}
 use Rattle.wb_states.specs.Machine.{Machine, IsConsistent, IsRecord, IsArch}
-use Rattle.wb_states.specs.Names.{has_length, is_arch_name, is_builder_char, is_builder_name, is_label_text}
+use Rattle.wb_states.specs.Names.{has_length, is_arch_name, is_os_cpu_word, is_builder_char, is_builder_name, is_label_text}
 use Rattle.wb_states.specs.Queue.{Entry}
 use Rattle.wb_states.proofs.QueueLemmas.{IsIn-entries}
+use Rattle.deb_text.proofs.KeyLemmas.{text_cmp_total, text_cmp-same}
+use Rattle.deb_text.proofs.SortedLemmas.{IsIn-find}
 use Rattle.wb_rows.specs.Reading.{IsReadable}
+use Rattle.wb_tables.specs.Lookups.{IsReadableArch}
 
 -- a text of bytes that pass a test, which only ASCII passes
 ascii_all : (p : ℕ → Bool) → ((c : ℕ) → p c ≡ true → c < 128) → (text : List ℕ) → list_all p text ≡ true → IsAscii text
@@ -106,3 +109,14 @@ kept_readable machine sound entry within =
       message = is.fields.message.utf8;
       build_priority = priority_fits entry.1.build_priority is.fields.build_priority;
     }
+
+word_utf8 : (word : List ℕ) → is_os_cpu_word word ≡ true → IsUtf8 word
+unfolding is_os_cpu_word
+word_utf8 word is = utf8_all is_lower_or_digit lower_or_digit_low word (and_parts _ _ (and_parts (has_length 1 20 word) _ is).1).0
+
+-- so is an architecture
+pub kept_arch_readable : (machine : Machine) → IsConsistent machine → (entry : List ℕ × OsCpu) → IsIn entry (finite.entries machine.archs) → IsReadableArch entry
+kept_arch_readable machine sound entry within =
+    let found = (IsIn-find text_cmp_total text_cmp-same entry (finite.entries machine.archs) (finite.entries_sorted machine.archs)).0 within in
+    let is : IsArch entry.0 entry.1 = subst (λ o. IfSome o (IsArch entry.0)) (finite.get-entries machine.archs entry.0 ∙ found) (sound.archs entry.0) in
+    record { name = arch_utf8 entry.0 is.name; os = word_utf8 entry.1.os is.os; cpu = word_utf8 entry.1.cpu is.cpu }

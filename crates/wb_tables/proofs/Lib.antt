@@ -1,3 +1,4 @@
+pub mod ArchLemmas
 pub mod EqualLemmas
 pub mod FormLemmas
 pub mod FoundLemmas

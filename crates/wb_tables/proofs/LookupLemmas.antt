@@ -128,7 +128,7 @@ second_less one other same less =
     let tie : text_cmp one.0 other.0 ≡ Equal = ap (text_cmp one.0) (sym same) ∙ tied_itself text_cmp_total one.0 in
     sym (ap (λ r. ordering_then r (text_cmp one.1 other.1)) tie) ∙ less
 
-text_order : (one other : List ℕ) → ordering_then (value_cmp (Text one) (Text other)) Equal ≡ text_cmp one other
+pub text_order : (one other : List ℕ) → ordering_then (value_cmp (Text one) (Text other)) Equal ≡ text_cmp one other
 text_order one other = then_none (value_cmp (Text one) (Text other)) ∙ value_cmp-Text one other
 
 -- ---- what is chosen

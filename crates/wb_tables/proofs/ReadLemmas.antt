@@ -17,10 +17,9 @@ use Rattle.wb_sql.specs.Queries.{TableQuery, Asks, Answers}
 use Rattle.wb_schema.specs.Tables.{office_schema}
 use Rattle.wb_states.specs.Machine.{Machine, IsConsistent}
 use Rattle.wb_store.specs.declared.keyed.KeyedRecord.{KeyedRecord}
-use Rattle.wb_rows.specs.Cells.{record_cells}
 use Rattle.wb_tables.specs.Stands.{StandsFor}
 use Rattle.wb_tables.specs.Calls.{FailsToLookUp, LooksUp}
-use Rattle.wb_tables.specs.Lookups.{AreRecords, FailsToReadRecords, HasRecord, IsReadFault, MayAnswer, ReadsRecords, keyed_cells}
+use Rattle.wb_tables.specs.Lookups.{AreRecords, AreRowsOf, FailsToReadRecords, IsReadFault, MayAnswer, ReadsRecords, keyed_cells}
 
 -- a call that hands on the error of another one
 pub handed_on : {T E : Type 0} {e : E} (r : Result T E) → IsErrAnd r (λ d. d ≡ e) → r ≡ Err e
@@ -29,26 +28,27 @@ handed_on (Err d) is = ap Err is
 
 -- ---- rows, one after another
 
--- a row of records is that of a record
-one_of_records : (before : List Row) (row : Row) (rest : List Row) → AreRecords (before ++ row ∷ rest) → HasRecord row
-one_of_records [] row rest ([], fit, is) = cc
-one_of_records [] row rest (entry ∷ entries, fit, is) = (entry, fit.0, let same : row ≡ record_cells entry = cc in same)
-one_of_records (x ∷ before) row rest ([], fit, is) = cc
-one_of_records (x ∷ before) row rest (entry ∷ entries, fit, is) =
-    one_of_records before row rest (entries, fit.1, let same : before ++ row ∷ rest ≡ map record_cells entries = cc in same)
+module _ {X : Type 0} (columns : X → Row) (Fits : X → Type 0) where
+  -- a row of rows that are those of some that fit is that of one that fits
+  one_of_rows : (before : List Row) (row : Row) (rest : List Row) → AreRowsOf columns Fits (before ++ row ∷ rest) → (x : X) × Fits x × (row ≡ columns x)
+  one_of_rows [] row rest ([], fit, is) = cc
+  one_of_rows [] row rest (x ∷ xs, fit, is) = (x, fit.0, let same : row ≡ columns x = cc in same)
+  one_of_rows (first ∷ before) row rest ([], fit, is) = cc
+  one_of_rows (first ∷ before) row rest (x ∷ xs, fit, is) = one_of_rows before row rest (xs, fit.1, let same : before ++ row ∷ rest ≡ map columns xs = cc in same)
 
--- why one row is not read, as why all are not
-pub row_fault : (before : List Row) (row : Row) (rest left all : List Row) (e : Error) → before ++ left ≡ all → left ≡ row ∷ rest → IsReadFault (HasRecord row) e → IsReadFault (AreRecords all) e
-row_fault before row rest left all e whole next (inl memory) = inl memory
-row_fault before row rest left all e whole next (inr corrupt) =
-    inr (corrupt.0, λ fits. corrupt.1 (one_of_records before row rest (subst AreRecords (sym whole ∙ ap (λ l. before ++ l) next) fits)))
+  -- why one row is not read, as why all are not
+  pub row_fault : (before : List Row) (row : Row) (rest left all : List Row) (e : Error) → before ++ left ≡ all → left ≡ row ∷ rest
+      → IsReadFault ((x : X) × Fits x × (row ≡ columns x)) e → IsReadFault (AreRowsOf columns Fits all) e
+  row_fault before row rest left all e whole next (inl memory) = inl memory
+  row_fault before row rest left all e whole next (inr corrupt) =
+      inr (corrupt.0, λ fits. corrupt.1 (one_of_rows before row rest (subst (AreRowsOf columns Fits) (sym whole ∙ ap (λ l. before ++ l) next) fits)))
 
 -- one more row is read
-pub row_read : (made after : List KeyedRecord) (new : KeyedRecord) (row : Row) (rest left all : List Row) → map keyed_cells made ++ left ≡ all → left ≡ row ∷ rest → after ≡ made ++ new ∷ []
-    → row ≡ keyed_cells new → map keyed_cells after ++ rest ≡ all
-row_read made after new row rest left all whole next pushed is =
-    ap (λ l. map keyed_cells l ++ rest) pushed ∙ ap (λ l. l ++ rest) (map-append keyed_cells made (new ∷ [])) ∙ append_assoc (map keyed_cells made) (keyed_cells new ∷ []) rest
-    ∙ ap (λ r. map keyed_cells made ++ r ∷ rest) (sym is) ∙ ap (λ l. map keyed_cells made ++ l) (sym next) ∙ whole
+pub row_read : {Y : Type 0} (columns : Y → Row) (made after : List Y) (new : Y) (row : Row) (rest left all : List Row) → map columns made ++ left ≡ all → left ≡ row ∷ rest → after ≡ made ++ new ∷ []
+    → row ≡ columns new → map columns after ++ rest ≡ all
+row_read columns made after new row rest left all whole next pushed is =
+    ap (λ l. map columns l ++ rest) pushed ∙ ap (λ l. l ++ rest) (map-append columns made (new ∷ [])) ∙ append_assoc (map columns made) (columns new ∷ []) rest
+    ∙ ap (λ r. map columns made ++ r ∷ rest) (sym is) ∙ ap (λ l. map columns made ++ l) (sym next) ∙ whole
 
 -- ---- the run of a query
 
@@ -167,3 +167,13 @@ module _ {S : Type 0} {g : Ghosts S} {sql : List ℕ} {params : Row} {old new : 
         → LooksUp g Answer old new r
     looks_up_all (Ok rows) read finds fits = looks_up read (λ machine. finds machine rows)
     looks_up_all (Err e) read finds fits = fails_to_look_up read refl fits
+
+-- an answer that follows from another one
+pub looks_up_from : {S A B : Type 0} {g : Ghosts S} {old new : Held S} {Answer : Machine → A → Type 0} {Other : Machine → B → Type 0} {x : A} {y : B} → LooksUp g Answer old new (Ok x)
+    → ((machine : Machine) → Answer machine x → Other machine y) → LooksUp g Other old new (Ok y)
+looks_up_from one follows = record {
+  value = λ clean machine stands. follows machine (one.value clean machine stands);
+  same = one.same;
+  err = λ clean office. tt;
+  survives = one.survives;
+}

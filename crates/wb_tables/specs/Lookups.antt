@@ -1,5 +1,5 @@
 -- What a query on the table of records answers, and when what it answers is not read (this project's own).
-use Rattle.std.specs.Prelude.{◌≡◌, ◌⊎◌, ℕ, ◌<◌, pos, List, [], ◌∷◌, length, map, Result, Vec, IfOk, IfErr, OnOk}
+use Rattle.std.specs.Prelude.{◌≡◌, ◌⊎◌, ℕ, ◌<◌, pos, List, [], ◌∷◌, length, map, Result, Vec, IfOk, IfErr, OnOk, IsUtf8}
 use Rattle.std.specs.List.{AllByRecursion}
 use Rattle.sqlite.specs.declared.types.Value.TheVariants.{Int}
 use Rattle.sqlite.specs.declared.error.Error.{Error}
@@ -12,10 +12,11 @@ use Rattle.sqlite.specs.Order.{Row, column}
 use Rattle.sqlite.specs.State.{State, HasCleanDisk, IsUnchanged, Survives}
 use Rattle.sqlite_trees.specs.declared.store.Store.{Ghosts}
 use Rattle.wb_sql.specs.Queries.{TableQuery, Asks, Answers}
+use Rattle.wb_states.specs.declared.arch.OsCpu.{OsCpu}
 use Rattle.wb_states.specs.Queue.{Entry}
 use Rattle.wb_store.specs.declared.keyed.KeyedRecord.{KeyedRecord}
 use Rattle.wb_store.specs.Lookups.{entry_of}
-use Rattle.wb_rows.specs.Cells.{record_cells, number}
+use Rattle.wb_rows.specs.Cells.{record_cells, arch_cells, number}
 use Rattle.wb_rows.specs.Reading.{IsReadable}
 use Rattle.wb_tables.specs.Calls.{FailsToRead}
 
@@ -34,6 +35,20 @@ AreRowsOf {X} columns Fits rows = (xs : List X) × AllByRecursion Fits xs × (ro
 -- the rows are those of records that can be read
 abbrev pub AreRecords : List Row → Type 0
 AreRecords = AreRowsOf record_cells IsReadable
+
+-- an architecture whose row can be read: its texts are UTF-8
+pub record IsReadableArch (arch : List ℕ × OsCpu) : Type 0 where
+  pub name : IsUtf8 arch.0
+  pub os : IsUtf8 arch.1.os
+  pub cpu : IsUtf8 arch.1.cpu
+
+-- the row is that of an architecture that can be read
+abbrev pub HasArch : Row → Type 0
+HasArch row = (arch : List ℕ × OsCpu) × IsReadableArch arch × (row ≡ arch_cells arch)
+
+-- the rows are those of architectures that can be read
+abbrev pub AreArchs : List Row → Type 0
+AreArchs = AreRowsOf arch_cells IsReadableArch
 
 -- what is read is not what an office keeps, or memory ran out
 abbrev pub IsReadFault : Type 0 → Error → Type 0

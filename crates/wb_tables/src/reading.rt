@@ -3,15 +3,16 @@ ghost use Rattle.std.specs.Prelude.{◌≡◌, ℕ, ◌^◌, ◌-◌, min, pos, 
 ghost use Rattle.std.specs.Option.{option_map};
 ghost use Rattle.sqlite.specs.Values.{bound};
 ghost use Rattle.deb_text.specs.Lists.{first_of};
-ghost use Rattle.wb_tables.specs.Lookups.{AreCounts, AreRecords, HasNumberAt, HasRecord, HaveCounts, IsReadFault, ReadsRecords, keyed_cells};
-ghost use Rattle.wb_rows.specs.Cells.{number};
+ghost use Rattle.wb_tables.specs.Lookups.{AreArchs, AreCounts, AreRecords, HasArch, HasNumberAt, HasRecord, HaveCounts, IsReadFault, ReadsRecords, keyed_cells};
+ghost use Rattle.wb_rows.specs.Cells.{arch_cells, number};
 ghost use Rattle.sqlite.specs.Order.{column};
 
+use deb_text::Text;
 use sqlite::types::ValueRef;
 use sqlite::{Alter, Connection, Error, ErrorCode, Row};
-use wb_rows::record_of;
+use wb_rows::{arch_of, record_of};
 use wb_sql::read;
-use wb_states::{Counts, Record};
+use wb_states::{Counts, OsCpu, Record};
 use wb_store::KeyedRecord;
 
 /// The number from 0 in a column, counted from 0. A column that is none is `DatabaseCorrupt`.
@@ -74,6 +75,26 @@ pub(crate) fn records<S: Alter>(
     ensures reads { ReadsRecords S.Store sql.now (bound params.now) conn.old conn.new result }
 {
     records_in(read(conn, sql, params)?)
+}
+
+/// The architecture, with its words, in a row. A row that is none is `DatabaseCorrupt`.
+fn arch_in(row: &Row) -> Result<(Text, OsCpu), Error>
+    ensures value { IfOk result (λ made. row.now ≡ arch_cells made) }
+    ensures err { IfErr result (IsReadFault (HasArch row.now)) }
+{
+    arch_of(row)?.ok_or(Error::SqliteFailure(ErrorCode::DatabaseCorrupt))
+}
+
+/// The architectures, with their words, in these rows. A row that is none is `DatabaseCorrupt`.
+pub(crate) fn archs_in(rows: Vec<Row>) -> Result<Vec<(Text, OsCpu)>, Error>
+    ensures value { IfOk result (λ made. rows.items ≡ each arch_cells made.items) }
+    ensures err { IfErr result (IsReadFault (AreArchs rows.items)) }
+{
+    let mut made = Vec::new(*rows.allocator());
+    for row in rows {
+        made.push(arch_in(&row)?)?;
+    }
+    Ok(made)
 }
 
 /// The first of some records.
