@@ -1,4 +1,5 @@
 pub mod FaultLemmas
+pub mod BackLemmas
 pub mod CellsLemmas
 pub mod ColumnLemmas
 pub mod ReadLemmas

@@ -7,7 +7,8 @@ use Rattle.sqlite.specs.Order.{Row}
 use Rattle.sqlite.specs.Effect.{Database}
 use Rattle.wb_sql.specs.Rows.{cells_of, IsStored}
 use Rattle.wb_schema.specs.Tables.{office, arch, builder, source_record, scratch_source, scratch_binary, office_schema}
-use Rattle.wb_states.specs.Machine.{Machine}
+use Rattle.deb_text.specs.Text.{pair_cmp}
+use Rattle.wb_states.specs.Machine.{Machine, Key}
 use Rattle.wb_rows.specs.Cells.{record_cells, arch_cells, builder_cells, number}
 
 -- a table holds rows with these columns, each once, and no other row
@@ -27,9 +28,13 @@ record_rows machine = map record_cells (finite.entries machine.records)
 abbrev pub arch_rows : Machine → List Row
 arch_rows machine = map arch_cells (finite.entries machine.archs)
 
--- the columns of each builder of the state and each architecture for which it was added
+-- the pairs of a builder and an architecture for which it was added, each once, in their order
+abbrev pub builder_pairs : Machine → List Key
+builder_pairs machine = finite.keys (finite.from_entries {R = pair_cmp} (map (λ pair. (pair, tt {0})) (set.items machine.builders)))
+
+-- the columns of each of these pairs
 abbrev pub builder_rows : Machine → List Row
-builder_rows machine = map builder_cells (set.items machine.builders)
+builder_rows machine = map builder_cells (builder_pairs machine)
 
 -- the database has the office's tables and indexes alone, and they hold the rows of this state, and no other row
 pub record StandsFor (machine : Machine) (db : Database) : Type 0 where

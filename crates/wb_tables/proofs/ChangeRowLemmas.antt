@@ -1,0 +1,198 @@
+-- The rows of the office's tables by their keys: which rows a statement takes out, and which stay.
+use Rattle.std.proofs.Common.{◌≡◌, inr, ℕ, ℤ, pos, Bool, true, false, not, ◌&&◌, ◌||◌, cond, List, [], ◌∷◌, map, filter, Option, Some, None, IsTrue, Ordering, Less, Equal, Greater, refl, sym, ap, ap₂, subst, ◌∙◌, IsPermutation}
+use Rattle.std.specs.List.{AllByRecursion, list_any, list_all}
+use Rattle.std.specs.Ordering.{is_eq, eq_by_cmp, ordering_then}
+use Rattle.std.specs.Cmp.{eq_by_cmp_equiv}
+use Rattle.std.specs.FinMap as finite
+use Rattle.std.proofs.lemmas.Bool.{and_parts, or_parts}
+use Rattle.std.proofs.lemmas.Cmp.{tied_itself}
+use Rattle.sqlite.specs.Collation.TheVariants.{Binary}
+use Rattle.sqlite.specs.Edit.{have_rowids, id_in, next_rowid}
+use Rattle.sqlite.specs.Order.{Row, column}
+use Rattle.sqlite.specs.Tree.{rowid, put_row}
+use Rattle.sqlite.specs.Term.{holds}
+use Rattle.sqlite.specs.Rowids.TheVariants.{Chosen}
+use Rattle.sqlite.specs.Cast.{cast}
+use Rattle.sqlite.specs.Kind.TheVariants.{Integer, Text as OfText}
+use Rattle.sqlite.specs.declared.types.Value.TheVariants.{Null, Int, Text}
+use Rattle.sqlite_sql.specs.Ops.{binary, is_true, from_truth}
+use Rattle.sqlite_value.specs.Keys.{first_key}
+use Rattle.sqlite_value.specs.Order.{value_cmp}
+use Rattle.sqlite_value.proofs.OrderLemmas.{value_cmp_total, value_cmp-Text}
+use Rattle.sqlite_schema.specs.Rules.{equal}
+use Rattle.sqlite_trees.specs.View.{is_int}
+use Rattle.sqlite_trees.proofs.ListLemmas.{filter-map, IsPermutation-filter}
+use Rattle.sqlite_rules.proofs.TableLemmas.{int_is}
+use Rattle.sqlite_rules.proofs.PlaceLemmas.{next_is_free}
+use Rattle.deb_text.specs.Text.{text_cmp, pair_cmp}
+use Rattle.deb_text.proofs.KeyLemmas.{pair_cmp_total, pair_cmp-same}
+use Rattle.wb_states.specs.Machine.{Machine}
+use Rattle.wb_states.specs.Queue.{Entry}
+use Rattle.wb_sql.specs.Rows.{cells, cells_of, IsStored, IsTyped, meets, apart, upserted, without}
+use Rattle.wb_sql.proofs.WriteLemmas.{cast_int, cast_null}
+use Rattle.wb_schema.specs.Tables.{office, source_record, office_schema}
+use Rattle.wb_schema.specs.Statements.{has_record_key}
+use Rattle.wb_schema.proofs.RecordLemmas.{meets_record, record_typed}
+use Rattle.wb_rows.specs.Cells.{record_cells, text_or_null, number_or_null}
+use Rattle.wb_tables.specs.Stands.{office_row, record_rows}
+use Rattle.wb_tables.proofs.MapLemmas.{entries-remove}
+
+-- ---- what SQL finds equal
+
+truth_is : (b : Bool) → is_true (from_truth (Some b)) ≡ b
+truth_is true = refl
+truth_is false = refl
+
+equal_texts : (s t : List ℕ) → equal Binary (Text s) (Text t) ≡ eq_by_cmp text_cmp s t
+unfolding binary
+equal_texts s t = truth_is (is_eq (value_cmp (Text s) (Text t))) ∙ ap is_eq (value_cmp-Text s t)
+
+equal_numbers : (m n : ℤ) → equal Binary (Int m) (Int n) ≡ is_eq (value_cmp (Int m) (Int n))
+unfolding binary
+equal_numbers m n = truth_is (is_eq (value_cmp (Int m) (Int n)))
+
+both_tied : (r s : Ordering) → (is_eq r && is_eq s) ≡ is_eq (ordering_then r s)
+both_tied Less s = refl
+both_tied Equal s = refl
+both_tied Greater s = refl
+
+-- columns that begin with these two texts
+abbrev pub begins_with : List ℕ → List ℕ → Row → Bool
+begins_with first second columns = equal Binary (column columns 0) (Text first) && equal Binary (column columns 1) (Text second)
+
+-- the columns of a record begin with its key
+begins_with-record : (arch source : List ℕ) (entry : Entry) → begins_with arch source (record_cells entry) ≡ eq_by_cmp pair_cmp (arch, source) entry.0
+begins_with-record arch source entry =
+    (λ i. equal_texts entry.0.0 arch i && equal_texts entry.0.1 source i) ∙ both_tied (text_cmp entry.0.0 arch) (text_cmp entry.0.1 source)
+    ∙ (eq_by_cmp_equiv pair_cmp_total).symm entry.0 (arch, source)
+
+first_cell : (row : Row) → column row 1 ≡ column (cells row) 0
+first_cell [] = refl
+first_cell (id ∷ row) = refl
+
+second_cell : (row : Row) → column row 2 ≡ column (cells row) 1
+second_cell [] = refl
+second_cell (id ∷ row) = refl
+
+-- ---- which rows stay
+
+-- the rows that are left, if those go that begin with these texts
+left_rows : (test : Row → Bool) (first second : List ℕ) (rows : List Row) → AllByRecursion (λ row. test row ≡ begins_with first second (cells row)) rows
+    → cells_of (filter (λ row. not (test row)) rows) ≡ filter (λ columns. not (begins_with first second columns)) (cells_of rows)
+left_rows test first second [] same = refl
+left_rows test first second (row ∷ rows) same =
+    let left = filter (λ r. not (test r)) rows in
+    let kept = filter (λ columns. not (begins_with first second columns)) (cells_of rows) in
+    let more = left_rows test first second rows same.1 in
+    ap (λ b. cells_of (cond (not b) (row ∷ left) left)) same.0
+    ∙ elim (begins_with first second (cells row)) as (λ b. cells_of (cond (not b) (row ∷ left) left) ≡ cond (not b) (cells row ∷ kept) kept)
+    [ true ↦ more | false ↦ ap (λ l. cells row ∷ l) more ]
+
+and_true : (a b : Bool) → (a && (b && true)) ≡ (a && b)
+and_true true true = refl
+and_true true false = refl
+and_true false b = refl
+
+-- the record of these texts
+abbrev pub passes : List ℕ → List ℕ → Row → Bool
+passes arch source row = list_all (holds ((Text arch ∷ Text source ∷ []) ∷ row ∷ [])) has_record_key
+
+passes_is : (arch source : List ℕ) (row : Row) → passes arch source row ≡ begins_with arch source (cells row)
+passes_is arch source row =
+    and_true (equal Binary (column row 1) (Text arch)) (equal Binary (column row 2) (Text source))
+    ∙ (λ i. equal Binary (first_cell row i) (Text arch) && equal Binary (second_cell row i) (Text source))
+
+each_passes : (arch source : List ℕ) (rows : List Row) → AllByRecursion (λ row. passes arch source row ≡ begins_with arch source (cells row)) rows
+each_passes arch source [] = tt
+each_passes arch source (row ∷ rows) = (passes_is arch source row, each_passes arch source rows)
+
+-- the columns that a DELETE by key leaves
+pub cells_without : (arch source : List ℕ) (rows : List Row)
+    → cells_of (without (passes arch source) rows) ≡ filter (λ columns. not (begins_with arch source columns)) (cells_of rows)
+cells_without arch source rows = left_rows (passes arch source) arch source rows (each_passes arch source rows)
+
+-- the rowid is another
+other_rowid : (id : ℤ) (row : Row) → is_int (rowid row) ≡ true → is_eq (value_cmp (rowid row) (Int id)) ≡ false → equal Binary (rowid row) (Int id) ≡ false
+other_rowid id row whole free =
+    let is = int_is (rowid row) whole in
+    ap (λ v. equal Binary v (Int id)) is ∙ equal_numbers (id_in (rowid row)) id ∙ ap (λ v. is_eq (value_cmp v (Int id))) (sym is) ∙ free
+
+module _ (id : ℤ) (arch source : List ℕ) (more : Row) where
+  abbrev new : Row
+  new = Int id ∷ Text arch ∷ Text source ∷ more
+
+  -- a record that comes with a new rowid meets the one that has its key
+  meets_key : (row : Row) → is_int (rowid row) ≡ true → is_eq (value_cmp (rowid row) (Int id)) ≡ false → meets office_schema source_record new row ≡ begins_with arch source (cells row)
+  meets_key row whole free =
+      meets_record new row ∙ ap (λ b. b || (equal Binary (column row 1) (Text arch) && equal Binary (column row 2) (Text source))) (other_rowid id row whole free)
+      ∙ (λ i. equal Binary (first_cell row i) (Text arch) && equal Binary (second_cell row i) (Text source))
+
+  each_meets : (rows : List Row) → have_rowids rows ≡ true → list_any (λ row. is_eq (value_cmp (rowid row) (Int id))) rows ≡ false
+      → AllByRecursion (λ row. meets office_schema source_record new row ≡ begins_with arch source (cells row)) rows
+  each_meets [] whole free = tt
+  each_meets (row ∷ rows) whole free =
+      let ints = and_parts (is_int (rowid row)) (have_rowids rows) whole in
+      let others = or_parts (is_eq (value_cmp (rowid row) (Int id))) (list_any (λ r. is_eq (value_cmp (rowid r) (Int id))) rows) free in
+      (meets_key row ints.0 others.0, each_meets rows ints.1 others.1)
+
+each_whole : (rows : List Row) → have_rowids rows ≡ true → AllByRecursion (λ row. IsTrue (is_int (rowid row))) rows
+each_whole [] whole = tt
+each_whole (row ∷ rows) whole = let parts = and_parts (is_int (rowid row)) (have_rowids rows) whole in (parts.0, each_whole rows parts.1)
+
+-- the columns beside which a record is put
+pub cells_apart : (arch source : List ℕ) (more : Row) (rows : List Row) → IsStored rows
+    → cells_of (apart office_schema source_record (Null ∷ Text arch ∷ Text source ∷ more) rows) ≡ filter (λ columns. not (begins_with arch source columns)) (cells_of rows)
+cells_apart arch source more rows stored =
+    let id = next_rowid rows in
+    let free = next_is_free Chosen rows (Text arch ∷ Text source ∷ more) stored.rising (each_whole rows stored.whole) in
+    left_rows (meets office_schema source_record (Int id ∷ Text arch ∷ Text source ∷ more)) arch source rows (each_meets id arch source more rows stored.whole free)
+
+-- the records without that of one key
+pub records_without : (machine : Machine) (arch source : List ℕ) (columns : List Row) → IsPermutation (record_rows machine) columns
+    → IsPermutation (map record_cells (finite.entries (finite.remove machine.records (arch, source)))) (filter (λ c. not (begins_with arch source c)) columns)
+records_without machine arch source columns same =
+    let es = finite.entries machine.records in
+    let left : filter (λ c. not (begins_with arch source c)) (map record_cells es) ≡ map record_cells (finite.entries (finite.remove machine.records (arch, source))) =
+    filter-map (λ c. not (begins_with arch source c)) record_cells es
+    ∙ (λ i. map record_cells (filter (λ (e : Entry). not (begins_with-record arch source e i)) es))
+    ∙ ap (map record_cells) (sym (entries-remove pair_cmp_total pair_cmp-same machine.records (arch, source))) in
+    subst (λ l. IsPermutation l (filter (λ c. not (begins_with arch source c)) columns)) left
+    (IsPermutation-filter (λ c. not (begins_with arch source c)) (record_rows machine) columns same)
+
+-- ---- the office's row
+
+rowid_test : (a : Bool) → ((a && true) || false) ≡ a
+rowid_test true = refl
+rowid_test false = refl
+
+meets_office : (new row : Row) → meets office_schema office new row ≡ equal Binary (column row 0) (column new 0)
+unfolding first_key
+meets_office new row = rowid_test (equal Binary (column row 0) (column new 0))
+
+-- a new row of the office comes in place of the old one
+pub office_replaced : (old new : Machine) → upserted office_schema office (office_row new) (office_row old ∷ []) ≡ office_row new ∷ []
+office_replaced old new =
+    let one = equal_numbers (pos 1) (pos 1) ∙ ap is_eq (tied_itself value_cmp_total (Int (pos 1))) in
+    ap (λ b. put_row (office_row new) (cond (not b) (office_row old ∷ []) [])) (meets_office (office_row new) (office_row old) ∙ one)
+
+pub office_typed : (machine : Machine) → IsTyped office (office_row machine)
+office_typed machine = record {
+  row = refl;
+  id = inr (pos 1, refl);
+  cast = ap₂ ◌∷◌ cast_null (ap₂ ◌∷◌ (cast_int (pos 2)) (ap₂ ◌∷◌ (cast_int (pos machine.handed)) (ap₂ ◌∷◌ (cast_int (pos machine.accepted)) refl)));
+  present = refl;
+}
+
+-- ---- a record's row
+
+cast_text_or_null : (text : Option (List ℕ)) → cast OfText (text_or_null text) ≡ text_or_null text
+cast_text_or_null None = refl
+cast_text_or_null (Some t) = refl
+
+cast_number_or_null : (found : Option ℕ) → cast Integer (number_or_null found) ≡ number_or_null found
+cast_number_or_null None = cast_null
+cast_number_or_null (Some n) = cast_int (pos n)
+
+pub entry_typed : (entry : Entry) → IsTyped source_record (Null ∷ record_cells entry)
+entry_typed entry =
+    record_typed entry.0.0 entry.0.1 _ _ _ _ _ _ _ _ _ _ _ _ _ _ (cast_text_or_null entry.1.holder) (cast_number_or_null entry.1.take) (cast_text_or_null entry.1.depends)

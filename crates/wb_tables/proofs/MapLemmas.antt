@@ -1,0 +1,128 @@
+-- Maps and sets as the lists of what they hold: what an insertion and a removal make of them, in any order.
+use Rattle.std.proofs.Common.{◌≡◌, ◌⊎◌, inl, inr, Bool, true, false, not, ◌&&◌, ◌||◌, cond, T, List, [], ◌∷◌, map, filter, Ordering, Less, Equal, Greater, Option, Some, None, is_some, refl, sym, ap, subst, ◌∙◌, IsPermutation}
+use Rattle.std.specs.List.{list_any}
+use Rattle.std.specs.Ordering.{is_eq, is_lt, eq_by_cmp}
+use Rattle.std.specs.Cmp.{IsTotalOrder, eq_by_cmp_equiv}
+use Rattle.std.proofs.lemmas.Cmp.{alike_right}
+use Rattle.std.proofs.lemmas.List.Sorted.{IsPermutation-refl, IsPermutation-cons, IsPermutation-trans, IsPermutation-middle, IsPermutation-map}
+use Rattle.std.specs.FinMap as finite
+use Rattle.std.specs.FinSet as set
+use Rattle.std.specs.FinMap.{IsAntisymmetric}
+use Rattle.std.specs.FinMap.Entries.{find, put, by_order, where_key, below_all, is_sorted, is_sorted-where_key, find-where_key}
+use Rattle.sqlite_trees.proofs.ListLemmas.{IsPermutation-same}
+
+split : (a b : Bool) → T (a && b) → T a × T b
+split true b h = (tt, h)
+split false b h = absurd h
+
+less_is : (r : Ordering) → T (is_lt r) → r ≡ Less
+less_is Less h = refl
+less_is Equal h = absurd h
+less_is Greater h = absurd h
+
+turned : {A : Type 0} (b : Bool) (x y : A) → cond b y x ≡ cond (not b) x y
+turned true x y = refl
+turned false x y = refl
+
+-- an entry with another key
+abbrev pub is_other : {K X : Type 0} → (K → K → Ordering) → K → K × X → Bool
+is_other R k e = not (eq_by_cmp R k e.0)
+
+module _ {K X : Type 0} {R : K → K → Ordering} (o : IsTotalOrder R) where
+  -- a key that is at most one below a list is the key of none of its entries
+  others_kept : (k x : K) (es : List (K × X)) → (R k x ≡ Less) ⊎ (R k x ≡ Equal) → T (below_all R x es) → filter (is_other R k) es ≡ es
+  others_kept k x [] at h = refl
+  others_kept k x (e ∷ es) at h =
+      let parts = split (is_lt (R x e.0)) (below_all R x es) h in
+      let least = less_is (R x e.0) parts.0 in
+      let below : R k e.0 ≡ Less = elim at [ inl less ↦ o.trans k x e.0 less least | inr tie ↦ o.congr k x e.0 tie ∙ least ] in
+      ap (λ r. cond (not (is_eq r)) (e ∷ filter (is_other R k) es) (filter (is_other R k) es)) below ∙ ap (λ l. e ∷ l) (others_kept k x es at parts.1)
+
+  -- what is put in its place stands beside the entries with other keys
+  put_beside : IsAntisymmetric R → (k : K) (v : X) (es : List (K × X)) → T (is_sorted R es) → IsPermutation ((k, v) ∷ filter (is_other R k) es) (put R k v es)
+  put_beside same k v [] h = IsPermutation-refl ((k, v) ∷ [])
+  put_beside same k v (e ∷ es) h =
+      let parts = split (below_all R e.0 es) (is_sorted R es) h in
+      elim (R k e.0) as (λ r. R k e.0 ≡ r
+      → IsPermutation ((k, v) ∷ cond (not (is_eq r)) (e ∷ filter (is_other R k) es) (filter (is_other R k) es)) (by_order r ((k, v) ∷ e ∷ es) ((e.0, v) ∷ es) (e ∷ put R k v es))) [
+        | Less ↦ λ at. IsPermutation-same _ _ (ap (λ l. (k, v) ∷ e ∷ l) (others_kept k e.0 es (inl at) parts.0))
+        | Equal ↦ λ at. IsPermutation-same _ _ (λ i. (same k e.0 at i, v) ∷ others_kept k e.0 es (inr at) parts.0 i)
+        | Greater ↦ λ at. IsPermutation-trans _ _ _ (IsPermutation-middle ((k, v) ∷ []) e (filter (is_other R k) es)) (IsPermutation-cons e _ _ (put_beside same k v es parts.1))
+      ] refl
+
+  none_found : (k : K) (es : List (K × X)) → find R k es ≡ None → filter (is_other R k) es ≡ es
+  none_found k [] none = refl
+  none_found k (e ∷ es) none =
+      elim (eq_by_cmp R k e.0) as (λ b. cond b (Some e.1) (find R k es) ≡ None → cond (not b) (e ∷ filter (is_other R k) es) (filter (is_other R k) es) ≡ e ∷ es) [
+        | true ↦ λ found. absurd (cc)
+        | false ↦ λ rest. ap (λ l. e ∷ l) (none_found k es rest)
+      ] none
+
+  module _ (same : IsAntisymmetric R) (m : finite.FinMap R X) (k : K) where
+    -- a removal leaves the entries with other keys
+    pub entries-remove : finite.entries (finite.remove m k) ≡ filter (is_other R k) (finite.entries m)
+    entries-remove =
+        let others = λ (x : K). not (eq_by_cmp R k x) in
+        let es = where_key R others (finite.entries m) in
+        let sorted : T (is_sorted R es) = is_sorted-where_key R others (finite.entries m) (finite.entries_sorted m) in
+        let alike = λ (q : K) (x : K) (tie : R q x ≡ Equal). ap (λ r. not (is_eq r)) (sym (alike_right o q x k tie)) in
+        let at : (q : K) → finite.get (finite.remove m k) q ≡ finite.get (finite.from_sorted {R = R} es) q =
+        λ q. finite.get-remove o m k q ∙ ap (λ b. cond b None (finite.get m q)) ((eq_by_cmp_equiv o).symm q k)
+        ∙ turned (eq_by_cmp R k q) (finite.get m q) None ∙ ap (λ x. cond (others q) x None) (finite.get-entries m q)
+        ∙ sym (finite.get-from_sorted R es q sorted ∙ find-where_key R others q (alike q) (finite.entries m)) in
+        ap finite.entries (finite.same_map o same _ _ at) ∙ finite.entries-from_sorted R es sorted
+
+    -- an insertion puts an entry beside those with other keys
+    pub entries-insert : (v : X) → IsPermutation ((k, v) ∷ finite.entries (finite.remove m k)) (finite.entries (finite.insert m k v))
+    entries-insert v =
+        subst (IsPermutation ((k, v) ∷ finite.entries (finite.remove m k))) (sym (finite.entries-insert o m k v))
+        (subst (λ l. IsPermutation ((k, v) ∷ l) (put R k v (finite.entries m))) (sym entries-remove) (put_beside same k v (finite.entries m) (finite.entries_sorted m)))
+
+    -- an insertion at a new key puts an entry beside all
+    pub entries-added : (v : X) → finite.get m k ≡ None → IsPermutation ((k, v) ∷ finite.entries m) (finite.entries (finite.insert m k v))
+    entries-added v none =
+        subst (λ l. IsPermutation ((k, v) ∷ l) (finite.entries (finite.insert m k v)))
+        (entries-remove ∙ none_found k (finite.entries m) (sym (finite.get-entries m k) ∙ none)) (entries-insert v)
+
+-- ---- sets
+
+abbrev marked : Bool → Option (Unit {0})
+marked b = cond b (Some (tt {0})) None
+
+is_some-marked : (b : Bool) → is_some (marked b) ≡ b
+is_some-marked true = refl
+is_some-marked false = refl
+
+marked-or : (a b : Bool) → marked (a || b) ≡ cond a (Some (tt {0})) (marked b)
+marked-or true b = refl
+marked-or false b = refl
+
+find-items : {K : Type 0} (R : K → K → Ordering) (q : K) (ks : List K) → find R q (map (λ k. (k, tt {0})) ks) ≡ marked (list_any (eq_by_cmp R q) ks)
+find-items R q [] = refl
+find-items R q (k ∷ ks) = ap (cond (eq_by_cmp R q k) (Some (tt {0}))) (find-items R q ks) ∙ sym (marked-or (eq_by_cmp R q k) (list_any (eq_by_cmp R q) ks))
+
+module _ {K : Type 0} {R : K → K → Ordering} where
+  -- a set as a map with nothing at each item
+  abbrev pub as_map : set.FinSet R → finite.FinMap R (Unit {0})
+  as_map s = finite.from_entries {R = R} (map (λ k. (k, tt {0})) (set.items s))
+
+  module _ (o : IsTotalOrder R) where
+    get-as_map : (s : set.FinSet R) (q : K) → finite.get (as_map s) q ≡ marked (set.contains s q)
+    get-as_map s q = finite.get-from_entries o (map (λ k. (k, tt {0})) (set.items s)) q ∙ find-items R q (set.items s) ∙ ap marked (sym (set.contains-items s q))
+
+    -- the keys of that map are the items of the set
+    pub contains-keys : (s : set.FinSet R) (q : K) → set.contains s q ≡ list_any (eq_by_cmp R q) (finite.keys (as_map s))
+    contains-keys s q = sym (is_some-marked (set.contains s q)) ∙ ap is_some (sym (get-as_map s q)) ∙ finite.contains_key-keys (as_map s) q
+
+    module _ (same : IsAntisymmetric R) (s : set.FinSet R) (k : K) where
+      as_map-insert : as_map (set.insert s k) ≡ finite.insert (as_map s) k tt
+      as_map-insert = finite.same_map o same _ _ (λ q.
+          get-as_map (set.insert s k) q ∙ ap marked (set.contains-insert o s k q) ∙ marked-or (eq_by_cmp R q k) (set.contains s q)
+          ∙ sym (finite.get-insert o (as_map s) k tt q ∙ ap (cond (eq_by_cmp R q k) (Some (tt {0}))) (get-as_map s q)))
+
+      -- an insertion of a new item puts it beside all
+      pub items-added : set.contains s k ≡ false → IsPermutation (k ∷ finite.keys (as_map s)) (finite.keys (as_map (set.insert s k)))
+      items-added none =
+          subst (λ m. IsPermutation (k ∷ finite.keys (as_map s)) (finite.keys m)) (sym as_map-insert)
+          (IsPermutation-map (λ (e : K × Unit {0}). e.0) ((k, tt) ∷ finite.entries (as_map s)) (finite.entries (finite.insert (as_map s) k tt))
+          (entries-added o same (as_map s) k tt (get-as_map s k ∙ ap marked none)))

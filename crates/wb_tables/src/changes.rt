@@ -1,0 +1,101 @@
+//! The changes of the office's tables, in a transaction. Each fails as `Writing::execute` does, and the caller then
+//! rolls back. Each speaks of a database that stands for a state of the office, and makes it stand for the state after
+//! the change.
+
+ghost use Rattle.std.specs.Prelude.{◌≡◌, ◌≤◌, ⊤, false, None, IfSome};
+ghost use Rattle.std.specs.FinMap as map;
+ghost use Rattle.std.specs.FinSet as set;
+ghost use Rattle.wb_states.specs.Limits.{count_limit};
+ghost use Rattle.wb_tables.specs.Calls.{Changes};
+
+use deb_text::Text;
+use sqlite::{Alter, Error, params};
+use wb_rows::{arch_values, builder_values, record_values};
+use wb_schema::texts;
+use wb_sql::Writing;
+use wb_states::{Counts, OsCpu, Record};
+
+/// Sets both counts of the office, each at most [`wb_states::COUNT_LIMIT`]; all else stays. It fails as
+/// `Writing::execute` does, and a transaction that is over refuses it (this project's own).
+pub fn set_counts<S: Alter>(writing: &mut Writing<'_, S>, counts: Counts) -> Result<(), Error>
+    requires fits { (counts.handed ≤ count_limit) × (counts.accepted ≤ count_limit) }
+    ensures same_reference { writing.new.conn.ghost_name ≡ writing.old.conn.ghost_name }
+    ensures changes { Changes S.Store (λ _. ⊤)
+        (λ machine. record machine { handed = counts.handed; accepted = counts.accepted })
+        writing.old.conn.now writing.new.conn.now result }
+{
+    writing.replace(
+        texts::put_office(),
+        params![counts.handed as i64, counts.accepted as i64],
+    )
+}
+
+/// Adds an architecture, which is not there yet, with its words; all else stays. It fails as `Writing::execute` does,
+/// also for a name that is there, and a transaction that is over refuses it (this project's own).
+pub fn add_arch<S: Alter>(
+    writing: &mut Writing<'_, S>,
+    name: &Text,
+    words: &OsCpu,
+) -> Result<(), Error>
+    ensures same_reference { writing.new.conn.ghost_name ≡ writing.old.conn.ghost_name }
+    ensures changes { Changes S.Store (λ machine. map.get machine.archs name.now ≡ None)
+        (λ machine. record machine { archs = map.insert machine.archs name.now words.now })
+        writing.old.conn.now writing.new.conn.now result }
+{
+    writing.insert(texts::add_arch(), &arch_values(name, words))
+}
+
+/// Adds a builder for an architecture, for which it was not added yet; all else stays. It fails as `Writing::execute`
+/// does, also for a pair that is there, and a transaction that is over refuses it (this project's own).
+pub fn add_builder<S: Alter>(
+    writing: &mut Writing<'_, S>,
+    builder: &Text,
+    arch: &Text,
+) -> Result<(), Error>
+    ensures same_reference { writing.new.conn.ghost_name ≡ writing.old.conn.ghost_name }
+    ensures changes { Changes S.Store
+        (λ machine. set.contains machine.builders (builder.now, arch.now) ≡ false)
+        (λ machine. record machine { builders = set.insert machine.builders (builder.now, arch.now) })
+        writing.old.conn.now writing.new.conn.now result }
+{
+    writing.insert(texts::add_builder(), &builder_values(builder, arch))
+}
+
+/// Takes out the record of the source package `source` on the architecture `arch`, if there is one; all else stays. It
+/// fails as `Writing::execute` does, and a transaction that is over refuses it (this project's own).
+pub fn remove<S: Alter>(
+    writing: &mut Writing<'_, S>,
+    arch: &Text,
+    source: &Text,
+) -> Result<(), Error>
+    ensures same_reference { writing.new.conn.ghost_name ≡ writing.old.conn.ghost_name }
+    ensures changes { Changes S.Store (λ _. ⊤)
+        (λ machine. record machine { records = map.remove machine.records (arch.now, source.now) })
+        writing.old.conn.now writing.new.conn.now result }
+{
+    writing.delete(
+        texts::remove_record(),
+        params![arch.as_str(), source.as_str()],
+    )
+}
+
+/// Gives the source package `source` on the architecture `arch` the record `current`, in place of the one that it had,
+/// if any; all else stays. The take number, if there is one, is at most [`wb_states::COUNT_LIMIT`]. It fails as
+/// `Writing::execute` does, also for an architecture that is not there, and a transaction that is over refuses it (this
+/// project's own).
+pub fn put<S: Alter>(
+    writing: &mut Writing<'_, S>,
+    arch: &Text,
+    source: &Text,
+    current: &Record,
+) -> Result<(), Error>
+    requires given { IfSome current.now.take (λ take_number. take_number ≤ count_limit) }
+    ensures same_reference { writing.new.conn.ghost_name ≡ writing.old.conn.ghost_name }
+    ensures changes { Changes S.Store (λ _. ⊤)
+        (λ machine. record machine {
+          records = map.insert machine.records (arch.now, source.now) current.now;
+        })
+        writing.old.conn.now writing.new.conn.now result }
+{
+    writing.replace(texts::put_record(), &record_values(arch, source, current))
+}
