@@ -1,3 +1,3 @@
 mod QueueLemmas
-mod SortLemmas
+pub mod SortLemmas
 mod TableLemmas

@@ -1,3 +1,12 @@
+pub mod ArchLemmas
 pub mod ChangeLemmas
 pub mod ChangeRowLemmas
+pub mod EqualLemmas
+pub mod FormLemmas
+pub mod FoundLemmas
+pub mod HoldLemmas
+pub mod LookupLemmas
 pub mod MapLemmas
+pub mod OrderLemmas
+pub mod ReadLemmas
+pub mod TableLemmas

@@ -1,0 +1,179 @@
+-- From the run of a query to the records that it answers, and to what a look-up promises.
+use Rattle.std.proofs.Common.{◌≡◌, ◌≢◌, inl, inr, ℕ, List, [], ◌∷◌, ◌++◌, append_assoc, map, Result, Ok, Err, IfOk, IfErr, IsErrAnd, Vec, refl, sym, ap, subst, ◌∙◌}
+use Rattle.std.proofs.lemmas.List.{map-append}
+use Rattle.sqlite.specs.declared.error.Error.{Error}
+use Rattle.sqlite.specs.declared.error.Error.TheVariants.{SqliteFailure}
+use Rattle.sqlite.specs.declared.error.ErrorCode.TheVariants.{OutOfMemory}
+use Rattle.sqlite.specs.Given.{IsPlain}
+use Rattle.sqlite.specs.Held.{Held, state}
+use Rattle.sqlite.specs.Listing.{understood}
+use Rattle.sqlite.specs.Order.{Row}
+use Rattle.sqlite.specs.Schema.{Schema}
+use Rattle.sqlite.specs.State.{Survives}
+use Rattle.sqlite.proofs.StateLemmas.{survives_weaker}
+use Rattle.sqlite_trees.specs.declared.store.Store.{Ghosts}
+use Rattle.wb_sql.specs.Calls.{RunsQuery}
+use Rattle.wb_sql.specs.Queries.{TableQuery, Asks, Answers}
+use Rattle.wb_schema.specs.Tables.{office_schema}
+use Rattle.wb_states.specs.Machine.{Machine, IsConsistent}
+use Rattle.wb_store.specs.declared.keyed.KeyedRecord.{KeyedRecord}
+use Rattle.wb_tables.specs.Stands.{StandsFor}
+use Rattle.wb_tables.specs.Calls.{FailsToLookUp, LooksUp}
+use Rattle.wb_tables.specs.Lookups.{AreRecords, AreRowsOf, FailsToReadRecords, IsReadFault, MayAnswer, ReadsRecords, keyed_cells}
+
+-- a call that hands on the error of another one
+pub handed_on : {T E : Type 0} {e : E} (r : Result T E) → IsErrAnd r (λ d. d ≡ e) → r ≡ Err e
+handed_on (Ok x) is = absurd is
+handed_on (Err d) is = ap Err is
+
+-- ---- rows, one after another
+
+module _ {X : Type 0} (columns : X → Row) (Fits : X → Type 0) where
+  -- a row of rows that are those of some that fit is that of one that fits
+  one_of_rows : (before : List Row) (row : Row) (rest : List Row) → AreRowsOf columns Fits (before ++ row ∷ rest) → (x : X) × Fits x × (row ≡ columns x)
+  one_of_rows [] row rest ([], fit, is) = cc
+  one_of_rows [] row rest (x ∷ xs, fit, is) = (x, fit.0, let same : row ≡ columns x = cc in same)
+  one_of_rows (first ∷ before) row rest ([], fit, is) = cc
+  one_of_rows (first ∷ before) row rest (x ∷ xs, fit, is) = one_of_rows before row rest (xs, fit.1, let same : before ++ row ∷ rest ≡ map columns xs = cc in same)
+
+  -- why one row is not read, as why all are not
+  pub row_fault : (before : List Row) (row : Row) (rest left all : List Row) (e : Error) → before ++ left ≡ all → left ≡ row ∷ rest
+      → IsReadFault ((x : X) × Fits x × (row ≡ columns x)) e → IsReadFault (AreRowsOf columns Fits all) e
+  row_fault before row rest left all e whole next (inl memory) = inl memory
+  row_fault before row rest left all e whole next (inr corrupt) =
+      inr (corrupt.0, λ fits. corrupt.1 (one_of_rows before row rest (subst (AreRowsOf columns Fits) (sym whole ∙ ap (λ l. before ++ l) next) fits)))
+
+-- one more row is read
+pub row_read : {Y : Type 0} (columns : Y → Row) (made after : List Y) (new : Y) (row : Row) (rest left all : List Row) → map columns made ++ left ≡ all → left ≡ row ∷ rest → after ≡ made ++ new ∷ []
+    → row ≡ columns new → map columns after ++ rest ≡ all
+row_read columns made after new row rest left all whole next pushed is =
+    ap (λ l. map columns l ++ rest) pushed ∙ ap (λ l. l ++ rest) (map-append columns made (new ∷ [])) ∙ append_assoc (map columns made) (columns new ∷ []) rest
+    ∙ ap (λ r. map columns made ++ r ∷ rest) (sym is) ∙ ap (λ l. map columns made ++ l) (sym next) ∙ whole
+
+-- ---- the run of a query
+
+module _ {sql : List ℕ} {q : TableQuery} (asks : Asks office_schema sql q) where
+  -- what a text asks over the office's tables
+  plain_over : {schema : Schema} → schema ≡ office_schema → IsPlain (understood schema sql)
+  plain_over is = subst (λ s. IsPlain (understood s sql)) (sym is) asks.means.plain
+
+  asked_over : {schema : Schema} → schema ≡ office_schema → Asks schema sql q
+  asked_over is = subst (λ s. Asks s sql q) (sym is) asks
+
+  crash_over : {S : Type 0} (g : Ghosts S) (old new : Held S) → Survives (state g old) (state g new) (λ _. ¬ IsPlain (understood old.schema sql))
+      → Survives (state g old) (state g new) (λ _. old.schema ≢ office_schema)
+  crash_over g old new =
+      survives_weaker (state g old) (state g new) (λ _. ¬ IsPlain (understood old.schema sql)) (λ _. old.schema ≢ office_schema) (λ clean db unplain is. unplain (plain_over is))
+
+module _ {S : Type 0} {g : Ghosts S} {sql : List ℕ} {params : Row} {old new : Held S} where
+  -- the records in the rows of a query that succeeded
+  pub reads_rows : {X Y : Type 0} {rows : Vec Row X} (r : Result (Vec KeyedRecord Y) Error) → RunsQuery g sql params old new (Ok rows)
+      → IfOk r (λ made. rows.items ≡ map keyed_cells made.items) → IfErr r (IsReadFault (AreRecords rows.items)) → ReadsRecords g sql params old new r
+  reads_rows (Ok made) run is fault = record {
+    value = λ clean. subst (MayAnswer sql params (state g old)) is (run.answers clean);
+    same = run.same;
+    err = λ clean plain. tt;
+    survives = run.survives;
+  }
+  reads_rows {rows} (Err e) run is fault = record {
+    value = λ clean. tt;
+    same = λ clean plain. tt;
+    err = λ clean plain. inr (run.same clean plain, (rows.items, run.answers clean, fault));
+    survives = run.survives;
+  }
+
+  -- no records, of a query that failed
+  pub reads_nothing : {X Y : Type 0} {e : Error} {r : Result (Vec KeyedRecord Y) Error} → RunsQuery {X = X} g sql params old new (Err e) → r ≡ Err e → ReadsRecords g sql params old new r
+  reads_nothing {Y} {e} run is = subst (λ (r : Result (Vec KeyedRecord Y) Error). ReadsRecords g sql params old new r) (sym is) (record {
+    value = λ clean. tt;
+    same = λ clean plain. tt;
+    err = λ clean plain. let why = run.err clean in inl ((sql, params, why.0), why.1);
+    survives = run.survives;
+  })
+
+  module _ {q : TableQuery} (asks : Asks office_schema sql q) where
+    -- a look-up whose query succeeded, and whose rows are read
+    pub looks_up_rows : {A X : Type 0} {rows : Vec Row X} {Answer : Machine → A → Type 0} (Fits : Type 0) (r : Result A Error) → RunsQuery g sql params old new (Ok rows)
+        → ((machine : Machine) → StandsFor machine (state g old).now → Answers q params ((state g old).now.trees q.tree) rows.items → IfOk r (Answer machine)) → IfErr r (IsReadFault Fits)
+        → ((machine : Machine) → IsConsistent machine → StandsFor machine (state g old).now → Answers q params ((state g old).now.trees q.tree) rows.items → Fits)
+        → LooksUp g Answer old new r
+    looks_up_rows Fits (Ok x) run finds fault fits = record {
+      value = λ clean machine stands. finds machine stands (run.answers clean q (asked_over asks stands.schema_is));
+      same = λ clean office. run.same clean (plain_over asks office);
+      err = λ clean office. tt;
+      survives = crash_over asks g old new run.survives;
+    }
+    looks_up_rows Fits (Err e) run finds fault fits = record {
+      value = λ clean. tt;
+      same = λ clean office. tt;
+      err = λ clean office. elim fault [
+        | inl memory ↦ inr (inl (memory, run.same clean (plain_over asks office)))
+        | inr corrupt ↦ inr (inr (corrupt.0, run.same clean (plain_over asks office), λ machine sound stands. corrupt.1 (fits machine sound stands (run.answers clean q (asked_over asks stands.schema_is)))))
+      ];
+      survives = crash_over asks g old new run.survives;
+    }
+
+    -- a look-up whose query failed
+    pub looks_up_nothing : {A X : Type 0} {e : Error} {Answer : Machine → A → Type 0} {r : Result A Error} → RunsQuery {X = X} g sql params old new (Err e) → r ≡ Err e → LooksUp g Answer old new r
+    looks_up_nothing {A} {Answer} run is = subst (λ (r : Result A Error). LooksUp g Answer old new r) (sym is) (record {
+      value = λ clean. tt;
+      same = λ clean office. tt;
+      err = λ clean office. let why = run.err clean in inl ((sql, params, why.0), why.1);
+      survives = crash_over asks g old new run.survives;
+    })
+
+    -- a look-up of records
+    pub looks_up : {A X : Type 0} {rows : Vec KeyedRecord X} {Answer : Machine → A → Type 0} {x : A} → ReadsRecords g sql params old new (Ok rows)
+        → ((machine : Machine) → StandsFor machine (state g old).now → Answers q params ((state g old).now.trees q.tree) (map keyed_cells rows.items) → Answer machine x)
+        → LooksUp g Answer old new (Ok x)
+    looks_up read finds = record {
+      value = λ clean machine stands. finds machine stands (read.value clean q (asked_over asks stands.schema_is));
+      same = λ clean office. read.same clean (plain_over asks office);
+      err = λ clean office. tt;
+      survives = crash_over asks g old new read.survives;
+    }
+
+    -- a look-up whose records are not had
+    pub fails_to_look_up : {A X : Type 0} {e : Error} {Answer : Machine → A → Type 0} {r : Result A Error} → ReadsRecords {X = X} g sql params old new (Err e) → r ≡ Err e
+        → ((machine : Machine) → IsConsistent machine → StandsFor machine (state g old).now → (rows : List Row) → Answers q params ((state g old).now.trees q.tree) rows → AreRecords rows)
+        → LooksUp g Answer old new r
+    fails_to_look_up {A} {e} {Answer} read is fits = subst (λ (r : Result A Error). LooksUp g Answer old new r) (sym is) (record {
+      value = λ clean. tt;
+      same = λ clean office. tt;
+      err = λ clean office. why office (read.err clean (plain_over asks office));
+      survives = crash_over asks g old new read.survives;
+    })
+      where
+        why : old.schema ≡ office_schema → FailsToReadRecords sql params (state g old) (state g new) e → FailsToLookUp (state g old) (state g new) e
+        why office (inl failed) = inl failed
+        why office (inr (kept, (rows, answers, inl memory))) = inr (inl (memory, kept))
+        why office (inr (kept, (rows, answers, inr corrupt))) =
+            inr (inr (corrupt.0, kept, λ machine sound stands. corrupt.1 (fits machine sound stands rows (answers q (asked_over asks stands.schema_is)))))
+
+    -- a look-up that is out of memory for its answer
+    pub lacks_memory : {A X : Type 0} {rows : Vec KeyedRecord X} {Answer : Machine → A → Type 0} {r : Result A Error} → ReadsRecords g sql params old new (Ok rows)
+        → r ≡ Err (SqliteFailure OutOfMemory) → LooksUp g Answer old new r
+    lacks_memory {A} {Answer} read is = subst (λ (r : Result A Error). LooksUp g Answer old new r) (sym is) (record {
+      value = λ clean. tt;
+      same = λ clean office. tt;
+      err = λ clean office. inr (inl (refl, read.same clean (plain_over asks office)));
+      survives = crash_over asks g old new read.survives;
+    })
+
+    -- all the records of a look-up
+    pub looks_up_all : {X : Type 0} {Answer : Machine → Vec KeyedRecord X → Type 0} (r : Result (Vec KeyedRecord X) Error) → ReadsRecords g sql params old new r
+        → ((machine : Machine) (rows : Vec KeyedRecord X) → StandsFor machine (state g old).now → Answers q params ((state g old).now.trees q.tree) (map keyed_cells rows.items) → Answer machine rows)
+        → ((machine : Machine) → IsConsistent machine → StandsFor machine (state g old).now → (rows : List Row) → Answers q params ((state g old).now.trees q.tree) rows → AreRecords rows)
+        → LooksUp g Answer old new r
+    looks_up_all (Ok rows) read finds fits = looks_up read (λ machine. finds machine rows)
+    looks_up_all (Err e) read finds fits = fails_to_look_up read refl fits
+
+-- an answer that follows from another one
+pub looks_up_from : {S A B : Type 0} {g : Ghosts S} {old new : Held S} {Answer : Machine → A → Type 0} {Other : Machine → B → Type 0} {x : A} {y : B} → LooksUp g Answer old new (Ok x)
+    → ((machine : Machine) → Answer machine x → Other machine y) → LooksUp g Other old new (Ok y)
+looks_up_from one follows = record {
+  value = λ clean machine stands. follows machine (one.value clean machine stands);
+  same = one.same;
+  err = λ clean office. tt;
+  survives = one.survives;
+}

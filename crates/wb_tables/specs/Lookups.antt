@@ -1,0 +1,89 @@
+-- What a query on the table of records answers, and when what it answers is not read (this project's own).
+use Rattle.std.specs.Prelude.{◌≡◌, ◌⊎◌, ℕ, ◌<◌, pos, List, [], ◌∷◌, length, map, Result, Vec, IfOk, IfErr, OnOk, IsUtf8}
+use Rattle.std.specs.List.{AllByRecursion}
+use Rattle.sqlite.specs.declared.types.Value.TheVariants.{Int}
+use Rattle.sqlite.specs.declared.error.Error.{Error}
+use Rattle.sqlite.specs.declared.error.Error.TheVariants.{SqliteFailure}
+use Rattle.sqlite.specs.declared.error.ErrorCode.TheVariants.{OutOfMemory, DatabaseCorrupt}
+use Rattle.sqlite.specs.Given.{IsPlain}
+use Rattle.sqlite.specs.Held.{Held, state}
+use Rattle.sqlite.specs.Listing.{understood}
+use Rattle.sqlite.specs.Order.{Row, column}
+use Rattle.sqlite.specs.State.{State, HasCleanDisk, IsUnchanged, Survives}
+use Rattle.sqlite_trees.specs.declared.store.Store.{Ghosts}
+use Rattle.wb_sql.specs.Queries.{TableQuery, Asks, Answers}
+use Rattle.wb_states.specs.declared.arch.OsCpu.{OsCpu}
+use Rattle.wb_states.specs.Queue.{Entry}
+use Rattle.wb_store.specs.declared.keyed.KeyedRecord.{KeyedRecord}
+use Rattle.wb_store.specs.Lookups.{entry_of}
+use Rattle.wb_rows.specs.Cells.{record_cells, arch_cells, number}
+use Rattle.wb_rows.specs.Reading.{IsReadable}
+use Rattle.wb_tables.specs.Calls.{FailsToRead}
+
+-- the columns of a record with its key
+abbrev pub keyed_cells : KeyedRecord → Row
+keyed_cells row = record_cells (entry_of row)
+
+-- the row is that of a record that can be read
+abbrev pub HasRecord : Row → Type 0
+HasRecord row = (entry : Entry) × IsReadable entry × (row ≡ record_cells entry)
+
+-- the rows have the columns of some that fit
+abbrev pub AreRowsOf : {X : Type 0} → (X → Row) → (X → Type 0) → List Row → Type 0
+AreRowsOf {X} columns Fits rows = (xs : List X) × AllByRecursion Fits xs × (rows ≡ map columns xs)
+
+-- the rows are those of records that can be read
+abbrev pub AreRecords : List Row → Type 0
+AreRecords = AreRowsOf record_cells IsReadable
+
+-- an architecture whose row can be read: its texts are UTF-8
+pub record IsReadableArch (arch : List ℕ × OsCpu) : Type 0 where
+  pub name : IsUtf8 arch.0
+  pub os : IsUtf8 arch.1.os
+  pub cpu : IsUtf8 arch.1.cpu
+
+-- the row is that of an architecture that can be read
+abbrev pub HasArch : Row → Type 0
+HasArch row = (arch : List ℕ × OsCpu) × IsReadableArch arch × (row ≡ arch_cells arch)
+
+-- the rows are those of architectures that can be read
+abbrev pub AreArchs : List Row → Type 0
+AreArchs = AreRowsOf arch_cells IsReadableArch
+
+-- what is read is not what an office keeps, or memory ran out
+abbrev pub IsReadFault : Type 0 → Error → Type 0
+IsReadFault Fits e = (e ≡ SqliteFailure OutOfMemory) ⊎ ((e ≡ SqliteFailure DatabaseCorrupt) × ¬ Fits)
+
+-- the rows that a query may answer
+abbrev pub MayAnswer : List ℕ → Row → State → List Row → Type 0
+MayAnswer sql params s rows = (q : TableQuery) → Asks s.now.schema sql q → Answers q params (s.now.trees q.tree) rows
+
+-- why the records of a query are not had: it failed; or memory ran out for them; or a row that it answers is no record
+abbrev pub FailsToReadRecords : List ℕ → Row → State → State → Error → Type 0
+FailsToReadRecords sql params old new e =
+    FailsToRead old new e
+    ⊎ (IsUnchanged old new × ((rows : List Row) × MayAnswer sql params old rows × IsReadFault (AreRecords rows) e))
+
+-- the records of a query: if it succeeds, their columns are its rows, and the database stays as it is; if it fails, it fails for one of the
+-- reasons above; and it leaves a crash no more than before
+pub record ReadsRecords {S X : Type 0} (g : Ghosts S) (sql : List ℕ) (params : Row) (old new : Held S) (result : Result (Vec KeyedRecord X) Error) : Type 0 where
+  pub value : HasCleanDisk (state g new) → IfOk result (λ rows. MayAnswer sql params (state g old) (map keyed_cells rows.items))
+  pub same : HasCleanDisk (state g new) → IsPlain (understood old.schema sql) → OnOk result (IsUnchanged (state g old) (state g new))
+  pub err : HasCleanDisk (state g new) → IsPlain (understood old.schema sql) → IfErr result (FailsToReadRecords sql params (state g old) (state g new))
+  pub survives : Survives (state g old) (state g new) (λ _. ¬ IsPlain (understood old.schema sql))
+
+-- the row of the counts, as a query answers it
+abbrev pub counts_row : ℕ → ℕ → Row
+counts_row handed accepted = Int (pos 2) ∷ number handed ∷ number accepted ∷ []
+
+-- the rows are the one of these counts
+abbrev pub AreCounts : List Row → ℕ → ℕ → Type 0
+AreCounts rows handed accepted = rows ≡ counts_row handed accepted ∷ []
+
+-- the rows are the one of some counts
+abbrev pub HaveCounts : List Row → Type 0
+HaveCounts rows = (handed : ℕ) × (accepted : ℕ) × AreCounts rows handed accepted
+
+-- a column has a number from 0
+abbrev pub HasNumberAt : Row → ℕ → Type 0
+HasNumberAt row at = (n : ℕ) × (at < length row) × (column row at ≡ number n)

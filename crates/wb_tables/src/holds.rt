@@ -1,0 +1,25 @@
+//! The records that builders hold, as the tables have them.
+ghost use Rattle.std.specs.Prelude.{◌≡◌, map as each};
+ghost use Rattle.wb_states.specs.Holds.{held_of};
+ghost use Rattle.wb_store.specs.Lookups.{entry_of};
+ghost use Rattle.wb_tables.specs.Calls.{LooksUp};
+
+use crate::reading::records;
+use deb_text::Text;
+use sqlite::{Alter, Connection, Error, params};
+use wb_schema::texts;
+use wb_store::KeyedRecord;
+
+/// The records that the builder holds, of all architectures, by take number. The errors are those of
+/// [`crate::get`].
+pub fn held_by<S: Alter>(
+    conn: &mut Connection<S>,
+    builder: &Text,
+) -> Result<Vec<KeyedRecord>, Error>
+    ensures looks_up { LooksUp S.Store (λ machine rows.
+        each entry_of rows.items ≡ held_of machine builder.now) conn.old conn.new result }
+{
+    let mut rows = records(conn, texts::held_by(), params![builder.as_str()])?;
+    rows.sort_by_key(|row| row.current.take.unwrap_or(0))?;
+    Ok(rows)
+}

@@ -1,0 +1,70 @@
+//! What is looked up in the tables.
+ghost use Rattle.std.specs.Prelude.{◌≡◌, map as each};
+ghost use Rattle.std.specs.Option.{option_map};
+ghost use Rattle.std.specs.FinMap as map;
+ghost use Rattle.wb_states.specs.Machine.{IsConsistent};
+ghost use Rattle.wb_states.specs.Holds.{taken_as};
+ghost use Rattle.wb_store.specs.Lookups.{entry_of, rows_of};
+ghost use Rattle.wb_tables.specs.Calls.{LooksUp};
+
+use crate::reading::{counts_in, current_in, first_in, records, stored_number};
+use deb_text::Text;
+use sqlite::{Alter, Connection, Error, params};
+use wb_schema::texts;
+use wb_sql::read;
+use wb_states::{Counts, Record};
+use wb_store::KeyedRecord;
+
+/// The two counts of the office. The errors are those of the query, `OutOfMemory`, and `DatabaseCorrupt` where the
+/// office's row is not one that an office keeps. The database stays as it is, but for a transaction that a failure of
+/// the query takes back (this project's own).
+pub fn counts<S: Alter>(conn: &mut Connection<S>) -> Result<Counts, Error>
+    ensures looks_up { LooksUp S.Store (λ machine counts. (counts.handed ≡ machine.handed)
+        × (counts.accepted ≡ machine.accepted)) conn.old conn.new result }
+{
+    let rows = read(conn, texts::office_counts(), &[])?;
+    counts_in(&rows)
+}
+
+/// The record of the source package on the architecture, or none. The errors are those of the query, `OutOfMemory`,
+/// and `DatabaseCorrupt` where a row is no record. The database stays as it is, but for a transaction that a failure
+/// of the query takes back (this project's own).
+pub fn get<S: Alter>(
+    conn: &mut Connection<S>,
+    arch: &Text,
+    source: &Text,
+) -> Result<Option<Record>, Error>
+    ensures looks_up { LooksUp S.Store (λ machine found. found
+        ≡ map.get machine.records (arch.now, source.now)) conn.old conn.new result }
+{
+    let rows = records(
+        conn,
+        texts::record(),
+        params![arch.as_str(), source.as_str()],
+    )?;
+    Ok(current_in(rows))
+}
+
+/// The record that is held under the take number, or none. The errors are those of `get`.
+pub fn by_take<S: Alter>(
+    conn: &mut Connection<S>,
+    take_number: u64,
+) -> Result<Option<KeyedRecord>, Error>
+    ensures looks_up { LooksUp S.Store (λ machine found. IsConsistent machine
+        → option_map entry_of found ≡ taken_as machine take_number) conn.old conn.new result }
+{
+    let rows = records(
+        conn,
+        texts::record_of_take(),
+        params![stored_number(take_number)],
+    )?;
+    Ok(first_in(rows))
+}
+
+/// The records of the architecture, by the names of their source packages. The errors are those of `get`.
+pub fn all_of<S: Alter>(conn: &mut Connection<S>, arch: &Text) -> Result<Vec<KeyedRecord>, Error>
+    ensures looks_up { LooksUp S.Store (λ machine rows.
+        each entry_of rows.items ≡ rows_of machine arch.now) conn.old conn.new result }
+{
+    records(conn, texts::records_of_arch(), params![arch.as_str()])
+}

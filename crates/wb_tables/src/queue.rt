@@ -1,0 +1,35 @@
+//! The queue of an architecture, as the tables have it.
+ghost use Rattle.std.specs.Prelude.{◌≡◌, map as each};
+ghost use Rattle.std.specs.Option.{option_map};
+ghost use Rattle.wb_states.specs.Machine.{IsConsistent};
+ghost use Rattle.wb_states.specs.Queue.{head_of, queue_of};
+ghost use Rattle.wb_store.specs.Lookups.{entry_of};
+ghost use Rattle.wb_tables.specs.Calls.{LooksUp};
+
+use crate::reading::{first_in, records};
+use deb_text::Text;
+use sqlite::{Alter, Connection, Error, params};
+use wb_schema::texts;
+use wb_states::State;
+use wb_store::KeyedRecord;
+
+/// The head of the architecture's queue, which is built next, or none if no source package of the architecture waits
+/// for a builder. The errors are those of [`crate::get`] (wanna-build's states page).
+pub fn head<S: Alter>(conn: &mut Connection<S>, arch: &Text) -> Result<Option<KeyedRecord>, Error>
+    ensures looks_up { LooksUp S.Store (λ machine found. IsConsistent machine
+        → option_map entry_of found ≡ head_of machine arch.now) conn.old conn.new result }
+{
+    let waiting = u32::from(State::NeedsBuild.code());
+    let rows = records(conn, texts::head(), params![arch.as_str(), waiting])?;
+    Ok(first_in(rows))
+}
+
+/// The architecture's queue: its records that wait for a builder, in the order in which they are built. The errors
+/// are those of [`crate::get`] (wanna-build's states page).
+pub fn queue_of<S: Alter>(conn: &mut Connection<S>, arch: &Text) -> Result<Vec<KeyedRecord>, Error>
+    ensures looks_up { LooksUp S.Store (λ machine rows. IsConsistent machine
+        → each entry_of rows.items ≡ queue_of machine arch.now) conn.old conn.new result }
+{
+    let waiting = u32::from(State::NeedsBuild.code());
+    records(conn, texts::queue(), params![arch.as_str(), waiting])
+}

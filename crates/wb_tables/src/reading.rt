@@ -1,0 +1,119 @@
+//! The rows that a query answers, as what an office keeps.
+ghost use Rattle.std.specs.Prelude.{◌≡◌, ℕ, ◌^◌, ◌-◌, min, pos, IfOk, IfErr, map as each};
+ghost use Rattle.std.specs.Option.{option_map};
+ghost use Rattle.sqlite.specs.Values.{bound};
+ghost use Rattle.deb_text.specs.Lists.{first_of};
+ghost use Rattle.wb_tables.specs.Lookups.{AreArchs, AreCounts, AreRecords, HasArch, HasNumberAt, HasRecord, HaveCounts, IsReadFault, ReadsRecords, keyed_cells};
+ghost use Rattle.wb_rows.specs.Cells.{arch_cells, number};
+ghost use Rattle.sqlite.specs.Order.{column};
+
+use deb_text::Text;
+use sqlite::types::ValueRef;
+use sqlite::{Alter, Connection, Error, ErrorCode, Row};
+use wb_rows::{arch_of, record_of};
+use wb_sql::read;
+use wb_states::{Counts, OsCpu, Record};
+use wb_store::KeyedRecord;
+
+/// The number from 0 in a column, counted from 0. A column that is none is `DatabaseCorrupt`.
+fn count_at(row: &Row, at: usize) -> Result<u64, Error>
+    ensures value { IfOk result (λ n. column row.now at ≡ number n) }
+    ensures err { IfErr result (IsReadFault (HasNumberAt row.now at)) }
+{
+    match row.get(at) {
+        Ok(count) => Ok(count),
+        Err(Error::SqliteFailure(ErrorCode::OutOfMemory)) => {
+            Err(Error::SqliteFailure(ErrorCode::OutOfMemory))
+        }
+        Err(_) => Err(Error::SqliteFailure(ErrorCode::DatabaseCorrupt)),
+    }
+}
+
+/// The two counts in the row of the office, after its format. Rows that are not that row are `DatabaseCorrupt`.
+pub(crate) fn counts_in(rows: &[Row]) -> Result<Counts, Error>
+    ensures value { IfOk result (λ counts. (handed accepted : ℕ) → AreCounts rows.now handed accepted
+        → (counts.handed ≡ handed) × (counts.accepted ≡ accepted)) }
+    ensures err { IfErr result (IsReadFault (HaveCounts rows.now)) }
+{
+    let Some(row) = rows.first() else {
+        return Err(Error::SqliteFailure(ErrorCode::DatabaseCorrupt));
+    };
+    Ok(Counts {
+        handed: count_at(row, 1)?,
+        accepted: count_at(row, 2)?,
+    })
+}
+
+/// The record in a row. A row that is none is `DatabaseCorrupt`.
+fn record_in(row: &Row) -> Result<KeyedRecord, Error>
+    ensures value { IfOk result (λ made. row.now ≡ keyed_cells made) }
+    ensures err { IfErr result (IsReadFault (HasRecord row.now)) }
+{
+    record_of(row)?.ok_or(Error::SqliteFailure(ErrorCode::DatabaseCorrupt))
+}
+
+/// The records in these rows. A row that is none is `DatabaseCorrupt`.
+fn records_in(rows: Vec<Row>) -> Result<Vec<KeyedRecord>, Error>
+    ensures value { IfOk result (λ made. rows.items ≡ each keyed_cells made.items) }
+    ensures err { IfErr result (IsReadFault (AreRecords rows.items)) }
+{
+    let mut made = Vec::new(*rows.allocator());
+    for row in rows {
+        made.push(record_in(&row)?)?;
+    }
+    Ok(made)
+}
+
+/// The records that a query answers, in its order. It fails as the query does, with `OutOfMemory`, or with
+/// `DatabaseCorrupt` if a row is no record. The database stays as it is, but for a transaction that a failure takes
+/// back.
+pub(crate) fn records<S: Alter>(
+    conn: &mut Connection<S>,
+    sql: &str,
+    params: &[ValueRef<'_>],
+) -> Result<Vec<KeyedRecord>, Error>
+    ensures reads { ReadsRecords S.Store sql.now (bound params.now) conn.old conn.new result }
+{
+    records_in(read(conn, sql, params)?)
+}
+
+/// The architecture, with its words, in a row. A row that is none is `DatabaseCorrupt`.
+fn arch_in(row: &Row) -> Result<(Text, OsCpu), Error>
+    ensures value { IfOk result (λ made. row.now ≡ arch_cells made) }
+    ensures err { IfErr result (IsReadFault (HasArch row.now)) }
+{
+    arch_of(row)?.ok_or(Error::SqliteFailure(ErrorCode::DatabaseCorrupt))
+}
+
+/// The architectures, with their words, in these rows. A row that is none is `DatabaseCorrupt`.
+pub(crate) fn archs_in(rows: Vec<Row>) -> Result<Vec<(Text, OsCpu)>, Error>
+    ensures value { IfOk result (λ made. rows.items ≡ each arch_cells made.items) }
+    ensures err { IfErr result (IsReadFault (AreArchs rows.items)) }
+{
+    let mut made = Vec::new(*rows.allocator());
+    for row in rows {
+        made.push(arch_in(&row)?)?;
+    }
+    Ok(made)
+}
+
+/// The first of some records.
+pub(crate) fn first_in(records: Vec<KeyedRecord>) -> Option<KeyedRecord>
+    ensures { result ≡ first_of records.items }
+{
+    records.into_iter().next()
+}
+
+/// The record of the first of some.
+pub(crate) fn current_in(records: Vec<KeyedRecord>) -> Option<Record>
+    ensures { result ≡ option_map (λ row. row.current) (first_of records.items) }
+{
+    Some(first_in(records)?.current)
+}
+
+/// A number as SQL keeps it. A number that is too great for that is the greatest, 2^63 - 1.
+pub(crate) fn stored_number(number: u64) -> i64
+    ensures { result ≡ pos (min number (2 ^ 63 - 1)) }
+{
+    i64::try_from(number).unwrap_or(i64::MAX)
+}
