@@ -11,6 +11,7 @@ pub mod HeadLemmas
 pub mod HeldLemmas
 pub mod InvariantLemmas
 pub mod KeyLemmas
+pub mod LocalityLemmas
 pub mod MergedLemmas
 pub mod MergingLemmas
 pub mod MoveLemmas

@@ -1,6 +1,7 @@
 pub mod Arguments
 pub mod Carries
 pub mod Checks
+pub mod Locality
 pub mod Outcomes
 pub mod HandOuts
 pub mod Targets

@@ -11,9 +11,11 @@ ghost use Rattle.wb_states.specs.Holds.{taken_as};
 ghost use Rattle.wb_states.specs.declared.reply.Assignment.{Assignment};
 ghost use Rattle.wb_states.specs.declared.reply.Reply.TheVariants.{Again, Job};
 ghost use Rattle.wb_states.specs.Queue.{queue_of};
-ghost use Rattle.wb_office.specs.Checks.{take_named};
+ghost use Rattle.wb_office.specs.Arguments.{arguments_of};
+ghost use Rattle.wb_office.specs.Checks.{first_refusal, take_named};
 ghost use Rattle.wb_office.specs.HandOuts.{HandOut, IsBeingBuilt, HasTakesByState, Ends, Rise, hand_out, hand_outs};
-ghost use Rattle.wb_office.specs.Targets.{MayChange};
+ghost use Rattle.wb_office.specs.Locality.{LooksAlike, changed, entry_put};
+ghost use Rattle.wb_office.specs.Targets.{MayChange, again_of};
 ghost use Rattle.wb_office.specs.Parts.{part_listing, records_with};
 ghost use Rattle.wb_office.specs.Replay.{replay};
 ghost use Rattle.wb_states.specs.Forms.{Built, Merge, Next};
@@ -136,4 +138,18 @@ pub fn parts_are_merged_apart()
         → key.0 ≡ part.arch
         → map.get (step machine (Merge sources (before ++ part ∷ behind))).1.records key
         ≡ map.get (records_with machine.records part.arch (part_listing machine sources part)) key }
+{}
+
+/// A command that is no merge looks at the counts, the architectures, the architectures of its builder, and the
+/// records that it names: by key, by take number, at the head of a queue, or as what its builder builds. Two
+/// offices in which these are the same give it the same answer, and it puts the same record into both. It changes
+/// nothing else.
+pub fn commands_look_only_at_what_they_name()
+    ensures answer { (command : Command) (one other : Machine) → LooksAlike command one other
+        → (step one command).0 ≡ (step other command).0 }
+    ensures entry { (command : Command) (one other : Machine) → LooksAlike command one other
+        → entry_put one command ≡ entry_put other command }
+    ensures change { (command : Command) (machine : Machine) → (arguments_of command).merge ≡ None
+        → first_refusal machine command ≡ None → again_of machine command ≡ None
+        → (step machine command).1 ≡ changed machine command }
 {}
