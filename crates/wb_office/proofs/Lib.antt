@@ -20,6 +20,7 @@ pub mod TransitionLemmas
 pub mod NamedLemmas
 pub mod NextLemmas
 pub mod PartLemmas
+pub mod PartOfLemmas
 pub mod PassLemmas
 pub mod RefusalLemmas
 pub mod RetryLemmas

@@ -1,5 +1,5 @@
 -- What a command looks at, and what it changes (this project's own). Whatever else an office keeps makes no difference to it.
-use Rattle.std.specs.Prelude.{◌≡◌, ℕ, ◌+◌, List, Option, Some, None}
+use Rattle.std.specs.Prelude.{◌≡◌, ℕ, ◌+◌, List, Option, Some, None, IsTrue, IfSome}
 use Rattle.std.specs.Option.{option_map}
 use Rattle.std.specs.FinMap as map
 use Rattle.std.specs.FinSet as set
@@ -133,3 +133,29 @@ changed machine command = record {
   handed = handed_after command machine.handed;
   accepted = machine.accepted + 1;
 }
+
+-- ---- a part of an office
+
+-- a state keeps this record at its key
+abbrev pub IsKept : Machine → Entry → Type 0
+IsKept machine entry = map.get machine.records entry.0 ≡ Some entry.1
+
+-- a state is a part of another: it has the same counts and architectures, no builder and no record that the other has not, and for each
+-- record that is held its holder
+pub record IsPartOf (part whole : Machine) : Type 0 where
+  pub handed : part.handed ≡ whole.handed
+  pub accepted : part.accepted ≡ whole.accepted
+  pub archs : part.archs ≡ whole.archs
+  pub builders : (name arch : List ℕ) → IsTrue (set.contains part.builders (name, arch)) → IsTrue (set.contains whole.builders (name, arch))
+  pub records : (entry : Entry) → IsKept part entry → IsKept whole entry
+  pub holders : (entry : Entry) → IsKept part entry → IfSome entry.1.holder (λ name. IsTrue (set.contains part.builders (name, entry.0.0)))
+
+-- a part has all that a command which is no merge names of the whole
+pub record HasAllNamed (command : Command) (part whole : Machine) : Type 0 where
+  pub builder : (name arch : List ℕ) → (arguments_of command).builder ≡ Some name → IsTrue (set.contains whole.builders (name, arch)) → IsTrue (set.contains part.builders (name, arch))
+  pub source : (key : Key) → source_named command ≡ Some key → IfSome (map.get whole.records key) (λ current. IsKept part (key, current))
+  pub taken : (take_number : ℕ) → take_named command ≡ Some take_number → IfSome (taken_as whole take_number) (IsKept part)
+  pub head : (next : Next) → (arguments_of command).next ≡ Some next → IfSome (head_of whole next.arch) (IsKept part)
+  pub again : IfSome (again_of whole command) (IsKept part)
+  pub there : is_there_already part command ≡ is_there_already whole command
+  pub single : (arguments_of command).merge ≡ None

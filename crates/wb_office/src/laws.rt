@@ -14,7 +14,7 @@ ghost use Rattle.wb_states.specs.Queue.{queue_of};
 ghost use Rattle.wb_office.specs.Arguments.{arguments_of};
 ghost use Rattle.wb_office.specs.Checks.{first_refusal, take_named};
 ghost use Rattle.wb_office.specs.HandOuts.{HandOut, IsBeingBuilt, HasTakesByState, Ends, Rise, hand_out, hand_outs};
-ghost use Rattle.wb_office.specs.Locality.{LooksAlike, changed, entry_put};
+ghost use Rattle.wb_office.specs.Locality.{HasAllNamed, IsPartOf, LooksAlike, changed, entry_put};
 ghost use Rattle.wb_office.specs.Targets.{MayChange, again_of};
 ghost use Rattle.wb_office.specs.Parts.{part_listing, records_with};
 ghost use Rattle.wb_office.specs.Replay.{replay};
@@ -152,4 +152,12 @@ pub fn commands_look_only_at_what_they_name()
     ensures change { (command : Command) (machine : Machine) → (arguments_of command).merge ≡ None
         → first_refusal machine command ≡ None → again_of machine command ≡ None
         → (step machine command).1 ≡ changed machine command }
+{}
+
+/// A part of a consistent office is consistent, and if it has all that a command names, it looks alike to the
+/// command. So a command can be carried out over the rows that it names alone.
+pub fn parts_of_an_office_answer_alike()
+    ensures consistent { (part whole : Machine) → IsPartOf part whole → IsConsistent whole → IsConsistent part }
+    ensures alike { (part whole : Machine) → IsPartOf part whole → (command : Command)
+        → IsConsistent whole → HasAllNamed command part whole → LooksAlike command part whole }
 {}

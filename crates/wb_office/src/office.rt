@@ -67,6 +67,15 @@ impl Office {
         Ok(Office { alloc, store })
     }
 
+    /// The office that has these tables, of which the invariant of the office must hold. Takes no memory; the
+    /// allocator is kept for the calls that follow (this project's own).
+    pub fn over(alloc: Global, store: Store) -> Office
+        requires consistent { IsConsistent store }
+        ensures value { result ≡ store }
+    {
+        Office { alloc, store }
+    }
+
     /// The tables of the office, to look up what no reply shows. Takes no memory (this project's own).
     pub fn store(&self) -> &Store
         ensures value { result.now ≡ self.now }
