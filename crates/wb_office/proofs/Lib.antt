@@ -18,6 +18,7 @@ pub mod MoveLemmas
 pub mod MovedRecordLemmas
 pub mod TransitionLemmas
 pub mod NamedLemmas
+pub mod NamedPartLemmas
 pub mod NextLemmas
 pub mod PartLemmas
 pub mod PartOfLemmas

@@ -20,13 +20,13 @@ use Rattle.wb_states.proofs.QueueLemmas.{place_cmp-names, entry_cmp_total, head_
 use Rattle.wb_office.specs.Arguments.{arguments_of}
 use Rattle.wb_office.specs.Locality.{LooksAlike, IsKept, IsPartOf, HasAllNamed}
 
-at_some : {X : Type 0} (P : X → Type 0) (found : Option X) (x : X) → found ≡ Some x → IfSome found P → P x
+pub at_some : {X : Type 0} (P : X → Type 0) (found : Option X) (x : X) → found ≡ Some x → IfSome found P → P x
 at_some P found x is h = subst (λ o. IfSome o P) is h
 
 not_there : {X : Type 0} (x : X) → None ≢ Some x
 not_there x e = cc
 
-same_value : {X : Type 0} (x y : X) → Some x ≡ Some y → x ≡ y
+pub same_value : {X : Type 0} (x y : X) → Some x ≡ Some y → x ≡ y
 same_value x y e = cc
 
 -- what is found in a part is what is found in the whole, if the part has that, and what it finds is found in the whole
@@ -35,13 +35,13 @@ found_alike None None up down = refl
 found_alike (Some entry) whole up down = sym (up entry refl)
 found_alike None (Some entry) up down = absurd (down entry refl refl)
 
-same_test : (a b : Bool) → (IsTrue a → IsTrue b) → (IsTrue b → IsTrue a) → a ≡ b
+pub same_test : (a b : Bool) → (IsTrue a → IsTrue b) → (IsTrue b → IsTrue a) → a ≡ b
 same_test true b up down = sym (up refl)
 same_test false true up down = down refl
 same_test false false up down = refl
 
 -- two records at one key are one
-one_at : (machine : Machine) (one other : Entry) → IsKept machine one → IsKept machine other → one.0 ≡ other.0 → one ≡ other
+pub one_at : (machine : Machine) (one other : Entry) → IsKept machine one → IsKept machine other → one.0 ≡ other.0 → one ≡ other
 one_at machine one other kept there key =
     let current : one.1 ≡ other.1 = same_value one.1 other.1 (sym kept ∙ ap (map.get machine.records) key ∙ there) in
     λ i. (key i, current i)
@@ -52,7 +52,7 @@ tied Equal first second = refl
 tied Greater first second = absurd (second refl)
 
 module _ (part whole : Machine) (within : IsPartOf part whole) where
-  same_source_named : (key : Key) → IfSome (map.get whole.records key) (λ current. IsKept part (key, current)) → map.get part.records key ≡ map.get whole.records key
+  pub same_source_named : (key : Key) → IfSome (map.get whole.records key) (λ current. IsKept part (key, current)) → map.get part.records key ≡ map.get whole.records key
   same_source_named key has = by_cases (map.get part.records key) (map.get whole.records key) refl refl
     where
       by_cases : (here there : Option Record) → map.get part.records key ≡ here → map.get whole.records key ≡ there → map.get part.records key ≡ map.get whole.records key

@@ -5,6 +5,7 @@ pub mod Locality
 pub mod Outcomes
 pub mod HandOuts
 pub mod Targets
+pub mod Named
 pub mod Parts
 pub mod Replay
 pub mod Step

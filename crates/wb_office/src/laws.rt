@@ -16,6 +16,7 @@ ghost use Rattle.wb_office.specs.Checks.{first_refusal, take_named};
 ghost use Rattle.wb_office.specs.HandOuts.{HandOut, IsBeingBuilt, HasTakesByState, Ends, Rise, hand_out, hand_outs};
 ghost use Rattle.wb_office.specs.Locality.{HasAllNamed, IsPartOf, LooksAlike, changed, entry_put};
 ghost use Rattle.wb_office.specs.Targets.{MayChange, again_of};
+ghost use Rattle.wb_office.specs.Named.{part_named};
 ghost use Rattle.wb_office.specs.Parts.{part_listing, records_with};
 ghost use Rattle.wb_office.specs.Replay.{replay};
 ghost use Rattle.wb_states.specs.Forms.{Built, Merge, Next};
@@ -160,4 +161,8 @@ pub fn parts_of_an_office_answer_alike()
     ensures consistent { (part whole : Machine) → IsPartOf part whole → IsConsistent whole → IsConsistent part }
     ensures alike { (part whole : Machine) → IsPartOf part whole → (command : Command)
         → IsConsistent whole → HasAllNamed command part whole → LooksAlike command part whole }
+    ensures part { (machine : Machine) (command : Command) → IsConsistent machine
+        → IsPartOf (part_named machine command) machine }
+    ensures named { (machine : Machine) (command : Command) → IsConsistent machine
+        → (arguments_of command).merge ≡ None → HasAllNamed command (part_named machine command) machine }
 {}

@@ -1,3 +1,4 @@
+use Rattle.wb_office.proofs.NamedPartLemmas.{part_of_named, part_has_all_named}
 use Rattle.wb_office.proofs.PartOfLemmas.{part_consistent, part_alike}
 use Rattle.wb_office.proofs.laws.parts_of_an_office_answer_alike.Goals as goal
 
@@ -6,3 +7,9 @@ returns-clause-consistent c = part_consistent
 
 pub returns-clause-alike : goal.returns-clause-alike
 returns-clause-alike c = part_alike
+
+pub returns-clause-part : goal.returns-clause-part
+returns-clause-part c = part_of_named
+
+pub returns-clause-named : goal.returns-clause-named
+returns-clause-named c = part_has_all_named
