@@ -10,4 +10,3 @@ pub mod MapLemmas
 pub mod OrderLemmas
 pub mod ReadLemmas
 pub mod TableLemmas
-pub mod PairLemmas

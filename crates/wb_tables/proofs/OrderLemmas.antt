@@ -1,13 +1,12 @@
 -- Lists that ascend, lists that are sorted, and permutations of them.
-use Rattle.std.proofs.Common.{◌≡◌, ◌⊎◌, inl, inr, Bool, true, false, cond, List, [], ◌∷◌, map, filter, take, refl, sym, ap, ap₂, subst, ◌∙◌, arith, T, ◌&&◌, ◌||◌, Option, Some, None, Ordering, Less, Equal, Greater, is_lt, is_eq, IsPermutation}
-use Rattle.std.specs.List.{AllByRecursion, list_any}
+use Rattle.std.proofs.Common.{◌≡◌, ◌⊎◌, inl, inr, Bool, true, false, cond, List, [], ◌∷◌, map, filter, take, refl, sym, ap, ap₂, subst, ◌∙◌, arith, T, ◌&&◌, Option, Some, None, Ordering, Less, Equal, Greater, is_lt, is_eq, IsPermutation}
+use Rattle.std.specs.List.{AllByRecursion}
 use Rattle.std.specs.List.Sorted.{IsStrictlySortedBy}
 use Rattle.std.specs.Cmp.{IsTotalOrder}
 use Rattle.std.specs.Option.{option_map}
 use Rattle.std.specs.FinMap.{IsAntisymmetric}
 use Rattle.std.specs.FinMap.Entries.{find, is_sorted, below_all}
 use Rattle.std.specs.Ordering.{eq_by_cmp}
-use Rattle.std.proofs.lemmas.Cmp.{tied_itself}
 use Rattle.std.proofs.lemmas.List.Sorted.{IsPermutation-refl, IsPermutation-cons, IsPermutation-trans, IsPermutation-middle, length_permutation}
 use Rattle.sqlite.proofs.Callers.{one_permutation}
 use Rattle.sqlite_trees.specs.Tree.{IsAscending}
@@ -43,17 +42,6 @@ less : (r : Ordering) → T (is_lt r) → r ≡ Less
 less Less h = refl
 less Equal h = absurd h
 less Greater h = absurd h
-
-either : (a b : Bool) → (a || b) ≡ true → (a ≡ true) ⊎ (b ≡ true)
-either true b h = inl refl
-either false b h = inr h
-
-or_true : (a : Bool) → (a || true) ≡ true
-or_true true = refl
-or_true false = refl
-
-apart : Less ≡ Equal → ⊥
-apart e = cc
 
 split : (a b : Bool) → T (a && b) → T a × T b
 split true b h = (tt, h)
@@ -142,60 +130,7 @@ module _ {X : Type 0} (cmp : X → X → Ordering) where
   IsPermutation-sorted_by [] = IsPermutation-refl []
   IsPermutation-sorted_by (x ∷ xs) = IsPermutation-trans _ _ _ (IsPermutation-with_item x (sorted_by cmp xs)) (IsPermutation-cons x _ _ (IsPermutation-sorted_by xs))
 
-module _ {X : Type 0} (cmp : X → X → Ordering) (total : IsTotalOrder cmp) (same : IsAntisymmetric cmp) where
-  -- an item is among others, as a search by the order finds it
-  pub in_from_any : (x : X) (xs : List X) → list_any (eq_by_cmp cmp x) xs ≡ true → IsIn x xs
-  in_from_any x [] h = absurd cc
-  in_from_any x (y ∷ ys) h = elim (either (eq_by_cmp cmp x y) (list_any (eq_by_cmp cmp x) ys) h) [
-    | inl tie ↦ inl (eq_by_cmp-same same x y tie)
-    | inr later ↦ inr (in_from_any x ys later)
-  ]
-
-  pub any_from_in : (x : X) (xs : List X) → IsIn x xs → list_any (eq_by_cmp cmp x) xs ≡ true
-  any_from_in x [] h = absurd h
-  any_from_in x (y ∷ ys) (inl is) = ap (λ b. b || list_any (eq_by_cmp cmp x) ys) (ap is_eq (ap (cmp x) (sym is) ∙ tied_itself total x))
-  any_from_in x (y ∷ ys) (inr later) = ap (λ b. eq_by_cmp cmp x y || b) (any_from_in x ys later) ∙ or_true (eq_by_cmp cmp x y)
-
-  below_in : (x y : X) (ys : List X) → AllByRecursion (λ z. cmp x z ≡ Less) ys → IsIn y ys → cmp x y ≡ Less
-  below_in x y [] up h = absurd h
-  below_in x y (z ∷ zs) up (inl is) = ap (cmp x) is ∙ up.0
-  below_in x y (z ∷ zs) up (inr later) = below_in x y zs up.1 later
-
-  not_below_itself : (x : X) → cmp x x ≡ Less → ⊥
-  not_below_itself x less = apart (sym less ∙ tied_itself total x)
-
-  later_of : (x y : X) (ys : List X) → cmp x y ≡ Less → IsIn y (x ∷ ys) → IsIn y ys
-  later_of x y ys less (inl is) = absurd (not_below_itself x (ap (cmp x) (sym is) ∙ less))
-  later_of x y ys less (inr later) = later
-
-  first_same : (x y : X) (xs ys : List X) → AllByRecursion (λ z. cmp x z ≡ Less) xs → AllByRecursion (λ z. cmp y z ≡ Less) ys → IsIn x (y ∷ ys) → IsIn y (x ∷ xs) → x ≡ y
-  first_same x y xs ys up also (inl is) there = is
-  first_same x y xs ys up also (inr later) (inl is) = sym is
-  first_same x y xs ys up also (inr later) (inr other) = absurd (not_below_itself x (total.trans x y x (below_in x y xs up other) (below_in y x ys also later)))
-
-  -- two lists that ascend strictly, and have the same items, are one
-  pub same_items : (xs ys : List X) → IsAscending (λ a b. cmp a b ≡ Less) xs → IsAscending (λ a b. cmp a b ≡ Less) ys → ((x : X) → IsIn x xs → IsIn x ys) → ((x : X) → IsIn x ys → IsIn x xs) → xs ≡ ys
-  same_items [] [] up also there back = refl
-  same_items [] (y ∷ ys) up also there back = absurd (back y (inl refl))
-  same_items (x ∷ xs) [] up also there back = absurd (there x (inl refl))
-  same_items (x ∷ xs) (y ∷ ys) up also there back =
-      let first = first_same x y xs ys up.0 also.0 (there x (inl refl)) (back y (inl refl)) in
-      let later : (z : X) → IsIn z xs → IsIn z ys = λ z h. later_of y z ys (ap (λ k. cmp k z) (sym first) ∙ below_in x z xs up.0 h) (there z (inr h)) in
-      let earlier : (z : X) → IsIn z ys → IsIn z xs = λ z h. later_of x z xs (ap (λ k. cmp k z) first ∙ below_in y z ys also.0 h) (back z (inr h)) in
-      ap₂ ◌∷◌ first (same_items xs ys up.1 also.1 later earlier)
-
 -- ---- lists of what a function gives
-
--- what stands in a list, and in the list of what a function gives of it
-pub in_map : {X Y : Type 0} (f : X → Y) (x : X) (xs : List X) → IsIn x xs → IsIn (f x) (map f xs)
-in_map f x [] h = absurd h
-in_map f x (y ∷ ys) (inl is) = inl (ap f is)
-in_map f x (y ∷ ys) (inr later) = inr (in_map f x ys later)
-
-pub from_map : {X Y : Type 0} (f : X → Y) (y : Y) (xs : List X) → IsIn y (map f xs) → (x : X) × IsIn x xs × (y ≡ f x)
-from_map f y [] h = absurd h
-from_map f y (x ∷ xs) (inl is) = (x, inl refl, is)
-from_map f y (x ∷ xs) (inr later) = let found = from_map f y xs later in (found.0, inr found.1, found.2)
 
 -- lists with one image under a function that tells its arguments apart are one
 pub map_injective : {X Y : Type 0} (f : X → Y) → ((x y : X) → f x ≡ f y → x ≡ y) → (xs ys : List X) → map f xs ≡ map f ys → xs ≡ ys

@@ -1,6 +1,6 @@
 -- What a query on the table of records answers, and when what it answers is not read (this project's own).
-use Rattle.std.specs.Prelude.{◌≡◌, ◌⊎◌, ℕ, ◌<◌, pos, Bool, ◌&&◌, bytes_eq, List, [], ◌∷◌, length, map, filter, Result, Vec, IfOk, IfErr, OnOk, IsUtf8}
-use Rattle.std.specs.List.{AllByRecursion, list_any}
+use Rattle.std.specs.Prelude.{◌≡◌, ◌⊎◌, ℕ, ◌<◌, pos, List, [], ◌∷◌, length, map, Result, Vec, IfOk, IfErr, OnOk, IsUtf8}
+use Rattle.std.specs.List.{AllByRecursion}
 use Rattle.sqlite.specs.declared.types.Value.TheVariants.{Int}
 use Rattle.sqlite.specs.declared.error.Error.{Error}
 use Rattle.sqlite.specs.declared.error.Error.TheVariants.{SqliteFailure}
@@ -13,11 +13,10 @@ use Rattle.sqlite.specs.State.{State, HasCleanDisk, IsUnchanged, Survives}
 use Rattle.sqlite_trees.specs.declared.store.Store.{Ghosts}
 use Rattle.wb_sql.specs.Queries.{TableQuery, Asks, Answers}
 use Rattle.wb_states.specs.declared.arch.OsCpu.{OsCpu}
-use Rattle.wb_states.specs.Machine.{Key}
 use Rattle.wb_states.specs.Queue.{Entry}
 use Rattle.wb_store.specs.declared.keyed.KeyedRecord.{KeyedRecord}
 use Rattle.wb_store.specs.Lookups.{entry_of}
-use Rattle.wb_rows.specs.Cells.{record_cells, arch_cells, builder_cells, number}
+use Rattle.wb_rows.specs.Cells.{record_cells, arch_cells, number}
 use Rattle.wb_rows.specs.Reading.{IsReadable}
 use Rattle.wb_tables.specs.Calls.{FailsToRead}
 
@@ -50,27 +49,6 @@ HasArch row = (arch : List ℕ × OsCpu) × IsReadableArch arch × (row ≡ arch
 -- the rows are those of architectures that can be read
 abbrev pub AreArchs : List Row → Type 0
 AreArchs = AreRowsOf arch_cells IsReadableArch
-
--- a builder and an architecture whose row can be read: their names are UTF-8
-pub record IsReadablePair (pair : Key) : Type 0 where
-  pub builder : IsUtf8 pair.0
-  pub arch : IsUtf8 pair.1
-
--- the row is that of a builder and an architecture that can be read
-abbrev pub HasPair : Row → Type 0
-HasPair row = (pair : Key) × IsReadablePair pair × (row ≡ builder_cells pair)
-
--- the rows are those of builders and architectures that can be read
-abbrev pub ArePairs : List Row → Type 0
-ArePairs = AreRowsOf builder_cells IsReadablePair
-
--- the pair is one of these
-abbrev pub is_among : Key → List Key → Bool
-is_among pair = list_any (λ other. bytes_eq other.0 pair.0 && bytes_eq other.1 pair.1)
-
--- the architectures of a builder among these pairs
-abbrev pub archs_among : List ℕ → List Key → List (List ℕ)
-archs_among builder pairs = map (λ (pair : Key). pair.1) (filter (λ pair. bytes_eq pair.0 builder) pairs)
 
 -- what is read is not what an office keeps, or memory ran out
 abbrev pub IsReadFault : Type 0 → Error → Type 0

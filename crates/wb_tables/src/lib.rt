@@ -5,7 +5,6 @@ mod architectures;
 mod changes;
 mod holds;
 mod lookups;
-mod pairs;
 mod queue;
 mod reading;
 
@@ -13,5 +12,4 @@ pub use architectures::{arch, archs};
 pub use changes::{add_arch, add_builder, put, remove, set_counts};
 pub use holds::held_by;
 pub use lookups::{all_of, by_take, counts, get};
-pub use pairs::{archs_of, builders, has_builder};
 pub use queue::{head, queue_of};

@@ -3,14 +3,14 @@ ghost use Rattle.std.specs.Prelude.{◌≡◌, ℕ, ◌^◌, ◌-◌, min, pos, 
 ghost use Rattle.std.specs.Option.{option_map};
 ghost use Rattle.sqlite.specs.Values.{bound};
 ghost use Rattle.deb_text.specs.Lists.{first_of};
-ghost use Rattle.wb_tables.specs.Lookups.{AreArchs, AreCounts, ArePairs, AreRecords, HasArch, HasNumberAt, HasPair, HasRecord, HaveCounts, IsReadFault, ReadsRecords, keyed_cells};
-ghost use Rattle.wb_rows.specs.Cells.{arch_cells, builder_cells, number};
+ghost use Rattle.wb_tables.specs.Lookups.{AreArchs, AreCounts, AreRecords, HasArch, HasNumberAt, HasRecord, HaveCounts, IsReadFault, ReadsRecords, keyed_cells};
+ghost use Rattle.wb_rows.specs.Cells.{arch_cells, number};
 ghost use Rattle.sqlite.specs.Order.{column};
 
 use deb_text::Text;
 use sqlite::types::ValueRef;
 use sqlite::{Alter, Connection, Error, ErrorCode, Row};
-use wb_rows::{arch_of, builder_of, record_of};
+use wb_rows::{arch_of, record_of};
 use wb_sql::read;
 use wb_states::{Counts, OsCpu, Record};
 use wb_store::KeyedRecord;
@@ -93,26 +93,6 @@ pub(crate) fn archs_in(rows: Vec<Row>) -> Result<Vec<(Text, OsCpu)>, Error>
     let mut made = Vec::new(*rows.allocator());
     for row in rows {
         made.push(arch_in(&row)?)?;
-    }
-    Ok(made)
-}
-
-/// The builder and the architecture in a row. A row that is none is `DatabaseCorrupt`.
-fn pair_in(row: &Row) -> Result<(Text, Text), Error>
-    ensures value { IfOk result (λ made. row.now ≡ builder_cells made) }
-    ensures err { IfErr result (IsReadFault (HasPair row.now)) }
-{
-    builder_of(row)?.ok_or(Error::SqliteFailure(ErrorCode::DatabaseCorrupt))
-}
-
-/// The builders and architectures in these rows. A row that is none is `DatabaseCorrupt`.
-pub(crate) fn pairs_in(rows: Vec<Row>) -> Result<Vec<(Text, Text)>, Error>
-    ensures value { IfOk result (λ made. rows.items ≡ each builder_cells made.items) }
-    ensures err { IfErr result (IsReadFault (ArePairs rows.items)) }
-{
-    let mut made = Vec::new(*rows.allocator());
-    for row in rows {
-        made.push(pair_in(&row)?)?;
     }
     Ok(made)
 }
