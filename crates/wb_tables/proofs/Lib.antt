@@ -1,4 +1,5 @@
 pub mod ArchLemmas
+pub mod BuilderLemmas
 pub mod ChangeLemmas
 pub mod ChangeRowLemmas
 pub mod EqualLemmas

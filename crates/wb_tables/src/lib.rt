@@ -2,6 +2,7 @@
 #![tactic(auto)]
 
 mod architectures;
+mod builders;
 mod changes;
 mod holds;
 mod lookups;
@@ -9,6 +10,7 @@ mod queue;
 mod reading;
 
 pub use architectures::{arch, archs};
+pub use builders::{archs_of, has_builder};
 pub use changes::{add_arch, add_builder, put, remove, set_counts};
 pub use holds::held_by;
 pub use lookups::{all_of, by_take, counts, get};
