@@ -1,5 +1,5 @@
 -- The architectures of the office, as a query answers them.
-use Rattle.std.proofs.Common.{◌≡◌, ℕ, true, false, cond, List, [], ◌∷◌, map, filter, refl, sym, ap, subst, ◌∙◌, ◌⊎◌, Option, None, Some, option_map, Less, is_eq, bytes_eq}
+use Rattle.std.proofs.Common.{◌≡◌, ℕ, true, List, [], ◌∷◌, map, filter, refl, sym, ap, subst, ◌∙◌, ◌⊎◌, Option, None, Some, option_map, Less, is_eq, bytes_eq}
 use Rattle.std.specs.FinMap as finite
 use Rattle.std.specs.Ordering.{eq_by_cmp}
 use Rattle.std.proofs.lemmas.Bool.Decides.{same_from_decides}

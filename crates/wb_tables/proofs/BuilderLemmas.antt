@@ -1,11 +1,12 @@
 -- The builders of the office and the architectures for which they were added, as queries answer them.
-use Rattle.std.proofs.Common.{◌≡◌, ◌⊎◌, inl, inr, ℕ, Bool, true, false, not, ◌&&◌, ◌||◌, cond, List, [], ◌∷◌, ◌++◌, map, filter, refl, sym, ap, ap₂, subst, ◌∙◌, Option, None, Some, Less, Equal, is_eq, bytes_eq}
+use Rattle.std.proofs.Common.{◌≡◌, ◌⊎◌, inl, inr, ℕ, Bool, true, false, not, ◌&&◌, ◌||◌, List, [], ◌∷◌, length, ◌==◌, arith, map, filter, refl, sym, ap, ap₂, subst, ◌∙◌, Less, Equal, is_eq, bytes_eq, Vec}
 use Rattle.std.specs.List.{AllByRecursion, list_any}
 use Rattle.std.specs.Cmp.{IsTotalOrder}
 use Rattle.std.specs.FinMap as finite
+use Rattle.std.specs.Vec.{vec_len}
 use Rattle.std.specs.FinMap.{IsAntisymmetric}
 use Rattle.std.specs.FinSet as set
-use Rattle.std.specs.Ordering.{eq_by_cmp, ordering_then}
+use Rattle.std.specs.Ordering.{eq_by_cmp}
 use Rattle.std.specs.declared.cmp.Ordering.{Ordering}
 use Rattle.std.proofs.lemmas.Cmp.{tied_itself}
 use Rattle.std.proofs.lemmas.Slice.Eq.{bytes_eq-Decides}
@@ -13,7 +14,6 @@ use Rattle.sqlite.specs.Effect.{Database}
 use Rattle.sqlite.specs.declared.types.Value.TheVariants.{Text}
 use Rattle.sqlite.specs.Order.{Row}
 use Rattle.sqlite_trees.specs.Tree.{IsAscending}
-use Rattle.sqlite_value.specs.Order.{value_cmp}
 use Rattle.sqlite_keyed.proofs.ListLemmas.{ascending-filter, ascending-map, filter-map, filter_same, IsPermutation-same}
 use Rattle.deb_text.specs.Lists.{IsIn}
 use Rattle.deb_text.specs.Text.{text_cmp, pair_cmp}
@@ -180,6 +180,14 @@ module _ (machine : Machine) where
 abbrev pub is_none : {X : Type 0} → List X → Bool
 is_none [] = true
 is_none (x ∷ xs) = false
+
+none-length : {X : Type 0} (xs : List X) → (length xs == 0) ≡ is_none xs
+none-length [] = refl
+none-length (x ∷ xs) = grind arith
+
+-- the length of a vector says which
+pub none-counted : {X A : Type 0} (v : Vec X A) → (vec_len v == 0) ≡ is_none v.items
+none-counted v = ap (λ n. n == 0) v.ok.0 ∙ none-length v.items
 
 one_there : (key : Key) (b : Bool) (rows : List Row) → rows ≡ map builder_cells (map (λ (e : Key × Unit {0}). e.0) (entry_at key (marked b))) → not (is_none rows) ≡ b
 one_there key true rows is = ap (λ l. not (is_none l)) is
