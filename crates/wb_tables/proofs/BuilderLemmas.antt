@@ -1,9 +1,8 @@
 -- The builders of the office and the architectures for which they were added, as queries answer them.
-use Rattle.std.proofs.Common.{◌≡◌, ◌⊎◌, inl, inr, ℕ, Bool, true, false, not, ◌&&◌, ◌||◌, List, [], ◌∷◌, length, ◌==◌, arith, map, filter, refl, sym, ap, ap₂, subst, ◌∙◌, Less, Equal, is_eq, bytes_eq, Vec}
+use Rattle.std.proofs.Common.{◌≡◌, ◌⊎◌, inl, inr, ℕ, Bool, true, false, ◌&&◌, ◌||◌, List, [], ◌∷◌, map, filter, refl, sym, ap, ap₂, subst, ◌∙◌, Less, Equal, is_eq, bytes_eq}
 use Rattle.std.specs.List.{AllByRecursion, list_any}
 use Rattle.std.specs.Cmp.{IsTotalOrder}
 use Rattle.std.specs.FinMap as finite
-use Rattle.std.specs.Vec.{vec_len}
 use Rattle.std.specs.FinMap.{IsAntisymmetric}
 use Rattle.std.specs.FinSet as set
 use Rattle.std.specs.Ordering.{eq_by_cmp}
@@ -26,6 +25,7 @@ use Rattle.wb_rows.specs.Cells.{builder_cells}
 use Rattle.wb_rows.proofs.CellsLemmas.{builder_cells-same}
 use Rattle.wb_tables.specs.Stands.{StandsFor, builder_pairs}
 use Rattle.wb_tables.specs.Lookups.{ArePairs, HaveArchs, IsReadablePair}
+use Rattle.wb_tables.specs.Scratch.{has_row}
 use Rattle.wb_tables.proofs.EqualLemmas.{are_equal, and_true, equal-Text}
 use Rattle.wb_tables.proofs.FormLemmas.{kept_pair_readable}
 use Rattle.wb_tables.proofs.LookupLemmas.{key_params, key_test, second_less, text_order}
@@ -176,22 +176,10 @@ module _ (machine : Machine) where
           map_in (λ (pair : Key). pair.1) (builder, arch) (filter (is_of builder) pairs)
           ((IsIn-filter (is_of builder) (builder, arch) pairs).1 (in_pairs (builder, arch) added, (bytes_eq-Decides builder builder).1 refl))
 
--- a row is there, or none
-abbrev pub is_none : {X : Type 0} → List X → Bool
-is_none [] = true
-is_none (x ∷ xs) = false
-
-none-length : {X : Type 0} (xs : List X) → (length xs == 0) ≡ is_none xs
-none-length [] = refl
-none-length (x ∷ xs) = grind arith
-
--- the length of a vector says which
-pub none-counted : {X A : Type 0} (v : Vec X A) → (vec_len v == 0) ≡ is_none v.items
-none-counted v = ap (λ n. n == 0) v.ok.0 ∙ none-length v.items
-
-one_there : (key : Key) (b : Bool) (rows : List Row) → rows ≡ map builder_cells (map (λ (e : Key × Unit {0}). e.0) (entry_at key (marked b))) → not (is_none rows) ≡ b
-one_there key true rows is = ap (λ l. not (is_none l)) is
-one_there key false rows is = ap (λ l. not (is_none l)) is
+-- the columns of a pair, where there is one
+one_there : (key : Key) (b : Bool) (rows : List Row) → rows ≡ map builder_cells (map (λ (e : Key × Unit {0}). e.0) (entry_at key (marked b))) → has_row rows ≡ b
+one_there key true rows is = ap has_row is
+one_there key false rows is = ap has_row is
 
 module _ (machine : Machine) (db : Database) (stands : StandsFor machine db) (answer : List Row) where
   abbrev kept : List Key
@@ -209,7 +197,7 @@ module _ (machine : Machine) (db : Database) (stands : StandsFor machine db) (an
 
   module _ {params : Row} where
     -- a builder and an architecture, if the builder was added for it
-    pub pair_found : (key : Key) → params ≡ key_params key → Answers sql.pair_of_builder params (db.trees 3) answer → not (is_none answer) ≡ set.contains machine.builders key
+    pub pair_found : (key : Key) → params ≡ key_params key → Answers sql.pair_of_builder params (db.trees 3) answer → has_row answer ≡ set.contains machine.builders key
     pair_found key given a =
         one_there key (set.contains machine.builders key) answer
         (few_answer builder_cells sql.pair_of_builder (key_params key) (skips_pair (key_params key)) (λ x. refl) refl kept (db.trees 3) answer stands.builders

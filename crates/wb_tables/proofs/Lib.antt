@@ -10,4 +10,5 @@ pub mod LookupLemmas
 pub mod MapLemmas
 pub mod OrderLemmas
 pub mod ReadLemmas
+pub mod ScratchLemmas
 pub mod TableLemmas
