@@ -88,17 +88,37 @@ all_records = records_where [] (rising 1 ∷ rising 2 ∷ []) no_limit
 abbrev pub arch_row : List Term
 arch_row = lit Null ∷ parameter 0 ∷ parameter 1 ∷ parameter 2 ∷ []
 
+-- the architectures that pass these tests, in this order
+abbrev pub archs_where : List Term → List (Term × Key) → TableQuery
+archs_where tests order = record { tree = 1; filter = tests; project = cell 1 ∷ cell 2 ∷ cell 3 ∷ []; order = order; collations = []; limit = no_limit; offset = none_skipped }
+
+-- the architecture of a name
+abbrev pub arch_of_name : TableQuery
+arch_of_name = archs_where (equals 1 0 ∷ []) []
+
 -- all architectures, by name
 abbrev pub all_archs : TableQuery
-all_archs = record { tree = 1; filter = []; project = cell 1 ∷ cell 2 ∷ cell 3 ∷ []; order = rising 1 ∷ []; collations = []; limit = no_limit; offset = none_skipped }
+all_archs = archs_where [] (rising 1 ∷ [])
 
 -- a builder and an architecture for which it was added
 abbrev pub builder_row : List Term
 builder_row = lit Null ∷ parameter 0 ∷ parameter 1 ∷ []
 
+-- the pairs of a builder and an architecture that pass these tests, in this order
+abbrev pub pairs_where : List Term → List (Term × Key) → TableQuery
+pairs_where tests order = record { tree = 3; filter = tests; project = cell 1 ∷ cell 2 ∷ []; order = order; collations = []; limit = no_limit; offset = none_skipped }
+
+-- the pair of these two names
+abbrev pub pair_of_builder : TableQuery
+pair_of_builder = pairs_where (equals 1 0 ∷ equals 2 1 ∷ []) []
+
+-- the pairs of one builder, by architecture
+abbrev pub pairs_of_builder : TableQuery
+pairs_of_builder = pairs_where (equals 1 0 ∷ []) (rising 2 ∷ [])
+
 -- all such pairs, by builder and then by architecture
 abbrev pub all_builders : TableQuery
-all_builders = record { tree = 3; filter = []; project = cell 1 ∷ cell 2 ∷ []; order = rising 1 ∷ rising 2 ∷ []; collations = []; limit = no_limit; offset = none_skipped }
+all_builders = pairs_where [] (rising 1 ∷ rising 2 ∷ [])
 
 -- the office's row: its id is 1, the format 2, and the two counts are parameters
 abbrev pub office_row : List Term
@@ -111,3 +131,15 @@ first_office_row = lit (Int (pos 1)) ∷ lit Null ∷ lit (Int (pos 2)) ∷ lit 
 -- the format and the two counts
 abbrev pub office_counts : TableQuery
 office_counts = record { tree = 0; filter = []; project = cell 2 ∷ cell 3 ∷ cell 4 ∷ []; order = []; collations = []; limit = no_limit; offset = none_skipped }
+
+-- the place of one row of a scratch table, whose rowid it is
+abbrev pub first_of_scratch : ℕ → TableQuery
+first_of_scratch tree = record { tree = tree; filter = []; project = cell 0 ∷ []; order = []; collations = []; limit = lit (Int (pos 1)); offset = none_skipped }
+
+-- one source package of a merge
+abbrev pub first_source : TableQuery
+first_source = first_of_scratch 9
+
+-- one binary package of a merge
+abbrev pub first_binary : TableQuery
+first_binary = first_of_scratch 11

@@ -3,9 +3,11 @@
 
 mod create;
 mod making;
+mod recognition;
 pub mod texts;
 
 pub use making::{make_tables, prepare};
+pub use recognition::is_empty;
 
 #[cfg(test)]
 mod tests;

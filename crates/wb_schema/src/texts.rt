@@ -5,7 +5,8 @@ ghost use Rattle.wb_sql.specs.Queries.{Asks};
 ghost use Rattle.wb_schema.specs.Tables.{office_schema, office, arch, builder, source_record};
 ghost use Rattle.wb_schema.specs.Statements.{record_row, has_record_key, record_of_key, queue_of, head_of};
 ghost use Rattle.wb_schema.specs.Statements.{record_of_take, held_by, records_of_arch, all_records};
-ghost use Rattle.wb_schema.specs.Statements.{arch_row, all_archs, builder_row, all_builders, office_row, office_counts};
+ghost use Rattle.wb_schema.specs.Statements.{arch_row, arch_of_name, all_archs, office_row, office_counts};
+ghost use Rattle.wb_schema.specs.Statements.{builder_row, pair_of_builder, pairs_of_builder, all_builders, first_source, first_binary};
 
 /// Puts a record in place of the one with its key. The parameters are its 16 columns.
 pub fn put_record() -> &'static str
@@ -93,6 +94,27 @@ pub fn all_archs() -> &'static str
     "SELECT name, os, cpu FROM arch ORDER BY name"
 }
 
+/// The architecture of a name with its two words.
+pub fn arch_words() -> &'static str
+    ensures { Asks office_schema result.now arch_of_name }
+{
+    "SELECT name, os, cpu FROM arch WHERE name = ?1"
+}
+
+/// The pair of a builder and an architecture, where the builder was added for it.
+pub fn builder_pair() -> &'static str
+    ensures { Asks office_schema result.now pair_of_builder }
+{
+    "SELECT name, arch FROM builder WHERE name = ?1 AND arch = ?2"
+}
+
+/// A builder with the architectures for which it was added, by architecture.
+pub fn builder_pairs() -> &'static str
+    ensures { Asks office_schema result.now pairs_of_builder }
+{
+    "SELECT name, arch FROM builder WHERE name = ?1 ORDER BY arch"
+}
+
 /// All builders with the architectures for which they were added, by builder and then by architecture.
 pub fn all_builders() -> &'static str
     ensures { Asks office_schema result.now all_builders }
@@ -105,6 +127,20 @@ pub fn office_counts() -> &'static str
     ensures { Asks office_schema result.now office_counts }
 {
     "SELECT format, handed, accepted FROM office"
+}
+
+/// The place of one source package of a merge, where there is one.
+pub fn first_scratch_source() -> &'static str
+    ensures { Asks office_schema result.now first_source }
+{
+    "SELECT seq FROM scratch_source LIMIT 1"
+}
+
+/// The place of one binary package of a merge, where there is one.
+pub fn first_scratch_binary() -> &'static str
+    ensures { Asks office_schema result.now first_binary }
+{
+    "SELECT seq FROM scratch_binary LIMIT 1"
 }
 
 /// Puts an architecture in. The parameters are its name and its two words.

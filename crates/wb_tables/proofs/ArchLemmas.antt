@@ -1,16 +1,18 @@
 -- The architectures of the office, as a query answers them.
-use Rattle.std.proofs.Common.{◌≡◌, ℕ, true, false, cond, List, [], ◌∷◌, map, refl, sym, ap, subst, ◌∙◌, Some, Less, is_eq, bytes_eq}
+use Rattle.std.proofs.Common.{◌≡◌, ℕ, true, List, [], ◌∷◌, map, filter, refl, sym, ap, subst, ◌∙◌, ◌⊎◌, Option, None, Some, option_map, Less, is_eq, bytes_eq}
 use Rattle.std.specs.FinMap as finite
 use Rattle.std.specs.Ordering.{eq_by_cmp}
 use Rattle.std.proofs.lemmas.Bool.Decides.{same_from_decides}
 use Rattle.std.proofs.lemmas.Cmp.{tied_itself}
 use Rattle.std.proofs.lemmas.Slice.Eq.{bytes_eq-Decides}
 use Rattle.sqlite.specs.Effect.{Database}
+use Rattle.sqlite.specs.declared.types.Value.TheVariants.{Text}
 use Rattle.sqlite.specs.Order.{Row}
 use Rattle.sqlite_trees.specs.Tree.{IsAscending}
-use Rattle.sqlite_keyed.proofs.ListLemmas.{all_of, ascending_weaker, filter_all, IsPermutation-same}
+use Rattle.sqlite_keyed.proofs.ListLemmas.{all_of, ascending_weaker, filter_all, filter_same, IsPermutation-same}
 use Rattle.wb_sql.specs.Queries.{Answers}
 use Rattle.wb_schema.specs.Statements as sql
+use Rattle.deb_text.specs.Lists.{first_of}
 use Rattle.deb_text.specs.Text.{text_cmp}
 use Rattle.deb_text.proofs.KeyLemmas.{text_cmp_total, text_cmp-same, eq_by_cmp-same}
 use Rattle.wb_states.specs.declared.arch.OsCpu.{OsCpu}
@@ -18,11 +20,12 @@ use Rattle.wb_states.specs.Machine.{Machine, IsConsistent}
 use Rattle.wb_rows.specs.Cells.{arch_cells}
 use Rattle.wb_rows.proofs.CellsLemmas.{arch_cells-same}
 use Rattle.wb_tables.specs.Stands.{StandsFor}
-use Rattle.wb_tables.specs.Lookups.{AreArchs, IsReadableArch}
+use Rattle.wb_tables.specs.Lookups.{AreArchs, FirstWords, IsReadableArch}
+use Rattle.wb_tables.proofs.EqualLemmas.{are_equal, and_true, equal-Text}
 use Rattle.wb_tables.proofs.FormLemmas.{kept_arch_readable}
 use Rattle.wb_tables.proofs.LookupLemmas.{text_order}
-use Rattle.wb_tables.proofs.OrderLemmas.{all_from_in, entries_ascend, map_injective}
-use Rattle.wb_tables.proofs.TableLemmas.{SkipsRowid, IsBefore, rising_answer, whole_fits}
+use Rattle.wb_tables.proofs.OrderLemmas.{all_from_in, entries_ascend, entry_at, few_at, filter_at, map_injective}
+use Rattle.wb_tables.proofs.TableLemmas.{SkipsRowid, IsBefore, passes, few_answer, rising_answer, whole_fits}
 
 -- ---- an architecture by its name
 
@@ -32,19 +35,45 @@ name_test name other =
     same_from_decides {P = name ≡ other} (bytes_eq other name) (eq_by_cmp text_cmp name other) (λ h. sym (same.0 h), λ e. same.1 (sym e))
     (eq_by_cmp-same text_cmp-same name other, λ e. subst (λ k. eq_by_cmp text_cmp name k ≡ true) e (ap is_eq (tied_itself text_cmp_total name)))
 
-module _ (name arch : List ℕ) (words : OsCpu) (rest left all : List (List ℕ × OsCpu)) (same : finite.find text_cmp name left ≡ finite.find text_cmp name all) (next : left ≡ (arch, words) ∷ rest) where
-  here : finite.find text_cmp name ((arch, words) ∷ rest) ≡ finite.find text_cmp name all
-  here = ap (finite.find text_cmp name) (sym next) ∙ same
+-- the words of an architecture at a name
+words_at : (name : List ℕ) (found : Option OsCpu) → option_map (λ (arch : List ℕ × OsCpu). arch.1) (first_of (entry_at name found)) ≡ found
+words_at name None = refl
+words_at name (Some words) = refl
 
-  -- it is the next one
-  pub found_here : bytes_eq arch name ≡ true → Some words ≡ finite.find text_cmp name all
-  found_here is = sym (ap (λ b. cond b (Some words) (finite.find text_cmp name rest)) (sym (name_test name arch) ∙ is)) ∙ here
+name_passes : (name : List ℕ) (arch : List ℕ × OsCpu) → passes sql.arch_of_name (Text name ∷ []) (arch_cells arch) ≡ eq_by_cmp text_cmp name arch.0
+name_passes name arch = and_true (are_equal (Text arch.0) (Text name)) ∙ equal-Text arch.0 name ∙ name_test name arch.0
 
-  -- it comes later
-  pub found_later : bytes_eq arch name ≡ false → finite.find text_cmp name rest ≡ finite.find text_cmp name all
-  found_later is = sym (ap (λ b. cond b (Some words) (finite.find text_cmp name rest)) (sym (name_test name arch) ∙ is)) ∙ here
+skips_name : (params : Row) → SkipsRowid sql.arch_of_name params
+skips_name params [] = (refl, refl)
+skips_name params (x ∷ row) = (refl, refl)
 
--- ---- the answer of the query
+module _ (machine : Machine) (db : Database) (stands : StandsFor machine db) (answer : List Row) where
+  abbrev known : List (List ℕ × OsCpu)
+  known = finite.entries machine.archs
+
+  module _ {params : Row} where
+    -- the words that are read from the answer, for one name
+    pub words_found : (name : List ℕ) (found : Option OsCpu) → params ≡ Text name ∷ [] → Answers sql.arch_of_name params (db.trees 1) answer → FirstWords answer found
+        → found ≡ finite.get machine.archs name
+    words_found name found given a first =
+        let chosen : filter (λ (arch : List ℕ × OsCpu). passes sql.arch_of_name (Text name ∷ []) (arch_cells arch)) known ≡ entry_at name (finite.get machine.archs name) =
+        filter_same (λ (arch : List ℕ × OsCpu). passes sql.arch_of_name (Text name ∷ []) (arch_cells arch)) _ (name_passes name) known
+        ∙ filter_at text_cmp text_cmp_total text_cmp-same name known (finite.entries_sorted machine.archs) ∙ ap (entry_at name) (sym (finite.get-entries machine.archs name)) in
+        let is : answer ≡ map arch_cells (entry_at name (finite.get machine.archs name)) =
+        few_answer arch_cells sql.arch_of_name (Text name ∷ []) (skips_name (Text name ∷ [])) (λ x. refl) refl known (db.trees 1) answer stands.archs
+        (subst (λ p. Answers sql.arch_of_name p (db.trees 1) answer) given a)
+        (subst (λ (l : List (List ℕ × OsCpu)). (l ≡ []) ⊎ ((x : List ℕ × OsCpu) × (l ≡ x ∷ []))) (sym chosen) (few_at name (finite.get machine.archs name))) refl
+        ∙ ap (map arch_cells) chosen in
+        let same : first.0 ≡ entry_at name (finite.get machine.archs name) = map_injective arch_cells arch_cells-same first.0 _ (sym first.1 ∙ is) in
+        first.2 ∙ ap (λ archs. option_map (λ (arch : List ℕ × OsCpu). arch.1) (first_of archs)) same ∙ words_at name (finite.get machine.archs name)
+
+    -- its rows are those of architectures, if the office is consistent
+    pub name_readable : IsConsistent machine → Answers sql.arch_of_name params (db.trees 1) answer → AreArchs answer
+    name_readable sound a =
+        whole_fits arch_cells sql.arch_of_name params (skips_name params) (λ x. refl) refl known (db.trees 1) answer stands.archs a IsReadableArch
+        (all_from_in IsReadableArch known (kept_arch_readable machine sound)) refl
+
+-- ---- all architectures
 
 skips_archs : (params : Row) → SkipsRowid sql.all_archs params
 skips_archs params [] = (refl, refl)

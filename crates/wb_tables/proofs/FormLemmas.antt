@@ -3,6 +3,7 @@ use Rattle.std.proofs.Common.{◌≡◌, ◌⊎◌, inl, inr, ℕ, zero, suc, �
 use Rattle.std.specs.Int.{w16}
 use Rattle.std.specs.List.{list_all}
 use Rattle.std.specs.FinMap as finite
+use Rattle.std.specs.FinSet as set
 use Rattle.std.specs.Char.{is_ascii_alphanumeric, is_ascii_graphic}
 use Rattle.std.proofs.lemmas.Bool.{and_parts}
 use Rattle.std.proofs.lemmas.Bool.Decides.{nat_tests}
@@ -13,14 +14,14 @@ use Rattle.deb_text.specs.Text.{is_empty_text, IsTextWithin}
 use Rattle.deb_relations.specs.Names.{is_lower_or_digit, is_package_char, is_package_name, is_arch_char, is_arch_word}
 use Rattle.wb_states.specs.declared.arch.OsCpu.{OsCpu}
 use Rattle.wb_states.specs.Limits.{is_build_priority, relations_limit}
-use Rattle.wb_states.specs.Machine.{Machine, IsConsistent, IsRecord, IsArch}
+use Rattle.wb_states.specs.Machine.{Key, Machine, IsConsistent, IsRecord, IsArch, IsBuilder}
 use Rattle.wb_states.specs.Names.{has_length, is_arch_name, is_os_cpu_word, is_builder_char, is_builder_name, is_label_text}
 use Rattle.wb_states.specs.Queue.{Entry}
 use Rattle.wb_states.proofs.QueueLemmas.{IsIn-entries}
 use Rattle.deb_text.proofs.KeyLemmas.{text_cmp_total, text_cmp-same}
 use Rattle.deb_text.proofs.SortedLemmas.{IsIn-find}
 use Rattle.wb_rows.specs.Reading.{IsReadable}
-use Rattle.wb_tables.specs.Lookups.{IsReadableArch}
+use Rattle.wb_tables.specs.Lookups.{IsReadableArch, IsReadablePair}
 
 -- a text of bytes that pass a test, which only ASCII passes
 ascii_all : (p : ℕ → Bool) → ((c : ℕ) → p c ≡ true → c < 128) → (text : List ℕ) → list_all p text ≡ true → IsAscii text
@@ -120,3 +121,10 @@ kept_arch_readable machine sound entry within =
     let found = (IsIn-find text_cmp_total text_cmp-same entry (finite.entries machine.archs) (finite.entries_sorted machine.archs)).0 within in
     let is : IsArch entry.0 entry.1 = subst (λ o. IfSome o (IsArch entry.0)) (finite.get-entries machine.archs entry.0 ∙ found) (sound.archs entry.0) in
     record { name = arch_utf8 entry.0 is.name; os = word_utf8 entry.1.os is.os; cpu = word_utf8 entry.1.cpu is.cpu }
+
+-- so are a builder and an architecture for which it was added
+pub kept_pair_readable : (machine : Machine) → IsConsistent machine → (pair : Key) → set.contains machine.builders pair ≡ true → IsReadablePair pair
+kept_pair_readable machine sound pair there =
+    let is : IsBuilder machine pair.0 pair.1 = sound.builders pair.0 pair.1 there in
+    let known : is_some (finite.get machine.archs pair.1) ≡ true = is.known in
+    record { builder = builder_utf8 pair.0 is.name; arch = arch_utf8 pair.1 (arch_known machine sound pair.1 known) }

@@ -1,4 +1,5 @@
 pub mod ArchLemmas
+pub mod BuilderLemmas
 pub mod ChangeLemmas
 pub mod ChangeRowLemmas
 pub mod EqualLemmas
@@ -9,4 +10,5 @@ pub mod LookupLemmas
 pub mod MapLemmas
 pub mod OrderLemmas
 pub mod ReadLemmas
+pub mod ScratchLemmas
 pub mod TableLemmas

@@ -51,7 +51,7 @@ both true b p q = q
 both false b p q = p
 
 -- a test of two names, as the comparison of keys
-key_test : (key other : Key) → (bytes_eq other.0 key.0 && bytes_eq other.1 key.1) ≡ eq_by_cmp pair_cmp key other
+pub key_test : (key other : Key) → (bytes_eq other.0 key.0 && bytes_eq other.1 key.1) ≡ eq_by_cmp pair_cmp key other
 key_test key other =
     let first = bytes_eq-Decides other.0 key.0 in
     let second = bytes_eq-Decides other.1 key.1 in
@@ -123,7 +123,7 @@ skips_holder params (x ∷ row) = (refl, refl)
 -- ---- the orders of the queries
 
 -- a key that comes after another with the same first part comes after it by its second
-second_less : (one other : Key) → one.0 ≡ other.0 → pair_cmp one other ≡ Less → text_cmp one.1 other.1 ≡ Less
+pub second_less : (one other : Key) → one.0 ≡ other.0 → pair_cmp one other ≡ Less → text_cmp one.1 other.1 ≡ Less
 second_less one other same less =
     let tie : text_cmp one.0 other.0 ≡ Equal = ap (text_cmp one.0) (sym same) ∙ tied_itself text_cmp_total one.0 in
     sym (ap (λ r. ordering_then r (text_cmp one.1 other.1)) tie) ∙ less

@@ -86,7 +86,8 @@ module _ {K X : Type 0} {R : K → K → Ordering} (o : IsTotalOrder R) where
 
 -- ---- sets
 
-abbrev marked : Bool → Option (Unit {0})
+-- something, where it is so
+abbrev pub marked : Bool → Option (Unit {0})
 marked b = cond b (Some (tt {0})) None
 
 is_some-marked : (b : Bool) → is_some (marked b) ≡ b
@@ -107,7 +108,8 @@ module _ {K : Type 0} {R : K → K → Ordering} where
   as_map s = finite.from_entries {R = R} (map (λ k. (k, tt {0})) (set.items s))
 
   module _ (o : IsTotalOrder R) where
-    get-as_map : (s : set.FinSet R) (q : K) → finite.get (as_map s) q ≡ marked (set.contains s q)
+    -- what that map has at a key
+    pub get-as_map : (s : set.FinSet R) (q : K) → finite.get (as_map s) q ≡ marked (set.contains s q)
     get-as_map s q = finite.get-from_entries o (map (λ k. (k, tt {0})) (set.items s)) q ∙ find-items R q (set.items s) ∙ ap marked (sym (set.contains-items s q))
 
     -- the keys of that map are the items of the set

@@ -1,6 +1,7 @@
 -- What a query on the table of records answers, and when what it answers is not read (this project's own).
-use Rattle.std.specs.Prelude.{◌≡◌, ◌⊎◌, ℕ, ◌<◌, pos, List, [], ◌∷◌, length, map, Result, Vec, IfOk, IfErr, OnOk, IsUtf8}
+use Rattle.std.specs.Prelude.{◌≡◌, ◌⊎◌, ℕ, ◌<◌, pos, List, [], ◌∷◌, length, map, Option, Result, Vec, IfOk, IfErr, OnOk, IsUtf8}
 use Rattle.std.specs.List.{AllByRecursion}
+use Rattle.std.specs.Option.{option_map}
 use Rattle.sqlite.specs.declared.types.Value.TheVariants.{Int}
 use Rattle.sqlite.specs.declared.error.Error.{Error}
 use Rattle.sqlite.specs.declared.error.Error.TheVariants.{SqliteFailure}
@@ -11,12 +12,14 @@ use Rattle.sqlite.specs.Listing.{understood}
 use Rattle.sqlite.specs.Order.{Row, column}
 use Rattle.sqlite.specs.State.{State, HasCleanDisk, IsUnchanged, Survives}
 use Rattle.sqlite_trees.specs.declared.store.Store.{Ghosts}
+use Rattle.deb_text.specs.Lists.{first_of}
 use Rattle.wb_sql.specs.Queries.{TableQuery, Asks, Answers}
 use Rattle.wb_states.specs.declared.arch.OsCpu.{OsCpu}
+use Rattle.wb_states.specs.Machine.{Key}
 use Rattle.wb_states.specs.Queue.{Entry}
 use Rattle.wb_store.specs.declared.keyed.KeyedRecord.{KeyedRecord}
 use Rattle.wb_store.specs.Lookups.{entry_of}
-use Rattle.wb_rows.specs.Cells.{record_cells, arch_cells, number}
+use Rattle.wb_rows.specs.Cells.{record_cells, arch_cells, builder_cells, number}
 use Rattle.wb_rows.specs.Reading.{IsReadable}
 use Rattle.wb_tables.specs.Calls.{FailsToRead}
 
@@ -49,6 +52,27 @@ HasArch row = (arch : List ℕ × OsCpu) × IsReadableArch arch × (row ≡ arch
 -- the rows are those of architectures that can be read
 abbrev pub AreArchs : List Row → Type 0
 AreArchs = AreRowsOf arch_cells IsReadableArch
+
+-- the words of the first of the architectures whose rows these are, if there is one
+abbrev pub FirstWords : List Row → Option OsCpu → Type 0
+FirstWords rows found = (archs : List (List ℕ × OsCpu)) × (rows ≡ map arch_cells archs) × (found ≡ option_map (λ arch. arch.1) (first_of archs))
+
+-- a builder and an architecture whose row can be read: their names are UTF-8
+pub record IsReadablePair (pair : Key) : Type 0 where
+  pub builder : IsUtf8 pair.0
+  pub arch : IsUtf8 pair.1
+
+-- the row is that of a builder and an architecture that can be read
+abbrev pub HasPair : Row → Type 0
+HasPair row = (pair : Key) × IsReadablePair pair × (row ≡ builder_cells pair)
+
+-- the rows are those of builders and architectures that can be read
+abbrev pub ArePairs : List Row → Type 0
+ArePairs = AreRowsOf builder_cells IsReadablePair
+
+-- the rows are those of builders for these architectures
+abbrev pub HaveArchs : List Row → List (List ℕ) → Type 0
+HaveArchs rows archs = (pairs : List Key) × (rows ≡ map builder_cells pairs) × (archs ≡ map (λ pair. pair.1) pairs)
 
 -- what is read is not what an office keeps, or memory ran out
 abbrev pub IsReadFault : Type 0 → Error → Type 0

@@ -1,12 +1,14 @@
 //! The architectures of the office, as the tables have them.
-ghost use Rattle.std.specs.Prelude.{◌≡◌};
+ghost use Rattle.std.specs.Prelude.{◌≡◌, IfOk, IfErr};
 ghost use Rattle.std.specs.FinMap as map;
-ghost use Rattle.deb_text.specs.Text.{text_cmp};
+ghost use Rattle.std.specs.Option.{option_map};
+ghost use Rattle.deb_text.specs.Lists.{first_of};
 ghost use Rattle.wb_tables.specs.Calls.{LooksUp};
+ghost use Rattle.wb_tables.specs.Lookups.{AreArchs, FirstWords, IsReadFault};
 
 use crate::reading::archs_in;
 use deb_text::Text;
-use sqlite::{Alter, Connection, Error};
+use sqlite::{Alter, Connection, Error, Row, params};
 use wb_schema::texts;
 use wb_sql::read;
 use wb_states::OsCpu;
@@ -26,18 +28,22 @@ pub fn arch<S: Alter>(conn: &mut Connection<S>, name: &Text) -> Result<Option<Os
     ensures looks_up { LooksUp S.Store (λ machine found.
         found ≡ map.get machine.archs name.now) conn.old conn.new result }
 {
-    let archs = archs(conn)?;
-    Ok(words_in(archs, name))
+    words_in(read(conn, texts::arch_words(), params![name.as_str()])?)
 }
 
-/// The words of the architecture among these.
-fn words_in(archs: Vec<(Text, OsCpu)>, name: &Text) -> Option<OsCpu>
-    ensures { result ≡ map.find text_cmp name.now archs.items }
+/// The words of the first of the architectures in these rows. A row that is none is `DatabaseCorrupt`.
+fn words_in(rows: Vec<Row>) -> Result<Option<OsCpu>, Error>
+    ensures value { IfOk result (λ found. FirstWords rows.items found) }
+    ensures err { IfErr result (IsReadFault (AreArchs rows.items)) }
 {
-    for (arch, words) in archs {
-        if arch == *name {
-            return Some(words);
-        }
-    }
-    None
+    let archs = archs_in(rows)?;
+    Ok(first_words(archs))
+}
+
+/// The words of the first of these architectures.
+fn first_words(archs: Vec<(Text, OsCpu)>) -> Option<OsCpu>
+    ensures { result ≡ option_map (λ arch. arch.1) (first_of archs.items) }
+{
+    let (_, words) = archs.into_iter().next()?;
+    Some(words)
 }

@@ -2,14 +2,18 @@
 #![tactic(auto)]
 
 mod architectures;
+mod builders;
 mod changes;
 mod holds;
 mod lookups;
 mod queue;
 mod reading;
+mod scratch;
 
 pub use architectures::{arch, archs};
+pub use builders::{archs_of, has_builder};
 pub use changes::{add_arch, add_builder, put, remove, set_counts};
 pub use holds::held_by;
 pub use lookups::{all_of, by_take, counts, get};
 pub use queue::{head, queue_of};
+pub use scratch::has_scratch_rows;

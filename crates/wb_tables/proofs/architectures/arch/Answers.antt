@@ -1,13 +1,19 @@
-use Rattle.std.proofs.Common.{sym, ap, ◌∙◌}
-use Rattle.std.specs.FinMap as finite
-use Rattle.deb_text.specs.Text.{text_cmp}
-use Rattle.wb_tables.proofs.ReadLemmas.{looks_up_from}
+use Rattle.std.proofs.Common.{[], ◌∷◌, ap}
+use Rattle.std.proofs.lemmas.Result.{IfOk-weaker}
+use Rattle.sqlite.specs.Held.{state}
+use Rattle.wb_tables.specs.Lookups.{AreArchs}
+use Rattle.wb_tables.proofs.ArchLemmas.{words_found, name_readable}
+use Rattle.wb_tables.proofs.FoundLemmas.{text_bound}
+use Rattle.wb_tables.proofs.ReadLemmas.{looks_up_rows}
 use Rattle.wb_tables.proofs.architectures.arch.Goals as goal
 
 pub returns : goal.returns
 returns g c =
-    let name = c.args.name.now in
+    let db = (state g.S.Store c.args.conn.now).now in
+    let rows = c.in_ok-read.field-0.items in
     record {
-      looks_up = looks_up_from c.in_ok-archs.ensures.looks_up
-          (λ machine is. c.words_in.ensures ∙ ap (finite.find text_cmp name) is ∙ sym (finite.get-entries machine.archs name));
+      looks_up = looks_up_rows c.arch_words.ensures (AreArchs rows) c.words_in.result c.in_ok-read.ensures.runs
+          (λ machine stands a. IfOk-weaker c.words_in.result _ _ (λ found first. words_found machine db stands rows c.args.name.now found (ap (λ v. v ∷ []) (text_bound c.params-to_sql.ensures c.as_str.ensures)) a first) c.words_in.ensures.value)
+          c.words_in.ensures.err
+          (λ machine sound stands a. name_readable machine db stands rows sound a);
     }
