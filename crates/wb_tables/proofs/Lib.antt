@@ -10,3 +10,4 @@ pub mod MapLemmas
 pub mod OrderLemmas
 pub mod ReadLemmas
 pub mod TableLemmas
+pub mod SettledLemmas
