@@ -2,6 +2,7 @@ pub mod ArchLemmas
 pub mod ChangeLemmas
 pub mod ChangeRowLemmas
 pub mod EqualLemmas
+pub mod FileLemmas
 pub mod FormLemmas
 pub mod FoundLemmas
 pub mod HoldLemmas
@@ -9,5 +10,5 @@ pub mod LookupLemmas
 pub mod MapLemmas
 pub mod OrderLemmas
 pub mod ReadLemmas
-pub mod TableLemmas
 pub mod SettledLemmas
+pub mod TableLemmas

@@ -2,6 +2,8 @@
 use Rattle.std.specs.Prelude.{◌≡◌, ◌⊎◌, false, Result, Err, IsTrue, OnOk}
 use Rattle.sqlite_trees.specs.declared.store.Store.{Ghosts}
 use Rattle.sqlite_catalog.specs.Listing.{IsSound}
+use Rattle.sqlite_disk.specs.declared.Disk.{Ghosts as DiskGhosts}
+use Rattle.sqlite_disk.specs.declared.Files.{Files}
 use Rattle.sqlite.specs.Tree.{Trees}
 use Rattle.sqlite.specs.Effect.{Database}
 use Rattle.sqlite.specs.Held.{Held, state}
@@ -9,6 +11,7 @@ use Rattle.sqlite.specs.State.{State, HasCleanDisk}
 use Rattle.wb_sql.specs.declared.writing.CommitError.{CommitError}
 use Rattle.wb_sql.specs.declared.writing.CommitError.TheVariants.{Memory}
 use Rattle.wb_sql.specs.Transactions.{LeavesAlone}
+use Rattle.wb_sql.specs.Settled.{AreSettled}
 use Rattle.wb_schema.specs.Tables.{office_schema}
 use Rattle.wb_states.specs.Machine.{Machine}
 use Rattle.wb_tables.specs.Stands.{StandsFor}
@@ -64,3 +67,7 @@ pub record SettlesBy {S A : Type 0} (g : Ghosts S) (old new : Held S) (result : 
 -- a transaction under way, or taken back before, is taken back
 pub record TakesBack {S : Type 0} (g : Ghosts S) (old new : Held S) : Type 0 where
   pub back : HasCleanDisk (state g new) → (before now : Machine) → IsUnderWay before now (state g old) ⊎ IsBackAt before (state g old) → IsBackAt before (state g new)
+
+-- whatever a crash leaves of the files, it is one database, which stands for this state
+abbrev pub AreSettledAt : {D : Type 0} → DiskGhosts D → Files D → Machine → Type 0
+AreSettledAt g files machine = (db : Trees) × StandsForTrees machine db × AreSettled g files db
