@@ -8,7 +8,6 @@ use Rattle.sqlite_trees.specs.Objects.{catalog_tree}
 use Rattle.sqlite_catalog.specs.Listing.{Lists}
 use Rattle.sqlite_catalog.proofs.ReadLemmas.{lists_once}
 use Rattle.sqlite.specs.Tree.{Trees}
-use Rattle.sqlite.specs.Order.{Row}
 use Rattle.sqlite.specs.Effect.{Database}
 use Rattle.sqlite.specs.Held.{Held}
 use Rattle.sqlite.specs.Files.{file_state, IsOpened}
@@ -17,7 +16,7 @@ use Rattle.wb_sql.specs.Transactions.{LeavesAlone}
 use Rattle.wb_sql.specs.Settled.{AreSettled}
 use Rattle.wb_schema.specs.Tables.{office_schema}
 use Rattle.wb_states.specs.Machine.{Machine}
-use Rattle.wb_tables.specs.Settled.{StandsForTrees, IsOffice, IsSettled, AreSettledAt}
+use Rattle.wb_tables.specs.Settled.{StandsForTrees, IsSettled, AreSettledAt}
 
 module _ {D : Type 0} (g : Ghosts D) where
   -- files that hold the last commit of a settled connection hold its state
