@@ -3,6 +3,7 @@ pub mod BuilderLemmas
 pub mod ChangeLemmas
 pub mod ChangeRowLemmas
 pub mod EqualLemmas
+pub mod FileLemmas
 pub mod FormLemmas
 pub mod FoundLemmas
 pub mod HoldLemmas
@@ -11,4 +12,5 @@ pub mod MapLemmas
 pub mod OrderLemmas
 pub mod ReadLemmas
 pub mod ScratchLemmas
+pub mod SettledLemmas
 pub mod TableLemmas

@@ -1,4 +1,5 @@
-pub mod Stands
 pub mod Calls
 pub mod Lookups
 pub mod Scratch
+pub mod Settled
+pub mod Stands

@@ -4,6 +4,7 @@
 mod architectures;
 mod builders;
 mod changes;
+mod ending;
 mod holds;
 mod lookups;
 mod queue;
@@ -13,6 +14,7 @@ mod scratch;
 pub use architectures::{arch, archs};
 pub use builders::{archs_of, has_builder};
 pub use changes::{add_arch, add_builder, put, remove, set_counts};
+pub use ending::{commit, roll_back};
 pub use holds::held_by;
 pub use lookups::{all_of, by_take, counts, get};
 pub use queue::{head, queue_of};
