@@ -15,3 +15,6 @@ pub use holds::held_by;
 pub use lookups::{all_of, by_take, counts, get};
 pub use pairs::{archs_of, builders, has_builder};
 pub use queue::{head, queue_of};
+
+#[cfg(test)]
+mod tests;
