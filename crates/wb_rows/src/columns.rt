@@ -1,5 +1,5 @@
 //! One column of a row, by the type of what it holds. A place is counted from 0.
-ghost use Rattle.std.specs.Prelude.{◌≡◌, ◌≢◌, ℕ, ℤ, ◌^◌, ◌<◌, Bool, List, Option, length, IfOk, IfErr, IfSome, IfNone, IsUtf8, FitsSigned};
+ghost use Rattle.std.specs.Prelude.{◌≡◌, ◌≢◌, ℕ, ◌^◌, ◌<◌, Bool, Option, length, IfOk, IfErr, IfSome, IfNone, IsUtf8, FitsSigned};
 ghost use Rattle.std.specs.Int.{w16};
 ghost use Rattle.sqlite.specs.declared.types.Value.TheVariants.{Int};
 ghost use Rattle.sqlite.specs.Order.{column};

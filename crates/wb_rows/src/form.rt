@@ -1,7 +1,7 @@
 //! The forms of what is kept, for whoever opens tables that others may have written.
 ghost use Rattle.std.specs.Prelude.{◌≡◌, ◌↔◌, ◌||◌, IfSome, IsTrue, not};
 ghost use Rattle.deb_text.specs.Text.{IsTextWithin, is_empty_text};
-ghost use Rattle.wb_states.specs.Limits.{is_build_priority, note_limit, rebuild_limit, relations_limit};
+ghost use Rattle.wb_states.specs.Limits.{relations_limit};
 ghost use Rattle.wb_states.specs.Names.{is_builder_name, is_label_text};
 ghost use Rattle.wb_states.specs.Record.{FitsState, IsWellFormed};
 ghost use Rattle.wb_states.specs.State.{is_dep_wait, is_held};

@@ -1,5 +1,5 @@
 //! What a row of the office's tables stands for.
-ghost use Rattle.std.specs.Prelude.{◌≡◌, ◌≢◌, IfOk, IfErr, IfSome, IfNone};
+ghost use Rattle.std.specs.Prelude.{◌≡◌, IfOk, IfErr, IfSome, IfNone};
 ghost use Rattle.wb_rows.specs.declared.fault.RowFault.TheVariants.{Malformed};
 ghost use Rattle.wb_store.specs.Lookups.{entry_of};
 ghost use Rattle.wb_rows.specs.Cells.{arch_cells, builder_cells, record_cells};
