@@ -14,8 +14,9 @@ use wb_schema::texts;
 use wb_sql::read;
 
 /// The builders of the office, each with an architecture for which it was added, by builder and then by architecture.
-/// The errors are those of the query, `OutOfMemory`, and `DatabaseCorrupt` where a row is no builder. The database
-/// stays as it is, but for a transaction that a failure of the query takes back (this project's own).
+/// It fails if the query fails, with `OutOfMemory` if memory runs out for the answer, and with `DatabaseCorrupt` if a
+/// row is not that of a builder. The database stays as it is; only a failed query may take a transaction back.
+/// Source: this project's own.
 pub fn builders<S: Alter>(conn: &mut Connection<S>) -> Result<Vec<(Text, Text)>, Error>
     ensures looks_up { LooksUp S.Store (λ machine pairs.
         pairs.items ≡ builder_pairs machine) conn.old conn.new result }
@@ -23,7 +24,10 @@ pub fn builders<S: Alter>(conn: &mut Connection<S>) -> Result<Vec<(Text, Text)>,
     pairs_in(read(conn, texts::all_builders(), &[])?)
 }
 
-/// Whether the builder was added for the architecture. The errors are those of [`crate::builders`].
+/// Whether the builder was added for the architecture. It reads all builders of the office.
+/// It fails if the query fails, with `OutOfMemory` if memory runs out for the answer, and with `DatabaseCorrupt` if a
+/// row is not that of a builder. The database stays as it is; only a failed query may take a transaction back.
+/// Source: this project's own.
 pub fn has_builder<S: Alter>(
     conn: &mut Connection<S>,
     builder: &Text,
@@ -48,8 +52,11 @@ fn has_pair(pairs: Vec<(Text, Text)>, builder: &Text, arch: &Text) -> bool
     false
 }
 
-/// The architectures for which the builder was added, by name: none if it was never added. The errors are those of
-/// [`crate::builders`].
+/// The architectures for which the builder was added, by name: none if it was never added. It reads all builders of
+/// the office.
+/// It fails if the query fails, with `OutOfMemory` if memory runs out for the answer, and with `DatabaseCorrupt` if a
+/// row is not that of a builder. The database stays as it is; only a failed query may take a transaction back.
+/// Source: this project's own.
 pub fn archs_of<S: Alter>(conn: &mut Connection<S>, builder: &Text) -> Result<Vec<Text>, Error>
     ensures looks_up { LooksUp S.Store (λ machine archs. IsConsistent machine
         → archs.items ≡ archs_of machine builder.now) conn.old conn.new result }
