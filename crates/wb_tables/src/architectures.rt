@@ -13,9 +13,10 @@ use wb_schema::texts;
 use wb_sql::read;
 use wb_states::OsCpu;
 
-/// The architectures of the office with their words, by name. The errors are those of the query, `OutOfMemory`, and
-/// `DatabaseCorrupt` where a row is no architecture. The database stays as it is, but for a transaction that a failure
-/// of the query takes back (this project's own).
+/// The architectures of the office with their words, by name.
+/// It fails if the query fails, with `OutOfMemory` if memory runs out for the answer, and with `DatabaseCorrupt` if a
+/// row is not that of an architecture. The database stays as it is; only a failed query may take a transaction back.
+/// Source: this project's own.
 pub fn archs<S: Alter>(conn: &mut Connection<S>) -> Result<Vec<(Text, OsCpu)>, Error>
     ensures looks_up { LooksUp S.Store (λ machine archs.
         archs.items ≡ map.entries machine.archs) conn.old conn.new result }
@@ -23,7 +24,11 @@ pub fn archs<S: Alter>(conn: &mut Connection<S>) -> Result<Vec<(Text, OsCpu)>, E
     archs_in(read(conn, texts::all_archs(), &[])?)
 }
 
-/// The words of the architecture, or none if it was never added. The errors are those of [`crate::archs`].
+/// The words of the architecture, or none if it was never added. It reads all architectures, of which an office has
+/// a few.
+/// It fails if the query fails, with `OutOfMemory` if memory runs out for the answer, and with `DatabaseCorrupt` if a
+/// row is not that of an architecture. The database stays as it is; only a failed query may take a transaction back.
+/// Source: this project's own.
 pub fn arch<S: Alter>(conn: &mut Connection<S>, name: &Text) -> Result<Option<OsCpu>, Error>
     ensures looks_up { LooksUp S.Store (λ machine found.
         found ≡ map.get machine.archs name.now) conn.old conn.new result }

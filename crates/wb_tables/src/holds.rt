@@ -10,8 +10,10 @@ use sqlite::{Alter, Connection, Error, params};
 use wb_schema::texts;
 use wb_store::KeyedRecord;
 
-/// The records that the builder holds, of all architectures, by take number. The errors are those of
-/// [`crate::get`].
+/// The records that the builder holds, of all architectures, by take number: none if it was never added.
+/// It fails if the query fails, with `OutOfMemory` if memory runs out for the answer, and with `DatabaseCorrupt` if a
+/// row is not that of a record. The database stays as it is; only a failed query may take a transaction back.
+/// Source: this project's own.
 pub fn held_by<S: Alter>(
     conn: &mut Connection<S>,
     builder: &Text,

@@ -19,3 +19,6 @@ pub use holds::held_by;
 pub use lookups::{all_of, by_take, counts, get};
 pub use queue::{head, queue_of};
 pub use scratch::has_scratch_rows;
+
+#[cfg(test)]
+mod tests;

@@ -15,9 +15,10 @@ use wb_sql::read;
 use wb_states::{Counts, Record};
 use wb_store::KeyedRecord;
 
-/// The two counts of the office. The errors are those of the query, `OutOfMemory`, and `DatabaseCorrupt` where the
-/// office's row is not one that an office keeps. The database stays as it is, but for a transaction that a failure of
-/// the query takes back (this project's own).
+/// The two counts of the office: the greatest take number that was given, and how many commands were accepted.
+/// It fails if the query fails, with `OutOfMemory` if memory runs out for the answer, and with `DatabaseCorrupt` if a
+/// row is not that of the office. The database stays as it is; only a failed query may take a transaction back.
+/// Source: this project's own.
 pub fn counts<S: Alter>(conn: &mut Connection<S>) -> Result<Counts, Error>
     ensures looks_up { LooksUp S.Store (λ machine counts. (counts.handed ≡ machine.handed)
         × (counts.accepted ≡ machine.accepted)) conn.old conn.new result }
@@ -26,9 +27,10 @@ pub fn counts<S: Alter>(conn: &mut Connection<S>) -> Result<Counts, Error>
     counts_in(&rows)
 }
 
-/// The record of the source package on the architecture, or none. The errors are those of the query, `OutOfMemory`,
-/// and `DatabaseCorrupt` where a row is no record. The database stays as it is, but for a transaction that a failure
-/// of the query takes back (this project's own).
+/// The record of the source package on the architecture, or none if it has no record there.
+/// It fails if the query fails, with `OutOfMemory` if memory runs out for the answer, and with `DatabaseCorrupt` if a
+/// row is not that of a record. The database stays as it is; only a failed query may take a transaction back.
+/// Source: this project's own.
 pub fn get<S: Alter>(
     conn: &mut Connection<S>,
     arch: &Text,
@@ -45,7 +47,10 @@ pub fn get<S: Alter>(
     Ok(current_in(rows))
 }
 
-/// The record that is held under the take number, or none. The errors are those of `get`.
+/// The record that is held under the take number, or none if no record is, as of a number that was never given.
+/// It fails if the query fails, with `OutOfMemory` if memory runs out for the answer, and with `DatabaseCorrupt` if a
+/// row is not that of a record. The database stays as it is; only a failed query may take a transaction back.
+/// Source: this project's own.
 pub fn by_take<S: Alter>(
     conn: &mut Connection<S>,
     take_number: u64,
@@ -61,7 +66,10 @@ pub fn by_take<S: Alter>(
     Ok(first_in(rows))
 }
 
-/// The records of the architecture, by the names of their source packages. The errors are those of `get`.
+/// The records of the architecture, by the names of their source packages: none if it was never added.
+/// It fails if the query fails, with `OutOfMemory` if memory runs out for the answer, and with `DatabaseCorrupt` if a
+/// row is not that of a record. The database stays as it is; only a failed query may take a transaction back.
+/// Source: this project's own.
 pub fn all_of<S: Alter>(conn: &mut Connection<S>, arch: &Text) -> Result<Vec<KeyedRecord>, Error>
     ensures looks_up { LooksUp S.Store (λ machine rows.
         each entry_of rows.items ≡ rows_of machine arch.now) conn.old conn.new result }

@@ -14,7 +14,10 @@ use wb_states::State;
 use wb_store::KeyedRecord;
 
 /// The head of the architecture's queue, which is built next, or none if no source package of the architecture waits
-/// for a builder. The errors are those of [`crate::get`] (wanna-build's states page).
+/// for a builder (wanna-build's states page).
+/// It fails if the query fails, with `OutOfMemory` if memory runs out for the answer, and with `DatabaseCorrupt` if a
+/// row is not that of a record. The database stays as it is; only a failed query may take a transaction back.
+/// Source: this project's own.
 pub fn head<S: Alter>(conn: &mut Connection<S>, arch: &Text) -> Result<Option<KeyedRecord>, Error>
     ensures looks_up { LooksUp S.Store (λ machine found. IsConsistent machine
         → option_map entry_of found ≡ head_of machine arch.now) conn.old conn.new result }
@@ -24,8 +27,11 @@ pub fn head<S: Alter>(conn: &mut Connection<S>, arch: &Text) -> Result<Option<Ke
     Ok(first_in(rows))
 }
 
-/// The architecture's queue: its records that wait for a builder, in the order in which they are built. The errors
-/// are those of [`crate::get`] (wanna-build's states page).
+/// The architecture's queue: its records that wait for a builder, in the order in which they are built (wanna-build's
+/// states page).
+/// It fails if the query fails, with `OutOfMemory` if memory runs out for the answer, and with `DatabaseCorrupt` if a
+/// row is not that of a record. The database stays as it is; only a failed query may take a transaction back.
+/// Source: this project's own.
 pub fn queue_of<S: Alter>(conn: &mut Connection<S>, arch: &Text) -> Result<Vec<KeyedRecord>, Error>
     ensures looks_up { LooksUp S.Store (λ machine rows. IsConsistent machine
         → each entry_of rows.items ≡ queue_of machine arch.now) conn.old conn.new result }

@@ -15,7 +15,7 @@ use wb_sql::read;
 use wb_states::{Counts, OsCpu, Record};
 use wb_store::KeyedRecord;
 
-/// The number from 0 in a column, counted from 0. A column that is none is `DatabaseCorrupt`.
+/// The number from 0 in a column; columns are counted from 0. It is `DatabaseCorrupt` if the column has none.
 fn count_at(row: &Row, at: usize) -> Result<u64, Error>
     ensures value { IfOk result (λ n. column row.now at ≡ number n) }
     ensures err { IfErr result (IsReadFault (HasNumberAt row.now at)) }
@@ -29,7 +29,7 @@ fn count_at(row: &Row, at: usize) -> Result<u64, Error>
     }
 }
 
-/// The two counts in the row of the office, after its format. Rows that are not that row are `DatabaseCorrupt`.
+/// The two counts in the row of the office, after its format. It is `DatabaseCorrupt` if the row is another one.
 pub(crate) fn counts_in(rows: &[Row]) -> Result<Counts, Error>
     ensures value { IfOk result (λ counts. (handed accepted : ℕ) → AreCounts rows.now handed accepted
         → (counts.handed ≡ handed) × (counts.accepted ≡ accepted)) }
@@ -44,7 +44,7 @@ pub(crate) fn counts_in(rows: &[Row]) -> Result<Counts, Error>
     })
 }
 
-/// The record in a row. A row that is none is `DatabaseCorrupt`.
+/// The record in a row. It is `DatabaseCorrupt` if the row is not that of a record.
 fn record_in(row: &Row) -> Result<KeyedRecord, Error>
     ensures value { IfOk result (λ made. row.now ≡ keyed_cells made) }
     ensures err { IfErr result (IsReadFault (HasRecord row.now)) }
@@ -52,7 +52,7 @@ fn record_in(row: &Row) -> Result<KeyedRecord, Error>
     record_of(row)?.ok_or(Error::SqliteFailure(ErrorCode::DatabaseCorrupt))
 }
 
-/// The records in these rows. A row that is none is `DatabaseCorrupt`.
+/// The records in these rows. It is `DatabaseCorrupt` if a row is not that of a record.
 fn records_in(rows: Vec<Row>) -> Result<Vec<KeyedRecord>, Error>
     ensures value { IfOk result (λ made. rows.items ≡ each keyed_cells made.items) }
     ensures err { IfErr result (IsReadFault (AreRecords rows.items)) }
@@ -77,7 +77,7 @@ pub(crate) fn records<S: Alter>(
     records_in(read(conn, sql, params)?)
 }
 
-/// The architecture, with its words, in a row. A row that is none is `DatabaseCorrupt`.
+/// The architecture, with its words, in a row. It is `DatabaseCorrupt` if the row is not that of an architecture.
 fn arch_in(row: &Row) -> Result<(Text, OsCpu), Error>
     ensures value { IfOk result (λ made. row.now ≡ arch_cells made) }
     ensures err { IfErr result (IsReadFault (HasArch row.now)) }
@@ -85,7 +85,7 @@ fn arch_in(row: &Row) -> Result<(Text, OsCpu), Error>
     arch_of(row)?.ok_or(Error::SqliteFailure(ErrorCode::DatabaseCorrupt))
 }
 
-/// The architectures, with their words, in these rows. A row that is none is `DatabaseCorrupt`.
+/// The architectures, with their words, in these rows. It is `DatabaseCorrupt` if a row is not that of one.
 pub(crate) fn archs_in(rows: Vec<Row>) -> Result<Vec<(Text, OsCpu)>, Error>
     ensures value { IfOk result (λ made. rows.items ≡ each arch_cells made.items) }
     ensures err { IfErr result (IsReadFault (AreArchs rows.items)) }
