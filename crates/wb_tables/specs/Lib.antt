@@ -1,3 +1,4 @@
 pub mod Stands
 pub mod Calls
 pub mod Lookups
+pub mod Faults

@@ -3,6 +3,7 @@
 
 mod architectures;
 mod changes;
+mod fault;
 mod holds;
 mod lookups;
 mod queue;
@@ -10,6 +11,7 @@ mod reading;
 
 pub use architectures::{arch, archs};
 pub use changes::{add_arch, add_builder, put, remove, set_counts};
+pub use fault::fault_of;
 pub use holds::held_by;
 pub use lookups::{all_of, by_take, counts, get};
 pub use queue::{head, queue_of};
