@@ -14,12 +14,12 @@ use Rattle.wb_schema.specs.Statements as sql
 use Rattle.deb_text.specs.Text.{text_cmp}
 use Rattle.deb_text.proofs.KeyLemmas.{text_cmp_total, text_cmp-same, eq_by_cmp-same}
 use Rattle.wb_states.specs.declared.arch.OsCpu.{OsCpu}
-use Rattle.wb_states.specs.Machine.{Machine, IsConsistent}
+use Rattle.wb_states.specs.Machine.{Machine, IsArch, IsConsistent}
 use Rattle.wb_rows.specs.Cells.{arch_cells}
 use Rattle.wb_rows.proofs.CellsLemmas.{arch_cells-same}
 use Rattle.wb_tables.specs.Stands.{StandsFor}
-use Rattle.wb_tables.specs.Lookups.{AreArchs, IsReadableArch}
-use Rattle.wb_tables.proofs.FormLemmas.{kept_arch_readable}
+use Rattle.wb_tables.specs.Lookups.{AreArchs, AreRowsOf, IsReadableArch}
+use Rattle.wb_tables.proofs.FormLemmas.{kept_arch_formed, kept_arch_readable}
 use Rattle.wb_tables.proofs.LookupLemmas.{text_order}
 use Rattle.wb_tables.proofs.OrderLemmas.{all_from_in, entries_ascend, map_injective}
 use Rattle.wb_tables.proofs.TableLemmas.{SkipsRowid, IsBefore, rising_answer, whole_fits}
@@ -73,3 +73,9 @@ module _ (machine : Machine) (db : Database) (stands : StandsFor machine db) (an
   archs_readable sound =
       whole_fits arch_cells sql.all_archs [] (skips_archs []) (λ x. refl) refl archs (db.trees 1) answer stands.archs a IsReadableArch
       (all_from_in IsReadableArch archs (kept_arch_readable machine sound)) refl
+
+  -- and of architectures with their forms
+  pub archs_formed : IsConsistent machine → AreRowsOf arch_cells (λ (x : List ℕ × OsCpu). IsArch x.0 x.1) answer
+  archs_formed sound =
+      whole_fits arch_cells sql.all_archs [] (skips_archs []) (λ x. refl) refl archs (db.trees 1) answer stands.archs a (λ x. IsArch x.0 x.1)
+      (all_from_in (λ x. IsArch x.0 x.1) archs (kept_arch_formed machine sound)) refl

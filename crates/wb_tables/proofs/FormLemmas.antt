@@ -114,9 +114,16 @@ word_utf8 : (word : List ℕ) → is_os_cpu_word word ≡ true → IsUtf8 word
 unfolding is_os_cpu_word
 word_utf8 word is = utf8_all is_lower_or_digit lower_or_digit_low word (and_parts _ _ (and_parts (has_length 1 20 word) _ is).1).0
 
+-- an architecture with its forms can be read
+pub formed_arch_readable : (arch : List ℕ × OsCpu) → IsArch arch.0 arch.1 → IsReadableArch arch
+formed_arch_readable arch is = record { name = arch_utf8 arch.0 is.name; os = word_utf8 arch.1.os is.os; cpu = word_utf8 arch.1.cpu is.cpu }
+
+-- an architecture that a consistent office keeps has its forms
+pub kept_arch_formed : (machine : Machine) → IsConsistent machine → (entry : List ℕ × OsCpu) → IsIn entry (finite.entries machine.archs) → IsArch entry.0 entry.1
+kept_arch_formed machine sound entry within =
+    let found = (IsIn-find text_cmp_total text_cmp-same entry (finite.entries machine.archs) (finite.entries_sorted machine.archs)).0 within in
+    subst (λ o. IfSome o (IsArch entry.0)) (finite.get-entries machine.archs entry.0 ∙ found) (sound.archs entry.0)
+
 -- so is an architecture
 pub kept_arch_readable : (machine : Machine) → IsConsistent machine → (entry : List ℕ × OsCpu) → IsIn entry (finite.entries machine.archs) → IsReadableArch entry
-kept_arch_readable machine sound entry within =
-    let found = (IsIn-find text_cmp_total text_cmp-same entry (finite.entries machine.archs) (finite.entries_sorted machine.archs)).0 within in
-    let is : IsArch entry.0 entry.1 = subst (λ o. IfSome o (IsArch entry.0)) (finite.get-entries machine.archs entry.0 ∙ found) (sound.archs entry.0) in
-    record { name = arch_utf8 entry.0 is.name; os = word_utf8 entry.1.os is.os; cpu = word_utf8 entry.1.cpu is.cpu }
+kept_arch_readable machine sound entry within = formed_arch_readable entry (kept_arch_formed machine sound entry within)

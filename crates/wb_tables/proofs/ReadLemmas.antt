@@ -30,7 +30,7 @@ handed_on (Err d) is = ap Err is
 
 module _ {X : Type 0} (columns : X → Row) (Fits : X → Type 0) where
   -- a row of rows that are those of some that fit is that of one that fits
-  one_of_rows : (before : List Row) (row : Row) (rest : List Row) → AreRowsOf columns Fits (before ++ row ∷ rest) → (x : X) × Fits x × (row ≡ columns x)
+  pub one_of_rows : (before : List Row) (row : Row) (rest : List Row) → AreRowsOf columns Fits (before ++ row ∷ rest) → (x : X) × Fits x × (row ≡ columns x)
   one_of_rows [] row rest ([], fit, is) = cc
   one_of_rows [] row rest (x ∷ xs, fit, is) = (x, fit.0, let same : row ≡ columns x = cc in same)
   one_of_rows (first ∷ before) row rest ([], fit, is) = cc
@@ -54,13 +54,13 @@ row_read columns made after new row rest left all whole next pushed is =
 
 module _ {sql : List ℕ} {q : TableQuery} (asks : Asks office_schema sql q) where
   -- what a text asks over the office's tables
-  plain_over : {schema : Schema} → schema ≡ office_schema → IsPlain (understood schema sql)
+  pub plain_over : {schema : Schema} → schema ≡ office_schema → IsPlain (understood schema sql)
   plain_over is = subst (λ s. IsPlain (understood s sql)) (sym is) asks.means.plain
 
-  asked_over : {schema : Schema} → schema ≡ office_schema → Asks schema sql q
+  pub asked_over : {schema : Schema} → schema ≡ office_schema → Asks schema sql q
   asked_over is = subst (λ s. Asks s sql q) (sym is) asks
 
-  crash_over : {S : Type 0} (g : Ghosts S) (old new : Held S) → Survives (state g old) (state g new) (λ _. ¬ IsPlain (understood old.schema sql))
+  pub crash_over : {S : Type 0} (g : Ghosts S) (old new : Held S) → Survives (state g old) (state g new) (λ _. ¬ IsPlain (understood old.schema sql))
       → Survives (state g old) (state g new) (λ _. old.schema ≢ office_schema)
   crash_over g old new =
       survives_weaker (state g old) (state g new) (λ _. ¬ IsPlain (understood old.schema sql)) (λ _. old.schema ≢ office_schema) (λ clean db unplain is. unplain (plain_over is))

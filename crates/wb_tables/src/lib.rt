@@ -6,6 +6,7 @@ mod changes;
 mod fault;
 mod holds;
 mod lookups;
+mod opening;
 mod queue;
 mod reading;
 
@@ -14,4 +15,5 @@ pub use changes::{add_arch, add_builder, put, remove, set_counts};
 pub use fault::fault_of;
 pub use holds::held_by;
 pub use lookups::{all_of, by_take, counts, get};
+pub use opening::check_archs;
 pub use queue::{head, queue_of};
