@@ -26,7 +26,8 @@ use Rattle.wb_tables.proofs.TableLemmas.{SkipsRowid, IsBefore, rising_answer, wh
 
 -- ---- an architecture by its name
 
-name_test : (name other : List ℕ) → bytes_eq other name ≡ eq_by_cmp text_cmp name other
+-- one test of two names is the other
+pub name_test : (name other : List ℕ) → bytes_eq other name ≡ eq_by_cmp text_cmp name other
 name_test name other =
     let same = bytes_eq-Decides other name in
     same_from_decides {P = name ≡ other} (bytes_eq other name) (eq_by_cmp text_cmp name other) (λ h. sym (same.0 h), λ e. same.1 (sym e))

@@ -53,7 +53,7 @@ graphic_low c is = grind (arith, nat_tests)
 builder_char_low : (c : ℕ) → is_builder_char c ≡ true → c < 128
 builder_char_low c is = elim (either (is_ascii_alphanumeric c) _ is) [ inl letter ↦ grind (arith, nat_tests) | inr sign ↦ grind (arith, nat_tests) ]
 
-arch_utf8 : (name : List ℕ) → is_arch_name name ≡ true → IsUtf8 name
+pub arch_utf8 : (name : List ℕ) → is_arch_name name ≡ true → IsUtf8 name
 unfolding is_arch_name is_arch_word
 arch_utf8 name is =
     let word = (and_parts _ _ (and_parts (has_length 1 40 name) _ is).1).0 in
@@ -63,7 +63,7 @@ package_utf8 : (name : List ℕ) → is_package_name name ≡ true → IsUtf8 na
 unfolding is_package_name
 package_utf8 name is = utf8_all is_package_char package_char_low name (and_parts _ _ (and_parts _ _ is).1).0
 
-builder_utf8 : (name : List ℕ) → is_builder_name name ≡ true → IsUtf8 name
+pub builder_utf8 : (name : List ℕ) → is_builder_name name ≡ true → IsUtf8 name
 unfolding is_builder_name
 builder_utf8 name is = utf8_all is_builder_char builder_char_low name (and_parts _ _ (and_parts (has_length 1 64 name) _ is).1).1
 
@@ -82,7 +82,7 @@ if_some P Q follows (Some x) h = follows x h
 priority_fits : (value : ℤ) → is_build_priority value ≡ true → FitsSigned w16 value
 priority_fits value is = grind (arith, ints)
 
-arch_known : (machine : Machine) → IsConsistent machine → (name : List ℕ) → is_some (finite.get machine.archs name) ≡ true → is_arch_name name ≡ true
+pub arch_known : (machine : Machine) → IsConsistent machine → (name : List ℕ) → is_some (finite.get machine.archs name) ≡ true → is_arch_name name ≡ true
 arch_known machine sound name known = go (finite.get machine.archs name) (sound.archs name) known
   where
     go : (found : Option OsCpu) → IfSome found (IsArch name) → is_some found ≡ true → is_arch_name name ≡ true

@@ -7,6 +7,7 @@ pub mod FoundLemmas
 pub mod HoldLemmas
 pub mod LookupLemmas
 pub mod MapLemmas
+pub mod OpeningBuilderLemmas
 pub mod OpeningLemmas
 pub mod OrderLemmas
 pub mod ReadLemmas

@@ -19,7 +19,7 @@ use Rattle.wb_rows.specs.Cells.{arch_cells}
 use Rattle.wb_rows.specs.Reading.{IsNoArch}
 use Rattle.wb_rows.proofs.CellsLemmas.{arch_cells-same}
 use Rattle.wb_tables.specs.Lookups.{AreRowsOf}
-use Rattle.wb_tables.specs.Opening.{AreBadRows, HoldsArchs, IsBadRow, IsFirstBad, IsFormedArch, IsRowOf, Passes, ReadsTable, Tests}
+use Rattle.wb_tables.specs.Opening.{AreBadRows, HoldsArchs, IsBadRow, IsFirstBad, IsFormedArch, IsRowOf, Passes, PassesWith, ReadsTable, Tests}
 use Rattle.wb_tables.specs.Stands.{StandsFor}
 use Rattle.wb_tables.proofs.ArchLemmas.{archs_found, archs_formed}
 use Rattle.wb_tables.proofs.FormLemmas.{formed_arch_readable}
@@ -102,21 +102,21 @@ module _ {S : Type 0} {g : Ghosts S} {text : List ℕ} {q : TableQuery} (asks : 
   })
 
 -- what a test says of an office
-pub passes_from : {S A : Type 0} {g : Ghosts S} {q : TableQuery} {table : Table} {old new : Held S} {Good : List Row → A → Type 0} {Bad : List Row → StoreFault → Type 0} {Outcome : Machine → A → Type 0}
+pub passes_from : {S A : Type 0} {g : Ghosts S} {q : TableQuery} {table : Table} {old new : Held S} {Good : List Row → A → Type 0} {Bad : List Row → StoreFault → Type 0} {Given : Machine → Type 0} {Outcome : Machine → A → Type 0}
     (r : Result A StoreFault) → Tests g q table Good Bad old new r
     → ((machine : Machine) → StandsFor machine (state g old).now → (rows : List Row) → Answers q [] ((state g old).now.trees q.tree) rows → (x : A) → Good rows x → Outcome machine x)
-    → ((machine : Machine) → IsConsistent machine → StandsFor machine (state g old).now → (rows : List Row) → Answers q [] ((state g old).now.trees q.tree) rows
+    → ((machine : Machine) → IsConsistent machine → StandsFor machine (state g old).now → Given machine → (rows : List Row) → Answers q [] ((state g old).now.trees q.tree) rows
     → (fault : StoreFault) → Bad rows fault → fault ≡ Memory)
-    → Passes g table Outcome old new r
+    → PassesWith g table Given Outcome old new r
 passes_from (Ok x) tests finds fits = record {
   value = λ clean machine stands. let found = tests.value clean stands.schema_is in finds machine stands found.0 found.1 x found.2;
   err = λ clean. tt;
 }
 passes_from (Err fault) tests finds fits = record {
   value = λ clean. tt;
-  err = λ clean machine sound stands. elim (tests.err clean stands.schema_is) [
+  err = λ clean machine sound stands given. elim (tests.err clean stands.schema_is) [
     | inl failed ↦ inr failed
-    | inr (kept, (rows, answers, bad)) ↦ inl (fits machine sound stands rows answers fault bad)
+    | inr (kept, (rows, answers, bad)) ↦ inl (fits machine sound stands given rows answers fault bad)
   ];
 }
 
@@ -128,7 +128,7 @@ pub archs_pass : {S : Type 0} {g : Ghosts S} {old new : Held S} {X : Type 0} (r 
     → Passes g Arch (λ machine archs. archs.items ≡ finite.entries machine.archs) old new r
 archs_pass {g} {old} r tests =
     passes_from r tests (λ machine stands rows a made holds. archs_found machine (state g old).now stands rows a made.items holds.same)
-    (λ machine sound stands rows a fault bad. only_memory arch_cells IsFormedArch Arch rows fault (archs_formed machine (state g old).now stands rows a sound) bad)
+    (λ machine sound stands given rows a fault bad. only_memory arch_cells IsFormedArch Arch rows fault (archs_formed machine (state g old).now stands rows a sound) bad)
 
 -- a row that is that of no architecture is that of none with its forms
 pub no_formed_arch : (row : Row) → IsNoArch row → ¬ IsRowOf arch_cells IsFormedArch row

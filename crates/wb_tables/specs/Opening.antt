@@ -1,6 +1,6 @@
 -- What an opening tests of the office's tables, row by row (this project's own).
-use Rattle.std.specs.Prelude.{◌≡◌, ◌≢◌, ◌⊎◌, ◌++◌, ℕ, suc, IsTrue, List, [], ◌∷◌, length, map, Result, Vec, IfOk, IfErr, OnOk}
-use Rattle.std.specs.List.{AllByRecursion}
+use Rattle.std.specs.Prelude.{◌≡◌, ◌≢◌, ◌⊎◌, ◌++◌, ℕ, suc, ⊤, Bool, bytes_eq, IsTrue, List, [], ◌∷◌, length, map, Result, Vec, IfOk, IfErr, OnOk}
+use Rattle.std.specs.List.{AllByRecursion, list_any}
 use Rattle.sqlite_trees.specs.declared.store.Store.{Ghosts}
 use Rattle.sqlite.specs.declared.error.Error.{Error}
 use Rattle.sqlite.specs.Given.{IsPlain}
@@ -14,8 +14,9 @@ use Rattle.wb_states.specs.declared.arch.OsCpu.{OsCpu}
 use Rattle.wb_states.specs.declared.store_fault.StoreFault.{StoreFault}
 use Rattle.wb_states.specs.declared.store_fault.StoreFault.TheVariants.{Damaged, Memory}
 use Rattle.wb_states.specs.declared.store_fault.Table.{Table}
-use Rattle.wb_states.specs.Machine.{Machine, IsArch, IsConsistent}
-use Rattle.wb_rows.specs.Cells.{arch_cells}
+use Rattle.wb_states.specs.Machine.{Key, Machine, IsArch, IsConsistent}
+use Rattle.wb_states.specs.Names.{is_arch_name, is_builder_name}
+use Rattle.wb_rows.specs.Cells.{arch_cells, builder_cells}
 use Rattle.wb_tables.specs.Stands.{StandsFor}
 use Rattle.wb_tables.specs.Calls.{FailsToRead}
 use Rattle.wb_tables.specs.Faults.{fault_of}
@@ -73,11 +74,17 @@ pub record Tests {S A : Type 0} (g : Ghosts S) (q : TableQuery) (table : Table) 
   pub err : HasCleanDisk (state g new) → old.schema ≡ office_schema → IfErr result (FailsToTest q table Bad (state g old) (state g new))
   pub survives : Survives (state g old) (state g new) (λ _. old.schema ≢ office_schema)
 
--- the tables of a consistent office pass the test, with this outcome: it fails only if memory ran out or its query failed
-pub record Passes {S A : Type 0} (g : Ghosts S) (table : Table) (Outcome : Machine → A → Type 0) (old new : Held S) (result : Result A StoreFault) : Type 0 where
+-- given what is so of the state, the tables of a consistent office pass the test, with this outcome: it fails only if memory ran out or its query
+-- failed
+pub record PassesWith {S A : Type 0} (g : Ghosts S) (table : Table) (Given : Machine → Type 0) (Outcome : Machine → A → Type 0) (old new : Held S) (result : Result A StoreFault) : Type 0 where
   pub value : HasCleanDisk (state g new) → IfOk result (λ x. (machine : Machine) → StandsFor machine (state g old).now → Outcome machine x)
   pub err : HasCleanDisk (state g new)
-      → IfErr result (λ fault. (machine : Machine) → IsConsistent machine → StandsFor machine (state g old).now → (fault ≡ Memory) ⊎ IsQueryFault table (state g old) (state g new) fault)
+      → IfErr result (λ fault. (machine : Machine) → IsConsistent machine → StandsFor machine (state g old).now → Given machine
+                      → (fault ≡ Memory) ⊎ IsQueryFault table (state g old) (state g new) fault)
+
+-- the tables of a consistent office pass the test, with this outcome
+abbrev pub Passes : {S A : Type 0} → Ghosts S → Table → (Machine → A → Type 0) → Held S → Held S → Result A StoreFault → Type 0
+Passes g table = PassesWith g table (λ _. ⊤)
 
 -- an architecture whose name and words have their forms
 abbrev pub IsFormedArch : List ℕ × OsCpu → Type 0
@@ -86,3 +93,17 @@ IsFormedArch arch = IsArch arch.0 arch.1
 -- the rows are those of these architectures
 abbrev pub HoldsArchs : List Row → List (List ℕ × OsCpu) → Type 0
 HoldsArchs = Holds arch_cells IsFormedArch
+
+-- the architecture is one of these
+abbrev pub has_arch : List (List ℕ × OsCpu) → List ℕ → Bool
+has_arch archs name = list_any (λ arch. bytes_eq arch.0 name) archs
+
+-- a builder whose name has its form, with one of these architectures
+pub record IsFormedBuilder (archs : List (List ℕ × OsCpu)) (pair : Key) : Type 0 where
+  pub name : IsTrue (is_builder_name pair.0)
+  pub arch : IsTrue (is_arch_name pair.1)
+  pub known : IsTrue (has_arch archs pair.1)
+
+-- the rows are those of these builders
+abbrev pub HoldsBuilders : List (List ℕ × OsCpu) → List Row → List Key → Type 0
+HoldsBuilders archs = Holds builder_cells (IsFormedBuilder archs)

@@ -15,5 +15,5 @@ pub use changes::{add_arch, add_builder, put, remove, set_counts};
 pub use fault::fault_of;
 pub use holds::held_by;
 pub use lookups::{all_of, by_take, counts, get};
-pub use opening::check_archs;
+pub use opening::{check_archs, check_builders};
 pub use queue::{head, queue_of};
