@@ -1,8 +1,7 @@
 -- The rows of builders that an opening reads, and what those of a consistent office are.
-use Rattle.std.proofs.Common.{◌≡◌, inl, inr, ℕ, Bool, true, false, ◌||◌, List, [], ◌∷◌, map, Result, Vec, refl, sym, ap, ap₂, subst, ◌∙◌, Less, bytes_eq}
-use Rattle.std.specs.List.{AllByRecursion, list_any}
+use Rattle.std.proofs.Common.{◌≡◌, inl, inr, ℕ, Bool, true, false, ◌||◌, List, [], ◌∷◌, map, Result, Vec, refl, sym, ap, ap₂, subst, ◌∙◌, Less}
+use Rattle.std.specs.List.{list_any}
 use Rattle.std.specs.FinMap as finite
-use Rattle.std.specs.FinMap.{IsAntisymmetric}
 use Rattle.std.specs.FinSet as set
 use Rattle.std.specs.Cmp.{IsTotalOrder}
 use Rattle.std.specs.Ordering.{eq_by_cmp, is_eq, ordering_then}
@@ -19,7 +18,7 @@ use Rattle.wb_sql.specs.Queries.{Answers}
 use Rattle.wb_schema.specs.Statements as sql
 use Rattle.deb_text.specs.Lists.{IsIn}
 use Rattle.deb_text.specs.Text.{text_cmp, pair_cmp}
-use Rattle.deb_text.proofs.KeyLemmas.{pair_cmp_total, pair_cmp-same}
+use Rattle.deb_text.proofs.KeyLemmas.{pair_cmp_total}
 use Rattle.wb_states.specs.declared.arch.OsCpu.{OsCpu}
 use Rattle.wb_states.specs.declared.store_fault.StoreFault.{StoreFault}
 use Rattle.wb_states.specs.declared.store_fault.Table.TheVariants.{Builder}
@@ -108,4 +107,4 @@ pub builders_pass : {S : Type 0} {g : Ghosts S} {old new : Held S} {X : Type 0} 
 builders_pass {g} {old} archs r tests =
     passes_from r tests (λ machine stands rows a made holds. builders_found machine (state g old).now stands rows a made.items holds.same)
     (λ machine sound stands given rows a fault bad.
-        only_memory builder_cells (IsFormedBuilder archs) Builder rows fault (builders_formed machine (state g old).now stands rows a sound archs given) bad)
+    only_memory builder_cells (IsFormedBuilder archs) Builder rows fault (builders_formed machine (state g old).now stands rows a sound archs given) bad)

@@ -80,7 +80,7 @@ pub record PassesWith {S A : Type 0} (g : Ghosts S) (table : Table) (Given : Mac
   pub value : HasCleanDisk (state g new) → IfOk result (λ x. (machine : Machine) → StandsFor machine (state g old).now → Outcome machine x)
   pub err : HasCleanDisk (state g new)
       → IfErr result (λ fault. (machine : Machine) → IsConsistent machine → StandsFor machine (state g old).now → Given machine
-                      → (fault ≡ Memory) ⊎ IsQueryFault table (state g old) (state g new) fault)
+      → (fault ≡ Memory) ⊎ IsQueryFault table (state g old) (state g new) fault)
 
 -- the tables of a consistent office pass the test, with this outcome
 abbrev pub Passes : {S A : Type 0} → Ghosts S → Table → (Machine → A → Type 0) → Held S → Held S → Result A StoreFault → Type 0

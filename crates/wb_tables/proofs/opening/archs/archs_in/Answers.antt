@@ -1,4 +1,4 @@
-use Rattle.std.proofs.Common.{map, sym, subst, IfErr, arith}
+use Rattle.std.proofs.Common.{sym, subst, IfErr, arith}
 use Rattle.wb_states.specs.declared.store_fault.Table.TheVariants.{Arch}
 use Rattle.wb_rows.specs.Cells.{arch_cells}
 use Rattle.wb_tables.specs.Opening.{AreBadRows, IsFormedArch}

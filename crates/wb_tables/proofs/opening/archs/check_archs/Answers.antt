@@ -1,4 +1,4 @@
-use Rattle.wb_tables.proofs.OpeningLemmas.{archs_pass, faulted, tests_nothing, tests_rows}
+use Rattle.wb_tables.proofs.OpeningLemmas.{archs_pass, tests_rows}
 use Rattle.wb_tables.proofs.opening.archs.check_archs.Goals as goal
 
 pub returns : goal.returns
