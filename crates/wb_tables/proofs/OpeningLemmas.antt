@@ -16,7 +16,6 @@ use Rattle.wb_states.specs.declared.store_fault.Table.TheVariants.{Arch}
 use Rattle.wb_states.specs.Machine.{Machine, IsConsistent}
 use Rattle.wb_rows.specs.Cells.{arch_cells}
 use Rattle.wb_rows.specs.Reading.{IsNoArch}
-use Rattle.wb_rows.proofs.CellsLemmas.{arch_cells-same}
 use Rattle.wb_tables.specs.Lookups.{AreRowsOf}
 use Rattle.wb_tables.specs.Opening.{AreBadRows, HoldsArchs, IsBadRow, IsFirstBad, IsFormedArch, IsRowOf, Passes, PassesWith, ReadsTable, Tests}
 use Rattle.wb_tables.specs.Stands.{StandsFor}
@@ -90,16 +89,6 @@ module _ {S : Type 0} {g : Ghosts S} {text : List ℕ} {q : TableQuery} (asks : 
     survives = crash_over asks g old new read.survives;
   }
 
-  -- a test whose query failed
-  pub tests_nothing : {A X : Type 0} {fault : StoreFault} {Good : List Row → A → Type 0} {Bad : List Row → StoreFault → Type 0} {r : Result A StoreFault}
-      → ReadsTable {X = X} g text table old new (Err fault) → r ≡ Err fault → Tests g q table Good Bad old new r
-  tests_nothing {A} {Good} {Bad} read is = subst (λ (r : Result A StoreFault). Tests g q table Good Bad old new r) (sym is) (record {
-    value = λ clean office. tt;
-    same = λ clean office. tt;
-    err = λ clean office. inl (read.err clean);
-    survives = crash_over asks g old new read.survives;
-  })
-
 -- what a test says of an office
 pub passes_from : {S A : Type 0} {g : Ghosts S} {q : TableQuery} {table : Table} {old new : Held S} {Good : List Row → A → Type 0} {Bad : List Row → StoreFault → Type 0} {Given : Machine → Type 0} {Outcome : Machine → A → Type 0}
     (r : Result A StoreFault) → Tests g q table Good Bad old new r
@@ -132,7 +121,3 @@ archs_pass {g} {old} r tests =
 -- a row that is that of no architecture is that of none with its forms
 pub no_formed_arch : (row : Row) → IsNoArch row → ¬ IsRowOf arch_cells IsFormedArch row
 no_formed_arch row none (arch, fit, is) = let reads = formed_arch_readable arch fit in none arch reads.name reads.os reads.cpu is
-
--- neither is that of an architecture without them
-pub not_formed_arch : (row : Row) (arch : List ℕ × OsCpu) → row ≡ arch_cells arch → ¬ IsFormedArch arch → ¬ IsRowOf arch_cells IsFormedArch row
-not_formed_arch row arch is lacks (other, fit, same) = lacks (subst IsFormedArch (arch_cells-same other arch (sym same ∙ is)) fit)
