@@ -16,20 +16,21 @@ use Rattle.deb_text.specs.Lists.{first_of}
 use Rattle.deb_text.specs.Text.{text_cmp}
 use Rattle.deb_text.proofs.KeyLemmas.{text_cmp_total, text_cmp-same, eq_by_cmp-same}
 use Rattle.wb_states.specs.declared.arch.OsCpu.{OsCpu}
-use Rattle.wb_states.specs.Machine.{Machine, IsConsistent}
+use Rattle.wb_states.specs.Machine.{Machine, IsArch, IsConsistent}
 use Rattle.wb_rows.specs.Cells.{arch_cells}
 use Rattle.wb_rows.proofs.CellsLemmas.{arch_cells-same}
 use Rattle.wb_tables.specs.Stands.{StandsFor}
-use Rattle.wb_tables.specs.Lookups.{AreArchs, FirstWords, IsReadableArch}
+use Rattle.wb_tables.specs.Lookups.{AreArchs, AreRowsOf, FirstWords, IsReadableArch}
 use Rattle.wb_tables.proofs.EqualLemmas.{are_equal, and_true, equal-Text}
-use Rattle.wb_tables.proofs.FormLemmas.{kept_arch_readable}
+use Rattle.wb_tables.proofs.FormLemmas.{kept_arch_formed, kept_arch_readable}
 use Rattle.wb_tables.proofs.LookupLemmas.{text_order}
 use Rattle.wb_tables.proofs.OrderLemmas.{all_from_in, entries_ascend, entry_at, few_at, filter_at, map_injective}
 use Rattle.wb_tables.proofs.TableLemmas.{SkipsRowid, IsBefore, passes, few_answer, rising_answer, whole_fits}
 
 -- ---- an architecture by its name
 
-name_test : (name other : List ℕ) → bytes_eq other name ≡ eq_by_cmp text_cmp name other
+-- one test of two names is the other
+pub name_test : (name other : List ℕ) → bytes_eq other name ≡ eq_by_cmp text_cmp name other
 name_test name other =
     let same = bytes_eq-Decides other name in
     same_from_decides {P = name ≡ other} (bytes_eq other name) (eq_by_cmp text_cmp name other) (λ h. sym (same.0 h), λ e. same.1 (sym e))
@@ -102,3 +103,9 @@ module _ (machine : Machine) (db : Database) (stands : StandsFor machine db) (an
   archs_readable sound =
       whole_fits arch_cells sql.all_archs [] (skips_archs []) (λ x. refl) refl archs (db.trees 1) answer stands.archs a IsReadableArch
       (all_from_in IsReadableArch archs (kept_arch_readable machine sound)) refl
+
+  -- and of architectures with their forms
+  pub archs_formed : IsConsistent machine → AreRowsOf arch_cells (λ (x : List ℕ × OsCpu). IsArch x.0 x.1) answer
+  archs_formed sound =
+      whole_fits arch_cells sql.all_archs [] (skips_archs []) (λ x. refl) refl archs (db.trees 1) answer stands.archs a (λ x. IsArch x.0 x.1)
+      (all_from_in (λ x. IsArch x.0 x.1) archs (kept_arch_formed machine sound)) refl

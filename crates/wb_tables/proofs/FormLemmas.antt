@@ -54,7 +54,7 @@ graphic_low c is = grind (arith, nat_tests)
 builder_char_low : (c : ℕ) → is_builder_char c ≡ true → c < 128
 builder_char_low c is = elim (either (is_ascii_alphanumeric c) _ is) [ inl letter ↦ grind (arith, nat_tests) | inr sign ↦ grind (arith, nat_tests) ]
 
-arch_utf8 : (name : List ℕ) → is_arch_name name ≡ true → IsUtf8 name
+pub arch_utf8 : (name : List ℕ) → is_arch_name name ≡ true → IsUtf8 name
 unfolding is_arch_name is_arch_word
 arch_utf8 name is =
     let word = (and_parts _ _ (and_parts (has_length 1 40 name) _ is).1).0 in
@@ -64,7 +64,7 @@ package_utf8 : (name : List ℕ) → is_package_name name ≡ true → IsUtf8 na
 unfolding is_package_name
 package_utf8 name is = utf8_all is_package_char package_char_low name (and_parts _ _ (and_parts _ _ is).1).0
 
-builder_utf8 : (name : List ℕ) → is_builder_name name ≡ true → IsUtf8 name
+pub builder_utf8 : (name : List ℕ) → is_builder_name name ≡ true → IsUtf8 name
 unfolding is_builder_name
 builder_utf8 name is = utf8_all is_builder_char builder_char_low name (and_parts _ _ (and_parts (has_length 1 64 name) _ is).1).1
 
@@ -83,7 +83,7 @@ if_some P Q follows (Some x) h = follows x h
 priority_fits : (value : ℤ) → is_build_priority value ≡ true → FitsSigned w16 value
 priority_fits value is = grind (arith, ints)
 
-arch_known : (machine : Machine) → IsConsistent machine → (name : List ℕ) → is_some (finite.get machine.archs name) ≡ true → is_arch_name name ≡ true
+pub arch_known : (machine : Machine) → IsConsistent machine → (name : List ℕ) → is_some (finite.get machine.archs name) ≡ true → is_arch_name name ≡ true
 arch_known machine sound name known = go (finite.get machine.archs name) (sound.archs name) known
   where
     go : (found : Option OsCpu) → IfSome found (IsArch name) → is_some found ≡ true → is_arch_name name ≡ true
@@ -115,12 +115,19 @@ word_utf8 : (word : List ℕ) → is_os_cpu_word word ≡ true → IsUtf8 word
 unfolding is_os_cpu_word
 word_utf8 word is = utf8_all is_lower_or_digit lower_or_digit_low word (and_parts _ _ (and_parts (has_length 1 20 word) _ is).1).0
 
+-- an architecture with its forms can be read
+pub formed_arch_readable : (arch : List ℕ × OsCpu) → IsArch arch.0 arch.1 → IsReadableArch arch
+formed_arch_readable arch is = record { name = arch_utf8 arch.0 is.name; os = word_utf8 arch.1.os is.os; cpu = word_utf8 arch.1.cpu is.cpu }
+
+-- an architecture that a consistent office keeps has its forms
+pub kept_arch_formed : (machine : Machine) → IsConsistent machine → (entry : List ℕ × OsCpu) → IsIn entry (finite.entries machine.archs) → IsArch entry.0 entry.1
+kept_arch_formed machine sound entry within =
+    let found = (IsIn-find text_cmp_total text_cmp-same entry (finite.entries machine.archs) (finite.entries_sorted machine.archs)).0 within in
+    subst (λ o. IfSome o (IsArch entry.0)) (finite.get-entries machine.archs entry.0 ∙ found) (sound.archs entry.0)
+
 -- so is an architecture
 pub kept_arch_readable : (machine : Machine) → IsConsistent machine → (entry : List ℕ × OsCpu) → IsIn entry (finite.entries machine.archs) → IsReadableArch entry
-kept_arch_readable machine sound entry within =
-    let found = (IsIn-find text_cmp_total text_cmp-same entry (finite.entries machine.archs) (finite.entries_sorted machine.archs)).0 within in
-    let is : IsArch entry.0 entry.1 = subst (λ o. IfSome o (IsArch entry.0)) (finite.get-entries machine.archs entry.0 ∙ found) (sound.archs entry.0) in
-    record { name = arch_utf8 entry.0 is.name; os = word_utf8 entry.1.os is.os; cpu = word_utf8 entry.1.cpu is.cpu }
+kept_arch_readable machine sound entry within = formed_arch_readable entry (kept_arch_formed machine sound entry within)
 
 -- so are a builder and an architecture for which it was added
 pub kept_pair_readable : (machine : Machine) → IsConsistent machine → (pair : Key) → set.contains machine.builders pair ≡ true → IsReadablePair pair

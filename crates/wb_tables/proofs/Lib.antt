@@ -9,6 +9,8 @@ pub mod FoundLemmas
 pub mod HoldLemmas
 pub mod LookupLemmas
 pub mod MapLemmas
+pub mod OpeningBuilderLemmas
+pub mod OpeningLemmas
 pub mod OrderLemmas
 pub mod ReadLemmas
 pub mod ScratchLemmas

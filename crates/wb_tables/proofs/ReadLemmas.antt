@@ -30,7 +30,7 @@ handed_on (Err d) is = ap Err is
 
 module _ {X : Type 0} (columns : X → Row) (Fits : X → Type 0) where
   -- a row of rows that are those of some that fit is that of one that fits
-  one_of_rows : (before : List Row) (row : Row) (rest : List Row) → AreRowsOf columns Fits (before ++ row ∷ rest) → (x : X) × Fits x × (row ≡ columns x)
+  pub one_of_rows : (before : List Row) (row : Row) (rest : List Row) → AreRowsOf columns Fits (before ++ row ∷ rest) → (x : X) × Fits x × (row ≡ columns x)
   one_of_rows [] row rest ([], fit, is) = cc
   one_of_rows [] row rest (x ∷ xs, fit, is) = (x, fit.0, let same : row ≡ columns x = cc in same)
   one_of_rows (first ∷ before) row rest ([], fit, is) = cc

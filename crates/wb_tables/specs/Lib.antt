@@ -1,5 +1,7 @@
 pub mod Calls
+pub mod Faults
 pub mod Lookups
+pub mod Opening
 pub mod Scratch
 pub mod Settled
 pub mod Stands
