@@ -15,7 +15,7 @@ use Rattle.wb_sql.specs.Queries.{TableQuery, Asks, Answers, outputs}
 use Rattle.wb_sql.proofs.AnswerLemmas.{first_answer}
 use Rattle.wb_schema.specs.Statements as sql
 use Rattle.wb_schema.specs.Tables.{office_schema}
-use Rattle.wb_tables.specs.Scratch.{has_row, FailsToTest, Tests}
+use Rattle.wb_tables.specs.Scratch.{has_row, FailsToTest, FindsWhether}
 use Rattle.wb_tables.proofs.OrderLemmas.{none_permuted}
 use Rattle.wb_tables.proofs.ReadLemmas.{plain_over, asked_over, crash_over}
 
@@ -62,7 +62,7 @@ module _ (tree : ℕ) (rows answer : List Row) (a : Answers (sql.first_of_scratc
 module _ {S : Type 0} {g : Ghosts S} {text : List ℕ} {q : TableQuery} (asks : Asks office_schema text q) {old new : Held S} {test : Database → Bool} where
   -- a test whose query succeeded
   pub tests_rows : {X : Type 0} {rows : Vec Row X} {found : Bool} → RunsQuery g text [] old new (Ok rows)
-      → (Answers q [] ((state g old).now.trees q.tree) rows.items → found ≡ test (state g old).now) → Tests g test old new (Ok found)
+      → (Answers q [] ((state g old).now.trees q.tree) rows.items → found ≡ test (state g old).now) → FindsWhether g test old new (Ok found)
   tests_rows run finds = record {
     value = λ clean office. finds (run.answers clean q (asked_over asks office));
     same = λ clean office. run.same clean (plain_over asks office);
@@ -71,8 +71,8 @@ module _ {S : Type 0} {g : Ghosts S} {text : List ℕ} {q : TableQuery} (asks : 
   }
 
   -- a test whose query failed
-  pub tests_nothing : {X : Type 0} {e : Error} {r : Result Bool Error} → RunsQuery {X = X} g text [] old new (Err e) → r ≡ Err e → Tests g test old new r
-  tests_nothing run is = subst (λ (r : Result Bool Error). Tests g test old new r) (sym is) (record {
+  pub tests_nothing : {X : Type 0} {e : Error} {r : Result Bool Error} → RunsQuery {X = X} g text [] old new (Err e) → r ≡ Err e → FindsWhether g test old new r
+  tests_nothing run is = subst (λ (r : Result Bool Error). FindsWhether g test old new r) (sym is) (record {
     value = λ clean office. tt;
     same = λ clean office. tt;
     err = λ clean office. let why = run.err clean in inl ((text, [], why.0), why.1);
@@ -93,7 +93,7 @@ unchanged_then a b c one two = (
 )
 
 module _ {S : Type 0} {g : Ghosts S} {old mid : Held S} {first : Database → Bool} where
-  module _ (one : Tests g first old mid (Ok false)) where
+  module _ (one : FindsWhether g first old mid (Ok false)) where
     kept : HasCleanDisk (state g mid) → old.schema ≡ office_schema → mid.schema ≡ office_schema
     kept clean office = ap (λ (db : Database). db.schema) (one.same clean office).0.now_is ∙ office
 
@@ -102,7 +102,7 @@ module _ {S : Type 0} {g : Ghosts S} {old mid : Held S} {first : Database → Bo
     later_fault new e same (inr later) = inr (later.0, unchanged_then (state g old) (state g mid) (state g later.0) same later.1, later.2)
 
     -- it is not, and the second one decides
-    pub tests_second : (new : Held S) (second : Database → Bool) (r : Result Bool Error) → Tests g second mid new r → Tests g (λ db. first db || second db) old new r
+    pub tests_second : (new : Held S) (second : Database → Bool) (r : Result Bool Error) → FindsWhether g second mid new r → FindsWhether g (λ db. first db || second db) old new r
     tests_second new second (Ok found) two =
         let before : HasCleanDisk (state g new) → HasCleanDisk (state g mid) = λ clean. omega (arith, two.survives.clean, clean) in
         record {

@@ -33,7 +33,7 @@ FailsToTest {S} g old new e =
 
 -- a test of a database with the office's tables: if it succeeds, its answer is that of the database, which stays as it is; if it fails, one of
 -- its queries did; and it leaves a crash no more than before
-pub record Tests {S : Type 0} (g : Ghosts S) (test : Database → Bool) (old new : Held S) (result : Result Bool Error) : Type 0 where
+pub record FindsWhether {S : Type 0} (g : Ghosts S) (test : Database → Bool) (old new : Held S) (result : Result Bool Error) : Type 0 where
   pub value : HasCleanDisk (state g new) → old.schema ≡ office_schema → IfOk result (λ found. found ≡ test (state g old).now)
   pub same : HasCleanDisk (state g new) → old.schema ≡ office_schema → OnOk result (IsUnchanged (state g old) (state g new))
   pub err : HasCleanDisk (state g new) → old.schema ≡ office_schema → IfErr result (FailsToTest g old new)

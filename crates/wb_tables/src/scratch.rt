@@ -1,5 +1,5 @@
 //! The scratch tables of a merge.
-ghost use Rattle.wb_tables.specs.Scratch.{Tests, has_binaries, has_scratch_rows, has_sources};
+ghost use Rattle.wb_tables.specs.Scratch.{FindsWhether, has_binaries, has_scratch_rows, has_sources};
 
 use sqlite::{Alter, Connection, Error};
 use wb_schema::texts;
@@ -9,7 +9,7 @@ use wb_sql::read;
 /// queries. The database stays as it is, but for a transaction that a failure of a query takes back (this project's
 /// own).
 pub fn has_scratch_rows<S: Alter>(conn: &mut Connection<S>) -> Result<bool, Error>
-    ensures tests { Tests S.Store has_scratch_rows conn.old conn.new result }
+    ensures tests { FindsWhether S.Store has_scratch_rows conn.old conn.new result }
 {
     if has_sources(conn)? {
         return Ok(true);
@@ -19,7 +19,7 @@ pub fn has_scratch_rows<S: Alter>(conn: &mut Connection<S>) -> Result<bool, Erro
 
 /// Whether the scratch table of source packages has a row.
 fn has_sources<S: Alter>(conn: &mut Connection<S>) -> Result<bool, Error>
-    ensures tests { Tests S.Store has_sources conn.old conn.new result }
+    ensures tests { FindsWhether S.Store has_sources conn.old conn.new result }
 {
     let rows = read(conn, texts::first_scratch_source(), &[])?;
     Ok(!rows.is_empty())
@@ -27,7 +27,7 @@ fn has_sources<S: Alter>(conn: &mut Connection<S>) -> Result<bool, Error>
 
 /// Whether the scratch table of binary packages has a row.
 fn has_binaries<S: Alter>(conn: &mut Connection<S>) -> Result<bool, Error>
-    ensures tests { Tests S.Store has_binaries conn.old conn.new result }
+    ensures tests { FindsWhether S.Store has_binaries conn.old conn.new result }
 {
     let rows = read(conn, texts::first_scratch_binary(), &[])?;
     Ok(!rows.is_empty())
