@@ -48,3 +48,7 @@ LeavesAlone s rows = (db : Trees) → s.may_leave db → db ≡ rows
 -- a crash leaves only what it could leave before
 abbrev pub LeavesNoMore : State → State → Type 0
 LeavesNoMore old new = (db : Trees) → new.may_leave db → old.may_leave db
+
+-- a statement of this text failed
+abbrev pub FailsToRun : List ℕ → State → State → Type 0
+FailsToRun sql old new = (error : Error) × Executes sql [] old new (Err error)

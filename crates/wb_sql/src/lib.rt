@@ -11,7 +11,7 @@ mod writing;
 pub use files::{close, open, surrender};
 pub use power::{Power, cut_power};
 pub use reading::read;
-pub use writing::{CommitError, Writing, begin};
+pub use writing::{CommitError, Writing, begin, is_usable};
 
 #[cfg(test)]
 mod tests;

@@ -4,7 +4,7 @@ ghost use Rattle.sqlite.specs.Values.{bound};
 ghost use Rattle.sqlite.specs.Held.{state};
 ghost use Rattle.wb_sql.specs.Calls.{RunsStatement};
 ghost use Rattle.wb_sql.specs.Statements.{IsWriting};
-ghost use Rattle.wb_sql.specs.Transactions.{rollback_text, cause_of, FailsToCommit};
+ghost use Rattle.wb_sql.specs.Transactions.{rollback_text, cause_of, FailsToCommit, FailsToRun};
 ghost use Rattle.wb_sql.specs.Transactions.{IsKeptOrUndone, IsTakenBack, Commits, LeavesAlone, LeavesNoMore};
 
 use sqlite::types::ValueRef;
@@ -49,10 +49,13 @@ pub fn begin<S: Alter>(conn: &mut Connection<S>) -> Writing<'_, S>
     Writing { conn }
 }
 
-/// Whether the connection can still be used: the empty text runs where its store is open and memory suffices.
-fn is_usable<S: Alter>(conn: &mut Connection<S>) -> bool
+/// Whether the connection can still be used: the empty text runs where its store is open and memory suffices. Nothing
+/// is written; only where it cannot be used may a transaction be taken back.
+pub fn is_usable<S: Alter>(conn: &mut Connection<S>) -> bool
     ensures open { HasCleanDisk (state S.Store conn.new) → IsTrue result
         → IsUnchanged (state S.Store conn.old) (state S.Store conn.new) }
+    ensures shut { HasCleanDisk (state S.Store conn.new) → result ≡ false
+        → FailsToRun [] (state S.Store conn.old) (state S.Store conn.new) }
     ensures unchanged { HasCleanDisk (state S.Store conn.new)
         → IsKeptOrUndone (state S.Store conn.old) (state S.Store conn.new) }
     ensures survives { Survives (state S.Store conn.old) (state S.Store conn.new) (λ _. ⊥) }
