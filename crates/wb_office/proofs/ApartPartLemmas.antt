@@ -21,7 +21,7 @@ use Rattle.wb_office.proofs.FrameLemmas.{part-others, parts-others}
 use Rattle.wb_office.proofs.PassLemmas.{passes}
 
 -- what a part makes of the record at a key depends on that record alone
-with-same : (records other : Records) (arch : List ℕ) (read : Result ArchiveListing Refusal) (key : List ℕ × List ℕ) → map.get records key ≡ map.get other key
+pub with-same : (records other : Records) (arch : List ℕ) (read : Result ArchiveListing Refusal) (key : List ℕ × List ℕ) → map.get records key ≡ map.get other key
     → map.get (records_with records arch read) key ≡ map.get (records_with other arch read) key
 unfolding record_after_at
 with-same records other arch (Err refusal) key same = same

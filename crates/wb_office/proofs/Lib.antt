@@ -13,6 +13,7 @@ pub mod InvariantLemmas
 pub mod KeyLemmas
 pub mod LocalityLemmas
 pub mod MergedLemmas
+pub mod MergedPartLemmas
 pub mod MergingLemmas
 pub mod MoveLemmas
 pub mod MovedRecordLemmas

@@ -12,7 +12,6 @@ use Rattle.wb_office.specs.Step.{assignment_of, assignment_reply}
 use Rattle.std.specs.Option.{option_map, option_or}
 use Rattle.std.specs.Prelude.{option_and_then, filter}
 use Rattle.std.specs.FinMap as map
-use Rattle.std.specs.FinSet as set
 use Rattle.deb_text.specs.Lists.{is_nonempty}
 use Rattle.deb_text.specs.Options.{has_value, first_some}
 use Rattle.wb_states.specs.declared.command.Command.{Command}

@@ -91,15 +91,15 @@ module _ {K : Type 0} {R : K → K → Ordering} (total : IsTotalOrder R) (same 
       or_true true = refl
       or_true false = refl
 
-set_in : (pair : Key) (pairs : List Key) → IsTrue (set.contains (set.from_list {R = pair_cmp} pairs) pair) → IsIn pair pairs
+pub set_in : (pair : Key) (pairs : List Key) → IsTrue (set.contains (set.from_list {R = pair_cmp} pairs) pair) → IsIn pair pairs
 set_in pair pairs h = any_in pair_cmp_total pair_cmp-same pair pairs (sym (set.contains-from_list pair_cmp_total pairs pair) ∙ h)
 
-in_set : (pair : Key) (pairs : List Key) → IsIn pair pairs → IsTrue (set.contains (set.from_list {R = pair_cmp} pairs) pair)
+pub in_set : (pair : Key) (pairs : List Key) → IsIn pair pairs → IsTrue (set.contains (set.from_list {R = pair_cmp} pairs) pair)
 in_set pair pairs h = set.contains-from_list pair_cmp_total pairs pair ∙ in_any pair_cmp_total pair_cmp-same pair pairs h
 
 -- ---- records of a list, of which each is kept
 
-find_in : (key : Key) (current : Record) (entries : List Entry) → map.find pair_cmp key entries ≡ Some current → IsIn (key, current) entries
+pub find_in : (key : Key) (current : Record) (entries : List Entry) → map.find pair_cmp key entries ≡ Some current → IsIn (key, current) entries
 find_in key current [] is = absurd (cc)
 find_in key current (e ∷ entries) is =
     elim (eq_by_cmp pair_cmp key e.0) as (λ b. eq_by_cmp pair_cmp key e.0 ≡ b → IsIn (key, current) (e ∷ entries)) [
@@ -179,7 +179,7 @@ part_keeps machine command entry kept = find_in entry.0 entry.1 (entries_named m
 
 -- ---- the pairs
 
-in_holders : (pair : Key) (entries : List Entry) → IsIn pair (holder_pairs entries) → (entry : Entry) × IsIn entry entries × (entry.1.holder ≡ Some pair.0) × (pair.1 ≡ entry.0.0)
+pub in_holders : (pair : Key) (entries : List Entry) → IsIn pair (holder_pairs entries) → (entry : Entry) × IsIn entry entries × (entry.1.holder ≡ Some pair.0) × (pair.1 ≡ entry.0.0)
 in_holders pair [] h = absurd h
 in_holders pair (e ∷ entries) h = elim (in_joined pair (each (λ name. (name, e.0.0)) (listed e.1.holder)) (holder_pairs entries) h) [
   | inl here ↦
@@ -188,7 +188,7 @@ in_holders pair (e ∷ entries) h = elim (in_joined pair (each (λ name. (name, 
   | inr later ↦ let found = in_holders pair entries later in (found.0, inr found.1, found.2, found.3)
 ]
 
-holders_in : (name : List ℕ) (entry : Entry) (entries : List Entry) → IsIn entry entries → entry.1.holder ≡ Some name → IsIn {X = Key} (name, entry.0.0) (holder_pairs entries)
+pub holders_in : (name : List ℕ) (entry : Entry) (entries : List Entry) → IsIn entry entries → entry.1.holder ≡ Some name → IsIn {X = Key} (name, entry.0.0) (holder_pairs entries)
 holders_in name entry [] h is = absurd h
 holders_in name entry (e ∷ entries) (inl same) is =
     joined_first _ (each (λ n. (n, e.0.0)) (listed e.1.holder)) (holder_pairs entries)
@@ -267,7 +267,7 @@ part_of_named machine command is = record {
 not_some : {X : Type 0} {x : X} → None ≢ Some x
 not_some e = cc
 
-if_found : {X : Type 0} (P : X → Type 0) (found : Option X) → ((x : X) → found ≡ Some x → P x) → IfSome found P
+pub if_found : {X : Type 0} (P : X → Type 0) (found : Option X) → ((x : X) → found ≡ Some x → P x) → IfSome found P
 if_found P None all = tt
 if_found P (Some x) all = all x refl
 

@@ -4,7 +4,6 @@ use Rattle.std.specs.Prelude.{option_and_then, unwrap_or, ◌<◌, []}
 use Rattle.deb_text.specs.Text.{text_cmp}
 use Rattle.wb_states.specs.Limits.{count_limit}
 use Rattle.std.specs.FinMap as map
-use Rattle.std.specs.FinSet as set
 use Rattle.std.specs.declared.cmp.Ordering.{Ordering}
 use Rattle.std.specs.declared.cmp.Ordering.TheVariants.{Less, Equal, Greater}
 use Rattle.std.specs.Ordering.{ordering_reverse}

@@ -1,12 +1,14 @@
 pub mod Arguments
 pub mod Carries
 pub mod Checks
-pub mod Locality
-pub mod Outcomes
+pub mod Ends
 pub mod HandOuts
-pub mod Targets
+pub mod Locality
+pub mod MergedParts
 pub mod Named
+pub mod Outcomes
 pub mod Parts
 pub mod Replay
 pub mod Step
+pub mod Targets
 pub mod Utf8

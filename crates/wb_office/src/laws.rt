@@ -16,6 +16,7 @@ ghost use Rattle.wb_office.specs.Checks.{first_refusal, take_named};
 ghost use Rattle.wb_office.specs.HandOuts.{HandOut, IsBeingBuilt, HasTakesByState, Ends, Rise, hand_out, hand_outs};
 ghost use Rattle.wb_office.specs.Locality.{HasAllNamed, IsPartOf, LooksAlike, changed, entry_put};
 ghost use Rattle.wb_office.specs.Targets.{MayChange, again_of};
+ghost use Rattle.wb_office.specs.MergedParts.{IsJoined, is_part_for, part_for_merge};
 ghost use Rattle.wb_office.specs.Named.{part_named};
 ghost use Rattle.wb_office.specs.Parts.{part_listing, records_with};
 ghost use Rattle.wb_office.specs.Replay.{replay};
@@ -165,4 +166,24 @@ pub fn parts_of_an_office_answer_alike()
         → IsPartOf (part_named machine command) machine }
     ensures named { (machine : Machine) (command : Command) → IsConsistent machine
         → (arguments_of command).merge ≡ None → HasAllNamed command (part_named machine command) machine }
+{}
+
+/// A merge looks at the counts, the architectures, and the records of the architectures that its parts are for.
+/// The part of a consistent office that has these alone is consistent, and gives a merge the same answer. It has
+/// afterwards the records that the whole office has of these architectures, and no other; and the whole office
+/// has the rest as it was. So a merge can be carried out over the rows of its architectures alone.
+pub fn merges_look_only_at_their_architectures()
+    ensures part { (machine : Machine) (parts : List Part) → IsConsistent machine
+        → IsPartOf (part_for_merge machine parts) machine }
+    ensures consistent { (machine : Machine) (parts : List Part) → IsConsistent machine
+        → IsConsistent (part_for_merge machine parts) }
+    ensures answer { (machine : Machine) (sources : List ℕ) (parts : List Part)
+        → (step (part_for_merge machine parts) (Merge sources parts)).0
+        ≡ (step machine (Merge sources parts)).0 }
+    ensures joined { (machine : Machine) (sources : List ℕ) (parts : List Part)
+        → IsJoined parts (step (part_for_merge machine parts) (Merge sources parts)).1
+        machine (step machine (Merge sources parts)).1 }
+    ensures alone { (machine : Machine) (sources : List ℕ) (parts : List Part) (key : List ℕ × List ℕ)
+        → is_part_for parts key.0 ≡ false
+        → map.get (step (part_for_merge machine parts) (Merge sources parts)).1.records key ≡ None }
 {}

@@ -4,6 +4,7 @@
 
 mod again;
 mod builder;
+mod carry;
 mod checks;
 mod forms;
 mod holder;
@@ -17,4 +18,5 @@ mod priority;
 mod texts;
 mod transition;
 
-pub use office::Office;
+pub use carry::CarryOut;
+pub use office::{Office, carry_out};

@@ -67,15 +67,6 @@ impl Office {
         Ok(Office { alloc, store })
     }
 
-    /// The office that has these tables, of which the invariant of the office must hold. Takes no memory; the
-    /// allocator is kept for the calls that follow (this project's own).
-    pub fn over(alloc: Global, store: Store) -> Office
-        requires consistent { IsConsistent store }
-        ensures value { result ≡ store }
-    {
-        Office { alloc, store }
-    }
-
     /// The tables of the office, to look up what no reply shows. Takes no memory (this project's own).
     pub fn store(&self) -> &Store
         ensures value { result.now ≡ self.now }
@@ -112,8 +103,9 @@ impl Office {
     }
 }
 
-/// Carries out one command by its kind.
-fn carry_out(alloc: Global, store: &mut Store, command: &Command) -> Result<Reply, Refusal>
+/// Carries out one command on the tables of an office, as [`Office::apply`] does on those that it keeps. The tables may
+/// be a part of an office that has what the command names, and need not be consistent (this project's own).
+pub fn carry_out(alloc: Global, store: &mut Store, command: &Command) -> Result<Reply, Refusal>
     ensures carries { Carries store.old store.new command.now result }
     ensures utf8 { OnOk result (HasUtf8Texts command.now) }
 {
