@@ -22,6 +22,7 @@ use Rattle.deb_text.proofs.KeyLemmas.{text_cmp_total, text_cmp-same}
 use Rattle.deb_text.proofs.SortedLemmas.{IsIn-find}
 use Rattle.wb_rows.specs.Reading.{IsReadable}
 use Rattle.wb_tables.specs.Lookups.{IsReadableArch, IsReadablePair}
+use Rattle.wb_tables.specs.Opening.{HasForms}
 
 -- a text of bytes that pass a test, which only ASCII passes
 ascii_all : (p : ℕ → Bool) → ((c : ℕ) → p c ≡ true → c < 128) → (text : List ℕ) → list_all p text ≡ true → IsAscii text
@@ -90,15 +91,13 @@ arch_known machine sound name known = go (finite.get machine.archs name) (sound.
     go None is there = absurd cc
     go (Some words) is there = is.name
 
--- a record that a consistent office keeps is one that can be read
-pub kept_readable : (machine : Machine) → IsConsistent machine → (entry : Entry) → IsIn entry (finite.entries machine.records) → IsReadable entry
-kept_readable machine sound entry within =
-    let is : IsRecord machine entry.0.0 entry.0.1 entry.1 =
-    subst (λ found. IfSome found (IsRecord machine entry.0.0 entry.0.1)) ((IsIn-entries machine entry).0 within) (sound.records entry.0.0 entry.0.1) in
+-- a record whose names and fields have their forms can be read
+pub formed_readable : (entry : Entry) → HasForms entry → IsReadable entry
+formed_readable entry is =
     let most = is.fields.number in
     record {
-      arch = arch_utf8 entry.0.0 (arch_known machine sound entry.0.0 is.known);
-      source = package_utf8 entry.0.1 is.name;
+      arch = arch_utf8 entry.0.0 is.arch;
+      source = package_utf8 entry.0.1 is.source;
       version = is.fields.version;
       priority = optional_label_utf8 entry.1.priority is.fields.priority;
       section = optional_label_utf8 entry.1.section is.fields.section;
@@ -110,6 +109,13 @@ kept_readable machine sound entry within =
       message = is.fields.message.utf8;
       build_priority = priority_fits entry.1.build_priority is.fields.build_priority;
     }
+
+-- a record that a consistent office keeps is one that can be read
+pub kept_readable : (machine : Machine) → IsConsistent machine → (entry : Entry) → IsIn entry (finite.entries machine.records) → IsReadable entry
+kept_readable machine sound entry within =
+    let is : IsRecord machine entry.0.0 entry.0.1 entry.1 =
+    subst (λ found. IfSome found (IsRecord machine entry.0.0 entry.0.1)) ((IsIn-entries machine entry).0 within) (sound.records entry.0.0 entry.0.1) in
+    formed_readable entry (record { arch = arch_known machine sound entry.0.0 is.known; source = is.name; fields = is.fields })
 
 word_utf8 : (word : List ℕ) → is_os_cpu_word word ≡ true → IsUtf8 word
 unfolding is_os_cpu_word

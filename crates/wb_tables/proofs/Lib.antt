@@ -9,8 +9,13 @@ pub mod FoundLemmas
 pub mod HoldLemmas
 pub mod LookupLemmas
 pub mod MapLemmas
+pub mod OpeningAfterLemmas
 pub mod OpeningBuilderLemmas
+pub mod OpeningCountLemmas
 pub mod OpeningLemmas
+pub mod OpeningRecordLemmas
+pub mod OpeningSoundLemmas
+pub mod OpeningWaitLemmas
 pub mod OrderLemmas
 pub mod ReadLemmas
 pub mod ScratchLemmas

@@ -202,7 +202,7 @@ module _ (machine : Machine) where
       (IsPermutation-sorted_by entry_cmp (filter (is_waiting arch) entries))
 
   -- a take number that no two records have is that of one record at most
-  take_few : (take_number : ℕ) → HasDistinctTakes machine → (filter (is_taken_as take_number) entries ≡ []) ⊎ ((e : Entry) × (filter (is_taken_as take_number) entries ≡ e ∷ []))
+  pub take_few : (take_number : ℕ) → HasDistinctTakes machine → (filter (is_taken_as take_number) entries ≡ []) ⊎ ((e : Entry) × (filter (is_taken_as take_number) entries ≡ e ∷ []))
   take_few take_number distinct =
       at_most_one (filter (is_taken_as take_number) entries)
       (ascending_with (IsTaken machine take_number) (λ a b. pair_cmp a.0 b.0 ≡ Less) (λ a b. ⊥) none (filter (is_taken_as take_number) entries)

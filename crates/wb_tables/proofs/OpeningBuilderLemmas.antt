@@ -47,7 +47,8 @@ any-map : {X Y : Type 0} (p : Y → Bool) (f : X → Y) (xs : List X) → list_a
 any-map p f [] = refl
 any-map p f (x ∷ xs) = ap (λ b. p (f x) || b) (any-map p f xs)
 
-known_arch : (machine : Machine) (name : List ℕ) → has_arch (finite.entries machine.archs) name ≡ finite.contains_key machine.archs name
+-- an architecture is one of those of the state
+pub known_arch : (machine : Machine) (name : List ℕ) → has_arch (finite.entries machine.archs) name ≡ finite.contains_key machine.archs name
 known_arch machine name =
     (λ i. list_any (λ (arch : List ℕ × OsCpu). name_test name arch.0 i) (finite.entries machine.archs))
     ∙ sym (any-map (eq_by_cmp text_cmp name) (λ (arch : List ℕ × OsCpu). arch.0) (finite.entries machine.archs)) ∙ sym (finite.contains_key-keys machine.archs name)
@@ -92,7 +93,8 @@ module _ (machine : Machine) (db : Database) (stands : StandsFor machine db) (an
       rising_answer builder_cells sql.all_builders [] (skips_pairs []) (λ x. refl) refl pairs (db.trees 3) answer stands.builders a pairs ascend
       (IsPermutation-same _ _ (sym (filter_all (λ x. true) pairs (all_of (λ x. true ≡ true) (λ x. refl) pairs)))) refl
 
-  builders_found : (made : List Key) → answer ≡ map builder_cells made → made ≡ pairs
+  -- the builders that are read from the answer
+  pub builders_found : (made : List Key) → answer ≡ map builder_cells made → made ≡ pairs
   builders_found made is = map_injective builder_cells builder_cells-same made pairs (sym is ∙ answer_is)
 
   builders_formed : IsConsistent machine → (archs : List (List ℕ × OsCpu)) → archs ≡ finite.entries machine.archs → AreRowsOf builder_cells (IsFormedBuilder archs) answer

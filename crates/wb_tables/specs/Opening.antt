@@ -1,26 +1,38 @@
 -- What an opening tests of the office's tables, row by row (this project's own).
-use Rattle.std.specs.Prelude.{◌≡◌, ◌≢◌, ◌⊎◌, ◌++◌, ℕ, suc, ⊤, Bool, bytes_eq, IsTrue, List, [], ◌∷◌, length, map, Result, Vec, IfOk, IfErr, OnOk}
+use Rattle.std.specs.Prelude.{◌≡◌, ◌≢◌, ◌⊎◌, ◌++◌, ℕ, suc, ◌<◌, ◌≤◌, ⊤, Bool, false, ◌&&◌, bytes_eq, IsTrue, List, [], ◌∷◌, length, map, find, Option, IfSome, Result, Vec, IfOk, IfErr, OnOk}
+use Rattle.std.specs.Option.{option_map, IsSomeAnd}
 use Rattle.std.specs.List.{AllByRecursion, list_any}
+use Rattle.std.specs.FinMap as finite
 use Rattle.sqlite_trees.specs.declared.store.Store.{Ghosts}
 use Rattle.sqlite.specs.declared.error.Error.{Error}
+use Rattle.sqlite.specs.declared.types.Value.{Value}
+use Rattle.sqlite.specs.Effect.{Database}
 use Rattle.sqlite.specs.Given.{IsPlain}
 use Rattle.sqlite.specs.Held.{Held, state}
 use Rattle.sqlite.specs.Listing.{understood}
 use Rattle.sqlite.specs.Order.{Row}
 use Rattle.sqlite.specs.State.{State, HasCleanDisk, IsUnchanged, Survives}
 use Rattle.wb_sql.specs.Queries.{TableQuery, Answers}
+use Rattle.wb_schema.specs.Statements as sql
 use Rattle.wb_schema.specs.Tables.{office_schema}
 use Rattle.wb_states.specs.declared.arch.OsCpu.{OsCpu}
+use Rattle.wb_states.specs.declared.counts.Counts.{Counts}
 use Rattle.wb_states.specs.declared.store_fault.StoreFault.{StoreFault}
-use Rattle.wb_states.specs.declared.store_fault.StoreFault.TheVariants.{Damaged, Memory}
+use Rattle.wb_states.specs.declared.store_fault.StoreFault.TheVariants.{Damaged, Memory, NewerSchema, NotOffice}
 use Rattle.wb_states.specs.declared.store_fault.Table.{Table}
-use Rattle.wb_states.specs.Machine.{Key, Machine, IsArch, IsConsistent}
+use Rattle.wb_states.specs.declared.store_fault.Table.TheVariants.{Office, SourceRecord}
+use Rattle.wb_states.specs.Holds.{is_taken_as}
+use Rattle.wb_states.specs.Limits.{count_limit}
+use Rattle.wb_states.specs.Machine.{Key, Machine, AreWaits, HasDistinctTakes, IsArch, IsConsistent, IsRecord, with_words}
 use Rattle.wb_states.specs.Names.{is_arch_name, is_builder_name}
-use Rattle.wb_rows.specs.Cells.{arch_cells, builder_cells}
-use Rattle.wb_tables.specs.Stands.{StandsFor}
+use Rattle.wb_states.specs.Queue.{Entry}
+use Rattle.wb_states.specs.Record.{IsWellFormed}
+use Rattle.deb_relations.specs.Names.{is_package_name}
+use Rattle.wb_rows.specs.Cells.{arch_cells, builder_cells, number, record_cells}
+use Rattle.wb_tables.specs.Stands.{StandsFor, builder_pairs}
 use Rattle.wb_tables.specs.Calls.{FailsToRead}
 use Rattle.wb_tables.specs.Faults.{fault_of}
-use Rattle.wb_tables.specs.Lookups.{AreRowsOf, MayAnswer}
+use Rattle.wb_tables.specs.Lookups.{AreRowsOf, MayAnswer, counts_row}
 
 -- the row has the columns of one that fits
 abbrev pub IsRowOf : {X : Type 0} → (X → Row) → (X → Type 0) → Row → Type 0
@@ -107,3 +119,123 @@ pub record IsFormedBuilder (archs : List (List ℕ × OsCpu)) (pair : Key) : Typ
 -- the rows are those of these builders
 abbrev pub HoldsBuilders : List (List ℕ × OsCpu) → List Row → List Key → Type 0
 HoldsBuilders archs = Holds builder_cells (IsFormedBuilder archs)
+
+-- the row of an office of this format: the format, and a column for each of the two counts
+abbrev pub HasFormat : ℕ → Row → Type 0
+HasFormat format row = (handed : Value) × (accepted : Value) × (row ≡ number format ∷ handed ∷ accepted ∷ [])
+
+-- the row of an office of format 2 with these counts, each within its limit
+pub record IsOfficeRow (row : Row) (counts : Counts) : Type 0 where
+  pub same : row ≡ counts_row counts.handed counts.accepted
+  pub handed : counts.handed ≤ count_limit
+  pub accepted : counts.accepted ≤ count_limit
+
+-- the rows are one, that of an office of this format
+abbrev pub AreOfFormat : ℕ → List Row → Type 0
+AreOfFormat format rows = (row : Row) × HasFormat format row × (rows ≡ row ∷ [])
+
+-- the rows are one, that of an office with these counts
+abbrev pub HoldsCounts : List Row → Counts → Type 0
+HoldsCounts rows counts = (row : Row) × IsOfficeRow row counts × (rows ≡ row ∷ [])
+
+-- the row of the office is damaged, for its counts are not within their limits
+abbrev pub IsDamagedOffice : Row → StoreFault → Type 0
+IsDamagedOffice row fault = (fault ≡ Damaged Office 1) × ((counts : Counts) → ¬ IsOfficeRow row counts)
+
+-- why rows are not the one of an office: they have no format from 2 on, or a newer one, or counts beyond their limits
+abbrev pub AreBadCounts : List Row → StoreFault → Type 0
+AreBadCounts rows fault =
+    ((fault ≡ NotOffice) × ((format : ℕ) → AreOfFormat format rows → format < 2))
+    ⊎ (((fault ≡ NewerSchema) × ((format : ℕ) × (2 < format) × AreOfFormat format rows))
+    ⊎ (AreOfFormat 2 rows × ((row : Row) → rows ≡ row ∷ [] → IsDamagedOffice row fault)))
+
+-- a builder and an architecture are one of these pairs
+abbrev pub has_pair : List Key → Key → Bool
+has_pair builders pair = list_any (λ other. bytes_eq other.0 pair.0 && bytes_eq other.1 pair.1) builders
+
+-- the words of the first of these architectures that has the name
+abbrev pub words_among : List (List ℕ × OsCpu) → List ℕ → Option OsCpu
+words_among archs name = option_map (λ arch. arch.1) (find (λ arch. bytes_eq arch.0 name) archs)
+
+-- the names and the fields of a record have their forms
+pub record HasForms (entry : Entry) : Type 0 where
+  pub arch : IsTrue (is_arch_name entry.0.0)
+  pub source : IsTrue (is_package_name entry.0.1)
+  pub fields : IsWellFormed entry.1
+
+-- a take number, if there is one, was given
+abbrev pub IsGiven : ℕ → Option ℕ → Type 0
+IsGiven handed take = IfSome take (λ take_number. (1 ≤ take_number) × (take_number ≤ handed))
+
+-- a record has its form, its holder is one of these builders, for its architecture, its take number was given, and its architecture is one of
+-- these, for which its waits are reduced
+pub record IsFormedRecord (archs : List (List ℕ × OsCpu)) (builders : List Key) (handed : ℕ) (entry : Entry) : Type 0 where
+  pub forms : HasForms entry
+  pub holder : IfSome entry.1.holder (λ holder. IsTrue (has_pair builders (holder, entry.0.0)))
+  pub given : IsGiven handed entry.1.take
+  pub waits : IsSomeAnd (words_among archs entry.0.0) (λ words. AreWaits (with_words entry.0.0 words) entry.1.waits)
+
+-- no record of these has the take number of this one, if it has one
+abbrev pub HasOwnTake : List Entry → Entry → Type 0
+HasOwnTake before entry = IfSome entry.1.take (λ take_number. list_any (is_taken_as take_number) before ≡ false)
+
+-- a record has its form, and no record before it has its take number
+pub record FitsRecords (archs : List (List ℕ × OsCpu)) (builders : List Key) (handed : ℕ) (before : List Entry) (entry : Entry) : Type 0 where
+  pub formed : IsFormedRecord archs builders handed entry
+  pub own_take : HasOwnTake before entry
+
+-- after these, each of those fits the ones before it
+abbrev pub AllAfter : {X : Type 0} → (List X → X → Type 0) → List X → List X → Type 0
+AllAfter Fits before [] = ⊤
+AllAfter Fits before (x ∷ xs) = Fits before x × AllAfter Fits (before ++ x ∷ []) xs
+
+-- the rows are those of some of which each fits the ones before it
+abbrev pub HoldsEach : {X : Type 0} → (X → Row) → (List X → X → Type 0) → List Row → Type 0
+HoldsEach {X} columns Fits rows = (xs : List X) × (rows ≡ map columns xs) × AllAfter Fits [] xs
+
+-- the row at this place, counted from 1, is the first that has not the columns of one that fits the ones before it
+pub record IsFirstBadAfter {X : Type 0} (columns : X → Row) (Fits : List X → X → Type 0) (rows : List Row) (place : ℕ) : Type 0 where
+  pub before : List X
+  pub row : Row
+  pub rest : List Row
+  pub all : rows ≡ map columns before ++ row ∷ rest
+  pub good : AllAfter Fits [] before
+  pub bad : ¬ IsRowOf columns (Fits before) row
+  pub counted : place ≡ suc (length before)
+
+-- memory ran out, or the first row that does not fit those before it is damaged
+abbrev pub AreBadAfter : {X : Type 0} → Table → (X → Row) → (List X → X → Type 0) → List Row → StoreFault → Type 0
+AreBadAfter table columns Fits rows fault = (fault ≡ Memory) ⊎ ((place : ℕ) × (fault ≡ Damaged table place) × IsFirstBadAfter columns Fits rows place)
+
+-- the rows are those of records with their forms, no two of which have one take number
+abbrev pub HoldsRecords : List (List ℕ × OsCpu) → List Key → ℕ → List Row → Type 0
+HoldsRecords archs builders handed = HoldsEach record_cells (FitsRecords archs builders handed)
+
+-- memory ran out, or the first row is damaged that is that of no record with its form, or has the take number of a row before it
+abbrev pub AreBadRecords : List (List ℕ × OsCpu) → List Key → ℕ → List Row → StoreFault → Type 0
+AreBadRecords archs builders handed = AreBadAfter SourceRecord record_cells (FitsRecords archs builders handed)
+
+-- these architectures, pairs of builders and greatest take number are those of the state
+pub record AreKept (archs : List (List ℕ × OsCpu)) (builders : List Key) (handed : ℕ) (machine : Machine) : Type 0 where
+  pub archs_are : archs ≡ finite.entries machine.archs
+  pub builders_are : builders ≡ builder_pairs machine
+  pub handed_is : handed ≡ machine.handed
+
+-- the records of a state are those of a consistent office, and no two have one take number
+pub record HasGoodRecords (machine : Machine) : Type 0 where
+  pub records : (arch source : List ℕ) → IfSome (finite.get machine.records (arch, source)) (IsRecord machine arch source)
+  pub takes : HasDistinctTakes machine
+
+-- the rows that a query shows of a database are good
+abbrev pub ShowsGood : TableQuery → Database → (List Row → Type 0) → Type 0
+ShowsGood q db Good = (rows : List Row) × Answers q [] (db.trees q.tree) rows × Good rows
+
+-- the rows of the office's tables are good, those of each table beside those of the others
+pub record HasGoodRows (db : Database) : Type 0 where
+  pub counts : Counts
+  pub archs : List (List ℕ × OsCpu)
+  pub builders : List Key
+  pub counts_held : ShowsGood sql.office_counts db (λ rows. HoldsCounts rows counts)
+  pub archs_held : ShowsGood sql.all_archs db (λ rows. HoldsArchs rows archs)
+  pub builders_held : ShowsGood sql.all_builders db (λ rows. HoldsBuilders archs rows builders)
+  pub records_held : ShowsGood sql.all_records db (HoldsRecords archs builders counts.handed)

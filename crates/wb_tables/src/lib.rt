@@ -7,6 +7,7 @@ mod changes;
 mod ending;
 mod fault;
 mod holds;
+pub mod laws;
 mod lookups;
 mod opening;
 mod queue;
@@ -20,7 +21,7 @@ pub use ending::{commit, roll_back};
 pub use fault::fault_of;
 pub use holds::held_by;
 pub use lookups::{all_of, by_take, counts, get};
-pub use opening::{check_archs, check_builders};
+pub use opening::{check_archs, check_builders, check_counts, check_records};
 pub use queue::{head, queue_of};
 pub use scratch::has_scratch_rows;
 

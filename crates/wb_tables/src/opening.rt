@@ -2,7 +2,12 @@
 
 mod archs;
 mod builders;
+mod counts;
+mod forms;
+mod records;
 mod rows;
 
 pub use archs::check_archs;
 pub use builders::check_builders;
+pub use counts::check_counts;
+pub use records::check_records;

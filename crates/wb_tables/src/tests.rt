@@ -1,6 +1,8 @@
 ghost use Rattle.std.specs.Prelude.{◌≡◌, ◌≤◌, IfOk, IfSome};
 ghost use Rattle.wb_states.specs.Limits.{count_limit};
 
+mod opening;
+
 use crate::{
     add_arch, add_builder, all_of, arch, archs_of, by_take, counts, get, has_builder, head,
     held_by, put, queue_of, remove, set_counts,

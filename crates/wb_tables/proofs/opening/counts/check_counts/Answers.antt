@@ -1,0 +1,14 @@
+use Rattle.std.proofs.Common.{subst, IfErr, IfOk}
+use Rattle.wb_tables.specs.Opening.{AreBadCounts, HoldsCounts}
+use Rattle.wb_tables.proofs.OpeningCountLemmas.{counts_pass}
+use Rattle.wb_tables.proofs.OpeningLemmas.{tests_rows}
+use Rattle.wb_tables.proofs.opening.counts.check_counts.Goals as goal
+
+pub returns-clause-tests : goal.returns-clause-tests
+returns-clause-tests g c =
+    tests_rows c.office_counts.ensures c.counts_in.result c.in_ok-rows.ensures.reads
+    (subst (λ rows. IfOk c.counts_in.result (HoldsCounts rows)) c.deref.ensures.value c.counts_in.ensures.value)
+    (subst (λ rows. IfErr c.counts_in.result (AreBadCounts rows)) c.deref.ensures.value c.counts_in.ensures.err)
+
+pub returns-clause-passes : goal.returns-clause-passes
+returns-clause-passes g c = counts_pass c.counts_in.result (returns-clause-tests g c)

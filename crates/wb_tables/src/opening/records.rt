@@ -1,0 +1,113 @@
+//! What an opening tests of the records.
+ghost use Rattle.std.specs.Prelude.{◌≡◌, ◌↔◌, ◌||◌, ℕ, false, IfOk, IfErr, IfSome, IsTrue, OnOk, nat_eq};
+ghost use Rattle.std.specs.BTreeSet.{contains};
+ghost use Rattle.std.specs.Ordering.{nat_cmp};
+ghost use Rattle.deb_text.specs.Options.{has_value};
+ghost use Rattle.wb_states.specs.declared.store_fault.StoreFault.TheVariants.{Damaged};
+ghost use Rattle.wb_states.specs.declared.store_fault.Table.TheVariants.{SourceRecord};
+ghost use Rattle.wb_schema.specs.Statements.{all_records};
+ghost use Rattle.wb_store.specs.Lookups.{entry_of};
+ghost use Rattle.wb_rows.specs.Cells.{record_cells};
+ghost use Rattle.wb_tables.specs.Lookups.{keyed_cells};
+ghost use Rattle.wb_tables.specs.Opening.{AreBadRecords, AreKept, HasGoodRecords, HoldsRecords, IsBadRow, IsFormedRecord, IsRowOf, PassesWith, Tests};
+
+use super::forms::{Kept, is_formed};
+use super::rows::rows_of;
+use deb_text::Text;
+use sqlite::{Alter, Connection, Row};
+use std::alloc::AllocFailed;
+use std::collections::BTreeSet;
+use wb_rows::record_of;
+use wb_schema::texts;
+use wb_states::{OsCpu, StoreFault, Table};
+use wb_store::KeyedRecord;
+
+/// Tests each row of the records beside these architectures with their words, these builders with their architectures,
+/// and the greatest take number that was given. A row is good if it is that of a record: its names and its fields have
+/// their forms, its rank is that of the record, its architecture is one of these, its holder is one of the builders,
+/// for this architecture, its waits can be read and are reduced for the architecture, its take number is from 1 to
+/// `handed`, and no row before it has this take number. The faults are `Damaged` with the number of the first row that
+/// is not, counted from 1 in the order of the architectures and then of the source packages, `Memory`, and those of
+/// the query. The database stays as it is, but for a transaction that a failure of the query takes back (this
+/// project's own).
+pub fn check_records<S: Alter>(
+    conn: &mut Connection<S>,
+    archs: &[(Text, OsCpu)],
+    builders: &[(Text, Text)],
+    handed: u64,
+) -> Result<(), StoreFault>
+    ensures tests { Tests S.Store all_records SourceRecord
+        (λ rows done. HoldsRecords archs.now builders.now handed rows)
+        (AreBadRecords archs.now builders.now handed) conn.old conn.new result }
+    ensures passes { PassesWith S.Store SourceRecord (AreKept archs.now builders.now handed)
+        (λ machine done. AreKept archs.now builders.now handed machine → HasGoodRecords machine)
+        conn.old conn.new result }
+{
+    let rows = rows_of(conn, texts::all_records(), Table::SourceRecord)?;
+    let kept = Kept {
+        alloc: *rows.allocator(),
+        archs,
+        builders,
+        handed,
+    };
+    test_rows(rows, &kept)
+}
+
+/// Tests these rows, one after another.
+fn test_rows(rows: Vec<Row>, kept: &Kept<'_>) -> Result<(), StoreFault>
+    ensures value { IfOk result (λ done.
+        HoldsRecords kept.now.archs.now kept.now.builders.now kept.now.handed rows.items) }
+    ensures err { IfErr result
+        (AreBadRecords kept.now.archs.now kept.now.builders.now kept.now.handed rows.items) }
+{
+    let mut takes = BTreeSet::new(kept.alloc);
+    let mut number = 0;
+    for row in rows {
+        number += 1;
+        let read = record_in(&row, number, kept)?;
+        if !is_own(&mut takes, read.current.take)? {
+            return Err(damaged(number));
+        }
+    }
+    Ok(())
+}
+
+/// The record in the row of this number, if it has its form.
+fn record_in(row: &Row, number: u64, kept: &Kept<'_>) -> Result<KeyedRecord, StoreFault>
+    ensures value { IfOk result (λ read. (row.now ≡ keyed_cells read)
+        × IsFormedRecord kept.now.archs.now kept.now.builders.now kept.now.handed (entry_of read)) }
+    ensures err { IfErr result (IsBadRow SourceRecord number (IsRowOf record_cells
+        (IsFormedRecord kept.now.archs.now kept.now.builders.now kept.now.handed) row.now)) }
+{
+    let Some(read) = record_of(row)? else {
+        return Err(damaged(number));
+    };
+    if is_formed(&read, kept)? {
+        Ok(read)
+    } else {
+        Err(damaged(number))
+    }
+}
+
+/// Whether the take number, if there is one, is not among these; it is among them from then on.
+fn is_own(takes: &mut BTreeSet<u64>, take: Option<u64>) -> Result<bool, AllocFailed<u64>>
+    ensures value { IfOk result (λ own. IsTrue own
+        ↔ IfSome take (λ take_number. contains nat_cmp takes.old take_number ≡ false)) }
+    ensures among { OnOk result ((n : ℕ) → contains nat_cmp takes.new n
+        ≡ (contains nat_cmp takes.old n || has_value (nat_eq n) take)) }
+{
+    match take {
+        Some(take_number) => takes.insert(take_number),
+        None => Ok(true),
+    }
+}
+
+/// The fault of a record's row.
+fn damaged(row: u64) -> StoreFault
+    ensures { result ≡ Damaged SourceRecord row }
+{
+    StoreFault::Damaged {
+        table: Table::SourceRecord,
+        row,
+    }
+}
