@@ -1,0 +1,259 @@
+-- How a command is carried out over tables: what it names is read, it is carried out in that part, and what it changed is kept.
+use Rattle.std.proofs.Common.{◌≡◌, inl, inr, true, false, Option, Some, None, Result, Ok, Err, IfErr, refl, sym, ap, subst, ◌∙◌, arith}
+use Rattle.std.proofs.lemmas.Bool.{both_ways}
+use Rattle.sqlite_trees.specs.declared.store.Store.{Ghosts}
+use Rattle.sqlite.specs.declared.error.Error.{Error}
+use Rattle.sqlite.specs.Tree.{Trees}
+use Rattle.sqlite.specs.Held.{Held, state}
+use Rattle.sqlite.specs.State.{State, HasCleanDisk, IsUnchanged, IsRolledBack, Survives}
+use Rattle.wb_sql.specs.Transactions.{IsKeptOrUndone, LeavesNoMore}
+use Rattle.wb_schema.specs.Tables.{office_schema}
+use Rattle.wb_states.specs.declared.command.Command.{Command}
+use Rattle.wb_states.specs.declared.command.Command.TheVariants as of
+use Rattle.wb_states.specs.declared.refusal.Refusal.{Refusal}
+use Rattle.wb_states.specs.declared.reply.Reply.{Reply}
+use Rattle.wb_states.specs.Machine.{Machine, Key, IsConsistent}
+use Rattle.wb_states.specs.Queue.{Entry}
+use Rattle.wb_office.specs.Arguments.{arguments_of}
+use Rattle.wb_office.specs.Carries.{Carries}
+use Rattle.wb_office.specs.Checks.{first_refusal}
+use Rattle.wb_office.specs.Locality.{LooksAlike}
+use Rattle.wb_office.specs.Named.{part_named}
+use Rattle.wb_office.specs.Step.{Outcome, assignment_reply, outcome, reply_to, step}
+use Rattle.wb_office.specs.Targets.{again_of, target_of}
+use Rattle.wb_office.specs.Utf8.{HasUtf8Texts}
+use Rattle.wb_office.proofs.LocalityLemmas.{same_answer}
+use Rattle.wb_office.proofs.PartOfLemmas.{part_alike}
+use Rattle.wb_office.proofs.NamedPartLemmas.{part_of_named, part_has_all_named}
+use Rattle.wb_tables.specs.Calls.{FailsToLookUp}
+use Rattle.wb_tables.specs.Settled.{IsSettled, IsBackAt}
+use Rattle.wb_tables.proofs.SettledLemmas.{settled_back, stays_settled, stays_back, goes_back_again, office_stands}
+use Rattle.wb_durable.specs.declared.answer.Failure.{Failure}
+use Rattle.wb_durable.specs.declared.answer.Failure.TheVariants.{Refused, Unread, Uncommitted}
+use Rattle.wb_durable.specs.Answers.{is_again, IsNamed, IsLeft, IsUncommitted, KeepsStep, Answers}
+use Rattle.wb_durable.specs.declared.carry.CarryError.{CarryError}
+use Rattle.wb_durable.specs.Carried.{CarriesOut}
+use Rattle.wb_durable.specs.Changed.{IsStepOf}
+use Rattle.wb_durable.specs.Finds.{StaysAs, FailsToFind, Finds}
+use Rattle.wb_durable.specs.Keys.{key_put}
+use Rattle.wb_durable.proofs.FindsLemmas.{unchanged_then, stays_then}
+
+-- ---- look-ups over a settled connection
+
+-- a clean disk was clean before
+pub was_clean : {P : Trees → Type 0} (old new : State) → Survives old new P → HasCleanDisk new → HasCleanDisk old
+was_clean old new survives clean = omega (arith, survives.clean, clean)
+
+rolled_back_then : (a b c : State) → IsUnchanged a b → IsRolledBack b c → IsRolledBack a c
+rolled_back_then a b c one two = record {
+  was_open = λ _. one.0.was_open;
+  undone = λ is_open. let u = two.undone is_open in (u.0 ∙ one.0.committed_is, u.1 ∙ one.0.committed_is);
+  autocommit = two.autocommit;
+  unmarked = two.unmarked;
+  counts = record { changes = two.counts.changes ∙ one.1.changes; last_rowid = two.counts.last_rowid ∙ one.1.last_rowid };
+}
+
+module _ {S : Type 0} (g : Ghosts S) (old new : Held S) where
+  fewer : Survives (state g old) (state g new) (λ _. ¬ (old.schema ≡ office_schema)) → old.schema ≡ office_schema → HasCleanDisk (state g new) → LeavesNoMore (state g old) (state g new)
+  fewer survives same clean db may = elim (survives.crash clean db may) [ inl was ↦ was | inr other ↦ absurd (other same) ]
+
+  kept_or_undone_in : (e : Error) → FailsToLookUp (state g old) (state g new) e → IsKeptOrUndone (state g old) (state g new)
+  kept_or_undone_in e (inl read) = read.1
+  kept_or_undone_in e (inr (inl full)) = inl full.1
+  kept_or_undone_in e (inr (inr corrupt)) = inl corrupt.1
+
+  -- what stays as it was stays settled
+  stays_settled_as : {machine : Machine} → StaysAs g old new → LeavesNoMore (state g old) (state g new) → IsSettled machine (state g old) → IsSettled machine (state g new)
+  stays_settled_as {machine = machine} (inl same) less settled = subst (λ h. IsSettled machine (state g h)) same settled
+  stays_settled_as (inr kept) less settled = stays_settled (state g old) (state g new) kept less settled
+
+  back_by : {machine : Machine} → IsKeptOrUndone (state g old) (state g new) → LeavesNoMore (state g old) (state g new) → IsSettled machine (state g old) → IsBackAt machine (state g new)
+  back_by (inl same) less settled = stays_back (state g old) (state g new) same less (settled_back (state g old) settled)
+  back_by (inr undone) less settled = goes_back_again (state g old) (state g new) undone less (settled_back (state g old) settled)
+
+  undone_after : (mid : Held S) → StaysAs g old mid → IsKeptOrUndone (state g mid) (state g new) → IsKeptOrUndone (state g old) (state g new)
+  undone_after mid (inl same) failed = subst (λ h. IsKeptOrUndone (state g h) (state g new)) (sym same) failed
+  undone_after mid (inr kept) (inl same) = inl (unchanged_then (state g old) (state g mid) (state g new) kept same)
+  undone_after mid (inr kept) (inr undone) = inr (rolled_back_then (state g old) (state g mid) (state g new) kept undone)
+
+  -- look-ups that succeed leave the connection settled, with the answer of its state
+  pub found : {A : Type 0} {Answer : Machine → A → Type 0} {machine : Machine} {x : A} → Finds g Answer old new (Ok x) → HasCleanDisk (state g new) → IsConsistent machine → IsSettled machine (state g old)
+      → IsSettled machine (state g new) × Answer machine x
+  found {machine = machine} finds clean consistent settled =
+      let schema = settled.holds.schema_is in
+      (stays_settled_as (finds.same clean schema) (fewer finds.survives schema clean) settled, finds.value clean schema machine consistent (office_stands (state g old).now settled.holds))
+
+  -- look-ups that fail leave the connection at its state, unless a fault shut it
+  pub not_found : {A : Type 0} {Answer : Machine → A → Type 0} {machine : Machine} {e : Error} → Finds {A = A} g Answer old new (Err e) → HasCleanDisk (state g new) → IsSettled machine (state g old)
+      → FailsToFind g old new e × IsBackAt machine (state g new)
+  not_found {e = e} finds clean settled =
+      let schema = settled.holds.schema_is in
+      let failed : FailsToFind g old new e = finds.err clean schema in
+      let kept = undone_after failed.0 failed.1 (kept_or_undone_in_mid failed.0 failed.2) in
+      (failed, back_by kept (fewer finds.survives schema clean) settled)
+    where
+      kept_or_undone_in_mid : (mid : Held S) {e : Error} → FailsToLookUp (state g mid) (state g new) e → IsKeptOrUndone (state g mid) (state g new)
+      kept_or_undone_in_mid mid (inl read) = read.1
+      kept_or_undone_in_mid mid (inr (inl full)) = inl full.1
+      kept_or_undone_in_mid mid (inr (inr corrupt)) = inl corrupt.1
+
+-- ---- a step
+
+refused_stays : (refused : Option Refusal) (again : Option Entry) (machine : Machine) (command : Command) (refusal : Refusal)
+    → (outcome refused again machine command).0 ≡ Err refusal → (outcome refused again machine command).1 ≡ machine
+refused_stays (Some other) again machine command refusal is = refl
+refused_stays None (Some entry) machine command refusal is = refl
+refused_stays None None machine command refusal is = cc
+
+-- a repeated assignment changes nothing
+again_stays : (refused : Option Refusal) (again : Option Entry) (machine : Machine) (command : Command) (reply : Reply) → is_again (reply_to machine command) ≡ false
+    → (outcome refused again machine command).0 ≡ Ok reply → is_again reply ≡ true → (outcome refused again machine command).1 ≡ machine
+again_stays (Some other) again machine command reply new is told = cc
+again_stays None (Some entry) machine command reply new is told = refl
+again_stays None None machine command reply new is told = absurd (both_ways (is_again (reply_to machine command)) new (ap is_again (same_reply (reply_to machine command) reply is) ∙ told))
+  where
+    same_reply : (a b : Reply) → ◌≡◌ {A = Result Reply Refusal} (Ok a) (Ok b) → a ≡ b
+    same_reply a b is = cc
+
+assigned_is_new : (machine : Machine) (found : Option Entry) → is_again (assignment_reply machine found) ≡ false
+assigned_is_new machine None = refl
+assigned_is_new machine (Some entry) = refl
+
+-- the reply to an accepted command is no repetition
+reply_is_new : (machine : Machine) (command : Command) → is_again (reply_to machine command) ≡ false
+reply_is_new machine (of.AddArch fields) = refl
+reply_is_new machine (of.AddBuilder fields) = refl
+reply_is_new machine (of.Enter fields) = refl
+reply_is_new machine (of.Merge fields) = refl
+reply_is_new machine (of.Built fields) = refl
+reply_is_new machine (of.Uploaded fields) = refl
+reply_is_new machine (of.Waits fields) = refl
+reply_is_new machine (of.PutBack fields) = refl
+reply_is_new machine (of.Attempted fields) = refl
+reply_is_new machine (of.GiveBack fields) = refl
+reply_is_new machine (of.DepWait fields) = refl
+reply_is_new machine (of.Fail fields) = refl
+reply_is_new machine (of.NotForUs fields) = refl
+reply_is_new machine (of.Rebuild fields) = refl
+reply_is_new machine (of.BuildPriority fields) = refl
+reply_is_new machine (of.Next fields) = assigned_is_new machine (target_of machine (of.Next fields))
+reply_is_new machine (of.Take fields) = assigned_is_new machine (target_of machine (of.Take fields))
+
+-- a command that is answered with an assignment again leaves the office as it was
+told_again : (machine : Machine) (command : Command) (reply : Reply) → (step machine command).0 ≡ Ok reply → is_again reply ≡ true → (step machine command).1 ≡ machine
+unfolding step
+told_again machine command reply is told = again_stays (first_refusal machine command) (again_of machine command) machine command reply (reply_is_new machine command) is told
+
+-- ---- the whole command
+
+module _ (command : Command) (machine part : Machine) (consistent : IsConsistent machine) (single : (arguments_of command).merge ≡ None) (is : part ≡ part_named machine command) where
+  -- the part looks to the command like the whole office
+  part_looks_alike : LooksAlike command part machine
+  part_looks_alike = subst (λ p. LooksAlike command p machine) (sym is) (part_alike (part_named machine command) machine (part_of_named machine command consistent) command consistent (part_has_all_named machine command consistent single))
+
+  part_answers : (step part command).0 ≡ (step machine command).0
+  part_answers = same_answer command part machine part_looks_alike
+
+  module _ {key : Option Key} (named : key ≡ key_put machine command) {after : Machine} where
+    -- an accepted command that is new is a step of the whole office
+    step_of_whole : (reply : Reply) → is_again reply ≡ false → step part command ≡ (Ok reply, after) → IsStepOf machine command key after
+    step_of_whole reply new stepped = record {
+      part = part;
+      reply = reply;
+      alike = part_looks_alike;
+      key_is = named;
+      stepped = stepped;
+      fresh = λ accepted given told. both_ways (is_again reply) new (ap is_again told);
+    }
+
+module _ {S : Type 0} (g : Ghosts S) (command : Command) (old new : Held S) (part after : Machine) (key : Option Key)
+    (single : (arguments_of command).merge ≡ None) where
+  -- a refusal changes nothing
+  pub refused_in : (refusal : Refusal) → old ≡ new → Carries part after command (Err refusal) → Answers g (IsNamed command part key) command old new (Err (Refused refusal))
+  refused_in refusal same carries = record {
+    was_clean = λ clean. subst (λ h. HasCleanDisk (state g h)) (sym same) clean;
+    ok = λ clean machine consistent settled named. tt;
+    err = λ clean machine consistent settled named. (
+      λ of_machine. sym (part_answers command machine part consistent single named.0) ∙ ap (λ (o : Outcome). o.0) (carries.refused of_machine),
+      (carries.memory, subst (λ h. IsSettled machine (state g h)) same settled),
+    );
+    utf8 = tt;
+  }
+
+  -- an assignment that is repeated changes nothing
+  pub repeated_in : (reply : Reply) → old ≡ new → Carries part after command (Ok reply) → HasUtf8Texts command → is_again reply ≡ true → Answers g (IsNamed command part key) command old new (Ok reply)
+  repeated_in reply same carries utf8 told = record {
+    was_clean = λ clean. subst (λ h. HasCleanDisk (state g h)) (sym same) clean;
+    ok = λ clean machine consistent settled named.
+        let answers = sym (part_answers command machine part consistent single named.0) ∙ ap (λ (o : Outcome). o.0) carries.reply in
+        (answers, subst (λ m. IsSettled m (state g new)) (sym (told_again machine command reply answers told)) (subst (λ h. IsSettled machine (state g h)) same settled));
+    err = λ clean machine consistent settled named. tt;
+    utf8 = utf8;
+  }
+
+  -- what is new is kept, or it is not committed
+  pub kept_in : {A : Type 0} {x : A} (reply : Reply) → Carries part after command (Ok reply) → HasUtf8Texts command → is_again reply ≡ false → KeepsStep {A = A} g command key after old new (Ok x)
+      → Answers g (IsNamed command part key) command old new (Ok reply)
+  kept_in reply carries utf8 fresh keeps = record {
+    was_clean = keeps.was_clean;
+    ok = λ clean machine consistent settled named. (
+      sym (part_answers command machine part consistent single named.0) ∙ ap (λ (o : Outcome). o.0) carries.reply,
+      keeps.ok clean machine settled (step_of_whole command machine part consistent single named.0 named.1 reply fresh carries.reply),
+    );
+    err = λ clean machine consistent settled named. tt;
+    utf8 = utf8;
+  }
+
+  pub not_kept_in : {A : Type 0} (reply : Reply) (failure : Failure) → Carries part after command (Ok reply) → is_again reply ≡ false → KeepsStep {A = A} g command key after old new (Err failure)
+      → Answers g (IsNamed command part key) command old new (Err failure)
+  not_kept_in reply failure carries fresh keeps = record {
+    was_clean = keeps.was_clean;
+    ok = λ clean machine consistent settled named. tt;
+    err = λ clean machine consistent settled named.
+        left_by machine failure (keeps.err clean machine settled (step_of_whole command machine part consistent single named.0 named.1 reply fresh carries.reply));
+    utf8 = tt;
+  }
+    where
+      left_by : (machine : Machine) (failure : Failure) → IsUncommitted g machine command old new failure → IsLeft g machine command old new failure
+      left_by machine (Refused refusal) none = absurd none
+      left_by machine (Unread e) none = absurd none
+      left_by machine (Uncommitted e) left = left
+
+module _ {S : Type 0} (g : Ghosts S) (command : Command) (old mid new : Held S) where
+  -- what the command names is read, and then it is answered in that part
+  pub answered_in : {A : Type 0} {Answer : Machine → A → Type 0} {First Given : Machine → Type 0} {x : A} (r : Result Reply Failure) → Finds g Answer old mid (Ok x)
+      → ((machine : Machine) → First machine → Answer machine x → Given machine) → Answers g Given command mid new r → Answers g First command old new r
+  answered_in {Answer = Answer} {Given = Given} {x = x} r finds gives answers = record {
+    was_clean = λ clean. was_clean (state g old) (state g mid) finds.survives (answers.was_clean clean);
+    ok = λ clean machine consistent settled first.
+        let at = found g old mid finds (answers.was_clean clean) consistent settled in
+        answers.ok clean machine consistent at.0 (gives machine first at.1);
+    err = λ clean machine consistent settled first.
+        let at = found g old mid finds (answers.was_clean clean) consistent settled in
+        fails_later machine r (finds.same (answers.was_clean clean) settled.holds.schema_is) (answers.err clean machine consistent at.0 (gives machine first at.1));
+    utf8 = answers.utf8;
+  }
+    where
+      fails_later : (machine : Machine) (r : Result Reply Failure) → StaysAs g old mid → IfErr r (IsLeft g machine command mid new) → IfErr r (IsLeft g machine command old new)
+      fails_later machine (Ok reply) same left = tt
+      fails_later machine (Err (Refused refusal)) same left = left
+      fails_later machine (Err (Unread e)) same left = ((left.0.0, stays_then g old mid left.0.0 same left.0.1, left.0.2), left.1)
+      fails_later machine (Err (Uncommitted e)) same left = left
+
+  -- what the command names could not be read
+  pub unread : {A : Type 0} {Answer : Machine → A → Type 0} {Given : Machine → Type 0} {e : Error} → Finds {A = A} g Answer old new (Err e) → Answers g Given command old new (Err (Unread e))
+  unread finds = record {
+    was_clean = was_clean (state g old) (state g new) finds.survives;
+    ok = λ clean machine consistent settled given. tt;
+    err = λ clean machine consistent settled given. not_found g old new finds clean settled;
+    utf8 = tt;
+  }
+
+-- a transaction that was not committed
+pub not_committed : {S A B : Type 0} {g : Ghosts S} {command : Command} {key : Option Key} {after : Machine} {old new : Held S} {e : CarryError} → CarriesOut {A = A} g command key after old new (Err e)
+    → KeepsStep {A = B} g command key after old new (Err (Uncommitted e))
+not_committed {g = g} {key = key} {after = after} {old = old} {new = new} carries = record {
+  was_clean = was_clean (state g old) (state g new) carries.survives;
+  ok = λ clean machine settled steps. tt;
+  err = λ clean machine settled steps. (carries.err clean machine settled steps, inl (old, key, after, carries.cause clean machine settled steps));
+}

@@ -1,0 +1,16 @@
+pub mod AnswerLemmas
+pub mod ApplyLemmas
+pub mod CarryLemmas
+pub mod FindsLemmas
+pub mod MergeAnswerLemmas
+pub mod MergeCarryLemmas
+pub mod MergePartLemmas
+pub mod MergeRecordLemmas
+pub mod MergeWriteLemmas
+pub mod OpeningLemmas
+pub mod PreparingLemmas
+pub mod SoughtLemmas
+pub mod StepOfLemmas
+pub mod TurnLemmas
+pub mod WriteLemmas
+pub mod WrittenRowLemmas

@@ -1,0 +1,413 @@
+-- What tests of the office's tables, one after another, promise together, and what they leave of a settled connection.
+use Rattle.std.proofs.Common.{◌≡◌, ◌≢◌, inl, inr, true, false, ◌||◌, ℕ, List, [], ◌∷◌, Result, Ok, Err, Vec, refl, sym, ap, subst, ◌∙◌, arith}
+use Rattle.std.specs.Bool.{⊤}
+use Rattle.std.specs.FinMap as finite
+use Rattle.std.proofs.lemmas.Bool.{both_ways}
+use Rattle.sqlite_trees.specs.declared.store.Store.{Ghosts}
+use Rattle.sqlite.specs.declared.error.Error.{Error}
+use Rattle.sqlite.specs.Tree.{Trees}
+use Rattle.sqlite.specs.Effect.{Database}
+use Rattle.sqlite.specs.Held.{Held, state}
+use Rattle.sqlite.specs.Order.{Row}
+use Rattle.sqlite.specs.Schema.{Schema}
+use Rattle.sqlite.specs.State.{State, HasCleanDisk, IsUnchanged, IsRolledBack, Survives}
+use Rattle.sqlite.proofs.StateLemmas.{survives_then}
+use Rattle.wb_sql.specs.Queries.{TableQuery}
+use Rattle.wb_sql.specs.Transactions.{IsKeptOrUndone, LeavesNoMore}
+use Rattle.wb_schema.specs.Statements as sql
+use Rattle.wb_schema.specs.Tables.{empty_schema, office_schema, scratch_source, scratch_binary}
+use Rattle.wb_states.specs.declared.arch.OsCpu.{OsCpu}
+use Rattle.wb_states.specs.declared.counts.Counts.{Counts}
+use Rattle.wb_states.specs.declared.store_fault.StoreFault.{StoreFault}
+use Rattle.wb_states.specs.declared.store_fault.StoreFault.TheVariants.{Damaged}
+use Rattle.wb_states.specs.declared.store_fault.Table.{Table}
+use Rattle.wb_states.specs.declared.store_fault.Table.TheVariants.{Builder, Office, ScratchSource, SourceRecord}
+use Rattle.wb_states.specs.Machine.{Key, Machine, empty_office}
+use Rattle.wb_office.proofs.ConsistencyLemmas.{IsConsistent-empty_office}
+use Rattle.wb_rows.specs.Cells.{builder_cells}
+use Rattle.wb_tables.specs.Calls.{FailsToRead}
+use Rattle.wb_tables.specs.Faults.{fault_of}
+use Rattle.wb_tables.specs.Opening.{AreBadRecords, AreBadRows, AreKept, FailsToTest, HasGoodRecords, HoldsBuilders, HoldsRecords, IsFormedBuilder, PassesWith, ShowsGood, Tests}
+use Rattle.wb_tables.specs.Scratch as scratch
+use Rattle.wb_tables.specs.Scratch.{FindsWhether, has_row, has_scratch_rows}
+use Rattle.wb_tables.specs.Settled.{IsBackAt, IsSettled}
+use Rattle.wb_tables.specs.Stands.{StandsFor, builder_pairs}
+use Rattle.wb_tables.proofs.SettledLemmas.{goes_back_again, office_stands, settled_back, stays_back, stays_settled}
+use Rattle.wb_durable.specs.Finds.{StaysAs}
+use Rattle.wb_durable.specs.Opening.{AreCountsOf, Checks, ChecksScratch, ChecksWith, FailsOnOffice, FindsOffice, HasGoodRowsWith, HasNoScratchRows, ShowsBuilders}
+use Rattle.wb_durable.specs.Preparing.{LeavesFound, MakesEmptyOffice}
+use Rattle.wb_durable.proofs.FindsLemmas.{stays-schema, stays-stands, stays_then, unchanged_then}
+
+-- ---- what one test promises
+
+-- a clean disk was clean before
+was_clean : {P : Trees → Type 0} (old new : State) → Survives old new P → HasCleanDisk new → HasCleanDisk old
+was_clean old new survives clean = omega (arith, survives.clean, clean)
+
+rolled_back_then : (a b c : State) → IsUnchanged a b → IsRolledBack b c → IsRolledBack a c
+rolled_back_then a b c one two = record {
+  was_open = λ _. one.0.was_open;
+  undone = λ is_open. let u = two.undone is_open in (u.0 ∙ one.0.committed_is, u.1 ∙ one.0.committed_is);
+  autocommit = two.autocommit;
+  unmarked = two.unmarked;
+  counts = record { changes = two.counts.changes ∙ one.1.changes; last_rowid = two.counts.last_rowid ∙ one.1.last_rowid };
+}
+
+undone_then : (a b c : State) → IsUnchanged a b → IsKeptOrUndone b c → IsKeptOrUndone a c
+undone_then a b c kept (inl same) = inl (unchanged_then a b c kept same)
+undone_then a b c kept (inr undone) = inr (rolled_back_then a b c kept undone)
+
+-- a failure after tests that left the database as it was changes nothing, or takes the transaction back
+undone_after : {S : Type 0} (g : Ghosts S) (old mid new : Held S) → StaysAs g old mid → IsKeptOrUndone (state g mid) (state g new) → IsKeptOrUndone (state g old) (state g new)
+undone_after g old mid new (inl same) failed = subst (λ h. IsKeptOrUndone (state g h) (state g new)) (sym same) failed
+undone_after g old mid new (inr kept) failed = undone_then (state g old) (state g mid) (state g new) kept failed
+
+-- what stays has the database that it had
+same_now : {S : Type 0} (g : Ghosts S) (old new : Held S) → StaysAs g old new → (state g new).now ≡ (state g old).now
+same_now g old new (inl same) = ap (λ h. (state g h).now) (sym same)
+same_now g old new (inr kept) = kept.0.now_is
+
+test_undone : (q : TableQuery) (table : Table) (Bad : List Row → StoreFault → Type 0) (old new : State) (fault : StoreFault)
+    → FailsToTest q table Bad old new fault → IsKeptOrUndone old new
+test_undone q table Bad old new fault (inl failed) = failed.1.1
+test_undone q table Bad old new fault (inr bad) = inl bad.0
+
+module _ {S : Type 0} {g : Ghosts S} {old new : Held S} where
+  -- one test of a table
+  pub tested : {A : Type 0} {q : TableQuery} {table : Table} {Given : Machine → Type 0} {Good : List Row → A → Type 0}
+      {Bad : List Row → StoreFault → Type 0} {Outcome : Machine → A → Type 0} (r : Result A StoreFault)
+      → Tests g q table Good Bad old new r → PassesWith g table Given Outcome old new r
+      → ChecksWith g Given (λ db x. ShowsGood q db (λ rows. Good rows x)) Outcome (FailsToTest q table Bad) old new r
+  tested (Ok x) tests passes = record {
+    good = tests.value;
+    same = λ clean office. inr (tests.same clean office);
+    err = λ clean office. tt;
+    kept = λ clean office. tt;
+    told = passes.value;
+    fails = λ clean. tt;
+    survives = tests.survives;
+  }
+  tested {q = q} {table = table} {Bad = Bad} (Err fault) tests passes = record {
+    good = λ clean office. tt;
+    same = λ clean office. tt;
+    err = λ clean office. (old, inl refl, tests.err clean office);
+    kept = λ clean office. test_undone q table Bad (state g old) (state g new) fault (tests.err clean office);
+    told = λ clean. tt;
+    fails = λ clean machine consistent stands given. elim (passes.err clean machine consistent stands given) [
+      | inl memory ↦ inl memory
+      | inr query ↦ inr (old, inl refl, (table, query))
+    ];
+    survives = tests.survives;
+  }
+
+-- ---- the tests of the builders and of the records, beside what the other tables hold
+
+-- the test of the builders, beside these architectures
+abbrev pub ChecksBuilders : {S X : Type 0} → Ghosts S → List (List ℕ × OsCpu) → Held S → Held S → Result (Vec Key X) StoreFault → Type 0
+ChecksBuilders g archs = ChecksWith g (λ machine. archs ≡ finite.entries machine.archs) (λ db pairs. ShowsBuilders db archs pairs.items)
+    (λ machine pairs. pairs.items ≡ builder_pairs machine) (FailsToTest sql.all_builders Builder (AreBadRows Builder builder_cells (IsFormedBuilder archs)))
+
+-- the test of the records, beside these architectures, builders and greatest take number
+abbrev pub ChecksRecords : {S A : Type 0} → Ghosts S → List (List ℕ × OsCpu) → List Key → ℕ → Held S → Held S → Result A StoreFault → Type 0
+ChecksRecords g archs builders handed = ChecksWith g (AreKept archs builders handed) (λ db done. ShowsGood sql.all_records db (HoldsRecords archs builders handed))
+    (λ machine done. AreKept archs builders handed machine → HasGoodRecords machine) (FailsToTest sql.all_records SourceRecord (AreBadRecords archs builders handed))
+
+module _ {S : Type 0} {g : Ghosts S} {old new : Held S} where
+  -- with other words for the architectures
+  pub builders_tested : {X : Type 0} {given archs : List (List ℕ × OsCpu)} → given ≡ archs → (r : Result (Vec Key X) StoreFault)
+      → Tests g sql.all_builders Builder (λ rows pairs. HoldsBuilders given rows pairs.items) (AreBadRows Builder builder_cells (IsFormedBuilder given)) old new r
+      → PassesWith g Builder (λ machine. given ≡ finite.entries machine.archs) (λ machine pairs. pairs.items ≡ builder_pairs machine) old new r
+      → ChecksBuilders g archs old new r
+  builders_tested is r tests passes = subst (λ archs. ChecksBuilders g archs old new r) is (tested r tests passes)
+
+  -- with other words for the architectures and the builders
+  pub records_tested : {A : Type 0} {given archs : List (List ℕ × OsCpu)} {known builders : List Key} {handed : ℕ} → given ≡ archs → known ≡ builders → (r : Result A StoreFault)
+      → Tests g sql.all_records SourceRecord (λ rows done. HoldsRecords given known handed rows) (AreBadRecords given known handed) old new r
+      → PassesWith g SourceRecord (AreKept given known handed) (λ machine done. AreKept given known handed machine → HasGoodRecords machine) old new r
+      → ChecksRecords g archs builders handed old new r
+  records_tested {archs = archs} {known = known} {handed = handed} is are r tests passes =
+      subst (λ builders. ChecksRecords g archs builders handed old new r) are (subst (λ archs. ChecksRecords g archs known handed old new r) is (tested r tests passes))
+
+-- ---- the test of the scratch tables
+
+no_row : {X : Type 0} (xs : List X) → has_row xs ≡ false → xs ≡ []
+no_row [] none = refl
+no_row (x ∷ xs) none = absurd (both_ways true none refl)
+
+neither_has_row : {X Y : Type 0} (xs : List X) (ys : List Y) → (has_row xs || has_row ys) ≡ false → (xs ≡ []) × (ys ≡ [])
+neither_has_row [] ys none = (refl, no_row ys none)
+neither_has_row (x ∷ xs) ys none = absurd (both_ways true none refl)
+
+has_no_row : {X Y : Type 0} (xs : List X) (ys : List Y) → xs ≡ [] → ys ≡ [] → (has_row xs || has_row ys) ≡ false
+has_no_row xs ys none nothing = ap (λ (l : List _). has_row l || has_row ys) none ∙ ap has_row nothing
+
+query_later : {S : Type 0} (g : Ghosts S) (old new : Held S) (e : Error) → scratch.FailsToTest g old new e
+    → (mid : Held S) × StaysAs g old mid × FailsToRead (state g mid) (state g new) e
+query_later g old new e (inl read) = (old, inl refl, read)
+query_later g old new e (inr later) = (later.0, inr later.1, later.2)
+
+module _ {S : Type 0} {g : Ghosts S} {old new : Held S} where
+  -- neither has a row
+  pub scratch_empty : {A : Type 0} {x : A} → FindsWhether g has_scratch_rows old new (Ok false) → ChecksScratch g old new (Ok x)
+  scratch_empty finds = record {
+    good = λ clean office. neither_has_row ((state g old).now.trees scratch_source.tree) ((state g old).now.trees scratch_binary.tree) (sym (finds.value clean office));
+    same = λ clean office. inr (finds.same clean office);
+    err = λ clean office. tt;
+    kept = λ clean office. tt;
+    told = λ clean machine stands. tt;
+    fails = λ clean. tt;
+    survives = finds.survives;
+  }
+
+  -- one of them has a row
+  pub scratch_left : {A : Type 0} → FindsWhether g has_scratch_rows old new (Ok true) → ChecksScratch {A = A} g old new (Err (Damaged ScratchSource 1))
+  scratch_left finds = record {
+    good = λ clean office. tt;
+    same = λ clean office. tt;
+    err = λ clean office. (old, inl refl, inr (refl, sym (finds.value clean office), finds.same clean office));
+    kept = λ clean office. inl (finds.same clean office);
+    told = λ clean. tt;
+    fails = λ clean machine consistent stands given.
+        absurd (both_ways (has_scratch_rows (state g old).now)
+        (has_no_row ((state g old).now.trees scratch_source.tree) ((state g old).now.trees scratch_binary.tree) stands.sources stands.binaries) (sym (finds.value clean stands.schema_is)));
+    survives = finds.survives;
+  }
+
+  -- their query failed
+  pub scratch_unread : {A : Type 0} {e : Error} {fault : StoreFault} → fault ≡ fault_of e ScratchSource → FindsWhether g has_scratch_rows old new (Err e)
+      → ChecksScratch {A = A} g old new (Err fault)
+  scratch_unread {e = e} {fault} is finds = record {
+    good = λ clean office. tt;
+    same = λ clean office. tt;
+    err = λ clean office. let f = query_later g old new e (finds.err clean office) in (f.0, f.1, inl (e, f.2, is));
+    kept = λ clean office. let f = query_later g old new e (finds.err clean office) in undone_after g old f.0 new f.1 f.2.1;
+    told = λ clean. tt;
+    fails = λ clean machine consistent stands given. let f = query_later g old new e (finds.err clean stands.schema_is) in inr (f.0, f.1, (ScratchSource, (e, f.2, is)));
+    survives = finds.survives;
+  }
+
+-- ---- tests, one after another
+
+-- what is known where the tests so far have passed
+pub record HasPassed {S : Type 0} (g : Ghosts S) (Good : Database → Type 0) (Outcome : Machine → Type 0) (old mid : Held S) : Type 0 where
+  pub good : HasCleanDisk (state g mid) → old.schema ≡ office_schema → Good (state g old).now
+  pub same : HasCleanDisk (state g mid) → old.schema ≡ office_schema → StaysAs g old mid
+  pub told : HasCleanDisk (state g mid) → (machine : Machine) → StandsFor machine (state g old).now → Outcome machine
+  pub survives : Survives (state g old) (state g mid) (λ _. old.schema ≢ office_schema)
+
+-- no test was made yet
+pub none_yet : {S : Type 0} (g : Ghosts S) (old : Held S) → HasPassed g (λ _. ⊤) (λ _. ⊤) old old
+none_yet g old = record {
+  good = λ clean office. tt;
+  same = λ clean office. inl refl;
+  told = λ clean machine stands. tt;
+  survives = record {
+    clean = omega arith;
+    shield = λ h. h;
+    counts = omega arith;
+    limit = refl;
+    closes = λ clean h. inl h;
+    crash = λ clean db may. inl may;
+  };
+}
+
+module _ {S : Type 0} {g : Ghosts S} {old mid : Held S} {Good : Database → Type 0} {Outcome : Machine → Type 0} (one : HasPassed g Good Outcome old mid) where
+  both_survive : (new : Held S) → (HasCleanDisk (state g new) → HasCleanDisk (state g mid)) → Survives (state g mid) (state g new) (λ _. mid.schema ≢ office_schema)
+      → Survives (state g old) (state g new) (λ _. old.schema ≢ office_schema)
+  both_survive new before later =
+      survives_then (state g old) (state g mid) (state g new) _ _ _ (λ clean db other. other)
+      (λ clean db other office. other (stays-schema g old mid (one.same (before clean) office) office)) one.survives later
+
+  -- the next one passes too
+  pub then_passed : {A : Type 0} {new : Held S} {Given : Machine → Type 0} {Second : Database → A → Type 0} {Next : Machine → A → Type 0}
+      {Why : State → State → StoreFault → Type 0} {y : A} → ChecksWith g Given Second Next Why mid new (Ok y)
+      → HasPassed g (λ db. Good db × Second db y) (λ machine. Outcome machine × Next machine y) old new
+  then_passed {new = new} {Second = Second} {y = y} two =
+      let before : HasCleanDisk (state g new) → HasCleanDisk (state g mid) = λ clean. was_clean (state g mid) (state g new) two.survives clean in
+      record {
+        good = λ clean office.
+            let stays = one.same (before clean) office in
+            (one.good (before clean) office, subst (λ db. Second db y) (same_now g old mid stays) (two.good clean (stays-schema g old mid stays office)));
+        same = λ clean office.
+            let stays = one.same (before clean) office in
+            stays_then g old mid new stays (two.same clean (stays-schema g old mid stays office));
+        told = λ clean machine stands.
+            (one.told (before clean) machine stands, two.told clean machine (stays-stands g old mid (one.same (before clean) stands.schema_is) stands));
+        survives = both_survive new before two.survives;
+      }
+
+  -- the next one fails
+  pub then_failed : {A B : Type 0} {new : Held S} {Given : Machine → Type 0} {Second : Database → A → Type 0} {Next : Machine → A → Type 0}
+      {Why : State → State → StoreFault → Type 0} {Whole : Database → B → Type 0} {Last : Machine → B → Type 0} {All : State → State → StoreFault → Type 0}
+      {fault : StoreFault} {r : Result B StoreFault} → ChecksWith g Given Second Next Why mid new (Err fault)
+      → ((machine : Machine) → Outcome machine → Given machine)
+      → ((at after : State) → Good at.now → Why at after fault → All at after fault) → r ≡ Err fault → ChecksWith g (λ _. ⊤) Whole Last All old new r
+  then_failed {B = B} {new = new} {Whole = Whole} {Last = Last} {All = All} {fault = fault} two given why is =
+      let before : HasCleanDisk (state g new) → HasCleanDisk (state g mid) = λ clean. was_clean (state g mid) (state g new) two.survives clean in
+      subst (λ (r : Result B StoreFault). ChecksWith g (λ _. ⊤) Whole Last All old new r) (sym is) (record {
+        good = λ clean office. tt;
+        same = λ clean office. tt;
+        err = λ clean office.
+            let stays = one.same (before clean) office in
+            let later = two.err clean (stays-schema g old mid stays office) in
+            let whole = stays_then g old mid later.0 stays later.1 in
+            (later.0, whole, why (state g later.0) (state g new) (subst Good (sym (same_now g old later.0 whole)) (one.good (before clean) office)) later.2);
+        kept = λ clean office.
+            let stays = one.same (before clean) office in
+            undone_after g old mid new stays (two.kept clean (stays-schema g old mid stays office));
+        told = λ clean. tt;
+        fails = λ clean machine consistent stands none.
+            let stays = one.same (before clean) stands.schema_is in
+            elim (two.fails clean machine consistent (stays-stands g old mid stays stands) (given machine (one.told (before clean) machine stands))) [
+              | inl memory ↦ inl memory
+              | inr later ↦ inr (later.0, stays_then g old mid later.0 stays later.1, later.2)
+            ];
+        survives = both_survive new before two.survives;
+      })
+
+  -- all have passed
+  pub all_passed : {B : Type 0} {Whole : Database → B → Type 0} {Last : Machine → B → Type 0} {All : State → State → StoreFault → Type 0} {x : B}
+      → ((db : Database) → Good db → Whole db x) → ((machine : Machine) → Outcome machine → Last machine x) → ChecksWith g (λ _. ⊤) Whole Last All old mid (Ok x)
+  all_passed good last = record {
+    good = λ clean office. good (state g old).now (one.good clean office);
+    same = one.same;
+    err = λ clean office. tt;
+    kept = λ clean office. tt;
+    told = λ clean machine stands. last machine (one.told clean machine stands);
+    fails = λ clean. tt;
+    survives = one.survives;
+  }
+
+-- ---- the tests of a whole office
+
+module _ {S : Type 0} (g : Ghosts S) (old new : Held S) where
+  fewer : Survives (state g old) (state g new) (λ _. old.schema ≢ office_schema) → old.schema ≡ office_schema → HasCleanDisk (state g new) → LeavesNoMore (state g old) (state g new)
+  fewer survives same clean db may = elim (survives.crash clean db may) [ inl was ↦ was | inr other ↦ absurd (other same) ]
+
+  -- what stays as it was stays settled
+  stays_settled_as : {machine : Machine} → StaysAs g old new → LeavesNoMore (state g old) (state g new) → IsSettled machine (state g old) → IsSettled machine (state g new)
+  stays_settled_as {machine = machine} (inl same) less settled = subst (λ h. IsSettled machine (state g h)) same settled
+  stays_settled_as (inr kept) less settled = stays_settled (state g old) (state g new) kept less settled
+
+  back_by : {machine : Machine} → IsKeptOrUndone (state g old) (state g new) → LeavesNoMore (state g old) (state g new) → IsSettled machine (state g old) → IsBackAt machine (state g new)
+  back_by (inl same) less settled = stays_back (state g old) (state g new) same less (settled_back (state g old) settled)
+  back_by (inr undone) less settled = goes_back_again (state g old) (state g new) undone less (settled_back (state g old) settled)
+
+-- what the tests make of a settled connection
+module _ {S : Type 0} {g : Ghosts S} {old new : Held S} where
+  pub checked : (r : Result Counts StoreFault) → ChecksWith g (λ _. ⊤) (λ db counts. HasGoodRowsWith db counts × HasNoScratchRows db) AreCountsOf FailsOnOffice old new r → Checks g old new r
+  checked (Ok counts) h = record {
+    was_clean = was_clean (state g old) (state g new) h.survives;
+    good = λ clean office. let good = h.good clean office in (good.0, good.1, h.same clean office);
+    passes = λ clean machine consistent settled.
+        let schema = settled.holds.schema_is in
+        (h.told clean machine (office_stands (state g old).now settled.holds), stays_settled_as g old new (h.same clean schema) (fewer g old new h.survives schema clean) settled);
+    fails = λ clean machine consistent settled. tt;
+    refuses = λ clean office. tt;
+    survives = h.survives;
+  }
+  checked (Err fault) h = record {
+    was_clean = was_clean (state g old) (state g new) h.survives;
+    good = λ clean office. tt;
+    passes = λ clean machine consistent settled. tt;
+    fails = λ clean machine consistent settled.
+        let schema = settled.holds.schema_is in
+        (back_by g old new (h.kept clean schema) (fewer g old new h.survives schema clean) settled, h.fails clean machine consistent (office_stands (state g old).now settled.holds) tt);
+    refuses = h.err;
+    survives = h.survives;
+  }
+
+-- ---- an office is found, or made
+
+-- the schema of an office has tables
+empty_is_no_office : empty_schema ≢ office_schema
+empty_is_no_office is = both_ways (has_row empty_schema.tables) refl (ap (λ (s : Schema). has_row s.tables) is)
+
+settled_leaves : {machine : Machine} (s : State) → IsSettled machine s → LeavesFound machine s
+settled_leaves s settled db may = inl ((settled_back s settled).left db may)
+
+module _ {S : Type 0} {g : Ghosts S} {old new : Held S} where
+  -- a database with tables is tested as it is
+  pub found_office : (r : Result Counts StoreFault) → old.schema ≢ empty_schema → Checks g old new r → FindsOffice g old new r
+  found_office (Ok counts) tables h = record {
+    was_clean = h.was_clean;
+    found = λ clean machine consistent at. elim at [
+      | inl settled ↦ h.passes clean machine consistent settled
+      | inr blank ↦ absurd (tables blank.1.schema_is)
+    ];
+    left = λ clean machine consistent at. elim at [
+      | inl settled ↦ settled_leaves (state g new) (h.passes clean machine consistent settled).1
+      | inr blank ↦ absurd (tables blank.1.schema_is)
+    ];
+    fails = λ clean machine consistent at. tt;
+    good = h.good;
+    refuses = λ clean office. tt;
+  }
+  found_office (Err fault) tables h = record {
+    was_clean = h.was_clean;
+    found = λ clean machine consistent at. tt;
+    left = λ clean machine consistent at. elim at [
+      | inl settled ↦ λ db may. inl ((h.fails clean machine consistent settled).0.left db may)
+      | inr blank ↦ absurd (tables blank.1.schema_is)
+    ];
+    fails = λ clean machine consistent at. elim at [
+      | inl settled ↦ inr (old, inl refl, (h.fails clean machine consistent settled).1)
+      | inr blank ↦ absurd (tables blank.1.schema_is)
+    ];
+    good = λ clean office. tt;
+    refuses = h.refuses;
+  }
+
+no_office : {schema : Schema} {P : Type 0} → schema ≡ empty_schema → schema ≡ office_schema → P
+no_office none office = absurd (empty_is_no_office (sym none ∙ office))
+
+module _ {S : Type 0} {g : Ghosts S} {old new : Held S} (none : old.schema ≡ empty_schema) where
+  -- an empty office is made, and then tested
+  pub made_and_tested : {A : Type 0} {x : A} {mid : Held S} (r : Result Counts StoreFault) → MakesEmptyOffice g old mid (Ok x) → Checks g mid new r → FindsOffice g old new r
+  made_and_tested {mid = mid} (Ok counts) makes h = record {
+    was_clean = λ clean. makes.was_clean (h.was_clean clean);
+    found = λ clean machine consistent at. elim at [
+      | inl settled ↦ no_office none settled.holds.schema_is
+      | inr blank ↦ subst (λ m. AreCountsOf m counts × IsSettled m (state g new)) (sym blank.0)
+          (h.passes clean empty_office IsConsistent-empty_office (makes.made (h.was_clean clean) blank.1))
+    ];
+    left = λ clean machine consistent at. elim at [
+      | inl settled ↦ no_office none settled.holds.schema_is
+      | inr blank ↦ subst (λ m. LeavesFound m (state g new)) (sym blank.0)
+          (settled_leaves (state g new) (h.passes clean empty_office IsConsistent-empty_office (makes.made (h.was_clean clean) blank.1)).1)
+    ];
+    fails = λ clean machine consistent at. tt;
+    good = λ clean office. no_office none office;
+    refuses = λ clean office. tt;
+  }
+  made_and_tested {mid = mid} (Err fault) makes h = record {
+    was_clean = λ clean. makes.was_clean (h.was_clean clean);
+    found = λ clean machine consistent at. tt;
+    left = λ clean machine consistent at. elim at [
+      | inl settled ↦ no_office none settled.holds.schema_is
+      | inr blank ↦ subst (λ m. LeavesFound m (state g new)) (sym blank.0)
+          (λ db may. inl ((h.fails clean empty_office IsConsistent-empty_office (makes.made (h.was_clean clean) blank.1)).0.left db may))
+    ];
+    fails = λ clean machine consistent at. elim at [
+      | inl settled ↦ no_office none settled.holds.schema_is
+      | inr blank ↦
+          let settled = makes.made (h.was_clean clean) blank.1 in
+          inr (mid, inr settled, (h.fails clean empty_office IsConsistent-empty_office settled).1)
+    ];
+    good = λ clean office. tt;
+    refuses = λ clean office. no_office none office;
+  }
+
+  -- none could be made
+  pub none_made : {A : Type 0} {e : Error} {fault : StoreFault} → fault ≡ fault_of e Office → MakesEmptyOffice {A = A} g old new (Err e) → FindsOffice g old new (Err fault)
+  none_made {e = e} is makes = record {
+    was_clean = makes.was_clean;
+    found = λ clean machine consistent at. tt;
+    left = λ clean machine consistent at. elim at [
+      | inl settled ↦ no_office none settled.holds.schema_is
+      | inr blank ↦ subst (λ m. LeavesFound m (state g new)) (sym blank.0) (makes.left clean blank.1)
+    ];
+    fails = λ clean machine consistent at. inl (e, makes.err clean, is);
+    good = λ clean office. tt;
+    refuses = λ clean office. no_office none office;
+  }

@@ -1,0 +1,16 @@
+use Rattle.sqlite.specs.Held.{state}
+use Rattle.wb_tables.proofs.SettledLemmas.{settled_back}
+use Rattle.wb_durable.proofs.office.Office.adopt.Goals as goal
+
+pub returns-in-Ok-clause-found : goal.returns-in-Ok-clause-found
+returns-in-Ok-clause-found g c = λ clean machine consistent is.
+    let found = c.in-Ok.ensures.finds.found clean machine consistent is in
+    record {
+      consistent = consistent;
+      counted = found.0.1;
+      back = settled_back (state g.S.Store c.find_office.new.conn) found.1;
+      is_open = λ _. found.1.is_open;
+    }
+
+pub returns-in-Err-clause-refuses : goal.returns-in-Err-clause-refuses
+returns-in-Err-clause-refuses g c = λ schema. (c.find_office.new.conn, λ clean. c.in-Err.ensures.finds.refuses clean schema)

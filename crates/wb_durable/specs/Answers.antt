@@ -1,0 +1,92 @@
+-- What the office answers to a command that is carried out over its tables, and where it then stands (this project's own).
+use Rattle.std.specs.Prelude.{◌≡◌, ◌⊎◌, ℕ, Bool, true, false, List, Option, Result, Ok, Err, IfOk, IfErr, OnOk}
+use Rattle.sqlite_trees.specs.declared.store.Store.{Ghosts}
+use Rattle.sqlite.specs.Held.{Held, state}
+use Rattle.sqlite.specs.State.{HasCleanDisk}
+use Rattle.wb_states.specs.declared.command.Command.{Command}
+use Rattle.wb_states.specs.declared.command.Part.{Part}
+use Rattle.wb_states.specs.declared.reply.Reply.{Reply}
+use Rattle.wb_states.specs.declared.reply.Reply.TheVariants as is
+use Rattle.wb_states.specs.declared.refusal.Refusal.TheVariants.{Memory}
+use Rattle.wb_states.specs.Forms.{Merge}
+use Rattle.wb_states.specs.Machine.{Machine, Key, IsConsistent}
+use Rattle.wb_states.specs.Refusals.{IsOfMachine}
+use Rattle.wb_office.specs.Checks.{MayWantMemory}
+use Rattle.wb_office.specs.MergedParts.{part_for_merge}
+use Rattle.wb_office.specs.Named.{part_named}
+use Rattle.wb_office.specs.Step.{step}
+use Rattle.wb_office.specs.Utf8.{HasUtf8Texts}
+use Rattle.wb_tables.specs.Settled.{IsSettled, IsBackAt}
+use Rattle.wb_durable.specs.declared.answer.Failure.{Failure}
+use Rattle.wb_durable.specs.declared.answer.Failure.TheVariants.{Refused, Unread, Uncommitted}
+use Rattle.wb_durable.specs.Carried.{LeavesAs, EndsFor}
+use Rattle.wb_durable.specs.Changed.{IsStepOf}
+use Rattle.wb_durable.specs.Finds.{FailsToFind}
+use Rattle.wb_durable.specs.Keys.{key_put}
+use Rattle.wb_durable.specs.MergeCarried.{MergeEndsFor}
+use Rattle.wb_durable.specs.MergeWritten.{IsMergeIn}
+
+-- how many commands are accepted, as a reply tells it
+abbrev pub accepted_of : Reply → ℕ
+accepted_of (is.Done accepted) = accepted
+accepted_of (is.Job accepted given) = accepted
+accepted_of (is.Again accepted given) = accepted
+accepted_of (is.Merged accepted parts) = accepted
+
+-- whether a reply repeats an assignment, so that nothing is accepted
+abbrev pub is_again : Reply → Bool
+is_again (is.Done accepted) = false
+is_again (is.Job accepted given) = false
+is_again (is.Again accepted given) = true
+is_again (is.Merged accepted parts) = false
+
+-- this is the part of the office that the command names, and the key of the record that it puts
+abbrev pub IsNamed : Command → Machine → Option Key → Machine → Type 0
+IsNamed command part key machine = (part ≡ part_named machine command) × (key ≡ key_put machine command)
+
+-- what a command changed was not committed, for this reason
+abbrev pub IsUncommitted : {S : Type 0} → Ghosts S → Machine → Command → Held S → Held S → Failure → Type 0
+IsUncommitted g machine command old new (Refused refusal) = ⊥
+IsUncommitted g machine command old new (Unread e) = ⊥
+IsUncommitted {S} g machine command old new (Uncommitted e) =
+    LeavesAs machine (step machine command).1 (state g new) e
+    × (((at : Held S) × (key : Option Key) × (after : Machine) × EndsFor g command key after machine at new e)
+    ⊎ ((at : Held S) × (after : Machine) × MergeEndsFor g after (step machine command).1 at new e))
+
+-- why a command is not carried out, and where the office is left: it is refused, or a look-up failed, and nothing is changed; or what it changed
+-- was not committed, and the office is as it was, or, where the commit is in doubt, as it was or as the command makes it
+abbrev pub IsLeft : {S : Type 0} → Ghosts S → Machine → Command → Held S → Held S → Failure → Type 0
+IsLeft g machine command old new (Refused refusal) =
+    (IsOfMachine refusal → (step machine command).0 ≡ Err refusal) × ((refusal ≡ Memory → MayWantMemory command) × IsSettled machine (state g new))
+IsLeft g machine command old new (Unread e) = FailsToFind g old new e × IsBackAt machine (state g new)
+IsLeft g machine command old new (Uncommitted e) = IsUncommitted g machine command old new (Uncommitted e)
+
+-- what a step in a part of the office changed, written to the tables of the whole office
+pub record KeepsStep {S A : Type 0} (g : Ghosts S) (command : Command) (key : Option Key) (after : Machine) (old new : Held S) (result : Result A Failure) : Type 0 where
+  pub was_clean : HasCleanDisk (state g new) → HasCleanDisk (state g old)
+  pub ok : HasCleanDisk (state g new) → (machine : Machine) → IsSettled machine (state g old) → IsStepOf machine command key after
+      → OnOk result (IsSettled (step machine command).1 (state g new))
+  pub err : HasCleanDisk (state g new) → (machine : Machine) → IsSettled machine (state g old) → IsStepOf machine command key after
+      → IfErr result (IsUncommitted g machine command old new)
+
+-- these are twice the part of the office that a merge looks at
+abbrev pub AreParts : List Part → Machine → Machine → Machine → Type 0
+AreParts parts before part machine = (before ≡ part_for_merge machine parts) × (part ≡ part_for_merge machine parts)
+
+-- what a merge changed, from the one part of the office to the other, written to the tables of the whole office
+pub record KeepsMerge {S A : Type 0} (g : Ghosts S) (sources : List ℕ) (parts : List Part) (before after : Machine) (old new : Held S) (result : Result A Failure) : Type 0 where
+  pub was_clean : HasCleanDisk (state g new) → HasCleanDisk (state g old)
+  pub ok : HasCleanDisk (state g new) → (machine : Machine) → IsSettled machine (state g old) → IsMergeIn machine sources parts before after
+      → OnOk result (IsSettled (step machine (Merge sources parts)).1 (state g new))
+  pub err : HasCleanDisk (state g new) → (machine : Machine) → IsSettled machine (state g old) → IsMergeIn machine sources parts before after
+      → IfErr result (IsUncommitted g machine (Merge sources parts) old new)
+
+-- a command carried out over the tables of a consistent office of which this is given: the reply is that of the step, after which the tables are
+-- settled at its state; or a failure leaves the office as above
+pub record Answers {S : Type 0} (g : Ghosts S) (Given : Machine → Type 0) (command : Command) (old new : Held S) (result : Result Reply Failure) : Type 0 where
+  pub was_clean : HasCleanDisk (state g new) → HasCleanDisk (state g old)
+  pub ok : HasCleanDisk (state g new) → (machine : Machine) → IsConsistent machine → IsSettled machine (state g old) → Given machine
+      → IfOk result (λ reply. ((step machine command).0 ≡ Ok reply) × IsSettled (step machine command).1 (state g new))
+  pub err : HasCleanDisk (state g new) → (machine : Machine) → IsConsistent machine → IsSettled machine (state g old) → Given machine
+      → IfErr result (IsLeft g machine command old new)
+  pub utf8 : OnOk result (HasUtf8Texts command)

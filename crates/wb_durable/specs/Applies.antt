@@ -1,0 +1,78 @@
+-- What an office over tables answers to a command, and how it stands then (this project's own).
+use Rattle.std.specs.Prelude.{◌≡◌, ◌≢◌, ℕ, Bool, true, false, Result, Ok, Err, IfOk, IfErr, IsTrue}
+use Rattle.sqlite_trees.specs.declared.store.Store.{Ghosts}
+use Rattle.sqlite.specs.Held.{Held, state}
+use Rattle.sqlite.specs.State.{HasCleanDisk}
+use Rattle.wb_states.specs.declared.command.Command.{Command}
+use Rattle.wb_states.specs.declared.reply.Reply.{Reply}
+use Rattle.wb_states.specs.declared.refusal.Refusal.{Refusal}
+use Rattle.wb_states.specs.declared.refusal.Refusal.TheVariants.{Closed, Memory, Store}
+use Rattle.wb_states.specs.declared.store_fault.StoreFault.{StoreFault}
+use Rattle.wb_states.specs.declared.store_fault.Table.TheVariants.{SourceRecord}
+use Rattle.wb_states.specs.declared.store_fault.StoreFault.TheVariants as fault
+use Rattle.wb_states.specs.Machine.{Machine}
+use Rattle.wb_office.specs.Ends.{is_of_store}
+use Rattle.wb_office.specs.Step.{step}
+use Rattle.wb_tables.specs.Faults.{fault_of}
+use Rattle.wb_tables.specs.Settled.{IsBackAt, LeavesEither}
+use Rattle.wb_durable.specs.declared.answer.Failure.{Failure}
+use Rattle.wb_durable.specs.declared.answer.Failure.TheVariants.{Refused, Unread, Uncommitted}
+use Rattle.wb_durable.specs.declared.carry.CarryError.TheVariants.{TakenBack, RollBackFailed, InDoubt}
+use Rattle.wb_durable.specs.Answers.{IsLeft}
+use Rattle.wb_durable.specs.Standing.{StandsAt}
+
+-- the refusal for a fault of the store: out of memory is a refusal of its own
+abbrev pub refusal_for : StoreFault → Refusal
+refusal_for fault.Memory = Memory
+refusal_for fault = Store fault
+
+-- the refusal for a commit in doubt, which is no want of memory: the device failed
+abbrev pub doubt_for : StoreFault → Refusal
+doubt_for fault.Memory = Store fault.Device
+doubt_for fault = Store fault
+
+-- what is answered to a command that is not carried out
+abbrev pub refusal_of : Failure → Refusal
+refusal_of (Refused refusal) = refusal
+refusal_of (Unread e) = refusal_for (fault_of e SourceRecord)
+refusal_of (Uncommitted (TakenBack e)) = refusal_for (fault_of e SourceRecord)
+refusal_of (Uncommitted (RollBackFailed e)) = refusal_for (fault_of e SourceRecord)
+refusal_of (Uncommitted (InDoubt e)) = doubt_for (fault_of e SourceRecord)
+
+-- a command that was not carried out is refused, and the office stands as before, or is closed
+pub record IsRefusedIn {S : Type 0} (g : Ghosts S) (machine : Machine) (command : Command) (is_closed : Bool) (new : Held S) (refusal : Refusal) : Type 0 where
+  pub machines : refusal ≢ Memory → is_of_store refusal ≡ false → ((step machine command).0 ≡ Err refusal) × (is_closed ≡ false)
+  pub back : is_of_store refusal ≡ false → IsBackAt machine (state g new)
+  pub is_open : is_closed ≡ false → IsTrue (state g new).is_open
+  pub ends : is_of_store refusal ≡ true → is_closed ≡ true
+  pub left : LeavesEither machine (step machine command).1 (state g new)
+  pub shut : refusal ≡ Closed → IsBackAt machine (state g new)
+
+-- what is answered after a failure, and whether the office is closed then
+pub record Ends {S : Type 0} (g : Ghosts S) (failure : Failure) (old new : Held S) (refusal : Refusal) (is_closed : Bool) : Type 0 where
+  pub was_clean : HasCleanDisk (state g new) → HasCleanDisk (state g old)
+  pub refused : HasCleanDisk (state g new) → (machine : Machine) (command : Command) (before : Held S) → IsLeft g machine command before old failure
+      → IsRefusedIn g machine command is_closed new refusal
+  pub told : refusal ≡ refusal_of failure
+
+-- an office over tables carries out a command: the reply is that of the step, after which it stands at its state; a refusal of the state changes
+-- nothing; out of memory, it stands as before, but may be closed; after a fault of the store it is closed, and the command stands whole or not at
+-- all; and a closed office, and no other, answers that it is closed
+pub record Applies {S : Type 0} (g : Ghosts S) (command : Command) (was_closed : Bool) (counted : ℕ) (old : Held S) (is_closed : Bool) (counts : ℕ) (new : Held S) (result : Result Reply Refusal) : Type 0 where
+  pub was_clean : HasCleanDisk (state g new) → HasCleanDisk (state g old)
+  pub shut : was_closed ≡ true → (result ≡ Err Closed) × (is_closed ≡ true) × (counts ≡ counted) × (new ≡ old)
+  pub reply : HasCleanDisk (state g new) → (machine : Machine) → StandsAt machine was_closed counted (state g old)
+      → IfOk result (λ reply. ((step machine command).0 ≡ Ok reply) × StandsAt (step machine command).1 is_closed counts (state g new) × (is_closed ≡ false))
+  pub refused : HasCleanDisk (state g new) → (machine : Machine) → StandsAt machine was_closed counted (state g old) → was_closed ≡ false
+      → IfErr result (λ refusal. IsRefusedIn g machine command is_closed new refusal × (counts ≡ counted))
+  pub cause : HasCleanDisk (state g new) → (machine : Machine) → StandsAt machine was_closed counted (state g old) → was_closed ≡ false
+      → IfErr result (λ refusal. (failure : Failure) × (at : Held S) × IsLeft g machine command old at failure × (refusal ≡ refusal_of failure))
+
+-- what is answered after this fault of a call that changed nothing, and whether the office is closed then: out of memory, it goes on if its
+-- connection is open
+pub record EndsWith {S : Type 0} (g : Ghosts S) (fault : StoreFault) (old new : Held S) (refusal : Refusal) (is_closed : Bool) : Type 0 where
+  pub was_clean : HasCleanDisk (state g new) → HasCleanDisk (state g old)
+  pub told : refusal ≡ refusal_for fault
+  pub back : HasCleanDisk (state g new) → (machine : Machine) → IsBackAt machine (state g old) → IsBackAt machine (state g new)
+  pub is_open : HasCleanDisk (state g new) → is_closed ≡ false → IsTrue (state g new).is_open
+  pub ends : is_of_store refusal ≡ true → is_closed ≡ true

@@ -1,0 +1,87 @@
+-- The transaction of an accepted command: how it ends, and why it was not committed (this project's own).
+use Rattle.std.specs.Prelude.{◌≡◌, ◌⊎◌, Bool, true, false, if◌then◌else◌, [], Option, Result, Ok, Err, IfErr, OnOk}
+use Rattle.sqlite_trees.specs.declared.store.Store.{Ghosts}
+use Rattle.sqlite.specs.declared.error.Error.{Error}
+use Rattle.sqlite.specs.declared.error.Error.TheVariants.{SqliteFailure}
+use Rattle.sqlite.specs.declared.error.ErrorCode.TheVariants.{TransactionState}
+use Rattle.sqlite.specs.Tree.{Trees}
+use Rattle.sqlite.specs.Held.{Held, state}
+use Rattle.sqlite.specs.State.{State, HasCleanDisk, IsRolledBack, Executes, Survives}
+use Rattle.wb_sql.specs.Transactions.{rollback_text, FailsToCommit}
+use Rattle.wb_schema.specs.Tables.{office_schema}
+use Rattle.wb_states.specs.declared.command.Command.{Command}
+use Rattle.wb_states.specs.Machine.{Machine, Key}
+use Rattle.wb_office.specs.Step.{step}
+use Rattle.wb_tables.specs.Stands.{StandsFor}
+use Rattle.wb_tables.specs.Calls.{Becomes}
+use Rattle.wb_tables.specs.Settled.{IsSettled, IsBackAt, LeavesEither}
+use Rattle.wb_durable.specs.declared.carry.CarryError.{CarryError}
+use Rattle.wb_durable.specs.declared.carry.CarryError.TheVariants.{TakenBack, RollBackFailed, InDoubt}
+use Rattle.wb_durable.specs.Changed.{HasFittingNumbers, IsStepOf, before_counts, FailsToChange}
+
+-- the connection in a transaction that has just begun
+abbrev pub begun : {S : Type 0} → Held S → Held S
+begun old = record old { in_transaction = true }
+
+-- ---- how a transaction ended that was not committed
+
+-- the error says that no transaction is under way
+abbrev pub is_over : Error → Bool
+is_over (SqliteFailure TransactionState) = true
+is_over _ = false
+
+-- the failure of a transaction with this error, by the answer to ROLLBACK: it is taken back if that succeeded or found it over
+abbrev pub failure_of : {A : Type 0} → Error → Result A Error → CarryError
+failure_of e (Ok x) = TakenBack e
+failure_of e (Err why) = if is_over why then TakenBack e else RollBackFailed e
+
+-- what was committed before stands, unless the commit is in doubt: then that or the state after the command
+abbrev pub LeavesAs : Machine → Machine → State → CarryError → Type 0
+LeavesAs before now s (TakenBack e) = IsBackAt before s
+LeavesAs before now s (RollBackFailed e) = IsBackAt before s
+LeavesAs before now s (InDoubt e) = LeavesEither before now s
+
+-- ROLLBACK took the transaction back, or found it over
+abbrev pub IsEnded : {S : Type 0} → Ghosts S → Held S → Type 0
+IsEnded {S} g new =
+    (at : Held S) × (IsRolledBack (state g at) (state g new)
+    ⊎ ((why : Error) × (Executes rollback_text [] (state g at) (state g new) (Err why) × (is_over why ≡ true))))
+
+-- ROLLBACK failed, for another reason than that the transaction was over
+abbrev pub FailsToRollBack : {S : Type 0} → Ghosts S → Held S → Type 0
+FailsToRollBack {S} g new = (at : Held S) × ((why : Error) × (Executes rollback_text [] (state g at) (state g new) (Err why) × (is_over why ≡ false)))
+
+-- the whole change was written, and then the commit failed with this error
+abbrev pub FailsAtCommit : {S : Type 0} → Ghosts S → Machine → Held S → Error → Type 0
+FailsAtCommit {S} g now old e = (at : Held S) × (Becomes now (state g (begun old)) (state g at) × FailsToCommit g at e)
+
+-- a write of the change failed with this error
+abbrev pub FailsAtChange : {S : Type 0} → Ghosts S → Type 0 → Machine → Held S → Error → Type 0
+FailsAtChange {S} g Fits between old e = (at : Held S) × FailsToChange g Fits between (begun old) at e
+
+-- why the transaction was not committed, and how ROLLBACK answered, if it was run
+abbrev pub EndsFor : {S : Type 0} → Ghosts S → Command → Option Key → Machine → Machine → Held S → Held S → CarryError → Type 0
+EndsFor g command key after whole old new (TakenBack e) =
+    (FailsAtChange g (HasFittingNumbers after key) (before_counts command whole) old e ⊎ FailsAtCommit g (step whole command).1 old e) × IsEnded g new
+EndsFor g command key after whole old new (RollBackFailed e) =
+    (FailsAtChange g (HasFittingNumbers after key) (before_counts command whole) old e ⊎ FailsAtCommit g (step whole command).1 old e) × FailsToRollBack g new
+EndsFor g command key after whole old new (InDoubt e) = FailsAtCommit g (step whole command).1 old e
+
+-- ---- the transaction
+
+-- these trees hold the tables of the office after a step of the one for which the database stands
+abbrev pub HoldsStep : {S : Type 0} → Ghosts S → Command → Option Key → Machine → Held S → Trees → Type 0
+HoldsStep g command key after old db =
+    (whole : Machine) → StandsFor whole (state g old).now → IsStepOf whole command key after → StandsFor (step whole command).1 (record { schema = office_schema; trees = db })
+
+-- the change of an accepted command in a transaction of its own, over a connection that is settled at the whole office: if it succeeds, the
+-- connection is settled at the office after the command; if it fails, the office is as before, but where the commit is in doubt a crash leaves
+-- the one or the other; and a crash at any moment leaves no third
+pub record CarriesOut {S A : Type 0} (g : Ghosts S) (command : Command) (key : Option Key) (after : Machine) (old new : Held S) (result : Result A CarryError) : Type 0 where
+  pub ok : HasCleanDisk (state g new) → (whole : Machine) → IsSettled whole (state g old) → IsStepOf whole command key after
+      → OnOk result (IsSettled (step whole command).1 (state g new))
+  pub err : HasCleanDisk (state g new) → (whole : Machine) → IsSettled whole (state g old) → IsStepOf whole command key after
+      → IfErr result (LeavesAs whole (step whole command).1 (state g new))
+  pub cause : HasCleanDisk (state g new) → (whole : Machine) → IsSettled whole (state g old) → IsStepOf whole command key after
+      → IfErr result (EndsFor g command key after whole old new)
+  pub survives : Survives (state g old) (state g new) (HoldsStep g command key after old)

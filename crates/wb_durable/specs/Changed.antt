@@ -1,0 +1,107 @@
+-- What an accepted command changed in a part of the office, written to the tables of the whole office (this project's own).
+use Rattle.std.specs.Prelude.{◌≡◌, ◌≢◌, ◌⊎◌, ℕ, ◌≤◌, Option, Result, Ok, IsTrue, IfErr, IfSome, OnOk, OnErr, option_and_then}
+use Rattle.std.specs.FinMap as map
+use Rattle.std.specs.Option.{option_map}
+use Rattle.sqlite_trees.specs.declared.store.Store.{Ghosts}
+use Rattle.sqlite.specs.declared.error.Error.{Error}
+use Rattle.sqlite.specs.Held.{Held, state}
+use Rattle.sqlite.specs.State.{HasCleanDisk, Survives}
+use Rattle.wb_schema.specs.Tables.{office_schema}
+use Rattle.wb_states.specs.declared.command.Command.{Command}
+use Rattle.wb_states.specs.declared.record.Record.{Record}
+use Rattle.wb_states.specs.declared.reply.Assignment.{Assignment}
+use Rattle.wb_states.specs.declared.reply.Reply.{Reply}
+use Rattle.wb_states.specs.declared.reply.Reply.TheVariants.{Again}
+use Rattle.wb_states.specs.Limits.{count_limit}
+use Rattle.wb_states.specs.Machine.{Machine, Key}
+use Rattle.wb_states.specs.Queue.{Entry}
+use Rattle.wb_office.specs.Locality.{LooksAlike}
+use Rattle.wb_office.specs.Step.{step}
+use Rattle.wb_tables.specs.Stands.{StandsFor}
+use Rattle.wb_tables.specs.Calls.{Becomes, FailsToWrite}
+use Rattle.wb_tables.specs.Lookups.{IsReadFault}
+use Rattle.wb_tables.specs.Settled.{IsUnderWay, IsBackAt}
+use Rattle.wb_durable.specs.Keys.{key_put}
+
+-- ---- a step
+
+-- the reply is not that a builder is told again of what it builds
+abbrev pub IsFresh : Reply → Type 0
+IsFresh reply = (accepted : ℕ) (given : Assignment) → reply ≢ Again accepted given
+
+-- a command was accepted in a part of the office, which is `after` then: the part looks to the command like the whole office, and in the whole
+-- one the command puts the record at this key
+pub record IsStepOf (whole : Machine) (command : Command) (key : Option Key) (after : Machine) : Type 0 where
+  pub part : Machine
+  pub reply : Reply
+  pub alike : LooksAlike command part whole
+  pub key_is : key ≡ key_put whole command
+  pub stepped : step part command ≡ (Ok reply, after)
+  pub fresh : IsFresh reply
+
+-- the office after a command, with the counts before it
+abbrev pub before_counts : Command → Machine → Machine
+before_counts command whole = record (step whole command).1 { handed = whole.handed; accepted = whole.accepted }
+
+-- the record that a state has at the key, with the key
+abbrev pub found_at : Machine → Option Key → Option Entry
+found_at machine = option_and_then (λ key. option_map (λ current. (key, current)) (map.get machine.records key))
+
+-- ---- the numbers that are written
+
+-- the take number of the record, if it has one, is at most the limit
+abbrev pub HasFittingTake : Record → Type 0
+HasFittingTake current = IfSome current.take (λ take_number. take_number ≤ count_limit)
+
+-- the two counts are at most the limit
+abbrev pub HasFittingCounts : Machine → Type 0
+HasFittingCounts machine = (machine.handed ≤ count_limit) × (machine.accepted ≤ count_limit)
+
+-- the numbers that a change writes fit: those of the record at the key, and the two counts
+pub record HasFittingNumbers (after : Machine) (key : Option Key) : Type 0 where
+  pub take : IfSome (found_at after key) (λ entry. HasFittingTake entry.1)
+  pub counts : HasFittingCounts after
+
+-- ---- a part of a change
+
+-- the database stands for this state: a statement made it so in a transaction, or nothing was written
+abbrev pub Reaches : {S : Type 0} → Ghosts S → Machine → Held S → Held S → Type 0
+Reaches g machine old new = ((old ≡ new) × StandsFor machine (state g new).now) ⊎ Becomes machine (state g old) (state g new)
+
+-- a statement failed with this error, and nothing was written or the whole transaction is taken back; or before any statement memory ran out, or
+-- what is to be written does not fit
+abbrev pub FailsAtOnce : {S : Type 0} → Ghosts S → Type 0 → Held S → Held S → Error → Type 0
+FailsAtOnce g Fits old new e = FailsToWrite (state g old) (state g new) e ⊎ (IsReadFault Fits e × (old ≡ new))
+
+-- one write in a transaction, or none: if it succeeds, a database that stood for a state that allows it stands for the state after it; if it
+-- fails, it fails as its statement does, or for memory, or because what it writes does not fit; and it leaves a crash no more than before
+pub record Writes {S A : Type 0} (g : Ghosts S) (Fits : Type 0) (Allows : Machine → Type 0) (after : Machine → Machine) (old new : Held S) (result : Result A Error) : Type 0 where
+  pub ok : HasCleanDisk (state g new) → OnOk result ((machine : Machine) → StandsFor machine (state g old).now → Allows machine → Reaches g (after machine) old new)
+  pub err : HasCleanDisk (state g new) → IsTrue old.in_transaction → IfErr result (FailsAtOnce g Fits old new)
+  pub survives : Survives (state g old) (state g new) (λ _. old.schema ≢ office_schema)
+
+-- ---- the whole change
+
+-- the database stands for an office of which this is a step
+abbrev pub StandsForStep : {S : Type 0} → Ghosts S → Command → Option Key → Machine → Held S → Type 0
+StandsForStep g command key after held = (whole : Machine) × StandsFor whole (state g held).now × IsStepOf whole command key after
+
+-- a change failed with this error: its first write did, or its second, after the first had made the database stand for this state
+abbrev pub FailsToChange : {S : Type 0} → Ghosts S → Type 0 → Machine → Held S → Held S → Error → Type 0
+FailsToChange {S} g Fits between old new e =
+    FailsAtOnce g Fits old new e ⊎ ((mid : Held S) × Reaches g between old mid × FailsToWrite (state g mid) (state g new) e)
+
+-- after a failure the transaction from the state `before` is under way, with some of what it was to write, or it is taken back
+abbrev pub IsLeftOrBack : {S : Type 0} → Ghosts S → Machine → Held S → Type 0
+IsLeftOrBack g before new = ((now : Machine) × IsUnderWay before now (state g new)) ⊎ IsBackAt before (state g new)
+
+-- the change of an accepted command, written in a transaction: if it succeeds, a database that stood for the whole office stands for it after
+-- the command; if it fails, one of its writes failed, and the transaction is under way, or taken back; and it leaves a crash no more than before
+pub record ChangesBy {S A : Type 0} (g : Ghosts S) (command : Command) (key : Option Key) (after : Machine) (old new : Held S) (result : Result A Error) : Type 0 where
+  pub ok : HasCleanDisk (state g new)
+      → OnOk result ((whole : Machine) → StandsFor whole (state g old).now → IsStepOf whole command key after → Becomes (step whole command).1 (state g old) (state g new))
+  pub cause : HasCleanDisk (state g new) → IsTrue old.in_transaction → (whole : Machine) → StandsFor whole (state g old).now → IsStepOf whole command key after
+      → IfErr result (FailsToChange g (HasFittingNumbers after key) (before_counts command whole) old new)
+  pub err : HasCleanDisk (state g new) → (before whole : Machine) → IsUnderWay before whole (state g old) → IsStepOf whole command key after
+      → OnErr result (IsLeftOrBack g before new)
+  pub survives : Survives (state g old) (state g new) (λ _. ¬ StandsForStep g command key after old)

@@ -1,0 +1,14 @@
+pub mod Answers
+pub mod Applies
+pub mod Carried
+pub mod Changed
+pub mod Finds
+pub mod Keys
+pub mod MergeCarried
+pub mod MergePart
+pub mod MergeWritten
+pub mod Opening
+pub mod Preparing
+pub mod Sought
+pub mod Standing
+pub mod Turns

@@ -1,0 +1,48 @@
+-- The transaction of a merge: how it ends, and why it was not committed (this project's own).
+use Rattle.std.specs.Prelude.{◌⊎◌, ℕ, List, Result, IfErr, OnOk}
+use Rattle.sqlite_trees.specs.declared.store.Store.{Ghosts}
+use Rattle.sqlite.specs.declared.error.Error.{Error}
+use Rattle.sqlite.specs.Tree.{Trees}
+use Rattle.sqlite.specs.Held.{Held, state}
+use Rattle.sqlite.specs.State.{HasCleanDisk, Survives}
+use Rattle.wb_schema.specs.Tables.{office_schema}
+use Rattle.wb_states.specs.declared.command.Part.{Part}
+use Rattle.wb_states.specs.Forms.{Merge}
+use Rattle.wb_states.specs.Machine.{Machine}
+use Rattle.wb_office.specs.Step.{step}
+use Rattle.wb_tables.specs.Stands.{StandsFor}
+use Rattle.wb_tables.specs.Settled.{IsSettled}
+use Rattle.wb_durable.specs.declared.carry.CarryError.{CarryError}
+use Rattle.wb_durable.specs.declared.carry.CarryError.TheVariants.{TakenBack, RollBackFailed, InDoubt}
+use Rattle.wb_durable.specs.Carried.{begun, FailsAtCommit, FailsToRollBack, IsEnded, LeavesAs}
+use Rattle.wb_durable.specs.MergeWritten.{CannotBeWritten, IsMergeIn}
+use Rattle.wb_durable.specs.Turns.{StopsWith}
+
+-- a change of a merge failed with this error, or all were written and the commit failed with it
+abbrev pub FailsToMerge : {S : Type 0} → Ghosts S → Machine → Machine → Held S → Error → Type 0
+FailsToMerge {S} g after now old e = ((at : Held S) × StopsWith g (CannotBeWritten after) (begun old) at e) ⊎ FailsAtCommit g now old e
+
+-- why the transaction of a merge was not committed, and how ROLLBACK answered, if it was run
+abbrev pub MergeEndsFor : {S : Type 0} → Ghosts S → Machine → Machine → Held S → Held S → CarryError → Type 0
+MergeEndsFor g after now old new (TakenBack e) = FailsToMerge g after now old e × IsEnded g new
+MergeEndsFor g after now old new (RollBackFailed e) = FailsToMerge g after now old e × FailsToRollBack g new
+MergeEndsFor g after now old new (InDoubt e) = FailsAtCommit g now old e
+
+-- these trees hold the tables of the office after a merge of the one for which the database stands
+abbrev pub HoldsMerge : {S : Type 0} → Ghosts S → List ℕ → List Part → Machine → Machine → Held S → Trees → Type 0
+HoldsMerge g sources parts before after old db =
+    (whole : Machine) → StandsFor whole (state g old).now → IsMergeIn whole sources parts before after
+    → StandsFor (step whole (Merge sources parts)).1 (record { schema = office_schema; trees = db })
+
+-- what a merge changed, in a transaction of its own, over a connection that is settled at the whole office: if it succeeds, the connection is
+-- settled at the office after the merge; if it fails, the office is as before, but where the commit is in doubt a crash leaves the one or the
+-- other; and a crash at any moment leaves no third
+pub record CarriesMerge {S A : Type 0} (g : Ghosts S) (sources : List ℕ) (parts : List Part) (before after : Machine) (old new : Held S)
+    (result : Result A CarryError) : Type 0 where
+  pub ok : HasCleanDisk (state g new) → (whole : Machine) → IsSettled whole (state g old) → IsMergeIn whole sources parts before after
+      → OnOk result (IsSettled (step whole (Merge sources parts)).1 (state g new))
+  pub err : HasCleanDisk (state g new) → (whole : Machine) → IsSettled whole (state g old) → IsMergeIn whole sources parts before after
+      → IfErr result (LeavesAs whole (step whole (Merge sources parts)).1 (state g new))
+  pub cause : HasCleanDisk (state g new) → (whole : Machine) → IsSettled whole (state g old) → IsMergeIn whole sources parts before after
+      → IfErr result (MergeEndsFor g after (step whole (Merge sources parts)).1 old new)
+  pub survives : Survives (state g old) (state g new) (HoldsMerge g sources parts before after old)

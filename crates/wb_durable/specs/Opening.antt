@@ -1,0 +1,153 @@
+-- What an opening tests of the tables of an office, in one call, and how it finds an office or makes one (this project's own).
+use Rattle.std.specs.Prelude.{◌≡◌, ◌≢◌, ◌⊎◌, ⊤, IsTrue, List, ℕ, [], Result, IfOk, IfErr, OnOk, OnErr}
+use Rattle.sqlite_trees.specs.declared.store.Store.{Ghosts}
+use Rattle.sqlite.specs.declared.error.Error.{Error}
+use Rattle.sqlite.specs.Effect.{Database}
+use Rattle.sqlite.specs.Held.{Held, state}
+use Rattle.sqlite.specs.State.{State, HasCleanDisk, IsUnchanged, Survives}
+use Rattle.wb_sql.specs.Transactions.{IsKeptOrUndone}
+use Rattle.wb_schema.specs.Statements as sql
+use Rattle.wb_schema.specs.Tables.{office_schema, scratch_source, scratch_binary}
+use Rattle.wb_states.specs.declared.arch.OsCpu.{OsCpu}
+use Rattle.wb_states.specs.declared.counts.Counts.{Counts}
+use Rattle.wb_states.specs.declared.store_fault.StoreFault.{StoreFault}
+use Rattle.wb_states.specs.declared.store_fault.StoreFault.TheVariants.{Damaged, Memory}
+use Rattle.wb_states.specs.declared.store_fault.Table.{Table}
+use Rattle.wb_states.specs.declared.store_fault.Table.TheVariants.{Office, Arch, Builder, SourceRecord, ScratchSource}
+use Rattle.wb_states.specs.Machine.{Key, Machine, IsConsistent, empty_office}
+use Rattle.wb_rows.specs.Cells.{arch_cells, builder_cells}
+use Rattle.wb_tables.specs.Faults.{fault_of}
+use Rattle.wb_tables.specs.Opening.{AreBadCounts, AreBadRecords, AreBadRows, FailsToTest, HasGoodRows, HoldsArchs, HoldsBuilders, HoldsCounts, IsFormedArch, IsFormedBuilder, IsQueryFault, ShowsGood}
+use Rattle.wb_tables.specs.Scratch.{has_scratch_rows}
+use Rattle.wb_tables.specs.Settled.{IsBackAt, IsSettled}
+use Rattle.wb_tables.specs.Stands.{StandsFor}
+use Rattle.wb_durable.specs.Finds.{StaysAs}
+use Rattle.wb_durable.specs.Preparing.{FailsToMake, IsFoundAt, LeavesFound}
+
+-- these counts are those of the state
+abbrev pub AreCountsOf : Machine → Counts → Type 0
+AreCountsOf machine counts = (counts.handed ≡ machine.handed) × (counts.accepted ≡ machine.accepted)
+
+-- the office's row in a database is good, with these counts
+abbrev pub ShowsCounts : Database → Counts → Type 0
+ShowsCounts db counts = ShowsGood sql.office_counts db (λ rows. HoldsCounts rows counts)
+
+-- the rows of a database are good of its architectures, which are these
+abbrev pub ShowsArchs : Database → List (List ℕ × OsCpu) → Type 0
+ShowsArchs db archs = ShowsGood sql.all_archs db (λ rows. HoldsArchs rows archs)
+
+-- the rows of a database are good of its builders, which are these, beside these architectures
+abbrev pub ShowsBuilders : Database → List (List ℕ × OsCpu) → List Key → Type 0
+ShowsBuilders db archs builders = ShowsGood sql.all_builders db (λ rows. HoldsBuilders archs rows builders)
+
+-- the rows of the office's tables are good, with these counts
+abbrev pub HasGoodRowsWith : Database → Counts → Type 0
+HasGoodRowsWith db counts = (h : HasGoodRows db) × (h.counts ≡ counts)
+
+-- the two scratch tables of a merge have no row
+abbrev pub HasNoScratchRows : Database → Type 0
+HasNoScratchRows db = (db.trees scratch_source.tree ≡ []) × (db.trees scratch_binary.tree ≡ [])
+
+-- the test of the architectures fails, after a good row of the office
+abbrev pub FailsOnArchs : State → State → StoreFault → Type 0
+FailsOnArchs old new fault =
+    (counts : Counts) × ShowsCounts old.now counts
+    × FailsToTest sql.all_archs Arch (AreBadRows Arch arch_cells IsFormedArch) old new fault
+
+-- the test of the builders fails, after good rows of the office and of the architectures
+abbrev pub FailsOnBuilders : State → State → StoreFault → Type 0
+FailsOnBuilders old new fault =
+    (counts : Counts) × (archs : List (List ℕ × OsCpu)) × ShowsCounts old.now counts × ShowsArchs old.now archs
+    × FailsToTest sql.all_builders Builder (AreBadRows Builder builder_cells (IsFormedBuilder archs)) old new fault
+
+-- the test of the records fails, after good rows of all the other tables
+abbrev pub FailsOnRecords : State → State → StoreFault → Type 0
+FailsOnRecords old new fault =
+    (counts : Counts) × (archs : List (List ℕ × OsCpu)) × (builders : List Key)
+    × ShowsCounts old.now counts × ShowsArchs old.now archs × ShowsBuilders old.now archs builders
+    × FailsToTest sql.all_records SourceRecord (AreBadRecords archs builders counts.handed) old new fault
+
+-- why the tests of the rows fail: the first of the four that fails, after good rows of the tables before it
+abbrev pub FailsOnRows : State → State → StoreFault → Type 0
+FailsOnRows old new fault =
+    FailsToTest sql.office_counts Office AreBadCounts old new fault
+    ⊎ (FailsOnArchs old new fault ⊎ (FailsOnBuilders old new fault ⊎ FailsOnRecords old new fault))
+
+-- why the test of the scratch tables fails: a query failed, or one of them has a row, and nothing is changed
+abbrev pub FailsOnScratch : State → State → StoreFault → Type 0
+FailsOnScratch old new fault =
+    IsQueryFault ScratchSource old new fault
+    ⊎ ((fault ≡ Damaged ScratchSource 1) × IsTrue (has_scratch_rows old.now) × IsUnchanged old new)
+
+-- why the tests of an office fail: one of the rows, or, after good rows, that of the scratch tables
+abbrev pub FailsOnOffice : State → State → StoreFault → Type 0
+FailsOnOffice old new fault = FailsOnRows old new fault ⊎ (HasGoodRows old.now × FailsOnScratch old new fault)
+
+-- a fault that comes for this reason, after tests that left the database as it was
+abbrev pub ComesLater : {S : Type 0} → Ghosts S → (State → State → StoreFault → Type 0) → Held S → Held S → StoreFault → Type 0
+ComesLater {S} g Why old new fault = (mid : Held S) × StaysAs g old mid × Why (state g mid) (state g new) fault
+
+-- the query of one of the tables failed
+abbrev pub IsQueryFaultOfOne : State → State → StoreFault → Type 0
+IsQueryFaultOfOne old new fault = (table : Table) × IsQueryFault table old new fault
+
+-- memory ran out, or a query failed, after tests that left the database as it was
+abbrev pub LacksMemoryOrQuery : {S : Type 0} → Ghosts S → Held S → Held S → StoreFault → Type 0
+LacksMemoryOrQuery g old new fault = (fault ≡ Memory) ⊎ ComesLater g IsQueryFaultOfOne old new fault
+
+-- tests, one after another, of a database with the office's tables: if they succeed, it is good, and stays as it is; if they fail, one of them did,
+-- after others that changed nothing; given what is so of the state, the tables of a consistent office pass them, with this outcome, unless memory
+-- ran out or a query failed; and they leave a crash no more than before
+pub record ChecksWith {S A : Type 0} (g : Ghosts S) (Given : Machine → Type 0) (Good : Database → A → Type 0)
+    (Outcome : Machine → A → Type 0) (Why : State → State → StoreFault → Type 0) (old new : Held S) (result : Result A StoreFault) : Type 0 where
+  pub good : HasCleanDisk (state g new) → old.schema ≡ office_schema → IfOk result (Good (state g old).now)
+  pub same : HasCleanDisk (state g new) → old.schema ≡ office_schema → OnOk result (StaysAs g old new)
+  pub err : HasCleanDisk (state g new) → old.schema ≡ office_schema → IfErr result (ComesLater g Why old new)
+  pub kept : HasCleanDisk (state g new) → old.schema ≡ office_schema → OnErr result (IsKeptOrUndone (state g old) (state g new))
+  pub told : HasCleanDisk (state g new) → IfOk result (λ x. (machine : Machine) → StandsFor machine (state g old).now → Outcome machine x)
+  pub fails : HasCleanDisk (state g new)
+      → IfErr result (λ fault. (machine : Machine) → IsConsistent machine → StandsFor machine (state g old).now → Given machine → LacksMemoryOrQuery g old new fault)
+  pub survives : Survives (state g old) (state g new) (λ _. old.schema ≢ office_schema)
+
+-- the tests of the rows of the office's tables
+abbrev pub ChecksRows : {S : Type 0} → Ghosts S → Held S → Held S → Result Counts StoreFault → Type 0
+ChecksRows g = ChecksWith g (λ _. ⊤) HasGoodRowsWith AreCountsOf FailsOnRows
+
+-- the test of the scratch tables
+abbrev pub ChecksScratch : {S A : Type 0} → Ghosts S → Held S → Held S → Result A StoreFault → Type 0
+ChecksScratch g = ChecksWith g (λ _. ⊤) (λ db _. HasNoScratchRows db) (λ _ _. ⊤) FailsOnScratch
+
+-- the tests of a whole office: if they succeed, its rows are good, no merge left a row, and nothing is changed; a settled connection passes them, and
+-- stays settled, or goes back to its state where memory ran out or a query failed; and no fault is given but that of a test
+pub record Checks {S : Type 0} (g : Ghosts S) (old new : Held S) (result : Result Counts StoreFault) : Type 0 where
+  pub was_clean : HasCleanDisk (state g new) → HasCleanDisk (state g old)
+  pub good : HasCleanDisk (state g new) → old.schema ≡ office_schema
+      → IfOk result (λ counts. HasGoodRowsWith (state g old).now counts × HasNoScratchRows (state g old).now × StaysAs g old new)
+  pub passes : HasCleanDisk (state g new) → (machine : Machine) → IsConsistent machine → IsSettled machine (state g old)
+      → IfOk result (λ counts. AreCountsOf machine counts × IsSettled machine (state g new))
+  pub fails : HasCleanDisk (state g new) → (machine : Machine) → IsConsistent machine → IsSettled machine (state g old)
+      → IfErr result (λ fault. IsBackAt machine (state g new) × LacksMemoryOrQuery g old new fault)
+  pub refuses : HasCleanDisk (state g new) → old.schema ≡ office_schema → IfErr result (ComesLater g FailsOnOffice old new)
+  pub survives : Survives (state g old) (state g new) (λ _. old.schema ≢ office_schema)
+
+-- no office is made: a statement or the commit failed, which is the fault of the office's table
+abbrev pub IsFaultOfMaking : {S : Type 0} → Ghosts S → Held S → StoreFault → Type 0
+IsFaultOfMaking g new fault = (e : Error) × FailsToMake g new e × (fault ≡ fault_of e Office)
+
+-- the tests of the office that was there, or of the one that was made, fail where memory ran out or a query failed
+abbrev pub LacksAfter : {S : Type 0} → Ghosts S → Held S → Held S → StoreFault → Type 0
+LacksAfter {S} g old new fault = (at : Held S) × ((old ≡ at) ⊎ IsSettled empty_office (state g at)) × LacksMemoryOrQuery g at new fault
+
+-- an office is found, or made in a database without a table: if that succeeds, it is settled at its state, with its counts; whatever it answers, a
+-- crash leaves that state; it fails only where it could not be made, or where memory ran out or a query failed; and an office that is found has good
+-- rows, or is refused by one of its tests
+pub record FindsOffice {S : Type 0} (g : Ghosts S) (old new : Held S) (result : Result Counts StoreFault) : Type 0 where
+  pub was_clean : HasCleanDisk (state g new) → HasCleanDisk (state g old)
+  pub found : HasCleanDisk (state g new) → (machine : Machine) → IsConsistent machine → IsFoundAt machine (state g old)
+      → IfOk result (λ counts. AreCountsOf machine counts × IsSettled machine (state g new))
+  pub left : HasCleanDisk (state g new) → (machine : Machine) → IsConsistent machine → IsFoundAt machine (state g old) → LeavesFound machine (state g new)
+  pub fails : HasCleanDisk (state g new) → (machine : Machine) → IsConsistent machine → IsFoundAt machine (state g old)
+      → IfErr result (λ fault. IsFaultOfMaking g new fault ⊎ LacksAfter g old new fault)
+  pub good : HasCleanDisk (state g new) → old.schema ≡ office_schema
+      → IfOk result (λ counts. HasGoodRowsWith (state g old).now counts × HasNoScratchRows (state g old).now × StaysAs g old new)
+  pub refuses : HasCleanDisk (state g new) → old.schema ≡ office_schema → IfErr result (ComesLater g FailsOnOffice old new)

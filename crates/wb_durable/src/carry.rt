@@ -1,0 +1,94 @@
+//! The transaction of an accepted command, over a connection that is in none: begun, written, and ended.
+
+ghost use Rattle.std.specs.Prelude.{◌≡◌, false, [], Err, IfErr, OnOk};
+ghost use Rattle.sqlite.specs.Held.{state};
+ghost use Rattle.sqlite.specs.State.{Executes, HasCleanDisk, IsRolledBack, Survives};
+ghost use Rattle.wb_sql.specs.Transactions.{rollback_text};
+ghost use Rattle.wb_tables.specs.Settled.{TakesBack};
+ghost use Rattle.wb_durable.specs.Carried.{CarriesOut, failure_of, is_over};
+
+use crate::change::write_change;
+use deb_text::Text;
+use sqlite::{Alter, Connection, Error, ErrorCode};
+use wb_sql::{CommitError, begin};
+use wb_states::Command;
+use wb_store::Store;
+
+/// Why the transaction of a command was not committed (this project's own).
+#[derive(Debug, Drop)]
+pub(crate) enum CarryError {
+    /// It failed with this error, and was taken back. The connection can be used on, unless a fault shut it.
+    TakenBack(Error),
+    /// It failed with this error, and a fault came when it was to be taken back. Nothing of it was committed.
+    RollBackFailed(Error),
+    /// The commit failed with this error. Whether it was made is not known.
+    InDoubt(Error),
+}
+
+/// Writes the change of an accepted command in a transaction of its own, and commits it. `after` is the part of the
+/// office in which the command was carried out, and `key` is that of the record that it put. The errors are those of
+/// [`CarryError`], with that of `write_change` or of the commit; after each but `InDoubt` the office is as it was (this
+/// project's own).
+pub(crate) fn carry<S: Alter>(
+    conn: &mut Connection<S>,
+    command: &Command,
+    key: &Option<(Text, Text)>,
+    after: &Store,
+) -> Result<(), CarryError>
+    requires idle { conn.old.in_transaction ≡ false }
+    ensures carries { CarriesOut S.Store command.now key.now after.now conn.old conn.new result }
+{
+    let mut writing = begin(conn);
+    if let Err(error) = write_change(&mut writing, command, key, after) {
+        let ended = wb_tables::roll_back(writing);
+        return Err(failure(error, ended));
+    }
+    match wb_tables::commit(writing) {
+        Ok(()) => Ok(()),
+        Err(CommitError::InDoubt(error)) => Err(CarryError::InDoubt(error)),
+        Err(CommitError::Memory) => {
+            let ended = take_back(conn);
+            Err(failure(Error::SqliteFailure(ErrorCode::OutOfMemory), ended))
+        }
+    }
+}
+
+/// The failure of a transaction that failed with this error, after the call that was to take it back. That call may
+/// find it taken back already.
+pub(crate) fn failure(error: Error, ended: Result<(), Error>) -> CarryError
+    ensures value { result ≡ failure_of error ended }
+{
+    match ended {
+        Ok(()) => CarryError::TakenBack(error),
+        Err(why) => {
+            if is_over(why) {
+                CarryError::TakenBack(error)
+            } else {
+                CarryError::RollBackFailed(error)
+            }
+        }
+    }
+}
+
+/// Whether the error says that no transaction is under way.
+fn is_over(why: Error) -> bool
+    ensures value { result ≡ is_over why }
+{
+    match why {
+        Error::SqliteFailure(ErrorCode::TransactionState) => true,
+        _ => false,
+    }
+}
+
+/// Takes back what a transaction wrote that may still be under way after its commit.
+pub(crate) fn take_back<S: Alter>(conn: &mut Connection<S>) -> Result<(), Error>
+    ensures taken_back { TakesBack S.Store conn.old conn.new }
+    ensures ok { HasCleanDisk (state S.Store conn.new)
+        → OnOk result (IsRolledBack (state S.Store conn.old) (state S.Store conn.new)) }
+    ensures cause { HasCleanDisk (state S.Store conn.new) → IfErr result (λ e. Executes rollback_text []
+        (state S.Store conn.old) (state S.Store conn.new) (Err e)) }
+    ensures survives { Survives (state S.Store conn.old) (state S.Store conn.new) (λ _. ⊥) }
+{
+    conn.execute("ROLLBACK", &[])?;
+    Ok(())
+}

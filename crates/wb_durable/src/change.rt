@@ -1,0 +1,131 @@
+//! What an accepted command changed in a part of the office, written to the tables of the whole office: one record, one
+//! architecture or one builder, and the two counts.
+
+ghost use Rattle.std.specs.Prelude.{◌≡◌, ◌↔◌, ⊤, None, Some, IfErr, IfOk, IfSome, IsTrue, OnOk};
+ghost use Rattle.std.specs.FinMap as map;
+ghost use Rattle.wb_office.specs.Locality.{with_entry};
+ghost use Rattle.wb_tables.specs.Lookups.{IsReadFault};
+ghost use Rattle.wb_durable.specs.Changed.{ChangesBy, IsStepOf, Writes, before_counts, found_at};
+ghost use Rattle.wb_durable.specs.Changed.{HasFittingCounts, HasFittingNumbers, HasFittingTake};
+
+use deb_text::Text;
+use sqlite::{Alter, Error, ErrorCode};
+use wb_sql::Writing;
+use wb_states::{COUNT_LIMIT, Command, Counts, OsCpu, Record, command};
+use wb_store::Store;
+
+/// Writes the change of an accepted command, and the counts after it, in a transaction that is under way. `after` is
+/// the part of the office in which the command was carried out, and `key` is that of the record that it put. The error
+/// is that of the statement that failed; or, before any, `OutOfMemory`, or `DatabaseCorrupt` if a take number or a
+/// count of the part is above [`COUNT_LIMIT`]. The caller then takes the transaction back (this project's own).
+pub(crate) fn write_change<S: Alter>(
+    writing: &mut Writing<'_, S>,
+    command: &Command,
+    key: &Option<(Text, Text)>,
+    after: &Store,
+) -> Result<(), Error>
+    ensures same_reference { writing.new.conn.ghost_name ≡ writing.old.conn.ghost_name }
+    ensures changes { ChangesBy S.Store command.now key.now after.now
+        writing.old.conn.now writing.new.conn.now result }
+{
+    let counts = counts_of(after)?;
+    write_subject(writing, command, key, after)?;
+    wb_tables::set_counts(writing, counts)
+}
+
+/// The counts of the part of the office, which are those of the whole one, if they fit.
+pub(crate) fn counts_of(after: &Store) -> Result<Counts, Error>
+    ensures value { IfOk result (λ counts.
+        (counts.handed ≡ after.now.handed) × (counts.accepted ≡ after.now.accepted)) }
+    ensures fits { OnOk result (HasFittingCounts after.now) }
+    ensures err { IfErr result (IsReadFault (HasFittingCounts after.now)) }
+{
+    let Ok(counts) = after.office_row() else {
+        return Err(Error::SqliteFailure(ErrorCode::OutOfMemory));
+    };
+    if counts.handed > COUNT_LIMIT || counts.accepted > COUNT_LIMIT {
+        return Err(Error::SqliteFailure(ErrorCode::DatabaseCorrupt));
+    }
+    Ok(counts)
+}
+
+/// Writes what the command added or put, but not the counts.
+fn write_subject<S: Alter>(
+    writing: &mut Writing<'_, S>,
+    command: &Command,
+    key: &Option<(Text, Text)>,
+    after: &Store,
+) -> Result<(), Error>
+    ensures same_reference { writing.new.conn.ghost_name ≡ writing.old.conn.ghost_name }
+    ensures writes { Writes S.Store (HasFittingNumbers after.now key.now)
+        (λ whole. IsStepOf whole command.now key.now after.now) (before_counts command.now)
+        writing.old.conn.now writing.new.conn.now result }
+{
+    match command {
+        Command::AddArch(command) => write_arch(writing, command),
+        Command::AddBuilder(command) => {
+            wb_tables::add_builder(writing, &command.name, &command.arch)
+        }
+        _ => match key {
+            Some((arch, source)) => write_record(writing, arch, source, after),
+            None => Ok(()),
+        },
+    }
+}
+
+/// Adds the architecture of a command.
+fn write_arch<S: Alter>(
+    writing: &mut Writing<'_, S>,
+    command: &command::AddArch,
+) -> Result<(), Error>
+    ensures same_reference { writing.new.conn.ghost_name ≡ writing.old.conn.ghost_name }
+    ensures writes { Writes S.Store ⊤ (λ machine. map.get machine.archs command.now.name ≡ None)
+        (λ machine. record machine {
+          archs = map.insert machine.archs command.now.name
+              (record { os = command.now.os; cpu = command.now.cpu });
+        })
+        writing.old.conn.now writing.new.conn.now result }
+{
+    let words = OsCpu {
+        os: command.os.clone()?,
+        cpu: command.cpu.clone()?,
+    };
+    wb_tables::add_arch(writing, &command.name, &words)
+}
+
+/// Puts the record that the part of the office has at the key, if there is one.
+fn write_record<S: Alter>(
+    writing: &mut Writing<'_, S>,
+    arch: &Text,
+    source: &Text,
+    after: &Store,
+) -> Result<(), Error>
+    ensures same_reference { writing.new.conn.ghost_name ≡ writing.old.conn.ghost_name }
+    ensures writes { Writes S.Store
+        (IfSome (found_at after.now (Some (arch.now, source.now))) (λ entry. HasFittingTake entry.1)) (λ _. ⊤)
+        (λ machine. record machine {
+          records = with_entry (found_at after.now (Some (arch.now, source.now))) machine.records;
+        })
+        writing.old.conn.now writing.new.conn.now result }
+{
+    let Ok(found) = after.get(arch, source) else {
+        return Err(Error::SqliteFailure(ErrorCode::OutOfMemory));
+    };
+    let Some(current) = found else {
+        return Ok(());
+    };
+    if !fits(&current) {
+        return Err(Error::SqliteFailure(ErrorCode::DatabaseCorrupt));
+    }
+    wb_tables::put(writing, arch, source, &current)
+}
+
+/// Whether the take number of the record, if it has one, fits.
+pub(crate) fn fits(current: &Record) -> bool
+    ensures value { IsTrue result ↔ HasFittingTake current.now }
+{
+    match current.take {
+        Some(take_number) => take_number <= COUNT_LIMIT,
+        None => true,
+    }
+}

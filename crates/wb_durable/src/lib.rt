@@ -1,0 +1,16 @@
+//! The office over tables: it is opened and closed, and each command is one transaction, which stands whole or not at
+//! all after any stop.
+#![tactic(auto)]
+
+mod answer;
+mod carry;
+mod change;
+mod merge;
+mod merge_part;
+mod merging;
+mod named;
+mod office;
+mod opening;
+mod preparing;
+
+pub use office::Office;

@@ -1,0 +1,84 @@
+//! What a merge looks at of an office, read from its tables.
+ghost use Rattle.std.specs.Prelude.{◌≡◌, ◌++◌, OnOk, map as each};
+ghost use Rattle.sqlite.specs.Held.{state};
+ghost use Rattle.sqlite.specs.State.{HasCleanDisk, IsUnchanged};
+ghost use Rattle.wb_schema.specs.Tables.{office_schema};
+ghost use Rattle.wb_store.specs.Lookups.{entry_of};
+ghost use Rattle.wb_office.specs.MergedParts.{part_for_merge};
+ghost use Rattle.wb_durable.specs.Finds.{Finds};
+ghost use Rattle.wb_durable.specs.MergePart.{HasFoundParts, rows_of_parts};
+
+use crate::named::{Found, part_of};
+use sqlite::{Alter, Connection, Error, ErrorCode};
+use std::alloc::{AllocError, Global};
+use wb_states::command::Part;
+use wb_store::{KeyedRecord, Store};
+
+/// Adds these records behind the others. The only error is that there is no memory for it.
+fn push_all(rows: &mut Vec<KeyedRecord>, found: Vec<KeyedRecord>) -> Result<(), AllocError>
+    ensures ok { OnOk result (rows.new.items ≡ rows.old.items ++ found.items) }
+{
+    for row in found {
+        rows.push(row)?;
+    }
+    Ok(())
+}
+
+/// The records of the architectures of the parts. It fails if a query fails, with `OutOfMemory` if memory runs out, and
+/// with `DatabaseCorrupt` if a row is not that of a record. The database stays as it is; only a failed query may take a
+/// transaction back.
+fn find_rows<S: Alter>(
+    alloc: Global,
+    conn: &mut Connection<S>,
+    parts: &[Part],
+) -> Result<Vec<KeyedRecord>, Error>
+    ensures finds { Finds S.Store (λ machine rows.
+        each entry_of rows.items ≡ rows_of_parts machine parts.now) conn.old conn.new result }
+{
+    let mut rows = Vec::new(alloc);
+    for part in parts {
+        let found = wb_tables::all_of(conn, &part.arch)?;
+        push_all(&mut rows, found)?;
+    }
+    Ok(rows)
+}
+
+/// What a merge of these parts looks at, as it is found in the tables. The errors are those of the look-ups, and the
+/// database stays as it is, but for a transaction that a failed query takes back.
+fn find<S: Alter>(alloc: Global, conn: &mut Connection<S>, parts: &[Part]) -> Result<Found, Error>
+    ensures finds { Finds S.Store (λ machine found.
+        HasFoundParts machine parts.now found) conn.old conn.new result }
+    ensures same { HasCleanDisk (state S.Store conn.new) → conn.old.schema ≡ office_schema
+        → OnOk result (IsUnchanged (state S.Store conn.old) (state S.Store conn.new)) }
+{
+    let counts = wb_tables::counts(conn)?;
+    let archs = wb_tables::archs(conn)?;
+    let others = find_rows(alloc, conn, parts)?;
+    Ok(Found {
+        counts,
+        archs,
+        first: None,
+        others,
+        pairs: Vec::new(alloc),
+    })
+}
+
+/// The part of the office that a merge of these parts looks at, read from its tables: the counts, all architectures,
+/// the records of the architectures of the parts, and their holders. It fails if a query fails, with `OutOfMemory` if
+/// memory runs out, and with `DatabaseCorrupt` if a row is not what an office keeps. The database stays as it is; only
+/// a failed query may take a transaction back.
+/// Source: this project's own.
+pub(crate) fn part_for_merge<S: Alter>(
+    alloc: Global,
+    conn: &mut Connection<S>,
+    parts: &[Part],
+) -> Result<Store, Error>
+    ensures finds { Finds S.Store (λ machine part.
+        part ≡ part_for_merge machine parts.now) conn.old conn.new result }
+{
+    let found = find(alloc, conn, parts)?;
+    match part_of(alloc, found) {
+        Ok(part) => Ok(part),
+        Err(_) => Err(Error::SqliteFailure(ErrorCode::OutOfMemory)),
+    }
+}

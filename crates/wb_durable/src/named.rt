@@ -1,0 +1,66 @@
+//! The part of an office that a command names, read from its tables.
+ghost use Rattle.std.specs.Prelude.{◌≡◌, IfOk, IfErr};
+ghost use Rattle.std.specs.Option.{option_map};
+ghost use Rattle.wb_states.specs.declared.store_fault.StoreFault.TheVariants.{Memory};
+ghost use Rattle.wb_office.specs.Named.{part_named};
+ghost use Rattle.wb_store.specs.Lookups.{entry_of};
+ghost use Rattle.wb_durable.specs.Finds.{Finds};
+ghost use Rattle.wb_durable.specs.Keys.{key_put};
+ghost use Rattle.wb_durable.specs.Sought.{key_named, office_of};
+
+mod found;
+mod names;
+mod part;
+
+use deb_text::Text;
+pub(crate) use found::Found;
+use found::find;
+use names::{Names, key_of, names_of};
+pub(crate) use part::part_of;
+use sqlite::{Alter, Connection, Error, ErrorCode};
+use std::alloc::Global;
+use wb_states::{Command, StoreFault};
+use wb_store::Store;
+
+/// What a command names of an office: as much of it as decides the answer.
+#[derive(Drop)]
+pub(crate) struct Named {
+    /// The office that has what the command names, and nothing else.
+    pub(crate) part: Store,
+    /// The key of the record that the command puts if it is accepted.
+    pub(crate) key: Option<(Text, Text)>,
+}
+
+/// An office of what was found, and the key of the record that is put. The only error is `Memory`.
+fn named_of(alloc: Global, names: &Names<'_>, found: Found) -> Result<Named, StoreFault>
+    ensures part { IfOk result (λ named. named.part ≡ office_of found) }
+    ensures key { IfOk result (λ named. named.key
+        ≡ key_named names.now (option_map entry_of found.first)) }
+    ensures fault { IfErr result (λ fault. fault ≡ Memory) }
+{
+    let key = key_of(names, &found.first)?;
+    Ok(Named {
+        part: part_of(alloc, found)?,
+        key,
+    })
+}
+
+/// What the command names of the office, read from its tables; of a merge that is the counts and the architectures
+/// alone. It fails if a query fails, with `OutOfMemory` if memory runs out, and with `DatabaseCorrupt` if a row is not
+/// what an office keeps. The database stays as it is; only a failed query may take a transaction back.
+/// Source: this project's own.
+pub(crate) fn named_part<S: Alter>(
+    alloc: Global,
+    conn: &mut Connection<S>,
+    command: &Command,
+) -> Result<Named, Error>
+    ensures finds { Finds S.Store (λ machine named. (named.part ≡ part_named machine command.now)
+        × (named.key ≡ key_put machine command.now)) conn.old conn.new result }
+{
+    let names = names_of(command);
+    let found = find(alloc, conn, command, &names)?;
+    match named_of(alloc, &names, found) {
+        Ok(named) => Ok(named),
+        Err(_) => Err(Error::SqliteFailure(ErrorCode::OutOfMemory)),
+    }
+}

@@ -1,0 +1,227 @@
+//! The office over tables: each command is one transaction.
+ghost use Rattle.std.specs.Prelude.{◌≡◌, ⊤, false, true, IfOk, IfErr};
+ghost use Rattle.sqlite.specs.Files.{file_state};
+ghost use Rattle.sqlite.specs.Held.{Held, state};
+ghost use Rattle.sqlite.specs.State.{HasCleanDisk};
+ghost use Rattle.sqlite_wal.specs.Reads.{AreClean};
+ghost use Rattle.wb_states.specs.Machine.{IsConsistent, Machine};
+ghost use Rattle.wb_tables.specs.Settled.{AreSettledAt};
+ghost use Rattle.wb_schema.specs.Tables.{office_schema};
+ghost use Rattle.wb_tables.specs.Opening.{HasGoodRows};
+ghost use Rattle.wb_durable.specs.Opening.{ComesLater, FailsOnOffice, HasNoScratchRows};
+ghost use Rattle.wb_durable.specs.Preparing.{IsFoundAt};
+ghost use Rattle.wb_durable.specs.declared.answer.Failure.TheVariants.{Uncommitted};
+ghost use Rattle.wb_durable.specs.Answers.{accepted_of};
+ghost use Rattle.wb_office.specs.Ends.{is_of_store};
+ghost use Rattle.wb_durable.specs.Applies.{Applies, Ends, EndsWith, doubt_for, refusal_for};
+ghost use Rattle.wb_durable.specs.Standing.{LeavesOne, StandsAt};
+
+use crate::answer::{Failure, answer};
+use crate::carry::CarryError;
+use crate::opening::find_office;
+use sqlite::{Alter, Connection, FileStore, Files};
+use sqlite_disk::Disk;
+use std::alloc::Global;
+use wb_office::CarryOut;
+use wb_sql::is_usable;
+use wb_states::{Command, Refusal, Reply, StoreFault, Table};
+use wb_tables::fault_of;
+
+/// The office, with its state in the tables of a database.
+#[derive(Drop)]
+pub struct Office<S: Alter + Drop> {
+    alloc: Global,
+    conn: Connection<S>,
+    accepted: u64,
+    is_closed: bool,
+}
+
+impl<S: Alter + Drop> Office<S> {
+    /// Opens the office whose tables the connection has, which is in no transaction; a database without a table becomes
+    /// that of an empty office. Each row is tested. The faults are `NotOffice` if the tables are not those of an
+    /// office, `NewerSchema` if their format is newer than this program's, `Damaged` with the table and the first row,
+    /// counted from 1, that breaks the rules of an office, or with row 0 if a statement on the table was refused,
+    /// `Memory`, and `Device` if the disk failed or is full. After a fault a crash leaves the office as it was found, or
+    /// the tables of an empty one (this project's own).
+    pub fn adopt(alloc: Global, conn: Connection<S>) -> Result<Office<S>, StoreFault>
+        requires idle { conn.in_transaction ≡ false }
+        ensures opened { IfOk result (λ office. office.is_closed ≡ false) }
+        ensures found { IfOk result (λ office. HasCleanDisk (state S.Store office.conn)
+            → (machine : Machine) → IsConsistent machine → IsFoundAt machine (state S.Store conn)
+            → StandsAt machine office.is_closed office.accepted (state S.Store office.conn)) }
+        ensures good { IfOk result (λ office. HasCleanDisk (state S.Store office.conn)
+            → conn.schema ≡ office_schema
+            → HasGoodRows (state S.Store conn).now × HasNoScratchRows (state S.Store conn).now) }
+        ensures refuses { IfErr result (λ fault. conn.schema ≡ office_schema → (at : Held _)
+            × (HasCleanDisk (state S.Store at) → ComesLater S.Store FailsOnOffice conn at fault)) }
+    {
+        let mut conn = conn;
+        match find_office(&mut conn) {
+            Ok(counts) => Ok(Office {
+                alloc,
+                conn,
+                accepted: counts.accepted,
+                is_closed: false,
+            }),
+            Err(fault) => Err(fault),
+        }
+    }
+
+    /// Whether the office is closed: it answers `Closed` to each command, until it is opened again. Takes no memory
+    /// (this project's own).
+    pub fn closed(&self) -> bool
+        ensures value { result ≡ self.now.is_closed }
+    {
+        self.is_closed
+    }
+
+    /// Carries out one command, whole or not at all, and answers it.
+    ///
+    /// An accepted command is one transaction, which is committed before it is answered. The refusal is the first that
+    /// is true of the command in the order of [`Refusal`]; the office is then as it was. After `Memory` it is as it
+    /// was too, but is closed if the transaction could not be taken back. After `Store` it is closed, and the command
+    /// stands whole or not at all when the office is opened again. A closed office answers `Closed` to each command
+    /// (this project's own).
+    pub fn apply(&mut self, command: &Command) -> Result<Reply, Refusal>
+        ensures applies { Applies S.Store command.now self.old.is_closed self.old.accepted self.old.conn
+            self.new.is_closed self.new.accepted self.new.conn result }
+    {
+        if self.is_closed {
+            return Err(Refusal::Closed);
+        }
+        match answer(self.alloc, &mut self.conn, command) {
+            Ok(reply) => {
+                self.accepted = accepted_in(&reply);
+                Ok(reply)
+            }
+            Err(failure) => {
+                let (refusal, is_closed) = end(&mut self.conn, failure);
+                self.is_closed = is_closed;
+                Err(refusal)
+            }
+        }
+    }
+}
+
+impl<D: Disk + Drop> Office<FileStore<D>> {
+    /// Closes the office, and gives back its files: of an open office they hold its state, also after a crash. The
+    /// fault is `Memory`, or `Device` if the disk failed or is full; what was committed stands then too (this project's
+    /// own).
+    pub fn close(self) -> Result<Files<D>, StoreFault>
+        ensures settled { IfOk result (λ files. AreClean D.Disk files.log files.db → (machine : Machine)
+            → StandsAt machine self.is_closed self.accepted (file_state self.conn) → self.is_closed ≡ false
+            → AreSettledAt D.Disk files machine) }
+    {
+        let Office {
+            alloc: _,
+            conn,
+            accepted: _,
+            is_closed: _,
+        } = self;
+        match wb_sql::close(conn) {
+            Ok(files) => Ok(files),
+            Err((error, _)) => Err(fault_of(error, Table::Office)),
+        }
+    }
+}
+
+impl<S: Alter + Drop> CarryOut for Office<S> {
+    ghost is_clean = { λ office. HasCleanDisk (state S.Store office.conn) };
+
+    ghost stands_at = { λ office machine. StandsAt machine office.is_closed office.accepted (state S.Store office.conn) };
+
+    ghost is_closed = { λ office. office.is_closed ≡ true };
+
+    ghost leaves = { λ office before after. LeavesOne before after office.is_closed (state S.Store office.conn) };
+
+    ghost may_want_memory = { λ _. ⊤ };
+
+    fn accepted_count(&self) -> u64 {
+        self.accepted
+    }
+
+    fn carry_out(&mut self, command: &Command) -> Result<Reply, Refusal> {
+        self.apply(command)
+    }
+
+    ghost consistent = { λ office machine stands. stands.consistent };
+}
+
+/// How many commands are accepted, as a reply tells it.
+fn accepted_in(reply: &Reply) -> u64
+    ensures value { result ≡ accepted_of reply.now }
+{
+    match *reply {
+        Reply::Done { accepted } => accepted,
+        Reply::Job { accepted, .. } => accepted,
+        Reply::Again { accepted, .. } => accepted,
+        Reply::Merged { accepted, .. } => accepted,
+    }
+}
+
+/// What is answered after a failure, and whether the office is closed then.
+fn end<S: Alter>(conn: &mut Connection<S>, failure: Failure) -> (Refusal, bool)
+    ensures ends { Ends S.Store failure conn.old conn.new result.0 result.1 }
+{
+    match failure {
+        Failure::Refused(refusal) => {
+            let is_closed = is_of_store(&refusal);
+            (refusal, is_closed)
+        }
+        Failure::Unread(error) => end_with(conn, fault_of(error, Table::SourceRecord)),
+        Failure::Uncommitted(error) => end_uncommitted(conn, error),
+    }
+}
+
+/// The same after a transaction that was not committed.
+fn end_uncommitted<S: Alter>(conn: &mut Connection<S>, error: CarryError) -> (Refusal, bool)
+    ensures ends { Ends S.Store (Uncommitted error) conn.old conn.new result.0 result.1 }
+{
+    match error {
+        CarryError::TakenBack(error) => end_with(conn, fault_of(error, Table::SourceRecord)),
+        CarryError::RollBackFailed(error) => {
+            (refusal_for(fault_of(error, Table::SourceRecord)), true)
+        }
+        CarryError::InDoubt(error) => (doubt_for(fault_of(error, Table::SourceRecord)), true),
+    }
+}
+
+/// What is answered after this fault of a call that changed nothing: out of memory, the office goes on if its
+/// connection can still be used, and else it is closed.
+fn end_with<S: Alter>(conn: &mut Connection<S>, fault: StoreFault) -> (Refusal, bool)
+    ensures ends { EndsWith S.Store fault conn.old conn.new result.0 result.1 }
+{
+    match fault {
+        StoreFault::Memory => (Refusal::Memory, !is_usable(conn)),
+        fault => (Refusal::Store { fault }, true),
+    }
+}
+
+/// The refusal for a fault of the store.
+fn refusal_for(fault: StoreFault) -> Refusal
+    ensures value { result ≡ refusal_for fault }
+{
+    match fault {
+        StoreFault::Memory => Refusal::Memory,
+        fault => Refusal::Store { fault },
+    }
+}
+
+/// The refusal for a commit in doubt.
+fn doubt_for(fault: StoreFault) -> Refusal
+    ensures value { result ≡ doubt_for fault }
+{
+    match fault {
+        StoreFault::Memory => Refusal::Store {
+            fault: StoreFault::Device,
+        },
+        fault => Refusal::Store { fault },
+    }
+}
+
+/// Whether an office is closed after this refusal.
+fn is_of_store(refusal: &Refusal) -> bool
+    ensures value { result ≡ is_of_store refusal.now }
+{
+    matches!(refusal, Refusal::Closed | Refusal::Store { .. })
+}

@@ -1,0 +1,66 @@
+//! What an opening tests of the tables of an office, in one call; and how an office is found in them, or made.
+ghost use Rattle.std.specs.Prelude.{◌≡◌, false};
+ghost use Rattle.wb_durable.specs.Opening.{Checks, ChecksRows, ChecksScratch, FindsOffice};
+
+use crate::preparing::make_office;
+use sqlite::{Alter, Connection};
+use wb_schema::is_empty;
+use wb_states::{Counts, StoreFault, Table};
+use wb_tables::{
+    check_archs, check_builders, check_counts, check_records, fault_of, has_scratch_rows,
+};
+
+/// The two counts of the office that the database holds, or of an empty one, whose tables are made first if the
+/// database has no table. The faults are those of [`check`], and before them those of the table of the office if the
+/// tables cannot be made. An office that was there stays as it is, but for a transaction that a failure of a query
+/// takes back; of a database without a table a crash leaves that, or the empty office (this project's own).
+pub(crate) fn find_office<S: Alter>(conn: &mut Connection<S>) -> Result<Counts, StoreFault>
+    requires idle { conn.old.in_transaction ≡ false }
+    ensures finds { FindsOffice S.Store conn.old conn.new result }
+{
+    if !is_empty(conn.schema()) {
+        return check(conn);
+    }
+    match make_office(conn) {
+        Ok(()) => check(conn),
+        Err(error) => Err(fault_of(error, Table::Office)),
+    }
+}
+
+/// The two counts of the office, if the rows of its tables are good, those of each table beside those of the others,
+/// and no merge left a row in the scratch tables. The faults are those of `check_counts`, `check_archs`,
+/// `check_builders` and `check_records`, in this order, and then those of the scratch tables: `Damaged` with row 1 of
+/// the scratch table of source packages if one of the two has a row, and the fault of their query. The database stays
+/// as it is, but for a transaction that a failure of a query takes back (this project's own).
+pub(crate) fn check<S: Alter>(conn: &mut Connection<S>) -> Result<Counts, StoreFault>
+    ensures checks { Checks S.Store conn.old conn.new result }
+{
+    let counts = check_rows(conn)?;
+    check_scratch(conn)?;
+    Ok(counts)
+}
+
+/// The two counts of the office, if the rows of its tables are good.
+fn check_rows<S: Alter>(conn: &mut Connection<S>) -> Result<Counts, StoreFault>
+    ensures checks { ChecksRows S.Store conn.old conn.new result }
+{
+    let counts = check_counts(conn)?;
+    let archs = check_archs(conn)?;
+    let builders = check_builders(conn, &archs)?;
+    check_records(conn, &archs, &builders, counts.handed)?;
+    Ok(counts)
+}
+
+/// Tests that the scratch tables of a merge have no row.
+fn check_scratch<S: Alter>(conn: &mut Connection<S>) -> Result<(), StoreFault>
+    ensures checks { ChecksScratch S.Store conn.old conn.new result }
+{
+    match has_scratch_rows(conn) {
+        Ok(false) => Ok(()),
+        Ok(true) => Err(StoreFault::Damaged {
+            table: Table::ScratchSource,
+            row: 1,
+        }),
+        Err(error) => Err(fault_of(error, Table::ScratchSource)),
+    }
+}
