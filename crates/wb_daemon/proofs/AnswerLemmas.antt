@@ -1,25 +1,34 @@
 -- Lemmas on what may be said to a line.
-use Rattle.std.proofs.Common.{◌≡◌, ℕ, Bool, true, false, not, ◌&&◌, cond, List, [], Option, None, Some, Ok, IsOk, IfSome, IsTrue, ◌≤◌, ◌⊎◌, inl, inr, refl, sym, ap, ◌∙◌, subst, arith}
+use Rattle.std.proofs.Common.{◌≡◌, ℕ, Bool, true, false, not, ◌&&◌, cond, List, [], Option, None, Some, Result, Ok, Err, IsOk, IsTrue, ◌⊎◌, inl, inr, refl, sym, ap, ◌∙◌, subst, arith}
 use Rattle.std.proofs.lemmas.Bool.{false≢true}
+use Rattle.std.specs.Cow.{cow_str_bytes, IsBorrowedStr}
+use Rattle.std.specs.declared.alloc.Global.{Global}
+use Rattle.std.specs.declared.borrow.CowStr.{CowStr}
 use Rattle.std.specs.Str.{is_utf8}
 use Rattle.std.specs.Io.KnownBytes.{Appends}
 use Rattle.wb_states.specs.Machine.{Machine}
+use Rattle.wb_states.specs.Refusals.{IsOfMachine}
 use Rattle.wb_states.specs.declared.command.Command.{Command}
+use Rattle.wb_states.specs.Commands.{name_of_command}
+use Rattle.wb_states.specs.declared.refusal.Refusal.{Refusal}
+use Rattle.wb_states.specs.declared.refusal.Refusal.TheVariants.{Closed, Memory, Store}
 use Rattle.wb_states.specs.declared.reply.Reply.{Reply}
-use Rattle.wb_office.proofs.CountedLemmas.{step-accepted}
+use Rattle.wb_states.specs.declared.store_fault.StoreFault.{StoreFault}
+use Rattle.wb_office.proofs.CountedLemmas.{step-accepted, step-unchanged}
 use Rattle.wb_office.proofs.PassLemmas.{step-either}
-use Rattle.wb_office.specs.Step.{step, Outcome}
+use Rattle.wb_office.specs.Ends.{is_of_store}
+use Rattle.wb_office.specs.Step.{step}
 use Rattle.wb_words.specs.Words.{invocation_in}
 use Rattle.wb_words.specs.declared.words.Invocation.{Invocation}
 use Rattle.wb_words.specs.declared.words.Invocation.TheVariants.{Command as invocation_Command, Merge as invocation_Merge}
 use Rattle.wb_words.specs.declared.words.PartNames.{PartNames}
-use Rattle.wb_api.specs.Encoding.{line_fault_text}
+use Rattle.wb_api.specs.Encoding.{line_fault_text, refusal_text, reply_text, is_plain, IsMemoryText}
 use Rattle.deb_text.specs.Lines.{words_in, is_blank_line}
 use Rattle.wb_daemon.specs.Line.{is_long, with_line_feed}
 use Rattle.wb_daemon.specs.Lists.{MayRead, MayReadMerge, MayReadLess}
-use Rattle.wb_daemon.specs.Run.{LineResponse, IsLineResponse, Accepts, InvokesAs, LineInvokes, IsResponseOfKind, LineKind, Blank, Fault, Request, kind_of_line, kind_of_invocation, invocation_of_line, line_fault_response, memory_response, needs_memory}
-use Rattle.wb_daemon.specs.declared.answer.Answer.{Answer}
-use Rattle.wb_daemon.specs.Turn.{response_of_answer, Answers, IsCommandResponseOrMemory, IsInvocationResponseOrMemory, AnswersInPart, AppendsFront, TookEndedLine, TookLastLine, StopsAtLine, StopsTurn, Turns}
+use Rattle.wb_daemon.specs.Offices.{Standing, InDoubt, Open, Shut}
+use Rattle.wb_daemon.specs.Run.{LineResponse, IsLineResponse, IsSaidTo, Accepts, InvokesAs, LineInvokes, IsRefusedByStore, IsResponseOfKind, LineKind, Blank, Fault, Request, answer_response, command_response, kind_of_line, kind_of_invocation, invocation_of_line, line_fault_response, memory_response, needs_memory, refusal_response}
+use Rattle.wb_daemon.specs.Turn.{Answers, IsCommandResponseOrMemory, IsInvocationResponseOrMemory, AnswersInPart, AppendsFront, TookEndedLine, TookLastLine, StopsAtLine, StopsTurn, Turns}
 use Rattle.wb_daemon.specs.declared.message.Cause.{Cause}
 use Rattle.wb_daemon.specs.declared.message.Cause.TheVariants as why
 use Rattle.wb_daemon.specs.declared.run.Turn.{Turn}
@@ -77,11 +86,11 @@ utf8-invocation line invocation false u e =
     cc
 
 -- what may be said to what a line asks for may be said to the line
-pub IsLineResponse-invocation : (may_read : MayRead) (machine : Machine) (line : List ℕ) (invocation : Invocation) (response : LineResponse) → is_long line ≡ false → is_blank_line line ≡ false
-    → invocation_of_line line ≡ Some invocation → IsInvocationResponseOrMemory may_read machine invocation response → IsLineResponse may_read machine line response
-IsLineResponse-invocation may_read machine line invocation response h k e (inl p) =
+pub IsLineResponse-invocation : (may_want : Command → Type 0) (may_read : MayRead) (machine : Machine) (line : List ℕ) (invocation : Invocation) (response : LineResponse) → is_long line ≡ false → is_blank_line line ≡ false
+    → invocation_of_line line ≡ Some invocation → IsInvocationResponseOrMemory may_want may_read machine invocation response → IsLineResponse may_read machine line response
+IsLineResponse-invocation may_want may_read machine line invocation response h k e (inl p) =
     IsLineResponse-kind may_read machine line (Request invocation) response (kind_of_line-read line h k ∙ ap kind_of_invocation e) p
-IsLineResponse-invocation may_read machine line invocation response h k e (inr p) =
+IsLineResponse-invocation may_want may_read machine line invocation response h k e (inr p) =
     inr (needs_memory-read line h k (utf8-invocation line invocation (is_utf8 line) refl e), p.1)
 
 pub IsLineResponse-fault : (may_read : MayRead) (machine : Machine) (line : List ℕ) (response : LineResponse) → is_long line ≡ false → is_blank_line line ≡ false
@@ -116,11 +125,7 @@ IsLineResponse-more old new m machine line response (inr h) = inr h
 
 Answers-more : (old new : MayRead) → MayReadLess old new → (line : List ℕ) (before after : Machine) (a b : Option (List ℕ)) (status : ℕ)
     → Answers new line before after a b status → Answers old line before after a b status
-Answers-more old new m line before after a b status h = (h.0, h.1, IsLineResponse-more old new m before line _ h.2, h.3)
-
-AnswersInPart-more : (old new : MayRead) → MayReadLess old new → (line : List ℕ) (before after : Machine) (a b : Option (List ℕ))
-    → AnswersInPart new line before after a b → AnswersInPart old line before after a b
-AnswersInPart-more old new m line before after a b h = (h.0, IsLineResponse-more old new m before line h.0 h.1, h.2, h.3)
+Answers-more old new m line before after a b status h = (h.0, IsLineResponse-more old new m before line _ h.1, h.2)
 
 InvokesAs-more : (old new : MayRead) → MayReadLess old new → (invocation : Invocation) (command : Command) → InvokesAs new invocation command → InvokesAs old invocation command
 InvokesAs-more old new m (invocation_Command invocation) command h = h
@@ -129,53 +134,53 @@ InvokesAs-more old new m (invocation_Merge sources parts) command h = MayReadMer
 LineInvokes-more : (old new : MayRead) → MayReadLess old new → (line : List ℕ) (command : Command) → LineInvokes new line command → LineInvokes old line command
 LineInvokes-more old new m line command h = (h.0, h.1, InvokesAs-more old new m h.0 command h.2)
 
-StopsAtLine-more : (old new : MayRead) → MayReadLess old new → (line : List ℕ) (before after : Machine) (a b : Option (List ℕ)) (cause : Cause)
-    → StopsAtLine new line before after a b cause → StopsAtLine old line before after a b cause
-StopsAtLine-more old new m line before after a b why.Read h = absurd h
-StopsAtLine-more old new m line before after a b why.Write h = AnswersInPart-more old new m line before after a b h
-StopsAtLine-more old new m line before after a b why.Reply h = (h.0, LineInvokes-more old new m line h.0 h.1, h.2, h.3)
-StopsAtLine-more old new m line before after a b why.Store h =
-    (h.0, h.1, IsLineResponse-more old new m before line h.0 h.2, LineInvokes-more old new m line h.1 h.3, h.4, h.5, h.6)
-StopsAtLine-more old new m line before after a b why.Lines h = absurd h
-StopsAtLine-more old new m line before after a b why.Room h = absurd h
+IsSaidTo-more : (old new : MayRead) → MayReadLess old new → (machine : Machine) (line : List ℕ) (response : LineResponse) (standing : Standing)
+    → IsSaidTo new machine line response standing → IsSaidTo old machine line response standing
+IsSaidTo-more old new m machine line response standing (inl h) = inl (IsLineResponse-more old new m machine line response h.0, h.1)
+IsSaidTo-more old new m machine line response standing (inr h) = inr (h.0, LineInvokes-more old new m line h.0 h.1, h.2)
 
-StopsTurn-more : (old new : MayRead) → MayReadLess old new → (cause : Cause) (before after : Machine) (i j a b : Option (List ℕ))
-    → StopsTurn new cause before after i j a b → StopsTurn old cause before after i j a b
-StopsTurn-more old new m why.Read before after i j a b t = t
-StopsTurn-more old new m why.Write before after i j a b t = (t.0, t.1, StopsAtLine-more old new m t.0 before after a b why.Write t.2)
-StopsTurn-more old new m why.Reply before after i j a b t = (t.0, t.1, StopsAtLine-more old new m t.0 before after a b why.Reply t.2)
-StopsTurn-more old new m why.Store before after i j a b t = (t.0, t.1, StopsAtLine-more old new m t.0 before after a b why.Store t.2)
-StopsTurn-more old new m why.Lines before after i j a b t = absurd t.2
-StopsTurn-more old new m why.Room before after i j a b t = absurd t.2
+AnswersInPart-more : (old new : MayRead) → MayReadLess old new → (line : List ℕ) (before after : Machine) (standing : Standing) (a b : Option (List ℕ))
+    → AnswersInPart new line before after standing a b → AnswersInPart old line before after standing a b
+AnswersInPart-more old new m line before after standing a b h = (h.0, IsSaidTo-more old new m before line h.0 standing h.1, h.2, h.3)
+
+StopsAtLine-more : (old new : MayRead) → MayReadLess old new → (line : List ℕ) (before after : Machine) (standing : Standing) (a b : Option (List ℕ)) (cause : Cause)
+    → StopsAtLine new line before after standing a b cause → StopsAtLine old line before after standing a b cause
+StopsAtLine-more old new m line before after standing a b why.Read h = absurd h
+StopsAtLine-more old new m line before after standing a b why.Write h = AnswersInPart-more old new m line before after standing a b h
+StopsAtLine-more old new m line before after standing a b why.Reply h = ((h.0.0, LineInvokes-more old new m line h.0.0 h.0.1, h.0.2, h.0.3), h.1)
+StopsAtLine-more old new m line before after standing a b why.Store h = (h.0, h.1, LineInvokes-more old new m line h.1 h.2, h.3, h.4, h.5)
+StopsAtLine-more old new m line before after standing a b why.Lines h = absurd h
+StopsAtLine-more old new m line before after standing a b why.Room h = absurd h
+
+StopsTurn-more : (old new : MayRead) → MayReadLess old new → (cause : Cause) (before after : Machine) (standing : Standing) (i j a b : Option (List ℕ))
+    → StopsTurn new cause before after standing i j a b → StopsTurn old cause before after standing i j a b
+StopsTurn-more old new m why.Read before after standing i j a b t = t
+StopsTurn-more old new m why.Write before after standing i j a b t = (t.0, t.1, StopsAtLine-more old new m t.0 before after standing a b why.Write t.2)
+StopsTurn-more old new m why.Reply before after standing i j a b t = (t.0, t.1, StopsAtLine-more old new m t.0 before after standing a b why.Reply t.2)
+StopsTurn-more old new m why.Store before after standing i j a b t = (t.0, t.1, StopsAtLine-more old new m t.0 before after standing a b why.Store t.2)
+StopsTurn-more old new m why.Lines before after standing i j a b t = absurd t.2
+StopsTurn-more old new m why.Room before after standing i j a b t = absurd t.2
 
 -- what a turn did with lists that gave no more than those of the run's start
-pub Turns-more : (old new : MayRead) → MayReadLess old new → (turn : Turn) (before after : Machine) (i j a b : Option (List ℕ))
-    → Turns new turn before after i j a b → Turns old turn before after i j a b
-Turns-more old new m (More status) before after i j a b t = (t.0, t.1, Answers-more old new m t.0 before after a b status t.2)
-Turns-more old new m (End status) before after i j a b t = (t.0, t.1, Answers-more old new m t.0 before after a b status t.2)
-Turns-more old new m (Stop cause) before after i j a b t = StopsTurn-more old new m cause before after i j a b t
+pub Turns-more : (old new : MayRead) → MayReadLess old new → (turn : Turn) (before after : Machine) (standing : Standing) (i j a b : Option (List ℕ))
+    → Turns new turn before after standing i j a b → Turns old turn before after standing i j a b
+Turns-more old new m (More status) before after standing i j a b t = (t.0, t.1, Answers-more old new m t.0 before after a b status t.2, t.3)
+Turns-more old new m (End status) before after standing i j a b t = (t.0, t.1, Answers-more old new m t.0 before after a b status t.2, t.3)
+Turns-more old new m (Stop cause) before after standing i j a b t = StopsTurn-more old new m cause before after standing i j a b t
 
 -- ---- what was written
 
 -- a command that the office replies to is accepted, where the office counts one more after it
-pub reply-accepted : (machine after : Machine) (command : Command) (reply : Reply) → step machine command ≡ (Ok reply, after)
-    → ¬ (after.accepted ≡ machine.accepted) → Accepts machine command after
-reply-accepted machine after command reply e more =
-    let is : after ≡ (step machine command).1 = sym (ap (λ (outcome : Outcome). outcome.1) e) in
+pub reply-accepted : (machine : Machine) (command : Command) (reply : Reply) → (step machine command).0 ≡ Ok reply
+    → ¬ ((step machine command).1.accepted ≡ machine.accepted) → Accepts machine command (step machine command).1
+reply-accepted machine command reply e more =
     let rises = step-accepted machine command in
-    let same : (step machine command).1.accepted ≡ after.accepted = ap (λ (m : Machine). m.accepted) (sym is) in
-    (subst (λ (outcome : Outcome). IsOk outcome.0) (sym e) refl, is, omega (arith, rises, same, more))
+    (subst (λ (result : Result Reply Refusal). IsOk result) (sym e) refl, refl, omega (arith, rises, more))
 
 -- a command after which the office counts no more changed nothing
-step-repeats : (machine : Machine) (command : Command) → (step machine command).1.accepted ≡ machine.accepted → (step machine command).1 ≡ machine
+pub step-repeats : (machine : Machine) (command : Command) → (step machine command).1.accepted ≡ machine.accepted → (step machine command).1 ≡ machine
 step-repeats machine command =
     step-either (λ after. after.accepted ≡ machine.accepted → after ≡ machine) machine command (λ _. refl) (λ _ _ e. absurd (omega (arith, e)))
-
-pub reply-repeats : (machine after : Machine) (command : Command) (reply : Reply) → step machine command ≡ (Ok reply, after)
-    → after.accepted ≡ machine.accepted → after ≡ machine
-reply-repeats machine after command reply e same =
-    let is : (step machine command).1 ≡ after = ap (λ (outcome : Outcome). outcome.1) e in
-    sym is ∙ step-repeats machine command (ap (λ (m : Machine). m.accepted) is ∙ same)
 
 -- a line that is neither long nor blank asks for what its words ask for
 pub LineInvokes-invocation : (may_read : MayRead) (line : List ℕ) (invocation : Invocation) (command : Command) → is_long line ≡ false → is_blank_line line ≡ false
@@ -183,43 +188,98 @@ pub LineInvokes-invocation : (may_read : MayRead) (line : List ℕ) (invocation 
 LineInvokes-invocation may_read line invocation command h k e a = (invocation, kind_of_line-read line h k ∙ ap kind_of_invocation e, a)
 
 -- a line that was not answered stops the turn
-pub stops_turn : (may_read : MayRead) (cause : Cause) (line : List ℕ) (before after : Machine) (i j a b : Option (List ℕ))
-    → TookEndedLine line i j ⊎ TookLastLine line i j → StopsAtLine may_read line before after a b cause → StopsTurn may_read cause before after i j a b
-stops_turn may_read why.Read line before after i j a b g h = absurd h
-stops_turn may_read why.Write line before after i j a b g h = (line, g, h)
-stops_turn may_read why.Reply line before after i j a b g h = (line, g, h)
-stops_turn may_read why.Store line before after i j a b g h = (line, g, h)
-stops_turn may_read why.Lines line before after i j a b g h = absurd h
-stops_turn may_read why.Room line before after i j a b g h = absurd h
+pub stops_turn : (may_read : MayRead) (cause : Cause) (line : List ℕ) (before after : Machine) (standing : Standing) (i j a b : Option (List ℕ))
+    → TookEndedLine line i j ⊎ TookLastLine line i j → StopsAtLine may_read line before after standing a b cause → StopsTurn may_read cause before after standing i j a b
+stops_turn may_read why.Read line before after standing i j a b g h = absurd h
+stops_turn may_read why.Write line before after standing i j a b g h = (line, g, h)
+stops_turn may_read why.Reply line before after standing i j a b g h = (line, g, h)
+stops_turn may_read why.Store line before after standing i j a b g h = (line, g, h)
+stops_turn may_read why.Lines line before after standing i j a b g h = absurd h
+stops_turn may_read why.Room line before after standing i j a b g h = absurd h
 
 pub answers-blank : (may_read : MayRead) (machine : Machine) (line : List ℕ) (written : Option (List ℕ)) → is_long line ≡ false → is_blank_line line ≡ true
     → Answers may_read line machine machine written written 0
 answers-blank may_read machine line written h k =
-    ([], omega arith, IsLineResponse-kind may_read machine line Blank _ (kind_of_line-blank line h k) refl, Appends-same written)
+    ([], IsLineResponse-kind may_read machine line Blank _ (kind_of_line-blank line h k) refl, Appends-same written)
 
 pub answers-long : (may_read : MayRead) (line : List ℕ) (machine : Machine) (old new : Option (List ℕ)) → is_long line ≡ true
     → Appends old new (with_line_feed line_fault_text) → Answers may_read line machine machine old new 2
 answers-long may_read line machine old new h p =
-    (with_line_feed line_fault_text, omega arith, IsLineResponse-kind may_read machine line Fault _ (kind_of_line-long line h) refl, p)
+    (with_line_feed line_fault_text, IsLineResponse-kind may_read machine line Fault _ (kind_of_line-long line h) refl, p)
 
 pub answers-long_cut : (may_read : MayRead) (line : List ℕ) (machine : Machine) (old new : Option (List ℕ)) → is_long line ≡ true
-    → AppendsFront old new (with_line_feed line_fault_text) → AnswersInPart may_read line machine machine old new
+    → AppendsFront old new (with_line_feed line_fault_text) → AnswersInPart may_read line machine machine Open old new
 answers-long_cut may_read line machine old new h p =
-    (line_fault_response machine, IsLineResponse-kind may_read machine line Fault _ (kind_of_line-long line h) refl, refl, p)
+    (line_fault_response machine, inl (IsLineResponse-kind may_read machine line Fault _ (kind_of_line-long line h) refl, refl), refl, p)
 
 -- what may be said to the command of a merge may be said to the merge
-merge-response : (may_read : MayRead) (machine : Machine) (invocation : Invocation) (sources : List ℕ) (parts : List PartNames) (command : Command) (response : LineResponse)
-    → invocation ≡ invocation_Merge sources parts → MayReadMerge may_read sources parts command → IsCommandResponseOrMemory machine command response → IsInvocationResponseOrMemory may_read machine invocation response
-merge-response may_read machine invocation sources parts command response is given (inl same) =
-    subst (λ a. IsInvocationResponseOrMemory may_read machine a response) (sym is) (inl (inl (command, given, same)))
-merge-response may_read machine invocation sources parts command response is given (inr short) =
-    subst (λ a. IsInvocationResponseOrMemory may_read machine a response) (sym is) (inr (tt, short.1))
+pub merge-response : (may_want : Command → Type 0) (may_read : MayRead) (machine : Machine) (invocation : Invocation) (sources : List ℕ) (parts : List PartNames) (command : Command)
+    (response : LineResponse) → invocation ≡ invocation_Merge sources parts → MayReadMerge may_read sources parts command
+    → IsCommandResponseOrMemory may_want machine command response → IsInvocationResponseOrMemory may_want may_read machine invocation response
+merge-response may_want may_read machine invocation sources parts command response is given (inl same) =
+    subst (λ a. IsInvocationResponseOrMemory may_want may_read machine a response) (sym is) (inl (inl (command, given, same)))
+merge-response may_want may_read machine invocation sources parts command response is given (inr short) =
+    subst (λ a. IsInvocationResponseOrMemory may_want may_read machine a response) (sym is) (inr (tt, short.1))
 
--- the same of an answer, if there is one
-pub merge-answered : (may_read : MayRead) (machine after : Machine) (invocation : Invocation) (sources : List ℕ) (parts : List PartNames) (command : Command) (answer : Option Answer)
-    → invocation ≡ invocation_Merge sources parts → MayReadMerge may_read sources parts command
-    → IfSome answer (λ a. (a.status ≤ 3) × IsCommandResponseOrMemory machine command (response_of_answer a after))
-    → IfSome answer (λ a. (a.status ≤ 3) × IsInvocationResponseOrMemory may_read machine invocation (response_of_answer a after))
-merge-answered may_read machine after invocation sources parts command None is given known = tt
-merge-answered may_read machine after invocation sources parts command (Some answer) is given known =
-    (known.0, merge-response may_read machine invocation sources parts command (response_of_answer answer after) is given known.1)
+-- ---- what is said to a refused command
+
+-- the same text is the same response
+said-same : {s t : List ℕ} {machine : Machine} → s ≡ t
+    → ◌≡◌ {A = LineResponse} (record { text = with_line_feed s; machine = machine; status = 1 }) (record { text = with_line_feed t; machine = machine; status = 1 })
+said-same {s} {t} {machine} e = ap (λ x. record { text = with_line_feed x; machine = machine; status = 1 }) e
+
+refused-response : (machine : Machine) (command : Command) (refusal : Refusal) → (step machine command).0 ≡ Err refusal
+    → command_response machine command ≡ refusal_response machine refusal
+refused-response machine command refusal e =
+    ap (λ (r : Result Reply Refusal). answer_response (name_of_command command) r (step machine command).1) e
+    ∙ ap (answer_response (name_of_command command) (Err refusal)) (step-unchanged machine command refusal e)
+
+-- a refusal that `step` gives is said, or that there is no memory for it
+pub refusal-said : (may_want : Command → Type 0) (machine : Machine) (command : Command) (refusal : Refusal) (text : CowStr Global) → (step machine command).0 ≡ Err refusal
+    → (cow_str_bytes text ≡ refusal_text refusal) ⊎ IsMemoryText text → (is_plain refusal ≡ true → IsBorrowedStr text × (cow_str_bytes text ≡ refusal_text refusal))
+    → IsCommandResponseOrMemory may_want machine command (record { text = with_line_feed (cow_str_bytes text); machine = machine; status = 1 })
+refusal-said may_want machine command refusal text e (inl same) plain = inl (said-same same ∙ sym (refused-response machine command refusal e))
+refusal-said may_want machine command refusal text e (inr short) plain =
+    (elim (is_plain refusal) as (λ b. is_plain refusal ≡ b
+    → IsCommandResponseOrMemory may_want machine command (record { text = with_line_feed (cow_str_bytes text); machine = machine; status = 1 })) [
+      | true ↦ λ is. inl (said-same (plain is).1 ∙ sym (refused-response machine command refusal e))
+      | false ↦ λ is. inr (inl (inr (refusal, e, is)), said-same short.1)
+    ]) refl
+
+-- a refusal that comes of the store is that the office is closed, or that its store failed
+pub is_of_store-cases : (refusal : Refusal) → is_of_store refusal ≡ true → (refusal ≡ Closed) ⊎ ((fault : StoreFault) × (refusal ≡ Store fault))
+is_of_store-cases Closed h = inl refl
+is_of_store-cases (Store fault) h = inr (fault, refl)
+is_of_store-cases refusal h = cc
+
+-- a reply is said
+pub reply-said : (may_want : Command → Type 0) (machine : Machine) (command : Command) (reply : Reply) (text : List ℕ) → (step machine command).0 ≡ Ok reply
+    → text ≡ reply_text (name_of_command command) reply
+    → IsCommandResponseOrMemory may_want machine command (record { text = with_line_feed text; machine = (step machine command).1; status = 0 })
+reply-said may_want machine command reply text e said =
+    inl (ap (λ t. record { text = with_line_feed t; machine = (step machine command).1; status = 0 }) said
+    ∙ sym (ap (λ (r : Result Reply Refusal). answer_response (name_of_command command) r (step machine command).1) e))
+
+-- the refusal of an office that is closed is said
+pub closed-said : (machine : Machine) (command : Command) (refusal : Refusal) (text : CowStr Global) → refusal ≡ Closed
+    → (is_plain refusal ≡ true → IsBorrowedStr text × (cow_str_bytes text ≡ refusal_text refusal))
+    → IsRefusedByStore machine command (record { text = with_line_feed (cow_str_bytes text); machine = machine; status = 1 }) Shut
+closed-said machine command refusal text e plain =
+    inl (said-same ((plain (ap is_plain e)).1 ∙ ap refusal_text e), refl)
+
+-- the refusal of an office whose store failed is said, or that there is no memory for it
+pub store-said : (machine : Machine) (command : Command) (refusal : Refusal) (fault : StoreFault) (text : CowStr Global) → refusal ≡ Store fault
+    → (cow_str_bytes text ≡ refusal_text refusal) ⊎ IsMemoryText text
+    → IsRefusedByStore machine command (record { text = with_line_feed (cow_str_bytes text); machine = machine; status = 1 }) (InDoubt command)
+store-said machine command refusal fault text e (inl same) = inr (fault, inl (said-same (same ∙ ap refusal_text e)), refl)
+store-said machine command refusal fault text e (inr short) = inr (fault, inr (said-same short.1), refl)
+
+-- that there is no memory is said to a command that may want some
+pub memory-said : (may_want : Command → Type 0) (machine : Machine) (command : Command) (text : CowStr Global) → may_want command → IsMemoryText text
+    → IsCommandResponseOrMemory may_want machine command (record { text = with_line_feed (cow_str_bytes text); machine = machine; status = 1 })
+memory-said may_want machine command text wants short = inr (inl (inl wants), said-same short.1)
+
+-- a refusal is that there is no memory, or another
+pub refusal-cases : (refusal : Refusal) → (refusal ≡ Memory) ⊎ IsOfMachine refusal
+refusal-cases Memory = inl refl
+refusal-cases refusal = inr (λ e. cc)

@@ -11,8 +11,9 @@ use Rattle.wb_words.specs.declared.words.Invocation.{Invocation}
 use Rattle.wb_words.specs.declared.words.Invocation.TheVariants.{Command as invocation_Command, Merge as invocation_Merge}
 use Rattle.wb_daemon.specs.Line.{ended_in, input_lines}
 use Rattle.wb_daemon.specs.Lists.{MayRead}
-use Rattle.wb_daemon.specs.Replays.{IsReplay, IsReplayCut, LeavesReplay, IsResponseWithoutReply}
-use Rattle.wb_daemon.specs.Run.{Request, InvokesAs, EndsInput, Fault, LineKind, LineInvokes, Runs, LineResponse, IsLineResponse, IsInvocationResponse, IsResponseOfKind, Blank, RunStopsFor, StopsInLine, answer_response, command_response, followed, kind_of_line, no_response}
+use Rattle.wb_daemon.specs.Offices.{Standing, Open, IsSoOfEach}
+use Rattle.wb_daemon.specs.Replays.{IsReplay, IsReplayCut, IsReplayRefused, LeavesReplay, IsResponseWithoutReply}
+use Rattle.wb_daemon.specs.Run.{Request, InvokesAs, EndsInput, Fault, LineKind, LineInvokes, Runs, LineResponse, IsLineResponse, IsInvocationResponse, IsRefusedByStore, IsResponseOfKind, IsSaidTo, Blank, RunStopsFor, StopsInLine, answer_response, command_response, followed, kind_of_line, no_response}
 use Rattle.wb_daemon.specs.declared.message.Cause.{Cause}
 use Rattle.wb_daemon.specs.declared.message.Cause.TheVariants as why
 use Rattle.wb_daemon.proofs.RunLemmas.{Runs-snoc}
@@ -94,35 +95,44 @@ snoc-replay may_read lines earlier last machine answered response e runs respond
     subst (λ l. IsReplay may_read machine l (followed answered response)) (sym e)
     (Runs-replay may_read (earlier ++ last ∷ []) machine (followed answered response) (Runs-snoc may_read earlier machine answered last response runs responds))
 
-pub StopsInLine-replay : (may_read : MayRead) (seen : List ℕ) (left : Option (List ℕ)) (machine : Machine) (text : List ℕ) (after : Machine)
-    → StopsInLine may_read seen left machine text after → IsReplayCut may_read seen left machine text after
-StopsInLine-replay may_read seen left machine text after (inl (lines, acted, s)) = (
+-- what is said to the last of the lines that were acted on
+said-replay : (may_read : MayRead) (lines earlier : List (List ℕ)) (last : List ℕ) (machine : Machine) (answered response : LineResponse) (standing : Standing)
+    → lines ≡ earlier ++ last ∷ [] → Runs may_read machine earlier answered → IsSaidTo may_read answered.machine last response standing
+    → (IsReplay may_read machine lines (followed answered response) × (standing ≡ Open)) ⊎ IsReplayRefused may_read machine lines (followed answered response) standing
+said-replay may_read lines earlier last machine answered response standing e runs (inl said) =
+    inl (snoc-replay may_read lines earlier last machine answered response e runs said.0, said.1)
+said-replay may_read lines earlier last machine answered response standing e runs (inr refused) =
+    inr (earlier, last, answered, response, refused.0, e, Runs-replay may_read earlier machine answered runs, refused.1, refused.2, refl)
+
+pub StopsInLine-replay : (may_read : MayRead) (seen : List ℕ) (left : Option (List ℕ)) (machine : Machine) (text : List ℕ) (after : Machine) (standing : Standing)
+    → StopsInLine may_read seen left machine text after standing → IsReplayCut may_read seen left machine text after standing
+StopsInLine-replay may_read seen left machine text after standing (inl (lines, acted, s)) = (
   lines,
   followed s.answered s.response,
   drop s.written s.response.text,
   acted,
-  snoc-replay may_read lines s.earlier s.last machine s.answered s.response s.parts s.runs s.responds,
+  said-replay may_read lines s.earlier s.last machine s.answered s.response standing s.parts s.runs s.responds,
   s.office,
   ap (λ t. s.answered.text ++ t) (sym (take-append-drop s.written s.response.text))
       ∙ sym (append_assoc s.answered.text (take s.written s.response.text) (drop s.written s.response.text))
       ∙ ap (λ t. t ++ drop s.written s.response.text) (sym s.front),
 )
-StopsInLine-replay may_read seen left machine text after (inr (inl (lines, acted, s))) =
+StopsInLine-replay may_read seen left machine text after standing (inr (inl (lines, acted, s, still))) =
     let response = command_response s.answered.machine s.command in (
       lines,
       followed s.answered response,
       response.text,
       acted,
-      snoc-replay may_read lines s.earlier s.last machine s.answered response s.parts s.runs (LineInvokes-responds may_read s.answered.machine s.last s.command s.invokes),
+      inl (snoc-replay may_read lines s.earlier s.last machine s.answered response s.parts s.runs (LineInvokes-responds may_read s.answered.machine s.last s.command s.invokes), still),
       s.accepted.1 ∙ sym (command_response-machine s.answered.machine s.command),
       ap (λ t. t ++ response.text) (sym s.unwritten),
     )
-StopsInLine-replay may_read seen left machine text after (inr (inr (lines, acted, s))) = (
+StopsInLine-replay may_read seen left machine text after standing (inr (inr (lines, acted, s))) = (
   lines,
   followed s.answered s.response,
   [],
   acted,
-  snoc-replay may_read lines s.earlier s.last machine s.answered s.response s.parts s.runs s.responds,
+  said-replay may_read lines s.earlier s.last machine s.answered s.response standing s.parts s.runs (inr (s.command, s.invokes, s.refused)),
   s.office,
   sym s.written ∙ sym (append-nil text),
 )
@@ -137,18 +147,60 @@ pub EndsInput-leaves : (may_read : MayRead) (known old new : Option (List ℕ)) 
     → EndsInput may_read known old new before after status → LeavesReplay may_read before after
 EndsInput-leaves may_read known old new before after status h = Runs-leaves may_read before after (input_lines h.0) h.3.0 status h.3.1
 
-StopsInLine-leaves : (may_read : MayRead) (seen : List ℕ) (left : Option (List ℕ)) (before : Machine) (text : List ℕ) (after : Machine)
-    → StopsInLine may_read seen left before text after → LeavesReplay may_read before after
-StopsInLine-leaves may_read seen left before text after h =
-    let cut = StopsInLine-replay may_read seen left before text after h in (cut.0, cut.1, cut.4, cut.5)
+refused-unmoved : (before : Machine) (command : Command) (response : LineResponse) (standing : Standing) → IsRefusedByStore before command response standing → response.machine ≡ before
+refused-unmoved before command response standing (inl h) = ap (λ (s : LineResponse). s.machine) h.0
+refused-unmoved before command response standing (inr (fault, inl e, is)) = ap (λ (s : LineResponse). s.machine) e
+refused-unmoved before command response standing (inr (fault, inr e, is)) = ap (λ (s : LineResponse). s.machine) e
+
+-- without the command that was refused, and with it where it is in doubt
+each-left : (may_read : MayRead) (before after : Machine) (command : Command) (inner : Machine) (response : LineResponse) (standing : Standing) → LeavesReplay may_read before after
+    → LeavesReplay may_read before (step after command).1 → IsRefusedByStore inner command response standing → IsSoOfEach (LeavesReplay may_read before) after standing
+each-left may_read before after command inner response standing without with_it (inl h) =
+    subst (λ s. IsSoOfEach (LeavesReplay may_read before) after s) (sym h.1) without
+each-left may_read before after command inner response standing without with_it (inr h) =
+    subst (λ s. IsSoOfEach (LeavesReplay may_read before) after s) (sym h.2) (without, with_it)
+
+refused-leaves : (may_read : MayRead) (earlier : List (List ℕ)) (last : List ℕ) (before after : Machine) (answered response : LineResponse) (command : Command) (standing : Standing)
+    → Runs may_read before earlier answered → LineInvokes may_read last command → IsRefusedByStore answered.machine command response standing → after ≡ response.machine
+    → IsSoOfEach (LeavesReplay may_read before) after standing
+refused-leaves may_read earlier last before after answered response command standing runs invokes refused is =
+    let same = is ∙ refused-unmoved answered.machine command response standing refused in
+    let reply = command_response answered.machine command in
+    each-left may_read before after command answered.machine response standing
+    (earlier, answered, Runs-replay may_read earlier before answered runs, same) (
+      earlier ++ last ∷ [],
+      followed answered reply,
+      snoc-replay may_read (earlier ++ last ∷ []) earlier last before answered reply refl runs (LineInvokes-responds may_read answered.machine last command invokes),
+      ap (λ m. (step m command).1) same ∙ sym (command_response-machine answered.machine command),
+    )
+    refused
+
+-- what is left by a run that stopped within or after the answer to a line
+said-leaves : (may_read : MayRead) (lines earlier : List (List ℕ)) (last : List ℕ) (before after : Machine) (answered response : LineResponse) (standing : Standing)
+    → lines ≡ earlier ++ last ∷ [] → Runs may_read before earlier answered → IsSaidTo may_read answered.machine last response standing → after ≡ response.machine
+    → IsSoOfEach (LeavesReplay may_read before) after standing
+said-leaves may_read lines earlier last before after answered response standing e runs (inl said) is =
+    subst (λ s. IsSoOfEach (LeavesReplay may_read before) after s) (sym said.1)
+    (lines, followed answered response, snoc-replay may_read lines earlier last before answered response e runs said.0, is)
+said-leaves may_read lines earlier last before after answered response standing e runs (inr refused) is =
+    refused-leaves may_read earlier last before after answered response refused.0 standing runs refused.1 refused.2 is
 
 -- what a run leaves that stopped, for whatever cause
-pub RunStopsFor-leaves : (may_read : MayRead) (cause : Cause) (input left old new : Option (List ℕ)) (before after : Machine)
-    → RunStopsFor may_read cause input left old new before after → LeavesReplay may_read before after
-RunStopsFor-leaves may_read why.Read input left old new before after h = Runs-leaves may_read before after (ended_in h.0) h.1 h.4.0 h.4.1
-RunStopsFor-leaves may_read why.Write input left old new before after h = StopsInLine-leaves may_read h.0 left before h.1 after (inl h.4)
-RunStopsFor-leaves may_read why.Reply input left old new before after h = StopsInLine-leaves may_read h.0 left before h.1 after (inr (inl h.4))
-RunStopsFor-leaves may_read why.Store input left old new before after h = StopsInLine-leaves may_read h.0 left before h.1 after (inr (inr h.4))
-RunStopsFor-leaves may_read why.Lines input left old new before after h = Runs-leaves may_read before after (ended_in h.4.0) h.1 h.4.4.0 h.4.4.1
-RunStopsFor-leaves may_read why.Room input left old new before after h =
-    ([], no_response before, Runs-replay may_read [] before (no_response before) refl, h.4.2)
+pub RunStopsFor-leaves : (may_read : MayRead) (cause : Cause) (input left old new : Option (List ℕ)) (before after : Machine) (standing : Standing)
+    → RunStopsFor may_read cause input left old new before after standing → IsSoOfEach (LeavesReplay may_read before) after standing
+RunStopsFor-leaves may_read why.Read input left old new before after standing h =
+    subst (λ s. IsSoOfEach (LeavesReplay may_read before) after s) (sym h.4.1) (Runs-leaves may_read before after (ended_in h.0) h.1 h.4.0.0 h.4.0.1)
+RunStopsFor-leaves may_read why.Write input left old new before after standing (seen, text, read, wrote, (lines, acted, s)) =
+    said-leaves may_read lines s.earlier s.last before after s.answered s.response standing s.parts s.runs s.responds s.office
+RunStopsFor-leaves may_read why.Reply input left old new before after standing (seen, text, read, wrote, (lines, acted, s, still)) =
+    let response = command_response s.answered.machine s.command in
+    said-leaves may_read lines s.earlier s.last before after s.answered response standing s.parts s.runs
+    (inl (LineInvokes-responds may_read s.answered.machine s.last s.command s.invokes, still))
+    (s.accepted.1 ∙ sym (command_response-machine s.answered.machine s.command))
+RunStopsFor-leaves may_read why.Store input left old new before after standing (seen, text, read, wrote, (lines, acted, s)) =
+    refused-leaves may_read s.earlier s.last before after s.answered s.response s.command standing s.runs s.invokes s.refused s.office
+RunStopsFor-leaves may_read why.Lines input left old new before after standing h =
+    subst (λ s. IsSoOfEach (LeavesReplay may_read before) after s) (sym h.4.1) (Runs-leaves may_read before after (ended_in h.4.0.0) h.1 h.4.0.4.0 h.4.0.4.1)
+RunStopsFor-leaves may_read why.Room input left old new before after standing h =
+    subst (λ s. IsSoOfEach (LeavesReplay may_read before) after s) (sym h.4.1)
+    ([], no_response before, Runs-replay may_read [] before (no_response before) refl, h.4.0.2)

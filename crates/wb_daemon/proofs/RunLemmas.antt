@@ -13,9 +13,10 @@ use Rattle.deb_text.proofs.ListLemmas.{slice_split-run, slice_split-end}
 use Rattle.deb_text.specs.Lines.{is_line_feed, IsOneLine}
 use Rattle.wb_daemon.specs.Line.{ended_in, is_long, input_lines, line_limit, lines_limit, through_long, with_line_feed, with_line_feeds, AreWithinLimit}
 use Rattle.wb_daemon.specs.Lists.{MayRead, IsAllOf}
+use Rattle.wb_daemon.specs.Offices.{Standing, Open}
 use Rattle.wb_daemon.specs.Run.{LineResponse, IsLineResponse, Runs, EndsInput, FailsFor, StopsAfter, StopsBeforeReply, StopsBetween, RunStopsFor, StopsWithin, WereActedOn, followed, no_response}
 use Rattle.wb_streams.specs.Streams.{Flags, Stream}
-use Rattle.wb_daemon.specs.Turn.{Answers, AnswersInPart, AnswersLast, TookEndedLine, TookLastLine, StopsAtLine, LacksReply, StopsTurn, fails_to_write}
+use Rattle.wb_daemon.specs.Turn.{Answers, AnswersInPart, AnswersLast, IsCauseAtLine, TookEndedLine, TookLastLine, StopsAtLine, LacksReply, StopsTurn, fails_to_write}
 use Rattle.wb_daemon.specs.declared.message.Cause.{Cause}
 use Rattle.wb_daemon.specs.declared.message.Cause.TheVariants.{Read, Write, Reply, Store, Lines, Room}
 use Rattle.wb_daemon.proofs.LineLemmas.{Appends-same, Appends-then, Consumes-then}
@@ -137,7 +138,6 @@ pub record SoFar (may_read : MayRead) (input now old new : Option (List ℕ)) (b
   pub taken : Consumes input now (with_line_feeds lines)
   pub runs : Runs may_read before lines (record { text = text; machine = after; status = status })
   pub written : Appends old new text
-  pub small : status ≤ 3
 
 Consumes-same : (a : Option (List ℕ)) → Consumes a a []
 Consumes-same None = tt
@@ -152,7 +152,6 @@ so_far-start may_read input old machine = record {
   taken = Consumes-same input;
   runs = refl;
   written = Appends-same old;
-  small = omega arith;
 }
 
 module _ {may_read : MayRead} {input now old new : Option (List ℕ)} {before after : Machine} {status count : ℕ} (far : SoFar may_read input now old new before after status count) where
@@ -169,9 +168,8 @@ module _ {may_read : MayRead} {input now old new : Option (List ℕ)} {before af
     are = AreLines-snoc far.lines line far.are g.1 g.0;
     counted = omega (arith, length-append far.lines (line ∷ []), far.counted);
     taken = after_line line left g.2;
-    runs = Runs-snoc may_read far.lines before _ line _ far.runs a.2;
-    written = Appends-then old new written far.text a.0 far.written a.3;
-    small = omega (arith, far.small, a.1);
+    runs = Runs-snoc may_read far.lines before _ line _ far.runs a.1;
+    written = Appends-then old new written far.text a.0 far.written a.2;
   }
 
 -- ---- how a run ends
@@ -217,8 +215,8 @@ module _ {may_read : MayRead} {input now old new : Option (List ℕ)} {before af
     (
       far.text ++ a.0,
       subst (λ l. Runs may_read before l (record { text = far.text ++ a.0; machine = next; status = max status more })) (sym same)
-          (Runs-snoc may_read far.lines before _ last _ far.runs a.2),
-      Appends-then old new written far.text a.0 far.written a.3,
+          (Runs-snoc may_read far.lines before _ last _ far.runs a.1),
+      Appends-then old new written far.text a.0 far.written a.2,
     ),
   )
 
@@ -231,7 +229,7 @@ module _ {may_read : MayRead} {input now old new : Option (List ℕ)} {before af
       subst (λ n. EndsInput may_read input old written before next n) (sym e)
       (ended (with_line_feeds far.lines ++ (line ++ whole.0)) last.0 written next more whole.1 last.1
       (inl (omega (arith, length-append far.lines (last.0 ∷ []), far.counted, few)))
-      (a.0, a.1, last.2 _ _ a.2, a.3))
+      (a.0, last.2 _ _ a.1, a.2))
 
   -- nothing follows the last line that a run may have
   pub ends-nothing : (left : Option (List ℕ)) → count ≡ lines_limit → Consumes now left [] → IsAtEnd left → EndsInput may_read input old new before after status
@@ -250,12 +248,12 @@ module _ {may_read : MayRead} {input now old new : Option (List ℕ)} {before af
       (status, subst (λ l. Runs may_read before l (record { text = far.text; machine = after; status = status })) (sym (ended_in-with_line_feeds far.lines line far.are h)) far.runs)
 
   -- the reader failed within a line
-  pub stops-read : (line : List ℕ) (left : Option (List ℕ)) → IsOneLine line → Consumes now left line → RunStopsFor may_read Read input left old new before after
+  pub stops-read : (line : List ℕ) (left : Option (List ℕ)) → IsOneLine line → Consumes now left line → RunStopsFor may_read Read input left old new before after Open
   stops-read line left h p =
-      (with_line_feeds far.lines ++ line, far.text, Consumes-then input now left (with_line_feeds far.lines) line far.taken p, far.written, between line h)
+      (with_line_feeds far.lines ++ line, far.text, Consumes-then input now left (with_line_feeds far.lines) line far.taken p, far.written, (between line h, refl))
 
   -- a byte follows the last line that a run may have
-  pub stops-limit : (byte : ℕ) (left : Option (List ℕ)) → count ≡ lines_limit → Consumes now left (byte ∷ []) → RunStopsFor may_read Lines input left old new before after
+  pub stops-limit : (byte : ℕ) (left : Option (List ℕ)) → count ≡ lines_limit → Consumes now left (byte ∷ []) → RunStopsFor may_read Lines input left old new before after Open
   stops-limit byte left full p =
       let acted = with_line_feeds far.lines ++ [] in (
         with_line_feeds far.lines ++ byte ∷ [],
@@ -263,17 +261,20 @@ module _ {may_read : MayRead} {input now old new : Option (List ℕ)} {before af
         Consumes-then input now left (with_line_feeds far.lines) (byte ∷ []) far.taken p,
         far.written,
         (
-          acted,
-          byte,
-          ap (λ l. l ++ byte ∷ []) (sym (append-nil (with_line_feeds far.lines))),
-          ap length (ended_in-with_line_feeds far.lines [] far.are refl) ∙ far.counted ∙ full,
-          between [] refl,
+          (
+            acted,
+            byte,
+            ap (λ l. l ++ byte ∷ []) (sym (append-nil (with_line_feeds far.lines))),
+            ap length (ended_in-with_line_feeds far.lines [] far.are refl) ∙ far.counted ∙ full,
+            between [] refl,
+          ),
+          refl,
         ),
       )
 
-  within : (line : List ℕ) (written : Option (List ℕ)) (next : Machine) → (a : AnswersInPart may_read line after next new written)
-      → StopsWithin may_read (far.lines ++ line ∷ []) before (far.text ++ take a.3.0 a.0.text) next
-  within line written next a = record {
+  within : (line : List ℕ) (written : Option (List ℕ)) (next : Machine) (standing : Standing) → (a : AnswersInPart may_read line after next standing new written)
+      → StopsWithin may_read (far.lines ++ line ∷ []) before (far.text ++ take a.3.0 a.0.text) next standing
+  within line written next standing a = record {
     earlier = far.lines;
     last = line;
     answered = record { text = far.text; machine = after; status = status };
@@ -305,9 +306,9 @@ module _ {may_read : MayRead} {input now old new : Option (List ℕ)} {before af
     unwritten = refl;
   }
 
-  after_answer : (line : List ℕ) (written : Option (List ℕ)) (next : Machine) → (a : AnswersLast may_read line after next new written)
-      → StopsAfter may_read (far.lines ++ line ∷ []) before (far.text ++ a.0.text) next
-  after_answer line written next a = record {
+  after_answer : (line : List ℕ) (written : Option (List ℕ)) (next : Machine) (standing : Standing) → (a : AnswersLast may_read line after next standing new written)
+      → StopsAfter may_read (far.lines ++ line ∷ []) before (far.text ++ a.0.text) next standing
+  after_answer line written next standing a = record {
     earlier = far.lines;
     last = line;
     answered = record { text = far.text; machine = after; status = status };
@@ -315,11 +316,10 @@ module _ {may_read : MayRead} {input now old new : Option (List ℕ)} {before af
     command = a.1;
     parts = refl;
     runs = far.runs;
-    responds = a.2;
-    invokes = a.3;
-    refused = a.4;
+    invokes = a.2;
+    refused = a.3;
     written = refl;
-    office = a.5;
+    office = a.4;
   }
 
   -- the bytes of the lines that were acted on
@@ -337,36 +337,38 @@ module _ {may_read : MayRead} {input now old new : Option (List ℕ)} {before af
     inr (sym (input_lines-last far.lines line far.are g.0), at_last line left g.2),
   )
 
-  stops-line : (cause : Cause) (line : List ℕ) (left written : Option (List ℕ)) (next : Machine)
-      → TookEndedLine line now left ⊎ TookLastLine line now left → StopsAtLine may_read line after next new written cause → RunStopsFor may_read cause input left old written before next
-  stops-line Read line left written next g a = absurd a
-  stops-line Write line left written next g a =
+  stops-line : (cause : Cause) (line : List ℕ) (left written : Option (List ℕ)) (next : Machine) (standing : Standing)
+      → TookEndedLine line now left ⊎ TookLastLine line now left → StopsAtLine may_read line after next standing new written cause
+      → RunStopsFor may_read cause input left old written before next standing
+  stops-line Read line left written next standing g a = absurd a
+  stops-line Write line left written next standing g a =
       let h = acted_on line left g in
-      (h.0, far.text ++ take a.3.0 a.0.text, h.1, Appends-then old new written far.text _ far.written a.3.2, (far.lines ++ line ∷ [], h.2, within line written next a))
-  stops-line Reply line left written next g a =
+      (h.0, far.text ++ take a.3.0 a.0.text, h.1, Appends-then old new written far.text _ far.written a.3.2, (far.lines ++ line ∷ [], h.2, within line written next standing a))
+  stops-line Reply line left written next standing g a =
       let h = acted_on line left g in
-      (h.0, far.text, h.1, subst (λ w. Appends old w far.text) (sym a.3) far.written, (far.lines ++ line ∷ [], h.2, before_reply line written next a))
-  stops-line Store line left written next g a =
+      (h.0, far.text, h.1, subst (λ w. Appends old w far.text) (sym a.0.3) far.written, (far.lines ++ line ∷ [], h.2, before_reply line written next a.0, a.1))
+  stops-line Store line left written next standing g a =
       let h = acted_on line left g in
-      (h.0, far.text ++ a.0.text, h.1, Appends-then old new written far.text _ far.written a.6, (far.lines ++ line ∷ [], h.2, after_answer line written next a))
-  stops-line Lines line left written next g a = absurd a
-  stops-line Room line left written next g a = absurd a
+      (h.0, far.text ++ a.0.text, h.1, Appends-then old new written far.text _ far.written a.5, (far.lines ++ line ∷ [], h.2, after_answer line written next standing a))
+  stops-line Lines line left written next standing g a = absurd a
+  stops-line Room line left written next standing g a = absurd a
 
   -- a turn stopped
-  pub stops-turn : (cause : Cause) (left written : Option (List ℕ)) (next : Machine)
-      → StopsTurn may_read cause after next now left new written → RunStopsFor may_read cause input left old written before next
-  stops-turn Read left written next t =
-      subst (λ w. RunStopsFor may_read Read input left old w before next) (sym t.4)
-      (subst (λ m. RunStopsFor may_read Read input left old new before m) (sym t.3) (stops-read t.0 left t.1 t.2))
-  stops-turn Write left written next t = stops-line Write t.0 left written next t.1 t.2
-  stops-turn Reply left written next t = stops-line Reply t.0 left written next t.1 t.2
-  stops-turn Store left written next t = stops-line Store t.0 left written next t.1 t.2
-  stops-turn Lines left written next t = absurd t.2
-  stops-turn Room left written next t = absurd t.2
+  pub stops-turn : (cause : Cause) (left written : Option (List ℕ)) (next : Machine) (standing : Standing)
+      → StopsTurn may_read cause after next standing now left new written → RunStopsFor may_read cause input left old written before next standing
+  stops-turn Read left written next standing t =
+      subst (λ s. RunStopsFor may_read Read input left old written before next s) (sym t.5)
+      (subst (λ w. RunStopsFor may_read Read input left old w before next Open) (sym t.4)
+      (subst (λ m. RunStopsFor may_read Read input left old new before m Open) (sym t.3) (stops-read t.0 left t.1 t.2)))
+  stops-turn Write left written next standing t = stops-line Write t.0 left written next standing t.1 t.2
+  stops-turn Reply left written next standing t = stops-line Reply t.0 left written next standing t.1 t.2
+  stops-turn Store left written next standing t = stops-line Store t.0 left written next standing t.1 t.2
+  stops-turn Lines left written next standing t = absurd t.2
+  stops-turn Room left written next standing t = absurd t.2
 
 -- a run that could not begin
-pub stops-at_once : (may_read : MayRead) (input old : Option (List ℕ)) (machine : Machine) → RunStopsFor may_read Room input input old old machine machine
-stops-at_once may_read input old machine = ([], [], Consumes-same input, Appends-same old, (refl, refl, refl))
+pub stops-at_once : (may_read : MayRead) (input old : Option (List ℕ)) (machine : Machine) → RunStopsFor may_read Room input input old old machine machine Open
+stops-at_once may_read input old machine = ([], [], Consumes-same input, Appends-same old, ((refl, refl, refl), refl))
 
 -- the run goes on, or ends, with the greater of two statuses
 pub so_far-next : {may_read : MayRead} {input now old new : Option (List ℕ)} {before after : Machine} {status count : ℕ} (far : SoFar may_read input now old new before after status count)
@@ -392,20 +394,10 @@ FailsFor-then (Some Room) a b c x y z p q = (q.0 ∙ p.0, q.1 ∙ p.1)
 FailsFor-then None a b c x y z p q = (q.0 ∙ p.0, q.1 ∙ p.1)
 
 -- a line that was read was not answered: no read failed, and a write only where that is why
-pub FailsFor-answer : (cause : Cause) (a b x y : Stream) → b.failed ≡ a.failed → ¬ (cause ≡ Read) → Flags (fails_to_write (Err cause)) x y → FailsFor (Some cause) a b x y
-FailsFor-answer Read a b x y p n q = absurd (n refl)
-FailsFor-answer Write a b x y p n q = (p, q)
-FailsFor-answer Reply a b x y p n q = (p, q)
-FailsFor-answer Store a b x y p n q = (p, q)
-FailsFor-answer Lines a b x y p n q = (p, q)
-FailsFor-answer Room a b x y p n q = (p, q)
-
--- why a line that was read is not answered is no failed read
-pub StopsAtLine-written : (may_read : MayRead) (cause : Cause) (line : List ℕ) (before after : Machine) (a b : Option (List ℕ))
-    → StopsAtLine may_read line before after a b cause → ¬ (cause ≡ Read)
-StopsAtLine-written may_read Read line before after a b h e = h
-StopsAtLine-written may_read Write line before after a b h e = cc
-StopsAtLine-written may_read Reply line before after a b h e = cc
-StopsAtLine-written may_read Store line before after a b h e = cc
-StopsAtLine-written may_read Lines line before after a b h e = h
-StopsAtLine-written may_read Room line before after a b h e = h
+pub FailsFor-answer : (cause : Cause) (a b x y : Stream) → b.failed ≡ a.failed → IsCauseAtLine cause → Flags (fails_to_write (Err cause)) x y → FailsFor (Some cause) a b x y
+FailsFor-answer Read a b x y p at q = absurd at
+FailsFor-answer Write a b x y p at q = (p, q)
+FailsFor-answer Reply a b x y p at q = (p, q)
+FailsFor-answer Store a b x y p at q = (p, q)
+FailsFor-answer Lines a b x y p at q = absurd at
+FailsFor-answer Room a b x y p at q = absurd at

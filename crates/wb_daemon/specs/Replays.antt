@@ -4,7 +4,8 @@ use Rattle.wb_states.specs.Machine.{Machine}
 use Rattle.wb_states.specs.declared.command.Command.{Command}
 use Rattle.wb_office.specs.Replay.{replay}
 use Rattle.wb_daemon.specs.Lists.{MayRead}
-use Rattle.wb_daemon.specs.Run.{LineResponse, LineInvokes, WereActedOn, command_response, line_fault_response, file_fault_response, followed, memory_response, no_response}
+use Rattle.wb_daemon.specs.Offices.{Standing, Open}
+use Rattle.wb_daemon.specs.Run.{LineResponse, LineInvokes, IsRefusedByStore, WereActedOn, command_response, line_fault_response, file_fault_response, followed, memory_response, no_response}
 
 -- nothing is carried out for a line: it is blank, or at fault, or a list of it cannot be read, or it finds no memory
 abbrev pub IsResponseWithoutReply : Machine → LineResponse → Type 0
@@ -32,8 +33,16 @@ abbrev pub LeavesReplay : MayRead → Machine → Machine → Type 0
 LeavesReplay may_read before after =
     (lines : List (List ℕ)) × (whole : LineResponse) × IsReplay may_read before lines whole × (after ≡ whole.machine)
 
+-- the last of these lines asks for a command that was refused by the store: before it is what the commands of the other lines leave
+abbrev pub IsReplayRefused : MayRead → Machine → List (List ℕ) → LineResponse → Standing → Type 0
+IsReplayRefused may_read machine lines whole standing =
+    (earlier : List (List ℕ)) × (last : List ℕ) × (answered response : LineResponse) × (command : Command)
+    × (lines ≡ earlier ++ last ∷ []) × IsReplay may_read machine earlier answered × LineInvokes may_read last command
+    × IsRefusedByStore answered.machine command response standing × (whole ≡ followed answered response)
+
 -- a run that was cut off left what the lines that it acted on leave, and wrote a front of what is said to them
-abbrev pub IsReplayCut : MayRead → List ℕ → Option (List ℕ) → Machine → List ℕ → Machine → Type 0
-IsReplayCut may_read seen left machine text after =
-    (lines : List (List ℕ)) × (whole : LineResponse) × (rest : List ℕ) × WereActedOn seen left lines × IsReplay may_read machine lines whole
+abbrev pub IsReplayCut : MayRead → List ℕ → Option (List ℕ) → Machine → List ℕ → Machine → Standing → Type 0
+IsReplayCut may_read seen left machine text after standing =
+    (lines : List (List ℕ)) × (whole : LineResponse) × (rest : List ℕ) × WereActedOn seen left lines
+    × ((IsReplay may_read machine lines whole × (standing ≡ Open)) ⊎ IsReplayRefused may_read machine lines whole standing)
     × (after ≡ whole.machine) × (whole.text ≡ text ++ rest)

@@ -1,5 +1,5 @@
 -- What a run over the lines of an input writes, and what it leaves of the office (this project's own).
-use Rattle.std.specs.Prelude.{◌≡◌, ℕ, ◌<◌, max, Bool, true, false, not, ◌&&◌, ◌⊎◌, if◌then◌else◌, List, [], ◌∷◌, ◌++◌, length, take, Option, None, Some, IsTrue, IsOk, Result, Ok, Err}
+use Rattle.std.specs.Prelude.{◌≡◌, ℕ, ◌<◌, max, Bool, true, not, ◌&&◌, ◌⊎◌, if◌then◌else◌, List, [], ◌∷◌, ◌++◌, length, take, Option, None, Some, IsTrue, IsOk, Result, Ok, Err}
 use Rattle.std.specs.List.{list_any}
 use Rattle.std.specs.Str.{is_utf8}
 use Rattle.std.specs.Io.KnownBytes.{Appends, Consumes, IsAtEnd}
@@ -9,6 +9,7 @@ use Rattle.wb_states.specs.declared.command.Command.{Command}
 use Rattle.wb_states.specs.declared.refusal.Refusal.{Refusal}
 use Rattle.wb_states.specs.declared.refusal.Refusal.TheVariants.{Closed, Store}
 use Rattle.wb_states.specs.declared.reply.Reply.{Reply}
+use Rattle.wb_states.specs.declared.store_fault.StoreFault.{StoreFault}
 use Rattle.wb_office.specs.Step.{step}
 use Rattle.wb_words.specs.Words.{invocation_in}
 use Rattle.wb_words.specs.declared.words.Invocation.{Invocation}
@@ -18,6 +19,7 @@ use Rattle.wb_api.specs.Encoding.{reply_text, refusal_text, memory_text, line_fa
 use Rattle.deb_text.specs.Lines.{words_in, is_blank_line}
 use Rattle.wb_daemon.specs.Line.{is_long, input_lines, ended_in, lines_limit, with_line_feed, AreWithinLimit}
 use Rattle.wb_daemon.specs.Lists.{MayRead, MayReadMerge, IsAllOf, LacksMerge}
+use Rattle.wb_daemon.specs.Offices.{Standing, Open, Shut, InDoubt}
 use Rattle.wb_streams.specs.Streams.{Stream}
 use Rattle.wb_daemon.specs.declared.message.Cause.{Cause}
 use Rattle.wb_daemon.specs.declared.message.Cause.TheVariants as why
@@ -89,15 +91,15 @@ abbrev pub Accepts : Machine → Command → Machine → Type 0
 Accepts before command after =
     IsOk (step before command).0 × (after ≡ (step before command).1) × (before.accepted < after.accepted)
 
--- whether a run stops after this refusal: the store failed, or the office is closed
-abbrev pub ends_run : Refusal → Bool
-ends_run Closed = true
-ends_run (Store fault) = true
-ends_run refusal = false
+-- a refusal is what is said, which changes nothing that is known of the office
+abbrev pub refusal_response : Machine → Refusal → LineResponse
+refusal_response machine refusal = record { text = with_line_feed (refusal_text refusal); machine = machine; status = 1 }
 
--- a command is refused since the store failed or the office is closed
-abbrev pub IsRefusedByStore : Machine → Command → Type 0
-IsRefusedByStore before command = (refusal : Refusal) × ((step before command).0 ≡ Err refusal) × (ends_run refusal ≡ true)
+-- a command is refused since the office is closed, or since the store failed, which leaves the command in doubt: what is said, and how the office then stands
+abbrev pub IsRefusedByStore : Machine → Command → LineResponse → Standing → Type 0
+IsRefusedByStore before command response standing =
+    ((response ≡ refusal_response before Closed) × (standing ≡ Shut))
+    ⊎ ((fault : StoreFault) × ((response ≡ refusal_response before (Store fault)) ⊎ (response ≡ memory_response before)) × (standing ≡ InDoubt command))
 
 -- what may be said to a merge of these lists: what is said to the command with what the lists gave, or that one of them is at fault
 abbrev pub IsMergeResponse : MayRead → Machine → List ℕ → List PartNames → LineResponse → Type 0
@@ -124,6 +126,12 @@ needs_memory line = not (is_long line) && (not (is_blank_line line) && is_utf8 l
 abbrev pub IsLineResponse : MayRead → Machine → List ℕ → LineResponse → Type 0
 IsLineResponse may_read machine line response =
     IsResponseOfKind may_read machine (kind_of_line line) response ⊎ (IsTrue (needs_memory line) × (response ≡ memory_response machine))
+
+-- what is said to a line, and how the office then stands: it answers further lines, or the command of the line was refused by the store
+abbrev pub IsSaidTo : MayRead → Machine → List ℕ → LineResponse → Standing → Type 0
+IsSaidTo may_read machine line response standing =
+    (IsLineResponse may_read machine line response × (standing ≡ Open))
+    ⊎ ((command : Command) × LineInvokes may_read line command × IsRefusedByStore machine command response standing)
 
 -- one thing is said, and then another; the greater status is that of both
 abbrev pub followed : LineResponse → LineResponse → LineResponse
@@ -173,7 +181,7 @@ WereActedOn seen left lines =
     ⊎ ((lines ≡ input_lines seen) × (IsAtEnd left ⊎ IsTrue (list_any is_long lines)))
 
 -- a run that stopped within an answer: that to the last of these lines, of which a front alone was written; the office is as it is after that line
-pub record StopsWithin (may_read : MayRead) (lines : List (List ℕ)) (before : Machine) (text : List ℕ) (after : Machine) : Type 0 where
+pub record StopsWithin (may_read : MayRead) (lines : List (List ℕ)) (before : Machine) (text : List ℕ) (after : Machine) (standing : Standing) : Type 0 where
   pub earlier : List (List ℕ)
   pub last : List ℕ
   pub answered : LineResponse
@@ -181,7 +189,7 @@ pub record StopsWithin (may_read : MayRead) (lines : List (List ℕ)) (before : 
   pub written : ℕ
   pub parts : lines ≡ earlier ++ last ∷ []
   pub runs : Runs may_read before earlier answered
-  pub responds : IsLineResponse may_read answered.machine last response
+  pub responds : IsSaidTo may_read answered.machine last response standing
   pub cut : written < length response.text
   pub front : text ≡ answered.text ++ take written response.text
   pub office : after ≡ response.machine
@@ -199,7 +207,7 @@ pub record StopsBeforeReply (may_read : MayRead) (lines : List (List ℕ)) (befo
   pub unwritten : text ≡ answered.text
 
 -- a run that stopped after the last of these lines, each of which was answered: its command was refused since the store failed or the office is closed
-pub record StopsAfter (may_read : MayRead) (lines : List (List ℕ)) (before : Machine) (text : List ℕ) (after : Machine) : Type 0 where
+pub record StopsAfter (may_read : MayRead) (lines : List (List ℕ)) (before : Machine) (text : List ℕ) (after : Machine) (standing : Standing) : Type 0 where
   pub earlier : List (List ℕ)
   pub last : List ℕ
   pub answered : LineResponse
@@ -207,35 +215,34 @@ pub record StopsAfter (may_read : MayRead) (lines : List (List ℕ)) (before : M
   pub command : Command
   pub parts : lines ≡ earlier ++ last ∷ []
   pub runs : Runs may_read before earlier answered
-  pub responds : IsLineResponse may_read answered.machine last response
   pub invokes : LineInvokes may_read last command
-  pub refused : IsRefusedByStore answered.machine command
+  pub refused : IsRefusedByStore answered.machine command response standing
   pub written : text ≡ answered.text ++ response.text
   pub office : after ≡ response.machine
 
 -- a run that stopped for this cause: a read or a write failed, or there was no memory for a reply, or the store failed, or more follows its last line, or it has no room for a line
-abbrev pub StopsFor : MayRead → Cause → List ℕ → Option (List ℕ) → Machine → List ℕ → Machine → Type 0
-StopsFor may_read why.Read seen left before text after = StopsBetween may_read seen before text after
-StopsFor may_read why.Write seen left before text after =
-    (lines : List (List ℕ)) × WereActedOn seen left lines × StopsWithin may_read lines before text after
-StopsFor may_read why.Reply seen left before text after =
-    (lines : List (List ℕ)) × WereActedOn seen left lines × StopsBeforeReply may_read lines before text after
-StopsFor may_read why.Store seen left before text after =
-    (lines : List (List ℕ)) × WereActedOn seen left lines × StopsAfter may_read lines before text after
-StopsFor may_read why.Lines seen left before text after = StopsAtLimit may_read seen before text after
-StopsFor may_read why.Room seen left before text after = NeverBegins seen before text after
+abbrev pub StopsFor : MayRead → Cause → List ℕ → Option (List ℕ) → Machine → List ℕ → Machine → Standing → Type 0
+StopsFor may_read why.Read seen left before text after standing = StopsBetween may_read seen before text after × (standing ≡ Open)
+StopsFor may_read why.Write seen left before text after standing =
+    (lines : List (List ℕ)) × WereActedOn seen left lines × StopsWithin may_read lines before text after standing
+StopsFor may_read why.Reply seen left before text after standing =
+    (lines : List (List ℕ)) × WereActedOn seen left lines × StopsBeforeReply may_read lines before text after × (standing ≡ Open)
+StopsFor may_read why.Store seen left before text after standing =
+    (lines : List (List ℕ)) × WereActedOn seen left lines × StopsAfter may_read lines before text after standing
+StopsFor may_read why.Lines seen left before text after standing = StopsAtLimit may_read seen before text after × (standing ≡ Open)
+StopsFor may_read why.Room seen left before text after standing = NeverBegins seen before text after × (standing ≡ Open)
 
 -- a run that stopped at the last line that it acted on: its answer was not written whole, or there is no memory for the reply, or the store failed
-abbrev pub StopsInLine : MayRead → List ℕ → Option (List ℕ) → Machine → List ℕ → Machine → Type 0
-StopsInLine may_read seen left before text after =
-    StopsFor may_read why.Write seen left before text after
-    ⊎ (StopsFor may_read why.Reply seen left before text after ⊎ StopsFor may_read why.Store seen left before text after)
+abbrev pub StopsInLine : MayRead → List ℕ → Option (List ℕ) → Machine → List ℕ → Machine → Standing → Type 0
+StopsInLine may_read seen left before text after standing =
+    StopsFor may_read why.Write seen left before text after standing
+    ⊎ (StopsFor may_read why.Reply seen left before text after standing ⊎ StopsFor may_read why.Store seen left before text after standing)
 
 -- a run that stopped for this cause before its input ended: what it had read, and what it wrote
-abbrev pub RunStopsFor : MayRead → Cause → Option (List ℕ) → Option (List ℕ) → Option (List ℕ) → Option (List ℕ) → Machine → Machine → Type 0
-RunStopsFor may_read cause old_input new_input old_text new_text before after =
+abbrev pub RunStopsFor : MayRead → Cause → Option (List ℕ) → Option (List ℕ) → Option (List ℕ) → Option (List ℕ) → Machine → Machine → Standing → Type 0
+RunStopsFor may_read cause old_input new_input old_text new_text before after standing =
     (seen text : List ℕ) × Consumes old_input new_input seen × Appends old_text new_text text
-    × StopsFor may_read cause seen new_input before text after
+    × StopsFor may_read cause seen new_input before text after standing
 
 -- the flags of the reader and the writer of a run, before and after: that of the reader is set where the run stopped for a failed read, that of the writer where for a failed write, and else they stay
 abbrev pub FailsFor : Option Cause → Stream → Stream → Stream → Stream → Type 0
@@ -253,7 +260,7 @@ RunEndsWell may_read input left old new before after status =
     EndsInput may_read input.bytes old.bytes new.bytes before after status × FailsFor None input left old new
 
 -- a run stopped before its input ended: what it had read, what it wrote and why, and the read or the write that is why did fail
-abbrev pub RunStops : MayRead → Stream → Stream → Stream → Stream → Machine → Machine → Type 0
-RunStops may_read input left old new before after =
-    (cause : Cause) × RunStopsFor may_read cause input.bytes left.bytes old.bytes new.bytes before after
+abbrev pub RunStops : MayRead → Stream → Stream → Stream → Stream → Machine → Machine → Standing → Type 0
+RunStops may_read input left old new before after standing =
+    (cause : Cause) × RunStopsFor may_read cause input.bytes left.bytes old.bytes new.bytes before after standing
     × FailsFor (Some cause) input left old new

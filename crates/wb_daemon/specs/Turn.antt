@@ -5,7 +5,6 @@ use Rattle.std.specs.Io.KnownBytes.{Appends, Consumes, IsAtEnd}
 use Rattle.wb_states.specs.Machine.{Machine}
 use Rattle.wb_states.specs.declared.command.Command.{Command}
 use Rattle.wb_states.specs.declared.refusal.Refusal.{Refusal}
-use Rattle.wb_office.specs.Checks.{MayWantMemory}
 use Rattle.wb_office.specs.Step.{step}
 use Rattle.wb_words.specs.declared.words.Invocation.{Invocation}
 use Rattle.wb_words.specs.declared.words.Invocation.TheVariants.{Command as invocation_Command, Merge as invocation_Merge}
@@ -13,7 +12,8 @@ use Rattle.wb_api.specs.Encoding.{is_plain}
 use Rattle.deb_text.specs.Lines.{IsOneLine}
 use Rattle.wb_daemon.specs.Line.{is_long, with_line_feed}
 use Rattle.wb_daemon.specs.Lists.{MayRead}
-use Rattle.wb_daemon.specs.Run.{LineResponse, IsLineResponse, IsInvocationResponse, command_response, memory_response, Accepts, EndsInput, IsRefusedByStore, LineInvokes, RunStopsFor}
+use Rattle.wb_daemon.specs.Offices.{Standing, Open}
+use Rattle.wb_daemon.specs.Run.{LineResponse, IsLineResponse, IsInvocationResponse, command_response, memory_response, Accepts, EndsInput, IsRefusedByStore, IsSaidTo, LineInvokes, RunStopsFor}
 use Rattle.wb_daemon.specs.declared.answer.Answer.{Answer}
 use Rattle.wb_daemon.specs.declared.message.Cause.{Cause}
 use Rattle.wb_daemon.specs.declared.message.Cause.TheVariants.{Read, Write, Reply, Store, Lines, Room}
@@ -27,26 +27,26 @@ abbrev pub response_of_answer : Answer → Machine → LineResponse
 response_of_answer answer after = record { text = with_line_feed (cow_str_bytes answer.text); machine = after; status = answer.status }
 
 -- why a command may be answered by want of memory: it may want some, or its refusal tells more than a number and a name, or its reply repeats an assignment
-abbrev pub MayLackMemory : Machine → Command → Type 0
-MayLackMemory machine command =
-    (MayWantMemory command
+abbrev pub MayLackMemory : (Command → Type 0) → Machine → Command → Type 0
+MayLackMemory may_want machine command =
+    (may_want command
     ⊎ ((refusal : Refusal) × ((step machine command).0 ≡ Err refusal) × (is_plain refusal ≡ false)))
     ⊎ (IsOk (step machine command).0 × ((step machine command).1 ≡ machine))
 
 -- what may be said to a command: that there is no memory for it is possible too
-abbrev pub IsCommandResponseOrMemory : Machine → Command → LineResponse → Type 0
-IsCommandResponseOrMemory machine command response =
-    (response ≡ command_response machine command) ⊎ (MayLackMemory machine command × (response ≡ memory_response machine))
+abbrev pub IsCommandResponseOrMemory : (Command → Type 0) → Machine → Command → LineResponse → Type 0
+IsCommandResponseOrMemory may_want machine command response =
+    (response ≡ command_response machine command) ⊎ (MayLackMemory may_want machine command × (response ≡ memory_response machine))
 
 -- why what a line asks for may be answered by want of memory: a command as above, and the lists of a merge are read into memory
-abbrev pub MayLackMemoryFor : Machine → Invocation → Type 0
-MayLackMemoryFor machine (invocation_Command command) = MayLackMemory machine command
-MayLackMemoryFor machine (invocation_Merge sources parts) = ⊤
+abbrev pub MayLackMemoryFor : (Command → Type 0) → Machine → Invocation → Type 0
+MayLackMemoryFor may_want machine (invocation_Command command) = MayLackMemory may_want machine command
+MayLackMemoryFor may_want machine (invocation_Merge sources parts) = ⊤
 
 -- what may be said to what a line asks for: that there is no memory for it is possible too
-abbrev pub IsInvocationResponseOrMemory : MayRead → Machine → Invocation → LineResponse → Type 0
-IsInvocationResponseOrMemory may_read machine invocation response =
-    IsInvocationResponse may_read machine invocation response ⊎ (MayLackMemoryFor machine invocation × (response ≡ memory_response machine))
+abbrev pub IsInvocationResponseOrMemory : (Command → Type 0) → MayRead → Machine → Invocation → LineResponse → Type 0
+IsInvocationResponseOrMemory may_want may_read machine invocation response =
+    IsInvocationResponse may_read machine invocation response ⊎ (MayLackMemoryFor may_want machine invocation × (response ≡ memory_response machine))
 
 -- a front of a text, but not the whole, is appended
 abbrev pub AppendsFront : Option (List ℕ) → Option (List ℕ) → List ℕ → Type 0
@@ -55,12 +55,12 @@ AppendsFront old new text = (count : ℕ) × (count < length text) × Appends ol
 -- a line was answered: what is said to it was written
 abbrev pub Answers : MayRead → List ℕ → Machine → Machine → Option (List ℕ) → Option (List ℕ) → ℕ → Type 0
 Answers may_read line before after old new status =
-    (text : List ℕ) × (status ≤ 3) × IsLineResponse may_read before line (record { text = text; machine = after; status = status }) × Appends old new text
+    (text : List ℕ) × IsLineResponse may_read before line (record { text = text; machine = after; status = status }) × Appends old new text
 
 -- a line was acted on, but what is said to it was not written whole
-abbrev pub AnswersInPart : MayRead → List ℕ → Machine → Machine → Option (List ℕ) → Option (List ℕ) → Type 0
-AnswersInPart may_read line before after old new =
-    (response : LineResponse) × IsLineResponse may_read before line response × (after ≡ response.machine) × AppendsFront old new response.text
+abbrev pub AnswersInPart : MayRead → List ℕ → Machine → Machine → Standing → Option (List ℕ) → Option (List ℕ) → Type 0
+AnswersInPart may_read line before after standing old new =
+    (response : LineResponse) × IsSaidTo may_read before line response standing × (after ≡ response.machine) × AppendsFront old new response.text
 
 -- a line was acted on and its command accepted, but nothing of the reply was written
 abbrev pub LacksReply : MayRead → List ℕ → Machine → Machine → Option (List ℕ) → Option (List ℕ) → Type 0
@@ -68,17 +68,24 @@ LacksReply may_read line before after old new =
     (command : Command) × LineInvokes may_read line command × Accepts before command after × (new ≡ old)
 
 -- a line was answered, and its command was refused since the store failed or the office is closed
-abbrev pub AnswersLast : MayRead → List ℕ → Machine → Machine → Option (List ℕ) → Option (List ℕ) → Type 0
-AnswersLast may_read line before after old new =
-    (response : LineResponse) × (command : Command) × IsLineResponse may_read before line response × LineInvokes may_read line command
-    × IsRefusedByStore before command × (after ≡ response.machine) × Appends old new response.text
+abbrev pub AnswersLast : MayRead → List ℕ → Machine → Machine → Standing → Option (List ℕ) → Option (List ℕ) → Type 0
+AnswersLast may_read line before after standing old new =
+    (response : LineResponse) × (command : Command) × LineInvokes may_read line command
+    × IsRefusedByStore before command response standing × (after ≡ response.machine) × Appends old new response.text
 
 -- why a run stops at a line that was acted on: a write failed, or there is no memory for the reply, or the store failed
-abbrev pub StopsAtLine : MayRead → List ℕ → Machine → Machine → Option (List ℕ) → Option (List ℕ) → Cause → Type 0
-StopsAtLine may_read line before after old new Write = AnswersInPart may_read line before after old new
-StopsAtLine may_read line before after old new Reply = LacksReply may_read line before after old new
-StopsAtLine may_read line before after old new Store = AnswersLast may_read line before after old new
-StopsAtLine may_read line before after old new cause = ⊥
+abbrev pub StopsAtLine : MayRead → List ℕ → Machine → Machine → Standing → Option (List ℕ) → Option (List ℕ) → Cause → Type 0
+StopsAtLine may_read line before after standing old new Write = AnswersInPart may_read line before after standing old new
+StopsAtLine may_read line before after standing old new Reply = LacksReply may_read line before after old new × (standing ≡ Open)
+StopsAtLine may_read line before after standing old new Store = AnswersLast may_read line before after standing old new
+StopsAtLine may_read line before after standing old new cause = ⊥
+
+-- a run stops for this cause at a line that it read
+abbrev pub IsCauseAtLine : Cause → Type 0
+IsCauseAtLine Write = ⊤
+IsCauseAtLine Reply = ⊤
+IsCauseAtLine Store = ⊤
+IsCauseAtLine cause = ⊥
 
 -- a line and its line feed were taken from the reader
 abbrev pub TookEndedLine : List ℕ → Option (List ℕ) → Option (List ℕ) → Type 0
@@ -89,28 +96,39 @@ abbrev pub TookLastLine : List ℕ → Option (List ℕ) → Option (List ℕ) �
 TookLastLine line old new = IsOneLine line × Consumes old new line × (IsAtEnd new ⊎ (is_long line ≡ true))
 
 -- why a turn stopped: a read failed within the line, or the run stops at the line
-abbrev pub StopsTurn : MayRead → Cause → Machine → Machine → Option (List ℕ) → Option (List ℕ) → Option (List ℕ) → Option (List ℕ) → Type 0
-StopsTurn may_read Read before after old_input new_input old new =
-    (line : List ℕ) × IsOneLine line × Consumes old_input new_input line × (after ≡ before) × (new ≡ old)
-StopsTurn may_read cause before after old_input new_input old new =
+abbrev pub StopsTurn : MayRead → Cause → Machine → Machine → Standing → Option (List ℕ) → Option (List ℕ) → Option (List ℕ) → Option (List ℕ) → Type 0
+StopsTurn may_read Read before after standing old_input new_input old new =
+    (line : List ℕ) × IsOneLine line × Consumes old_input new_input line × (after ≡ before) × (new ≡ old) × (standing ≡ Open)
+StopsTurn may_read cause before after standing old_input new_input old new =
     (line : List ℕ) × (TookEndedLine line old_input new_input ⊎ TookLastLine line old_input new_input)
-    × StopsAtLine may_read line before after old new cause
+    × StopsAtLine may_read line before after standing old new cause
 
 -- what a turn did: a line was answered and more may follow, or the last line was answered, or the run stops
-abbrev pub Turns : MayRead → Turn → Machine → Machine → Option (List ℕ) → Option (List ℕ) → Option (List ℕ) → Option (List ℕ) → Type 0
-Turns may_read (More status) before after old_input new_input old new =
-    (line : List ℕ) × TookEndedLine line old_input new_input × Answers may_read line before after old new status
-Turns may_read (End status) before after old_input new_input old new =
-    (line : List ℕ) × TookLastLine line old_input new_input × Answers may_read line before after old new status
-Turns may_read (Stop cause) before after old_input new_input old new =
-    StopsTurn may_read cause before after old_input new_input old new
+abbrev pub Turns : MayRead → Turn → Machine → Machine → Standing → Option (List ℕ) → Option (List ℕ) → Option (List ℕ) → Option (List ℕ) → Type 0
+Turns may_read (More status) before after standing old_input new_input old new =
+    (line : List ℕ) × TookEndedLine line old_input new_input × Answers may_read line before after old new status × (standing ≡ Open)
+Turns may_read (End status) before after standing old_input new_input old new =
+    (line : List ℕ) × TookLastLine line old_input new_input × Answers may_read line before after old new status × (standing ≡ Open)
+Turns may_read (Stop cause) before after standing old_input new_input old new =
+    StopsTurn may_read cause before after standing old_input new_input old new
 
 -- what a run did: it ended with its input, or stopped before
-abbrev pub Ran : MayRead → RunEnd → Machine → Machine → Option (List ℕ) → Option (List ℕ) → Option (List ℕ) → Option (List ℕ) → Type 0
-Ran may_read (Ended status) before after old_input new_input old new =
-    (status ≤ 3) × EndsInput may_read old_input old new before after status
-Ran may_read (Stopped cause) before after old_input new_input old new =
-    RunStopsFor may_read cause old_input new_input old new before after
+abbrev pub Ran : MayRead → RunEnd → Machine → Machine → Standing → Option (List ℕ) → Option (List ℕ) → Option (List ℕ) → Option (List ℕ) → Type 0
+Ran may_read (Ended status) before after standing old_input new_input old new =
+    EndsInput may_read old_input old new before after status × (standing ≡ Open)
+Ran may_read (Stopped cause) before after standing old_input new_input old new =
+    RunStopsFor may_read cause old_input new_input old new before after standing
+
+-- a status of a turn is at most 3
+abbrev pub HasTurnStatus : Turn → Type 0
+HasTurnStatus (More status) = status ≤ 3
+HasTurnStatus (End status) = status ≤ 3
+HasTurnStatus (Stop cause) = ⊤
+
+-- a status of a run is at most 3
+abbrev pub HasRunStatus : RunEnd → Type 0
+HasRunStatus (Ended status) = status ≤ 3
+HasRunStatus (Stopped cause) = ⊤
 
 -- whether a run stops at a line since a write failed
 abbrev pub fails_to_write : Result ℕ Cause → Bool

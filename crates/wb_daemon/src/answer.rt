@@ -5,8 +5,10 @@ ghost use Rattle.wb_words.specs.declared.fault.WordsFault.TheVariants.{Memory};
 ghost use Rattle.wb_daemon.specs.Line.{is_long};
 ghost use Rattle.deb_text.specs.Lines.{is_blank_line};
 ghost use Rattle.wb_daemon.specs.Lists.{MayReadLess};
-ghost use Rattle.wb_daemon.specs.Run.{invocation_of_line, file_fault_response, memory_response, Accepts, InvokesAs, IsLineResponse, IsRefusedByStore, LineInvokes, ends_run};
-ghost use Rattle.wb_states.specs.Machine.{IsConsistent, Machine};
+ghost use Rattle.wb_daemon.specs.Offices.{Leads, Reaches};
+ghost use Rattle.wb_daemon.specs.Run.{invocation_of_line, file_fault_response, memory_response, Accepts, InvokesAs, IsLineResponse, IsRefusedByStore, LineInvokes};
+ghost use Rattle.wb_office.specs.Ends.{is_of_store};
+ghost use Rattle.wb_states.specs.Machine.{Machine};
 ghost use Rattle.wb_states.specs.declared.command.Command.{Command};
 ghost use Rattle.wb_daemon.specs.Turn.{response_of_answer, IsInvocationResponseOrMemory, IsCommandResponseOrMemory};
 
@@ -17,7 +19,7 @@ use crate::status::{ACCEPTED, FILE_FAULT, LINE_FAULT, REFUSED};
 use std::alloc::Global;
 use std::borrow::CowStr;
 use wb_api::{file_fault_json, line_fault_json, refusal_json, reply_json};
-use wb_office::Office;
+use wb_office::CarryOut;
 use wb_states::{Command, Refusal};
 use wb_words::{Invocation, WordsFault, fault_of, invocation_of};
 
@@ -32,7 +34,7 @@ pub(crate) struct Answer {
 
 /// Whether a run stops after this refusal: the store failed, or the office is closed.
 fn ends_run(refusal: &Refusal) -> bool
-    ensures value { result ≡ ends_run refusal.now }
+    ensures value { result ≡ is_of_store refusal.now }
 {
     matches!(refusal, Refusal::Closed | Refusal::Store { .. })
 }
@@ -56,22 +58,27 @@ fn invocation_of_line(alloc: Global, line: &[u8]) -> Result<Invocation, WordsFau
 
 /// The reply or the refusal of the office to a command, with its status. It is `None` where the command
 /// was accepted and there is no memory for the reply; a reply that repeats an assignment accepts nothing.
-fn answer_to(alloc: Global, office: &mut Office, command: &Command) -> Option<Answer>
-    ensures value { IfSome result (λ answer. (answer.status ≤ 3)
-        × IsCommandResponseOrMemory office.old command.now (response_of_answer answer office.new)) }
-    ensures memory { result ≡ None → Accepts office.old command.now office.new }
-    ensures stops { IfSome result (λ answer. answer.stops ≡ true → IsRefusedByStore office.old command.now) }
-    ensures consistent { IsConsistent office.old → IsConsistent office.new }
+fn answer_to<O: CarryOut>(alloc: Global, office: &mut O, command: &Command) -> Option<Answer>
+    ensures clean { O.is_clean office.new → O.is_clean office.old }
+    ensures status { IfSome result (λ answer. answer.status ≤ 3) }
+    ensures value { IfSome result (λ answer. answer.stops ≡ false
+        → Reaches O.is_clean O.stands_at office.old office.new (λ before after.
+        IsCommandResponseOrMemory O.may_want_memory before command.now (response_of_answer answer after))) }
+    ensures memory { result ≡ None → Reaches O.is_clean O.stands_at office.old office.new (λ before after.
+        Accepts before command.now after) }
+    ensures stops { IfSome result (λ answer. answer.stops ≡ true
+        → Leads O.is_clean O.is_closed O.stands_at O.leaves office.old office.new (λ before after standing.
+        IsRefusedByStore before command.now (response_of_answer answer after) standing)) }
 {
-    let accepted = office.accepted();
-    match office.apply(command) {
+    let accepted = office.accepted_count();
+    match office.carry_out(command) {
         Ok(reply) => match reply_json(alloc, command.name(), &reply) {
             Ok(text) => Some(Answer {
                 text: CowStr::Owned(text),
                 status: ACCEPTED,
                 stops: false,
             }),
-            Err(_) if office.accepted() == accepted => Some(memory_answer(alloc)),
+            Err(_) if office.accepted_count() == accepted => Some(memory_answer(alloc)),
             Err(_) => None,
         },
         Err(Refusal::Memory) => Some(memory_answer(alloc)),
@@ -112,20 +119,27 @@ fn file_answer() -> Answer
 /// The answer to what a line asks for. The lists of a merge are read first, and nothing is asked of the
 /// office where one of them is at fault. It is `None` where the command was accepted and there is no memory
 /// for the reply.
-fn answer_invocation<L: Lists>(
+fn answer_invocation<O: CarryOut, L: Lists>(
     alloc: Global,
-    office: &mut Office,
+    office: &mut O,
     lists: &mut L,
     invocation: &Invocation,
 ) -> Option<Answer>
-    ensures value { IfSome result (λ answer. (answer.status ≤ 3)
-        × IsInvocationResponseOrMemory (L.may_read lists.old) office.old invocation.now (response_of_answer answer office.new)) }
-    ensures memory { result ≡ None → (command : Command)
-        × InvokesAs (L.may_read lists.old) invocation.now command × Accepts office.old command office.new }
-    ensures stops { IfSome result (λ answer. answer.stops ≡ true → (command : Command)
-        × InvokesAs (L.may_read lists.old) invocation.now command × IsRefusedByStore office.old command) }
+    // what is said
+    ensures status { IfSome result (λ answer. answer.status ≤ 3) }
+    ensures value { IfSome result (λ answer. answer.stops ≡ false
+        → Reaches O.is_clean O.stands_at office.old office.new (λ before after.
+        IsInvocationResponseOrMemory O.may_want_memory (L.may_read lists.old) before invocation.now
+        (response_of_answer answer after))) }
+    ensures memory { result ≡ None → Reaches O.is_clean O.stands_at office.old office.new (λ before after.
+        (command : Command) × InvokesAs (L.may_read lists.old) invocation.now command × Accepts before command after) }
+    ensures stops { IfSome result (λ answer. answer.stops ≡ true
+        → Leads O.is_clean O.is_closed O.stands_at O.leaves office.old office.new (λ before after standing.
+        (command : Command) × InvokesAs (L.may_read lists.old) invocation.now command
+        × IsRefusedByStore before command (response_of_answer answer after) standing)) }
+    // what is left of the lists and the office
     ensures kept { MayReadLess (L.may_read lists.old) (L.may_read lists.new) }
-    ensures consistent { IsConsistent office.old → IsConsistent office.new }
+    ensures clean { O.is_clean office.new → O.is_clean office.old }
 {
     match invocation {
         Invocation::Command { command } => answer_to(alloc, office, command),
@@ -141,9 +155,9 @@ fn answer_invocation<L: Lists>(
 
 /// The answer to a line that is neither blank nor too long, with its status. It is `None` where the
 /// command of the line was accepted and there is no memory for the reply.
-pub(crate) fn answer_of<L: Lists>(
+pub(crate) fn answer_of<O: CarryOut, L: Lists>(
     alloc: Global,
-    office: &mut Office,
+    office: &mut O,
     lists: &mut L,
     line: &[u8],
 ) -> Option<Answer>
@@ -151,15 +165,19 @@ pub(crate) fn answer_of<L: Lists>(
     requires short { is_long line.now ≡ false }
     requires words { is_blank_line line.now ≡ false }
     // what is said to it
-    ensures value { IfSome result (λ answer. (answer.status ≤ 3)
-        × IsLineResponse (L.may_read lists.old) office.old line.now (response_of_answer answer office.new)) }
-    ensures memory { result ≡ None → (command : Command)
-        × LineInvokes (L.may_read lists.old) line.now command × Accepts office.old command office.new }
-    ensures stops { IfSome result (λ answer. answer.stops ≡ true → (command : Command)
-        × LineInvokes (L.may_read lists.old) line.now command × IsRefusedByStore office.old command) }
+    ensures status { IfSome result (λ answer. answer.status ≤ 3) }
+    ensures value { IfSome result (λ answer. answer.stops ≡ false
+        → Reaches O.is_clean O.stands_at office.old office.new (λ before after.
+        IsLineResponse (L.may_read lists.old) before line.now (response_of_answer answer after))) }
+    ensures memory { result ≡ None → Reaches O.is_clean O.stands_at office.old office.new (λ before after.
+        (command : Command) × LineInvokes (L.may_read lists.old) line.now command × Accepts before command after) }
+    ensures stops { IfSome result (λ answer. answer.stops ≡ true
+        → Leads O.is_clean O.is_closed O.stands_at O.leaves office.old office.new (λ before after standing.
+        (command : Command) × LineInvokes (L.may_read lists.old) line.now command
+        × IsRefusedByStore before command (response_of_answer answer after) standing)) }
     // what is left of the lists and the office
     ensures kept { MayReadLess (L.may_read lists.old) (L.may_read lists.new) }
-    ensures consistent { IsConsistent office.old → IsConsistent office.new }
+    ensures clean { O.is_clean office.new → O.is_clean office.old }
 {
     match invocation_of_line(alloc, line) {
         Ok(invocation) => answer_invocation(alloc, office, lists, &invocation),

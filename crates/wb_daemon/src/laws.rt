@@ -2,6 +2,7 @@
 ghost use Rattle.std.specs.Prelude.{ℕ, List, Option, filter, length};
 ghost use Rattle.wb_states.specs.Machine.{Machine};
 ghost use Rattle.wb_daemon.specs.Answered.{HasLines, is_answered};
+ghost use Rattle.wb_daemon.specs.Offices.{Standing};
 ghost use Rattle.wb_daemon.specs.Replays.{IsReplay, IsReplayCut};
 ghost use Rattle.wb_daemon.specs.Run.{Runs, LineResponse, StopsInLine};
 
@@ -15,8 +16,9 @@ pub fn runs_are_replays<L: Lists>(lists: &L)
         → Runs (L.may_read lists.now) machine lines whole
         → IsReplay (L.may_read lists.now) machine lines whole }
     ensures stops { (seen : List ℕ) (left : Option (List ℕ)) (machine : Machine) (text : List ℕ)
-        (after : Machine) → StopsInLine (L.may_read lists.now) seen left machine text after
-        → IsReplayCut (L.may_read lists.now) seen left machine text after }
+        (after : Machine) (standing : Standing)
+        → StopsInLine (L.may_read lists.now) seen left machine text after standing
+        → IsReplayCut (L.may_read lists.now) seen left machine text after standing }
 {}
 
 /// What is said to lines has one line, ended by its line feed, for each that is answered: for each but

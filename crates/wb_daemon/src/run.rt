@@ -1,13 +1,13 @@
 //! The run: each line of the input is answered with one line of JSON.
 ghost use Rattle.std.specs.Prelude.{◌≡◌, ◌⊎◌, ◌<◌, ◌≤◌, IfOk, IfErr, length, false};
-ghost use Rattle.wb_states.specs.Machine.{IsConsistent};
 ghost use Rattle.wb_daemon.specs.Line.{is_long, line_limit};
 ghost use Rattle.wb_daemon.specs.Lists.{MayReadLess};
+ghost use Rattle.wb_daemon.specs.Offices.{IsSoOfEach, Leads, Open, Reaches};
 ghost use Rattle.wb_daemon.specs.Replays.{LeavesReplay};
 ghost use Rattle.wb_daemon.specs.Run.{FailsFor, RunEndsWell, RunStops};
 ghost use Rattle.wb_streams.specs.Streams.{Flags};
-ghost use Rattle.wb_daemon.specs.Turn.{Answers, StopsAtLine, Ran, Turns, cause_of_end};
-ghost use Rattle.wb_daemon.specs.Turn.{cause_of_turn, fails_to_write};
+ghost use Rattle.wb_daemon.specs.Turn.{Answers, HasRunStatus, HasTurnStatus, IsCauseAtLine, StopsAtLine, Ran, Turns};
+ghost use Rattle.wb_daemon.specs.Turn.{cause_of_end, cause_of_turn, fails_to_write};
 
 use crate::answer::{Answer, answer_of, report_fault};
 use crate::line::{ByteRead, LINE_LIMIT, LineRead, read_byte, read_line};
@@ -19,7 +19,7 @@ use deb_text::is_blank_line;
 use std::alloc::Global;
 use std::io::{Read, Write};
 use wb_api::line_fault_json;
-use wb_office::Office;
+use wb_office::CarryOut;
 use wb_streams::{WatchedReader, WatchedWriter};
 
 /// The greatest number of line feeds that a run reads.
@@ -47,22 +47,27 @@ pub(crate) enum RunEnd {
 
 /// Acts on the line of this number and writes what is said to it. Answers the status of the line. The errors
 /// are `Reply`, `Write` and, after the answer was written, `Store`; the run stops there.
-fn answer_line<W: Write + Drop, L: Lists>(
+fn answer_line<O: CarryOut, W: Write + Drop, L: Lists>(
     alloc: Global,
-    office: &mut Office,
+    office: &mut O,
     number: u64,
     line: &[u8],
     writer: &mut WatchedWriter<W>,
     lists: &mut L,
 ) -> Result<u8, Cause>
     requires { is_long line.now ≡ false }
-    ensures value { IfOk result (Answers (L.may_read lists.old) line.now office.old office.new
-        writer.old.bytes writer.new.bytes) }
-    ensures err { IfErr result (StopsAtLine (L.may_read lists.old) line.now office.old office.new
-        writer.old.bytes writer.new.bytes) }
+    // what is written
+    ensures status { IfOk result (λ status. status ≤ 3) }
+    ensures value { IfOk result (λ status. Reaches O.is_clean O.stands_at office.old office.new (λ before after.
+        Answers (L.may_read lists.old) line.now before after writer.old.bytes writer.new.bytes status)) }
+    ensures err { IfErr result (λ cause. Leads O.is_clean O.is_closed O.stands_at O.leaves office.old office.new
+        (λ before after standing. StopsAtLine (L.may_read lists.old) line.now before after standing
+        writer.old.bytes writer.new.bytes cause)) }
+    // what failed, and what is left of the lists and the office
     ensures failed { Flags (fails_to_write result) writer.old writer.new }
+    ensures cause { IfErr result IsCauseAtLine }
     ensures kept { MayReadLess (L.may_read lists.old) (L.may_read lists.new) }
-    ensures consistent { IsConsistent office.old → IsConsistent office.new }
+    ensures clean { O.is_clean office.new → O.is_clean office.old }
 {
     if is_blank_line(line) {
         return Ok(ACCEPTED);
@@ -88,9 +93,9 @@ fn answer_line<W: Write + Drop, L: Lists>(
 }
 
 /// Reads the line of this number into the room and answers it.
-fn take_turn<R: Read + Drop, W: Write + Drop, L: Lists>(
+fn take_turn<O: CarryOut, R: Read + Drop, W: Write + Drop, L: Lists>(
     alloc: Global,
-    office: &mut Office,
+    office: &mut O,
     reader: &mut WatchedReader<R>,
     writer: &mut WatchedWriter<W>,
     lists: &mut L,
@@ -98,12 +103,15 @@ fn take_turn<R: Read + Drop, W: Write + Drop, L: Lists>(
     room: &mut [u8],
 ) -> Turn
     requires { length room.old ≡ line_limit }
-    ensures value { Turns (L.may_read lists.old) result office.old office.new
-        reader.old.bytes reader.new.bytes
-        writer.old.bytes writer.new.bytes }
+    // what is written
+    ensures status { HasTurnStatus result }
+    ensures value { Leads O.is_clean O.is_closed O.stands_at O.leaves office.old office.new (λ before after standing.
+        Turns (L.may_read lists.old) result before after standing reader.old.bytes reader.new.bytes
+        writer.old.bytes writer.new.bytes) }
+    // what failed, and what is left of the lists and the office
     ensures failed { FailsFor (cause_of_turn result) reader.old reader.new writer.old writer.new }
     ensures kept { MayReadLess (L.may_read lists.old) (L.may_read lists.new) }
-    ensures consistent { IsConsistent office.old → IsConsistent office.new }
+    ensures clean { O.is_clean office.new → O.is_clean office.old }
 {
     match read_line(reader, room) {
         LineRead::Ended(len) => {
@@ -136,20 +144,21 @@ fn take_turn<R: Read + Drop, W: Write + Drop, L: Lists>(
 }
 
 /// The run in a room that holds one line.
-fn run_within<R: Read + Drop, W: Write + Drop, L: Lists>(
+fn run_within<O: CarryOut, R: Read + Drop, W: Write + Drop, L: Lists>(
     alloc: Global,
-    office: &mut Office,
+    office: &mut O,
     reader: &mut WatchedReader<R>,
     writer: &mut WatchedWriter<W>,
     lists: &mut L,
     room: &mut [u8],
 ) -> RunEnd
     requires { length room.old ≡ line_limit }
-    ensures value { Ran (L.may_read lists.old) result office.old office.new
-        reader.old.bytes reader.new.bytes
-        writer.old.bytes writer.new.bytes }
+    ensures status { HasRunStatus result }
+    ensures value { Leads O.is_clean O.is_closed O.stands_at O.leaves office.old office.new (λ before after standing.
+        Ran (L.may_read lists.old) result before after standing reader.old.bytes reader.new.bytes
+        writer.old.bytes writer.new.bytes) }
     ensures failed { FailsFor (cause_of_end result) reader.old reader.new writer.old writer.new }
-    ensures consistent { IsConsistent office.old → IsConsistent office.new }
+    ensures clean { O.is_clean office.new → O.is_clean office.old }
 {
     let mut greatest = ACCEPTED;
     'lines: for count in 0..LINES_LIMIT {
@@ -167,18 +176,19 @@ fn run_within<R: Read + Drop, W: Write + Drop, L: Lists>(
 }
 
 /// The run in a room of its own, for which there may be no memory.
-fn run_in_room<R: Read + Drop, W: Write + Drop, L: Lists>(
+fn run_in_room<O: CarryOut, R: Read + Drop, W: Write + Drop, L: Lists>(
     alloc: Global,
-    office: &mut Office,
+    office: &mut O,
     reader: &mut WatchedReader<R>,
     writer: &mut WatchedWriter<W>,
     lists: &mut L,
 ) -> RunEnd
-    ensures value { Ran (L.may_read lists.old) result office.old office.new
-        reader.old.bytes reader.new.bytes
-        writer.old.bytes writer.new.bytes }
+    ensures status { HasRunStatus result }
+    ensures value { Leads O.is_clean O.is_closed O.stands_at O.leaves office.old office.new (λ before after standing.
+        Ran (L.may_read lists.old) result before after standing reader.old.bytes reader.new.bytes
+        writer.old.bytes writer.new.bytes) }
     ensures failed { FailsFor (cause_of_end result) reader.old reader.new writer.old writer.new }
-    ensures consistent { IsConsistent office.old → IsConsistent office.new }
+    ensures clean { O.is_clean office.new → O.is_clean office.old }
 {
     let Ok(mut room) = vec![in alloc; 0u8; LINE_LIMIT] else {
         return RunEnd::Stopped(Cause::Room);
@@ -201,23 +211,26 @@ fn run_in_room<R: Read + Drop, W: Write + Drop, L: Lists>(
 /// answer to the last line that was acted on; or there was no memory for the reply to an accepted command,
 /// and nothing of it was written; or the store failed or the office is closed, and the answer to the last line
 /// that was acted on says so; or more follows the 1000000000th line feed; or there was no memory for the
-/// room that holds a line, and nothing was read. The commands of all lines that were acted on stand (this
-/// project's own).
-pub fn run_lines<R: Read + Drop, W: Write + Drop, L: Lists>(
+/// room that holds a line, and nothing was read. The commands of all lines that were acted on stand; one at
+/// which the store failed stands whole or not at all when the office is opened again (this project's own).
+pub fn run_lines<O: CarryOut, R: Read + Drop, W: Write + Drop, L: Lists>(
     alloc: Global,
-    office: &mut Office,
+    office: &mut O,
     reader: &mut WatchedReader<R>,
     writer: &mut WatchedWriter<W>,
     lists: &mut L,
 ) -> u8
     ensures status { result ≤ 3 }
-    ensures value { result < 3 → RunEndsWell (L.may_read lists.old) reader.old reader.new
-        writer.old writer.new office.old office.new result }
-    ensures err { result ≡ 3 → RunEndsWell (L.may_read lists.old) reader.old reader.new
-        writer.old writer.new office.old office.new 3
-        ⊎ RunStops (L.may_read lists.old) reader.old reader.new writer.old writer.new office.old office.new }
-    ensures replay { LeavesReplay (L.may_read lists.old) office.old office.new }
-    ensures consistent { IsConsistent office.old → IsConsistent office.new }
+    ensures value { result < 3 → Reaches O.is_clean O.stands_at office.old office.new (λ before after.
+        RunEndsWell (L.may_read lists.old) reader.old reader.new writer.old writer.new before after result) }
+    ensures err { result ≡ 3 → Leads O.is_clean O.is_closed O.stands_at O.leaves office.old office.new
+        (λ before after standing.
+        (RunEndsWell (L.may_read lists.old) reader.old reader.new writer.old writer.new before after 3
+        × (standing ≡ Open))
+        ⊎ RunStops (L.may_read lists.old) reader.old reader.new writer.old writer.new before after standing) }
+    ensures replay { Leads O.is_clean O.is_closed O.stands_at O.leaves office.old office.new (λ before after standing.
+        IsSoOfEach (LeavesReplay (L.may_read lists.old) before) after standing) }
+    ensures clean { O.is_clean office.new → O.is_clean office.old }
 {
     match run_in_room(alloc, office, reader, writer, lists) {
         RunEnd::Ended(status) => status,

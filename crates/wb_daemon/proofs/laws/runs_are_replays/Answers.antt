@@ -5,5 +5,5 @@ use Rattle.wb_daemon.proofs.laws.runs_are_replays.Goals as goal
 pub returns : goal.returns
 returns g c = record {
   state = λ machine lines whole h. Runs-replay (g.L.Lists.may_read c.args.lists.now) lines machine whole h;
-  stops = λ seen left machine text after h. StopsInLine-replay (g.L.Lists.may_read c.args.lists.now) seen left machine text after h;
+  stops = λ seen left machine text after standing h. StopsInLine-replay (g.L.Lists.may_read c.args.lists.now) seen left machine text after standing h;
 }
