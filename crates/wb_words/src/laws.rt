@@ -11,7 +11,7 @@ ghost use Rattle.wb_states.specs.Forms.{GiveBack, Next, NotForUs};
 ghost use Rattle.wb_states.specs.Forms.{PutBack, Rebuild, Take};
 ghost use Rattle.wb_states.specs.Forms.{Uploaded, Waits};
 ghost use Rattle.wb_words.specs.Arguments.{integer_in, joined, number_in, parts_in};
-ghost use Rattle.wb_words.specs.Start.{IsNoStart, Starts};
+ghost use Rattle.wb_words.specs.Start.{IsNoStart, Starts, start_faults, store_in};
 ghost use Rattle.wb_words.specs.Usages.{usage_named, wb_usages};
 ghost use Rattle.wb_words.specs.Words.{command_named, invocation_by, invocation_in};
 ghost use Rattle.wb_words.specs.declared.start.Start.TheVariants.{Help, Run};
@@ -247,7 +247,10 @@ pub fn other_arguments_are_none()
 /// What the program is started for: `run`, help in its three forms, and words that ask for nothing.
 pub fn starts_are_read()
     // help is wanted, also after `run`
-    ensures run { Starts (codes "run" ∷ []) Run }
+    ensures run { Starts (codes "run" ∷ []) (Run None) }
+    ensures stored { start_faults (codes "--store" ∷ codes "/var/lib/wb" ∷ codes "run" ∷ []) ≡ [] }
+    ensures file { store_in (codes "--store" ∷ codes "/var/lib/wb" ∷ codes "run" ∷ []) ≡ Some (codes "/var/lib/wb") }
+    ensures equals { store_in (codes "--store=a b" ∷ codes "run" ∷ []) ≡ Some (codes "a b") }
     ensures help { Starts (codes "help" ∷ codes "run" ∷ []) Help }
     ensures long_help { Starts (codes "run" ∷ codes "--help" ∷ []) Help }
     ensures short_help { Starts (codes "-h" ∷ []) Help }
@@ -255,6 +258,10 @@ pub fn starts_are_read()
     ensures nothing { IsNoStart [] }
     ensures command { IsNoStart (codes "next" ∷ codes "amd64" ∷ codes "b1" ∷ []) }
     ensures many { IsNoStart (codes "run" ∷ codes "now" ∷ codes "-h" ∷ []) }
+    // a file that is not named, is named twice, or comes after `run`
+    ensures unnamed { IsNoStart (codes "--store" ∷ []) }
+    ensures twice { IsNoStart (codes "--store=a" ∷ codes "--store=b" ∷ codes "run" ∷ []) }
+    ensures behind { IsNoStart (codes "run" ∷ codes "--store=a" ∷ []) }
 {}
 
 /// A command is asked for by its own name, which its answer then reports.

@@ -4,15 +4,20 @@ ghost use Rattle.clap.specs.Words.{app_of, kind_of};
 ghost use Rattle.clap.specs.declared.error.kind.ErrorKind.TheVariants.{OutOfMemory};
 ghost use Rattle.wb_words.specs.Start.{IsNoStart, Starts, begins_with_help, start_app};
 
+use crate::tree::with_arguments;
+use crate::usage::ArgumentKind;
 use clap::Command;
 use clap::error::{Error, ErrorKind};
 use std::alloc::{AllocError, Global};
 
 /// What the words after the program's name ask for.
 #[derive(Clone, Copy, Debug, PartialEq, Eq)]
-pub enum Start {
+pub enum Start<'a> {
     /// To answer the lines of the input.
-    Run,
+    Run {
+        /// The file that keeps the records; without one they end with the program.
+        store: Option<&'a str>,
+    },
     /// To show how the program is used.
     Help,
 }
@@ -22,12 +27,14 @@ pub const HELP: &str = "\
 The central office of an autobuilder network.
 
 Usage:
-  wb run          Answers the commands of its input
-  wb help         Prints this text
-  wb --version    Prints the version
+  wb [--store FILE] run    Answers the commands of its input
+  wb help                  Prints this text
+  wb --version             Prints the version
 
 `wb run` reads one command from each line of its input. It answers each command
-with one line of JSON. The commands are:
+with one line of JSON. With --store the records are kept in FILE, which is made
+if it is not there, and each answer is written only once its command is stored.
+Without it the records end with the program. The commands are:
 
   add-arch NAME OS CPU
           Adds an architecture
@@ -86,25 +93,28 @@ fn begins_with_help(words: &[&str]) -> bool
     }
 }
 
-/// The program's command line: the subcommand `run`, and help.
+/// The options before the subcommand.
+const OPTIONS: [(&str, ArgumentKind); 1] = [("store", ArgumentKind::NamedWord)];
+
+/// The program's command line: the option `--store`, the subcommand `run`, and help.
 #[tactic(auto, unfolding(crate::specs::Start::start_app))]
 fn start_app<'a>(alloc: Global) -> Result<Command<'a>, AllocError>
     ensures value { IfOk result (λ command. app_of command ≡ start_app) }
 {
-    Command::new(alloc, "wb")
+    let bare = Command::new(alloc, "wb")
         .no_binary_name(true)
         .disable_help_subcommand(true)
-        .subcommand_required(true)
-        .subcommand(Command::new(alloc, "run"))
+        .subcommand_required(true);
+    with_arguments(alloc, bare, OPTIONS.as_slice())?.subcommand(Command::new(alloc, "run"))
 }
 
 /// Reads the words after the program's name.
 ///
 /// `help` as the first word asks for help, whatever follows; `--help` and `-h` do if no word before
-/// them is at fault or is `--`. The error is that of `clap`, with a text for the terminal: the words
+/// them is at fault or is `--`. `--store FILE` or `--store=FILE` before `run` names the file that keeps the records. The error is that of `clap`, with a text for the terminal: the words
 /// ask for neither, or there is no memory to read them, which may come at any words. The grammar is
 /// this project's own.
-pub fn start_of<'a>(alloc: Global, words: &'a [&'a str]) -> Result<Start, Error>
+pub fn start_of<'a>(alloc: Global, words: &'a [&'a str]) -> Result<Start<'a>, Error>
     ensures value { IfOk result (Starts (map (λ word. word.now) words.entry.now)) }
     ensures refused { IfErr result (λ error. kind_of error ≢ OutOfMemory
         → IsNoStart (map (λ word. word.now) words.entry.now)) }
@@ -113,7 +123,9 @@ pub fn start_of<'a>(alloc: Global, words: &'a [&'a str]) -> Result<Start, Error>
         return Ok(Start::Help);
     }
     match start_app(alloc)?.try_get_matches_from(words) {
-        Ok(_) => Ok(Start::Run),
+        Ok(matches) => Ok(Start::Run {
+            store: matches.get_str("store"),
+        }),
         Err(error) => match error.kind() {
             ErrorKind::DisplayHelp => Ok(Start::Help),
             _ => Err(error),

@@ -26,7 +26,7 @@ fn argument<'a>(alloc: Global, id: &'a str, kind: ArgumentKind) -> Arg<'a>
 }
 
 /// The command with these arguments, in their order.
-fn with_arguments<'a>(
+pub(crate) fn with_arguments<'a>(
     alloc: Global,
     command: Command<'a>,
     arguments: &'a [(&'a str, ArgumentKind)],

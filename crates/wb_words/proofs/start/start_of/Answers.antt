@@ -1,6 +1,7 @@
-use Rattle.std.proofs.Common.{◌∙◌, sym, inr}
-use Rattle.clap.specs.Words.{kind_of}
-use Rattle.wb_words.proofs.StartLemmas.{start_faults-failed, start_faults-help, start_faults-none}
+use Rattle.std.proofs.Common.{◌∙◌, codes, sym, inr}
+use Rattle.clap.specs.Words.{found_of, kind_of}
+use Rattle.clap.proofs.WalkLemmas.{first_value-rows}
+use Rattle.wb_words.proofs.StartLemmas.{start_faults-failed, start_faults-help, start_faults-none, store_in-found}
 use Rattle.wb_words.proofs.start.start_of.Goals as goal
 
 pub returns-in-Ok : goal.returns-in-Ok
@@ -8,6 +9,7 @@ returns-in-Ok c = record {
   value = (
     sym c.begins_with_help.ensures.value ∙ c.if-begins_with_help.false,
     start_faults-none _ _ c.in_ok-start_app.ensures.value c.in-Ok.ensures.kinds,
+    c.get_str.ensures ∙ first_value-rows (found_of c.in-Ok.matches) (codes "store") ∙ store_in-found _ _ _ c.in_ok-start_app.ensures.value (λ simple. (c.in-Ok.ensures.matches simple).0),
   );
   refused = tt;
 }
