@@ -1,6 +1,8 @@
 //! The program `wb`: the central office of an autobuilder network.
 #![tactic(auto)]
 
+mod store;
+
 use std::alloc::{AllocError, Global};
 use std::io::{self, BufReader, Read};
 use std::process::ExitCode;
@@ -8,7 +10,7 @@ use std::rt::{Env, Files};
 use std::{env, fs};
 use wb_api::line_fault_json;
 use wb_daemon::{Cause, Lists, Message, run_lines, status};
-use wb_office::Office;
+use wb_office::{CarryOut, Office};
 use wb_streams::{WatchedReader, WatchedWriter};
 use wb_words::{HELP, Start, start_of};
 
@@ -60,48 +62,56 @@ fn say(rt: &impl Eprint, message: Message<'_>) {
 /// Answers the lines of the input, or says how the program is used or which it is.
 ///
 /// Ends with 0 where all was accepted, or help or the version was asked for, with 1 after a refusal, with 2
-/// where a line or the program's own words are no command, and with 3 where a list cannot be read, or where
-/// reading, writing or memory failed before the end of the input.
+/// where a line or the program's own words are no command, and with 3 where a list cannot be read, where the store
+/// cannot be opened or failed, or where reading, writing or memory failed before the end of the input.
 fn main(rt: HostRuntime) -> ExitCode {
-    let status = match start(&rt) {
-        Some(Invocation::Start(Start::Run)) => run(&rt),
-        Some(Invocation::Start(Start::Help)) => said(rt.print(HELP), status::ACCEPTED),
-        Some(Invocation::Version) => said(rt.println(VERSION), status::ACCEPTED),
-        None => said(rt.println(line_fault_json()), status::LINE_FAULT),
+    let status = match words_of(&rt) {
+        Some(words) => start(&rt, &words),
+        None => answer_no_command(&rt),
     };
     ExitCode::from(status)
 }
 
-/// What the program's words ask for.
-#[derive(Clone, Copy)]
-enum Invocation {
-    Start(Start),
-    /// To name the program and its kit: the one word `--version`.
-    Version,
+/// The words after the program's name, or none where there is no memory for them.
+fn words_of(rt: &(impl Env + AllocGlobal)) -> Option<Vec<String>> {
+    env::args(rt).ok()?.skip(1).collect(rt.alloc()).ok()
 }
 
-/// What the program's words ask for, or none where they ask for nothing that there is.
-fn start(rt: &(impl Env + AllocGlobal + Eprint)) -> Option<Invocation> {
-    let arguments: Vec<String> = env::args(rt).ok()?.skip(1).collect(rt.alloc()).ok()?;
-    let mut words: Vec<&str> = Vec::new(rt.alloc());
-    for argument in &arguments {
-        words.push(argument.as_str()).ok()?;
-    }
+/// Does what the program's words ask for.
+fn start(rt: &HostRuntime, arguments: &[String]) -> u8 {
+    let Some(words) = texts_of(rt.alloc(), arguments) else {
+        return answer_no_command(rt);
+    };
     if let ["--version"] = words.as_slice() {
-        return Some(Invocation::Version);
+        return said(rt.println(VERSION), status::ACCEPTED);
     }
     match start_of(rt.alloc(), &words) {
-        Ok(start) => Some(Invocation::Start(start)),
+        Ok(Start::Run { store: None }) => run(rt, &mut Office::new(rt.alloc())),
+        Ok(Start::Run { store: Some(file) }) => store::run_stored(rt, file),
+        Ok(Start::Help) => said(rt.print(HELP), status::ACCEPTED),
         Err(error) => {
             let _ = rt.eprintln(error);
-            None
+            answer_no_command(rt)
         }
     }
 }
 
+/// Says that the program's words are no command.
+fn answer_no_command(rt: &impl Print) -> u8 {
+    said(rt.println(line_fault_json()), status::LINE_FAULT)
+}
+
+/// The words as texts.
+fn texts_of<'a>(alloc: Global, arguments: &'a [String]) -> Option<Vec<&'a str>> {
+    let mut words = Vec::new(alloc);
+    for argument in arguments {
+        words.push(argument.as_str()).ok()?;
+    }
+    Some(words)
+}
+
 /// Answers the lines of standard input on standard output.
-fn run(rt: &(impl Input + Print + Eprint + AllocGlobal + Files)) -> u8 {
-    let mut office = Office::new(rt.alloc());
+fn run<O: CarryOut>(rt: &HostRuntime, office: &mut O) -> u8 {
     let Ok(buffered) = BufReader::new(rt.alloc(), rt.reader()) else {
         say(rt, Message::Stopped { cause: Cause::Room });
         return status::STOPPED;
@@ -109,13 +119,7 @@ fn run(rt: &(impl Input + Print + Eprint + AllocGlobal + Files)) -> u8 {
     let mut reader = WatchedReader::new(buffered);
     let mut writer = WatchedWriter::new(io::writer(rt));
     let mut lists = FileLists { rt };
-    run_lines(
-        rt.alloc(),
-        &mut office,
-        &mut reader,
-        &mut writer,
-        &mut lists,
-    )
+    run_lines(rt.alloc(), office, &mut reader, &mut writer, &mut lists)
 }
 
 /// The status after something was printed, or that of a failed write.

@@ -1,0 +1,83 @@
+//! The run over records that a file keeps.
+
+use crate::{run, said};
+use sqlite::{Connection, Error, ErrorCode};
+use std::fs::{File, OpenOptions};
+use std::io;
+use wb_daemon::status;
+use wb_durable::Office;
+use wb_states::{StoreFault, Table};
+use wb_tables::fault_of;
+
+/// Answers the lines of standard input over the records in the file, which is made if it is not there. One program at a
+/// time has the file: it holds a lock on the file with this name and `.lock` behind it.
+pub(crate) fn run_stored(rt: &HostRuntime, file: &str) -> u8 {
+    let _lock = match lock_of(rt, file) {
+        Ok(lock) => lock,
+        Err(reason) => return refuse(rt, file, "InUse", reason),
+    };
+    let conn = match Connection::open(rt, file) {
+        Ok(conn) => conn,
+        Err(error) => return refuse_fault(rt, file, opening_fault(error)),
+    };
+    let mut office = match Office::adopt(rt.alloc(), conn) {
+        Ok(office) => office,
+        Err(fault) => return refuse_fault(rt, file, fault),
+    };
+    let status = run(rt, &mut office);
+    match office.close() {
+        Ok(_) => status,
+        Err(fault) => {
+            let _ = eprintln!(rt; "wb: {file} was not closed: {fault}");
+            status
+        }
+    }
+}
+
+/// The lock of a program on the file of an office, which ends with the program, or why it is not got.
+fn lock_of(rt: &HostRuntime, file: &str) -> Result<File, &'static str> {
+    let Ok(name) = format!(in rt.alloc(); "{file}.lock") else {
+        return Err("there is no memory for the name of its lock");
+    };
+    let mut how = OpenOptions::new();
+    how.write(true).create(true);
+    let Ok(lock) = how.open(rt, name.as_str()) else {
+        return Err("its lock cannot be opened");
+    };
+    match lock.try_lock() {
+        Ok(()) => Ok(lock),
+        Err(_) => Err("another program has it"),
+    }
+}
+
+/// What an error is to the store if the file could not be opened: a path that cannot be opened is a fault of the
+/// device, and any other error than of memory or the disk says that the file is no office.
+fn opening_fault(error: Error) -> StoreFault {
+    match error {
+        Error::SqliteFailure(ErrorCode::CannotOpen | ErrorCode::DatabaseBusy) => {
+            StoreFault::Device
+        }
+        error => match fault_of(error, Table::Office) {
+            StoreFault::Damaged { .. } => StoreFault::NotOffice,
+            fault => fault,
+        },
+    }
+}
+
+/// Says that the store cannot be opened, for this fault.
+fn refuse_fault(rt: &HostRuntime, file: &str, fault: StoreFault) -> u8 {
+    let _ = eprintln!(rt; "wb: {file} cannot be opened: {fault}");
+    said_store(rt, fault.name())
+}
+
+/// Says that the store cannot be opened, under this name and for this reason.
+fn refuse(rt: &HostRuntime, file: &str, name: &str, reason: &str) -> u8 {
+    let _ = eprintln!(rt; "wb: {file} cannot be opened: {reason}");
+    said_store(rt, name)
+}
+
+/// Writes the line for a store that cannot be opened.
+fn said_store(rt: &HostRuntime, name: &str) -> u8 {
+    let printed: io::Result<()> = println!(rt; "{{\"fault\":\"store\",\"store\":\"{name}\"}}");
+    said(printed, status::STOPPED)
+}
