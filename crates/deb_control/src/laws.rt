@@ -1,11 +1,11 @@
 //! Laws of the definitions that the contracts cite.
-ghost use Rattle.std.specs.Prelude.{◌≡◌, ◌≢◌, ◌+◌, ◌∷◌, ◌++◌, ℕ, List, true, false, None, Some, Ok, Err, length};
+ghost use Rattle.std.specs.Prelude.{◌≡◌, ◌≢◌, ◌+◌, ◌∷◌, ◌++◌, [], ℕ, List, codes, true, false, None, Some, Ok, Err, length};
 ghost use Rattle.std.specs.List.{list_all};
 ghost use Rattle.deb_control.specs.declared.fault.ControlFaultKind.{ControlFaultKind};
-ghost use Rattle.deb_control.specs.declared.fault.ControlFaultKind.TheVariants.{Memory, Ended};
+ghost use Rattle.deb_control.specs.declared.fault.ControlFaultKind.TheVariants.{BadName, Duplicate, Ended, Memory, NoColon, Orphan};
 ghost use Rattle.deb_control.specs.Lines.{lines_of, HaveLines, paragraphs_in, HaveParagraphs};
 ghost use Rattle.std.specs.Str.{str_to_ascii_lowercase};
-ghost use Rattle.deb_control.specs.Fields.{FieldText, field_named, reading_of, IsReading, IsFault};
+ghost use Rattle.deb_control.specs.Fields.{FieldText, field_named, folded_of, reading_of, IsReading, IsFault};
 ghost use Rattle.deb_control.specs.Paragraphs.{begun, has_reading, answer_after, answer_for};
 
 /// The lines of a text are its pieces, each with the line feed that ends it,
@@ -74,4 +74,24 @@ pub fn calls_give_paragraphs()
 pub fn faults_are_of_text()
     ensures memory { (lines : List (List ℕ)) → reading_of lines ≢ Err Memory }
     ensures ended { (lines : List (List ℕ)) → reading_of lines ≢ Err Ended }
+{}
+
+/// Examples of paragraphs by their lines: the fields that they have, and the fault of lines that are no fields.
+/// Source: Debian Policy 5.1, of which the first is an example.
+pub fn examples_of_paragraphs()
+    ensures field { reading_of (codes "Package: libc6" ∷ [])
+        ≡ Ok (record { name = codes "Package"; first = codes "libc6"; lines = [] } ∷ []) }
+    // blanks at the ends of a value play no part, and a line that begins with a blank goes on with the field before it
+    ensures fields { reading_of (codes "Package:libc6 " ∷ codes "Depends: libgcc-s1," ∷ codes "  tzdata " ∷ [])
+        ≡ Ok (record { name = codes "Package"; first = codes "libc6"; lines = [] }
+        ∷ record { name = codes "Depends"; first = codes "libgcc-s1,"; lines = codes " tzdata" ∷ [] } ∷ []) }
+    ensures folded { folded_of (record { name = codes "Depends"; first = codes "libgcc-s1,"; lines = codes " tzdata" ∷ [] })
+        ≡ codes "libgcc-s1, tzdata" }
+    ensures faults { (reading_of (codes " tzdata" ∷ []) ≡ Err Orphan)
+        × (reading_of (codes "Package" ∷ []) ≡ Err NoColon)
+        × (reading_of (codes "-Package: libc6" ∷ []) ≡ Err BadName)
+        × (reading_of (codes "Package: libc6" ∷ codes "package: libc6" ∷ []) ≡ Err Duplicate) }
+    // of two paragraphs, parted by a blank line
+    ensures paragraphs { paragraphs_in (codes "Package: a" ∷ [] ∷ codes "Package: b" ∷ [])
+        ≡ (codes "Package: a" ∷ []) ∷ (codes "Package: b" ∷ []) ∷ [] }
 {}

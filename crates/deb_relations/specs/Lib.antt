@@ -1,4 +1,5 @@
 pub mod Arch
+pub mod Examples
 pub mod Faults
 pub mod Grammar
 pub mod Names

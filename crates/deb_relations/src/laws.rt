@@ -1,11 +1,12 @@
 //! Laws of the definitions, each on a function with nothing to run.
 
-ghost use Rattle.std.specs.Prelude.{◌≡◌, ◌≢◌, ◌↔◌, ◌⊎◌, ◌<◌, ◌≤◌, Contains, List, ℕ, true, false, Ok, Err, length, slice_index};
+ghost use Rattle.std.specs.Prelude.{◌≡◌, ◌≢◌, ◌↔◌, ◌⊎◌, ◌<◌, ◌≤◌, ◌∷◌, [], Contains, List, ℕ, codes, true, false, None, Some, Ok, Err, length, slice_index};
 ghost use Rattle.deb_version.specs.declared.fault.VersionFault.{VersionFault};
 ghost use Rattle.deb_relations.specs.declared.arch.ArchWords.{ArchWords};
 ghost use Rattle.deb_relations.specs.declared.relations.Alternative.{Alternative};
 ghost use Rattle.deb_relations.specs.declared.fault.RelationFault.TheVariants.{BadVersion, Stray, TooLong, Memory};
 ghost use Rattle.std.specs.List.{list_all};
+ghost use Rattle.deb_relations.specs.Examples.{amd64, hurd_i386, i386, is_met, left_for};
 ghost use Rattle.deb_relations.specs.Grammar.{is_white, Reads, relations_limit};
 ghost use Rattle.deb_relations.specs.Printing.{printed};
 ghost use Rattle.deb_relations.specs.Reading.{reading_of, HasBadVersion};
@@ -85,4 +86,34 @@ pub fn strays_stand_in_the_text()
     ensures { (text : List ℕ) (place : ℕ)
         → reading_of text ≡ Err (Stray place)
         → (place < length text) × (is_white (slice_index text place) ≡ false) }
+{}
+
+/// Examples of relations, of which the first three are those of Debian Policy: what is left of them for an architecture,
+/// and when they are satisfied.
+/// Source: Debian Policy 7.1.
+pub fn examples_of_relations()
+    ensures sources {
+        (left_for i386 (codes "kernel-headers-2.2.10 [!hurd-i386], hurd-dev [hurd-i386], gnumach-dev [hurd-i386]")
+        ≡ Some (codes "kernel-headers-2.2.10"))
+        × (left_for hurd_i386 (codes "kernel-headers-2.2.10 [!hurd-i386], hurd-dev [hurd-i386], gnumach-dev [hurd-i386]")
+        ≡ Some (codes "hurd-dev, gnumach-dev")) }
+    ensures alternatives {
+        (left_for i386 (codes "foo [!i386] | bar [!amd64]") ≡ Some (codes "bar"))
+        × (left_for amd64 (codes "foo [!i386] | bar [!amd64]") ≡ Some (codes "foo"))
+        × (left_for hurd_i386 (codes "foo [!i386] | bar [!amd64]") ≡ Some (codes "foo | bar")) }
+    ensures wildcards {
+        (left_for amd64 (codes "foo [linux-any], bar [any-i386], baz [!linux-any]") ≡ Some (codes "foo"))
+        × (left_for i386 (codes "foo [linux-any], bar [any-i386], baz [!linux-any]") ≡ Some (codes "foo, bar"))
+        × (left_for hurd_i386 (codes "foo [linux-any], bar [any-i386], baz [!linux-any]") ≡ Some (codes "bar, baz")) }
+    ensures versions { (pairs : Pairs)
+        → versions_of pairs (codes "libc6") ≡ codes "2.10" ∷ []
+        → versions_of pairs (codes "exim") ≡ []
+        → (is_met pairs (reading_of (codes "libc6 (>= 2.2.1)")) ≡ Some true)
+        × (is_met pairs (reading_of (codes "libc6 (>= 2.10.1)")) ≡ Some false)
+        × (is_met pairs (reading_of (codes "exim | libc6")) ≡ Some true)
+        × (is_met pairs (reading_of (codes "exim, libc6")) ≡ Some false) }
+    ensures unread {
+        (left_for amd64 (codes "foo [i386") ≡ None)
+        × (left_for amd64 (codes "foo [i386 !amd64]") ≡ None)
+        × (left_for amd64 (codes "foo (2.0)") ≡ None) }
 {}

@@ -2,21 +2,30 @@
 
 use crate::{run, said};
 use sqlite::{Connection, Error, ErrorCode};
-use std::fs::{File, OpenOptions};
+use std::fs::{File, OpenOptions, TryLockError};
 use std::io;
 use wb_daemon::status;
 use wb_durable::Office;
 use wb_states::{StoreFault, Table};
 use wb_tables::fault_of;
 
-/// Answers the lines of standard input over the records in the file, which is made if it is not there. One program at a
-/// time has the file: it holds a lock on the file with this name and `.lock` behind it.
+/// Why the lock on the file of an office is not got.
+enum LockRefusal {
+    /// Another program holds it.
+    InUse,
+    /// It cannot be had for this fault: `Device` where the file of the lock cannot be opened or locked.
+    Fault(StoreFault),
+}
+
+/// Answers the lines of standard input over the records in the file, which is made if it is not there, with a sum of
+/// each page. One program at a time has the file: it holds a lock on the file with this name and `.lock` behind it.
 pub(crate) fn run_stored(rt: &HostRuntime, file: &str) -> u8 {
     let _lock = match lock_of(rt, file) {
         Ok(lock) => lock,
-        Err(reason) => return refuse(rt, file, "InUse", reason),
+        Err(LockRefusal::InUse) => return refuse_held(rt, file),
+        Err(LockRefusal::Fault(fault)) => return refuse_fault(rt, file, fault),
     };
-    let conn = match Connection::open(rt, file) {
+    let conn = match Connection::open_with_sums(rt, file) {
         Ok(conn) => conn,
         Err(error) => return refuse_fault(rt, file, opening_fault(error)),
     };
@@ -34,20 +43,28 @@ pub(crate) fn run_stored(rt: &HostRuntime, file: &str) -> u8 {
     }
 }
 
-/// The lock of a program on the file of an office, which ends with the program, or why it is not got.
-fn lock_of(rt: &HostRuntime, file: &str) -> Result<File, &'static str> {
+/// The lock of a program on the file of an office, which ends with the program.
+fn lock_of(rt: &HostRuntime, file: &str) -> Result<File, LockRefusal> {
     let Ok(name) = format!(in rt.alloc(); "{file}.lock") else {
-        return Err("there is no memory for the name of its lock");
+        return Err(LockRefusal::Fault(StoreFault::Memory));
     };
     let mut how = OpenOptions::new();
     how.write(true).create(true);
-    let Ok(lock) = how.open(rt, name.as_str()) else {
-        return Err("its lock cannot be opened");
+    let lock = match how.open(rt, name.as_str()) {
+        Ok(lock) => lock,
+        Err(error) => return Err(refuse_lock(rt, name.as_str(), error)),
     };
     match lock.try_lock() {
         Ok(()) => Ok(lock),
-        Err(_) => Err("another program has it"),
+        Err(TryLockError::WouldBlock) => Err(LockRefusal::InUse),
+        Err(TryLockError::Error(error)) => Err(refuse_lock(rt, name.as_str(), error)),
     }
+}
+
+/// Says that the lock of this name cannot be opened or taken, for the system's reason.
+fn refuse_lock(rt: &HostRuntime, name: &str, error: io::Error) -> LockRefusal {
+    let _ = eprintln!(rt; "wb: {name} cannot be locked: {error}");
+    LockRefusal::Fault(StoreFault::Device)
 }
 
 /// What an error is to the store if the file could not be opened: a path that cannot be opened is a fault of the
@@ -70,10 +87,10 @@ fn refuse_fault(rt: &HostRuntime, file: &str, fault: StoreFault) -> u8 {
     said_store(rt, fault.name())
 }
 
-/// Says that the store cannot be opened, under this name and for this reason.
-fn refuse(rt: &HostRuntime, file: &str, name: &str, reason: &str) -> u8 {
-    let _ = eprintln!(rt; "wb: {file} cannot be opened: {reason}");
-    said_store(rt, name)
+/// Says that the store cannot be opened, since another program has it.
+fn refuse_held(rt: &HostRuntime, file: &str) -> u8 {
+    let _ = eprintln!(rt; "wb: {file} cannot be opened: another program has it");
+    said_store(rt, "InUse")
 }
 
 /// Writes the line for a store that cannot be opened.

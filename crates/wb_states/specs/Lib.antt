@@ -1,4 +1,5 @@
 pub mod Commands
+pub mod Examples
 pub mod Forms
 pub mod Holds
 pub mod Limits

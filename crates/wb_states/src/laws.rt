@@ -1,5 +1,5 @@
 //! Laws of the definitions, each on a function that does nothing.
-ghost use Rattle.std.specs.Prelude.{◌≡◌, ◌≢◌, ◌↔◌, ◌≤◌, ℕ, List, IsTrue, Some, None, Ok};
+ghost use Rattle.std.specs.Prelude.{◌≡◌, ◌≢◌, ◌↔◌, ◌≤◌, ℕ, List, IsTrue, Some, None, Ok, codes, false, pos, true};
 ghost use Rattle.std.specs.Ordering.{nat_cmp, ordering_then};
 ghost use Rattle.deb_text.specs.Text.{text_cmp};
 ghost use Rattle.std.specs.FinMap as map;
@@ -10,6 +10,7 @@ ghost use Rattle.wb_states.specs.declared.record.Record.{Record};
 ghost use Rattle.wb_states.specs.declared.moves.Move.{Move};
 ghost use Rattle.wb_states.specs.declared.refusal.Refusal.{Refusal};
 ghost use Rattle.wb_states.specs.declared.state.State.{State};
+ghost use Rattle.wb_states.specs.Examples.{with_place};
 ghost use Rattle.wb_states.specs.Holds.{IsBuildingAfter, building_after, held_of, take_cmp, take_of, taken_as};
 ghost use Rattle.wb_states.specs.Machine.{AreRelations, HasDistinctTakes, IsConsistent, Machine, arch_words};
 ghost use Rattle.wb_states.specs.Moves.{may_go, move_outcome};
@@ -118,4 +119,32 @@ pub fn codes_differ()
     ensures names { (one other : State) → name_of one ≡ name_of other → one ≡ other }
     ensures refusals { (one other : Refusal) → (code_of_refusal one ≡ code_of_refusal other)
         ↔ (name_of_refusal one ≡ name_of_refusal other) }
+{}
+
+/// Examples of ranks, and of two waiting source packages the one that is built first: by build priority, then what was
+/// built earlier, then by priority, by section, and by name; an archive area plays no part, and a section that is not
+/// among the known ones comes last.
+/// Source: this project's own.
+pub fn examples_of_the_queue()
+    ensures ranks { (one : Record)
+        → (rank_of (with_place one (pos 1000) true (codes "required") (codes "libs")) ≡ 0)
+        × (rank_of (with_place one (pos 0) true (codes "required") (codes "libs")) ≡ 348000)
+        × (rank_of (with_place one (pos 0) false (codes "optional") (codes "devel")) ≡ 348263)
+        × (rank_of (with_place one (pos 0) false (codes "optional") (codes "non-free/devel")) ≡ 348263)
+        × (rank_of (with_place one (pos 0) false (codes "other") (codes "other")) ≡ 348347) }
+    ensures by_build_priority { (one : Record)
+        → place_cmp (place_of (with_place one (pos 1) false (codes "extra") (codes "games")) (codes "zz"))
+        (place_of (with_place one (pos 0) true (codes "required") (codes "libs")) (codes "aa")) ≡ Less }
+    ensures by_age { (one : Record)
+        → place_cmp (place_of (with_place one (pos 0) true (codes "extra") (codes "games")) (codes "zz"))
+        (place_of (with_place one (pos 0) false (codes "required") (codes "libs")) (codes "aa")) ≡ Less }
+    ensures by_priority { (one : Record)
+        → place_cmp (place_of (with_place one (pos 0) true (codes "required") (codes "games")) (codes "zz"))
+        (place_of (with_place one (pos 0) true (codes "important") (codes "libs")) (codes "aa")) ≡ Less }
+    ensures by_section { (one : Record)
+        → place_cmp (place_of (with_place one (pos 0) true (codes "optional") (codes "libs")) (codes "zz"))
+        (place_of (with_place one (pos 0) true (codes "optional") (codes "contrib/devel")) (codes "aa")) ≡ Less }
+    ensures by_name { (one : Record)
+        → place_cmp (place_of (with_place one (pos 0) true (codes "optional") (codes "libs")) (codes "aa"))
+        (place_of (with_place one (pos 0) true (codes "optional") (codes "contrib/libs")) (codes "ab")) ≡ Less }
 {}
