@@ -17,6 +17,3 @@ pub use fault::Fault;
 pub use request::{Received, Request, read_request};
 pub use route::Query;
 pub use status::Status;
-
-#[cfg(test)]
-mod tests;

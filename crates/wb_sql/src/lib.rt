@@ -12,6 +12,3 @@ pub use files::{close, open, surrender};
 pub use power::{Power, cut_power};
 pub use reading::read;
 pub use writing::{CommitError, Writing, begin, is_usable};
-
-#[cfg(test)]
-mod tests;

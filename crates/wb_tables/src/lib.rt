@@ -24,6 +24,3 @@ pub use lookups::{all_of, by_take, counts, get};
 pub use opening::{check_archs, check_builders, check_counts, check_records};
 pub use queue::{head, queue_of};
 pub use scratch::has_scratch_rows;
-
-#[cfg(test)]
-mod tests;

@@ -1,6 +1,10 @@
+mod database;
 mod moves;
 mod names;
 mod ranks;
+mod requests;
+mod rows;
+mod statements;
 mod stores;
 mod tables;
 mod versions;

@@ -3,10 +3,6 @@ ghost use Rattle.wb_states.specs.Limits.{count_limit};
 
 mod opening;
 
-use crate::{
-    add_arch, add_builder, all_of, arch, archs_of, by_take, counts, get, has_builder, head,
-    held_by, put, queue_of, remove, set_counts,
-};
 use deb_text::Text;
 use deb_version::Version;
 use sqlite::{Alter, Connection, Error};
@@ -16,6 +12,10 @@ use wb_schema::prepare;
 use wb_sql::{Writing, begin};
 use wb_states::{Counts, OsCpu, Record, State};
 use wb_store::KeyedRecord;
+use wb_tables::{
+    add_arch, add_builder, all_of, arch, archs_of, by_take, counts, get, has_builder, head,
+    held_by, put, queue_of, remove, set_counts,
+};
 
 // Each of these makes one call on the database and has no clause on it, so that the proof of a test does not carry
 // the state of each call.

@@ -1,8 +1,8 @@
-use crate::{Fault, Query, Received, Request, Status, read_request, write_answer};
 use std::alloc::Global;
 use std::io::{self, ErrorKind, Read};
 use std::process::Abort;
 use std::test::Fail;
+use wb_http::{Fault, Query, Received, Request, Status, read_request, write_answer};
 use wb_states::Command;
 use wb_streams::{WatchedReader, WatchedWriter};
 

@@ -1,13 +1,13 @@
 ghost use Rattle.std.specs.Prelude.{◌≤◌, IfSome};
 ghost use Rattle.wb_states.specs.Limits.{count_limit};
 
-use crate::{
-    arch_of, arch_values, builder_of, builder_values, is_well_formed, record_of, record_values,
-};
 use sqlite::types::ValueRef;
 use sqlite::{Connection, Error, Row};
 use std::alloc::Global;
 use std::test::Fail;
+use wb_rows::{
+    arch_of, arch_values, builder_of, builder_values, is_well_formed, record_of, record_values,
+};
 use wb_states::COUNT_LIMIT;
 use wb_store::KeyedRecord;
 

@@ -1,14 +1,14 @@
 use super::{fill, filled};
-use crate::{
-    archs, check_archs, check_builders, check_counts, check_records, commit, fault_of,
-    has_scratch_rows, roll_back,
-};
 use deb_text::Text;
 use sqlite::{Alter, Connection, Error, ErrorCode};
 use std::alloc::Global;
 use std::test::Fail;
 use wb_sql::begin;
 use wb_states::{OsCpu, StoreFault, Table};
+use wb_tables::{
+    archs, check_archs, check_builders, check_counts, check_records, commit, fault_of,
+    has_scratch_rows, roll_back,
+};
 
 const NOTHING: &str = "";
 

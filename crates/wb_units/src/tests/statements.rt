@@ -1,11 +1,11 @@
 ghost use Rattle.std.specs.Prelude.{IsTrue, IfOk};
 ghost use Rattle.sqlite_disk.specs.Memory.{memory_is_usable};
 
-use crate::{CommitError, Writing, begin, close, open, read};
 use sqlite::{Alter, Connection, Error, FileStore, Files, Options, Row, params};
 use sqlite_disk::Memory;
 use std::alloc::Global;
 use std::test::Fail;
+use wb_sql::{CommitError, Writing, begin, close, open, read};
 
 // These have no clause, so that the proof of a test does not carry the state of each call.
 fn make<S: Alter>(writing: &mut Writing<'_, S>) -> Result<(), Error> {
