@@ -1,11 +1,11 @@
 -- What the nodes of an expression are, if it is that the id of a row is 1.
-use Rattle.std.proofs.Common.{◌≡◌, ◌↔◌, ◌<◌, ◌≤◌, ℕ, zero, suc, pos, Some, None, List, [], ◌∷◌, length, get_or, slice_get, refl, arith, sym, ap, ◌∙◌}
+use Rattle.std.proofs.Common.{◌≡◌, ◌≤◌, ℕ, zero, suc, pos, Some, List, [], ◌∷◌, length, get_or, slice_get, refl, arith, ap}
 use Rattle.std.proofs.lemmas.Option.{get_or_from_slice_get}
 use Rattle.sqlite.specs.Collation.TheVariants.{Binary as Bytewise}
 use Rattle.sqlite_value.specs.declared.value.Value.TheVariants.{Null, Int}
 use Rattle.sqlite_sql.specs.declared.ops.BinaryOp.TheVariants.{Compare}
 use Rattle.sqlite_sql.specs.declared.ops.CompareOp.TheVariants.{Eq}
-use Rattle.sqlite_sql.specs.Term.{Term, lit, col, op1, op2, case}
+use Rattle.sqlite_sql.specs.Term.{Term, lit, col}
 use Rattle.sqlite_schema.specs.declared.code.Op.{Op}
 use Rattle.sqlite_schema.specs.declared.code.Op.TheVariants.{Literal, Column, Unary, Binary, Case}
 use Rattle.sqlite_schema.specs.Code.{op_term, term_to, term_in}
@@ -68,11 +68,13 @@ compared (x ∷ (y ∷ rest)) root is =
     let below : ℕ → Term = term_to nodes (suc (length rest)) in
     let c = comparison_node below (get_or nodes root (Literal Null)) is in
     let i = column_node (term_to nodes (length rest)) (get_or nodes c.id (Literal Null)) c.id_is in
-    let o = number_node (term_to nodes (length rest)) (get_or nodes c.one (Literal Null)) c.one_is in
-    (omega arith, record {
-      id = c.id;
-      one = c.one;
-      root_is = there nodes root _ c.is (λ e. cc);
-      id_is = there nodes c.id _ i (λ e. cc);
-      one_is = there nodes c.one _ o (λ e. cc);
-    })
+    let o = number_node (term_to nodes (length rest)) (get_or nodes c.one (Literal Null)) c.one_is in (
+      omega arith,
+      record {
+        id = c.id;
+        one = c.one;
+        root_is = there nodes root _ c.is (λ e. cc);
+        id_is = there nodes c.id _ i (λ e. cc);
+        one_is = there nodes c.one _ o (λ e. cc);
+      },
+    )

@@ -13,7 +13,12 @@ use sqlite_value::value::{Bytes, Value};
 
 /// Whether these are the name, the root and the columns of the table, and nothing of a row is computed. It says nothing
 /// of the table's keys, checks and references.
-pub(crate) fn is_table(table: &Table, name: &str, tree: u32, columns: &[ColumnDefinition<'_>]) -> bool
+pub(crate) fn is_table(
+    table: &Table,
+    name: &str,
+    tree: u32,
+    columns: &[ColumnDefinition<'_>],
+) -> bool
     ensures value { IsTrue result ↔ IsTable table.now name.now tree (columns_of columns.now) }
 {
     is_name(&table.name, name)

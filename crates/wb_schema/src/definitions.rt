@@ -58,7 +58,12 @@ pub(crate) fn optional(name: &str, kind: Kind) -> ColumnDefinition<'_>
 }
 
 /// The index of a key, which comes once.
-pub(crate) fn key_on<'a>(name: &'a str, tree: u32, table: u32, columns: &'a [usize]) -> IndexDefinition<'a>
+pub(crate) fn key_on<'a>(
+    name: &'a str,
+    tree: u32,
+    table: u32,
+    columns: &'a [usize],
+) -> IndexDefinition<'a>
     ensures value { index_of result ≡ key_on name.now tree table columns.now }
 {
     IndexDefinition {
@@ -71,7 +76,12 @@ pub(crate) fn key_on<'a>(name: &'a str, tree: u32, table: u32, columns: &'a [usi
 }
 
 /// An index that lets a key come twice.
-pub(crate) fn index_on<'a>(name: &'a str, tree: u32, table: u32, columns: &'a [usize]) -> IndexDefinition<'a>
+pub(crate) fn index_on<'a>(
+    name: &'a str,
+    tree: u32,
+    table: u32,
+    columns: &'a [usize],
+) -> IndexDefinition<'a>
     ensures value { index_of result ≡ tables.index_on name.now tree table columns.now }
 {
     IndexDefinition {

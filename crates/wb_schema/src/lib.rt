@@ -6,7 +6,6 @@ mod create;
 mod definitions;
 mod id_check;
 mod making;
-
 mod recognition;
 pub mod texts;
 

@@ -3,7 +3,9 @@ ghost use Rattle.std.specs.Prelude.{◌≡◌, ◌↔◌, IsTrue};
 ghost use Rattle.wb_schema.specs.Tables.{empty_schema, office_schema};
 ghost use Rattle.wb_schema.specs.Tables.{office, arch, builder, source_record, scratch_source, scratch_binary};
 
-use crate::comparison::{are_indexes, is_free, is_keyed_by, is_keyed_by_id, is_table, refers_to_arch};
+use crate::comparison::{
+    are_indexes, is_free, is_keyed_by, is_keyed_by_id, is_table, refers_to_arch,
+};
 use crate::definitions::{index_on, key_on, number, optional, text};
 use crate::id_check::is_id_check;
 use sqlite_schema::schema::{Index, Kind, Schema, Table};
@@ -31,7 +33,15 @@ pub fn has_office_tables(schema: &Schema) -> bool
 fn are_office_tables(tables: &[Table]) -> bool
     ensures value { IsTrue result ↔ (tables.now ≡ office_schema.tables) }
 {
-    let [office, arch, builder, source_record, scratch_source, scratch_binary] = tables else {
+    let [
+        office,
+        arch,
+        builder,
+        source_record,
+        scratch_source,
+        scratch_binary,
+    ] = tables
+    else {
         return false;
     };
     is_office(office)
