@@ -1,4 +1,5 @@
 pub mod FirstRowLemmas
+pub mod IdCheckLemmas
 pub mod MakingLemmas
 pub mod NameLemmas
 pub mod RecordLemmas

@@ -1,3 +1,4 @@
 pub mod Making
+pub mod Recognition
 pub mod Statements
 pub mod Tables
