@@ -79,6 +79,8 @@ pub trait CarryOut {
             → (has_bad_key arch.now source.now ≡ false) × stands_at self.new machine }
         ensures closed { (machine : Machine) → is_clean self.new → stands_at self.old machine
             → result ≡ Err Closed → is_closed self.new × stands_at self.new machine }
+        ensures shut { (machine : Machine) → is_clean self.new → stands_at self.old machine
+            → result ≡ Err Closed → is_closed self.old }
         ensures store { (machine : Machine) → is_clean self.new → stands_at self.old machine → (fault : StoreFault)
             → result ≡ Err (Store fault) → leaves self.new machine machine };
 
@@ -101,6 +103,8 @@ pub trait CarryOut {
             → (is_builder_name builder.now ≡ true) × stands_at self.new machine }
         ensures closed { (machine : Machine) → is_clean self.new → stands_at self.old machine
             → result ≡ Err Closed → is_closed self.new × stands_at self.new machine }
+        ensures shut { (machine : Machine) → is_clean self.new → stands_at self.old machine
+            → result ≡ Err Closed → is_closed self.old }
         ensures store { (machine : Machine) → is_clean self.new → stands_at self.old machine → (fault : StoreFault)
             → result ≡ Err (Store fault) → leaves self.new machine machine };
 
