@@ -70,13 +70,13 @@ pub item_of-good : (machine : Machine) (arch source : List ℕ) → has_bad_key 
 unfolding item_of
 item_of-good machine arch source good = ap (λ b. cond b (Err BadName) (item_in machine arch source)) good
 
-pub mine_of-bad : (machine : Machine) (builder : List ℕ) → is_builder_name builder ≡ false → mine_of machine builder ≡ Err BadName
+pub mine_of-bad : (machine : Machine) (builder : List ℕ) → not (is_builder_name builder) ≡ true → mine_of machine builder ≡ Err BadName
 unfolding mine_of
-mine_of-bad machine builder bad = ap (λ b. cond (not b) (Err BadName) (mine_in machine builder)) bad
+mine_of-bad machine builder bad = ap (λ b. cond b (Err BadName) (mine_in machine builder)) bad
 
-pub mine_of-good : (machine : Machine) (builder : List ℕ) → is_builder_name builder ≡ true → mine_of machine builder ≡ mine_in machine builder
+pub mine_of-good : (machine : Machine) (builder : List ℕ) → not (is_builder_name builder) ≡ false → mine_of machine builder ≡ mine_in machine builder
 unfolding mine_of
-mine_of-good machine builder good = ap (λ b. cond (not b) (Err BadName) (mine_in machine builder)) good
+mine_of-good machine builder good = ap (λ b. cond b (Err BadName) (mine_in machine builder)) good
 
 -- ---- an answer that is a refusal
 
