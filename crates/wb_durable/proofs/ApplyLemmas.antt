@@ -75,7 +75,7 @@ ends_of_fault g held f told = record {
 
 -- ---- after a failure
 
-either_of : {machine : Machine} (after : Machine) (s : State) → IsBackAt machine s → LeavesEither machine after s
+pub either_of : {machine : Machine} (after : Machine) (s : State) → IsBackAt machine s → LeavesEither machine after s
 either_of after s back db may = inl (back.left db may)
 
 refusals_for : (f : StoreFault) → (refusal_for f ≡ Memory) ⊎ ((refusal_for f ≡ Store f) × (f ≢ fault.Memory))
@@ -93,10 +93,10 @@ doubts_for (fault.Damaged table row) = (fault.Damaged table row, refl)
 doubts_for fault.Device = (fault.Device, refl)
 
 -- a refusal for a fault is no refusal of the state
-of_fault : (f : StoreFault) → refusal_for f ≢ Memory → is_of_store (refusal_for f) ≡ true
+pub of_fault : (f : StoreFault) → refusal_for f ≢ Memory → is_of_store (refusal_for f) ≡ true
 of_fault f other = elim (refusals_for f) [ inl is ↦ absurd (other is) | inr is ↦ ap is_of_store is.0 ]
 
-not_closed_for : (f : StoreFault) → refusal_for f ≢ Closed
+pub not_closed_for : (f : StoreFault) → refusal_for f ≢ Closed
 not_closed_for fault.Memory is = cc
 not_closed_for fault.NotOffice is = cc
 not_closed_for fault.NewerSchema is = cc
@@ -224,7 +224,7 @@ unfolding step
 step_counts machine command reply is = counted_by (first_refusal machine command) (again_of machine command) machine command reply is
 
 -- an office that is open is settled at its state
-settled_at : {machine : Machine} {was_closed : Bool} {counted : ℕ} {s : State} → StandsAt machine was_closed counted s → was_closed ≡ false → IsSettled machine s
+pub settled_at : {machine : Machine} {was_closed : Bool} {counted : ℕ} {s : State} → StandsAt machine was_closed counted s → was_closed ≡ false → IsSettled machine s
 settled_at stands opened = stands.back.settled (stands.is_open opened)
 
 module _ {S : Type 0} (g : Ghosts S) (command : Command) (was_closed : Bool) (counted : ℕ) (old : Held S) (opened : was_closed ≡ false) where

@@ -1,5 +1,6 @@
 pub mod AnswerLemmas
 pub mod ApplyLemmas
+pub mod AskLemmas
 pub mod CarryLemmas
 pub mod FindsLemmas
 pub mod MergeAnswerLemmas

@@ -1,5 +1,6 @@
 pub mod Answers
 pub mod Applies
+pub mod Asks
 pub mod Carried
 pub mod Changed
 pub mod Finds

@@ -12,5 +12,6 @@ mod named;
 mod office;
 mod opening;
 mod preparing;
+mod query;
 
 pub use office::Office;

@@ -1,10 +1,11 @@
 //! The office over tables: each command is one transaction.
-ghost use Rattle.std.specs.Prelude.{◌≡◌, ⊤, false, true, IfOk, IfErr};
+ghost use Rattle.std.specs.Prelude.{◌≡◌, ⊤, false, not, true, IfOk, IfErr};
 ghost use Rattle.sqlite.specs.Files.{file_state};
 ghost use Rattle.sqlite.specs.Held.{Held, state};
 ghost use Rattle.sqlite.specs.State.{HasCleanDisk};
 ghost use Rattle.sqlite_wal.specs.Reads.{AreClean};
 ghost use Rattle.wb_states.specs.Machine.{IsConsistent, Machine};
+ghost use Rattle.wb_states.specs.Names.{is_builder_name};
 ghost use Rattle.wb_tables.specs.Settled.{AreSettledAt};
 ghost use Rattle.wb_schema.specs.Tables.{office_schema};
 ghost use Rattle.wb_tables.specs.Opening.{HasGoodRows};
@@ -12,17 +13,21 @@ ghost use Rattle.wb_durable.specs.Opening.{ComesLater, FailsOnOffice, HasNoScrat
 ghost use Rattle.wb_durable.specs.Preparing.{IsFoundAt};
 ghost use Rattle.wb_durable.specs.declared.answer.Failure.TheVariants.{Uncommitted};
 ghost use Rattle.wb_durable.specs.Answers.{accepted_of};
+ghost use Rattle.wb_office.specs.Checks.{has_bad_key};
 ghost use Rattle.wb_office.specs.Ends.{is_of_store};
+ghost use Rattle.wb_office.specs.Queries.{item_of, mine_of};
 ghost use Rattle.wb_durable.specs.Applies.{Applies, Ends, EndsWith, doubt_for, refusal_for};
+ghost use Rattle.wb_durable.specs.Asks.{Asks};
 ghost use Rattle.wb_durable.specs.Standing.{LeavesOne, StandsAt};
 
 use crate::answer::{Failure, answer};
 use crate::carry::CarryError;
 use crate::opening::find_office;
+use crate::query::{builder_of, find_item, find_mine, key_of};
 use sqlite::{Alter, Connection, FileStore, Files};
 use sqlite_disk::Disk;
 use std::alloc::Global;
-use wb_office::CarryOut;
+use wb_office::{Answer, CarryOut};
 use wb_sql::is_usable;
 use wb_states::{Command, Refusal, Reply, StoreFault, Table};
 use wb_tables::fault_of;
@@ -101,6 +106,60 @@ impl<S: Alter + Drop> Office<S> {
             }
         }
     }
+
+    /// The record of the source package on the architecture. The office is as it was after each answer.
+    ///
+    /// The refusals come in this order: `Closed`, `BadName` if a name is malformed, `UnknownArch` if the architecture was
+    /// never added, `UnknownSource` if the source package has no record there. `Memory` comes for no malformed name; the
+    /// office is then closed if its connection cannot be used on. After `Store` it is closed (this project's own).
+    pub fn item(&mut self, arch: &str, source: &str) -> Result<Answer, Refusal>
+        ensures asks { Asks S.Store (λ machine. item_of machine arch.now source.now)
+            (has_bad_key arch.now source.now) self.old.is_closed self.old.accepted self.old.conn
+            self.new.is_closed self.new.accepted self.new.conn result }
+    {
+        if self.is_closed {
+            return Err(Refusal::Closed);
+        }
+        let (arch, source) = key_of(self.alloc, arch, source)?;
+        match find_item(&mut self.conn, arch, source) {
+            Ok(answer) => answer,
+            Err(error) => {
+                let (refusal, is_closed) = end_with(
+                    &mut self.conn,
+                    fault_of(error, Table::SourceRecord),
+                );
+                self.is_closed = is_closed;
+                Err(refusal)
+            }
+        }
+    }
+
+    /// What the builder holds, of all architectures, by take number. The office is as it was after each answer.
+    ///
+    /// The refusals come in this order: `Closed`, `BadName` if the name is malformed, `UnknownBuilder` if the builder was
+    /// added for no architecture. `Memory` comes for no malformed name; the office is then closed if its connection
+    /// cannot be used on. After `Store` it is closed (this project's own).
+    pub fn mine(&mut self, builder: &str) -> Result<Answer, Refusal>
+        ensures asks { Asks S.Store (λ machine. mine_of machine builder.now)
+            (not (is_builder_name builder.now)) self.old.is_closed self.old.accepted self.old.conn
+            self.new.is_closed self.new.accepted self.new.conn result }
+    {
+        if self.is_closed {
+            return Err(Refusal::Closed);
+        }
+        let builder = builder_of(self.alloc, builder)?;
+        match find_mine(&mut self.conn, builder) {
+            Ok(answer) => answer,
+            Err(error) => {
+                let (refusal, is_closed) = end_with(
+                    &mut self.conn,
+                    fault_of(error, Table::SourceRecord),
+                );
+                self.is_closed = is_closed;
+                Err(refusal)
+            }
+        }
+    }
 }
 
 impl<D: Disk + Drop> Office<FileStore<D>> {
@@ -142,6 +201,14 @@ impl<S: Alter + Drop> CarryOut for Office<S> {
 
     fn carry_out(&mut self, command: &Command) -> Result<Reply, Refusal> {
         self.apply(command)
+    }
+
+    fn item(&mut self, arch: &str, source: &str) -> Result<Answer, Refusal> {
+        Office::item(self, arch, source)
+    }
+
+    fn mine(&mut self, builder: &str) -> Result<Answer, Refusal> {
+        Office::mine(self, builder)
     }
 
     ghost consistent = { λ office machine stands. stands.consistent };

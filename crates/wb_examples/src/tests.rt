@@ -2,4 +2,5 @@ mod failing;
 mod kept;
 mod limits;
 mod lists;
+mod queries;
 mod words;

@@ -8,6 +8,7 @@ pub mod MergedParts
 pub mod Named
 pub mod Outcomes
 pub mod Parts
+pub mod Queries
 pub mod Replay
 pub mod Step
 pub mod Targets

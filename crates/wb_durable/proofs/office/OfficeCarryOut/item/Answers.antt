@@ -1,0 +1,21 @@
+use Rattle.wb_office.proofs.QueryLemmas.{item-has-no-store}
+use Rattle.wb_durable.proofs.AskLemmas.{asked_answer, asked_refused, asked_memory, asked_closed, asked_when_shut, asked_store}
+use Rattle.wb_durable.proofs.office.OfficeCarryOut.item.Goals as goal
+
+pub returns-clause-answer : goal.returns-clause-answer
+returns-clause-answer g c = asked_answer c.item.ensures.asks (λ machine. item-has-no-store machine c.args.arch.now c.args.source.now)
+
+pub returns-clause-refused : goal.returns-clause-refused
+returns-clause-refused g c = asked_refused c.item.ensures.asks (λ machine. item-has-no-store machine c.args.arch.now c.args.source.now)
+
+pub returns-clause-memory : goal.returns-clause-memory
+returns-clause-memory g c = asked_memory c.item.ensures.asks (λ machine. item-has-no-store machine c.args.arch.now c.args.source.now)
+
+pub returns-clause-closed : goal.returns-clause-closed
+returns-clause-closed g c = asked_closed c.item.ensures.asks (λ machine. item-has-no-store machine c.args.arch.now c.args.source.now)
+
+pub returns-clause-shut : goal.returns-clause-shut
+returns-clause-shut g c = asked_when_shut c.item.ensures.asks (λ machine. item-has-no-store machine c.args.arch.now c.args.source.now)
+
+pub returns-clause-store : goal.returns-clause-store
+returns-clause-store g c = asked_store c.item.ensures.asks (λ machine. item-has-no-store machine c.args.arch.now c.args.source.now)

@@ -1,0 +1,55 @@
+-- What an office over tables answers to a query, and how it stands then (this project's own).
+use Rattle.std.specs.Prelude.{◌≡◌, ◌⊎◌, ℕ, Bool, true, false, Result, Err, IsTrue}
+use Rattle.sqlite_trees.specs.declared.store.Store.{Ghosts}
+use Rattle.sqlite.specs.declared.error.Error.{Error}
+use Rattle.sqlite.specs.Held.{Held, state}
+use Rattle.sqlite.specs.State.{HasCleanDisk}
+use Rattle.wb_states.specs.declared.refusal.Refusal.{Refusal}
+use Rattle.wb_states.specs.declared.refusal.Refusal.TheVariants.{BadName, Closed, Memory}
+use Rattle.wb_states.specs.declared.store_fault.Table.TheVariants.{SourceRecord}
+use Rattle.wb_states.specs.Machine.{Machine}
+use Rattle.wb_office.specs.declared.query.Answer.{Answer}
+use Rattle.wb_office.specs.Ends.{is_of_store}
+use Rattle.wb_tables.specs.Faults.{fault_of}
+use Rattle.wb_tables.specs.Settled.{IsSettled, IsBackAt}
+use Rattle.wb_durable.specs.Applies.{refusal_for}
+use Rattle.wb_durable.specs.Finds.{FailsToFind}
+use Rattle.wb_durable.specs.Standing.{StandsAt}
+
+-- why the names of a query are not looked up: one is malformed; or none is, and memory runs out for them
+abbrev pub FailsByName : Bool → Refusal → Type 0
+FailsByName is_bad refusal = ((is_bad ≡ true) × (refusal ≡ BadName)) ⊎ ((is_bad ≡ false) × (refusal ≡ Memory))
+
+-- a query was looked up, or had to be refused: it has this answer of the state, and the office stands open as before
+abbrev pub IsAnswered : {S : Type 0} → Ghosts S → (Machine → Result Answer Refusal) → Machine → Held S → Bool → Result Answer Refusal → Type 0
+IsAnswered g answer_of machine new is_closed result = (answer_of machine ≡ result) × IsSettled machine (state g new) × (is_closed ≡ false)
+
+-- a look-up of a query failed: this is the refusal for its error, the office has its state as before, and it is open only if its connection is,
+-- or closed after a fault of the store
+pub record IsUnread {S : Type 0} (g : Ghosts S) (machine : Machine) (old new : Held S) (is_closed : Bool) (refusal : Refusal) : Type 0 where
+  pub error : Error
+  pub at : Held S
+  pub failed : FailsToFind g old at error
+  pub told : refusal ≡ refusal_for (fault_of error SourceRecord)
+  pub back : IsBackAt machine (state g new)
+  pub is_open : is_closed ≡ false → IsTrue (state g new).is_open
+  pub ends : is_of_store refusal ≡ true → is_closed ≡ true
+
+-- a query of an office that stands open at this state: it is answered; or a look-up failed; or memory ran out before there was one, and nothing
+-- was done
+abbrev pub IsAskedAt : {S : Type 0} → Ghosts S → (Machine → Result Answer Refusal) → Machine → Held S → Bool → Held S → Result Answer Refusal → Type 0
+IsAskedAt g answer_of machine old is_closed new result =
+    IsAnswered g answer_of machine new is_closed result
+    ⊎ ((refusal : Refusal) × (result ≡ Err refusal)
+    × (IsUnread g machine old new is_closed refusal ⊎ ((refusal ≡ Memory) × (new ≡ old) × (is_closed ≡ false))))
+
+-- an office over tables is asked what has this answer of its state, by names of which one may be malformed: a closed office, and no other,
+-- answers that it is closed; and memory runs out for no malformed name
+pub record Asks {S : Type 0} (g : Ghosts S) (answer_of : Machine → Result Answer Refusal) (is_bad : Bool) (was_closed : Bool) (counted : ℕ) (old : Held S)
+    (is_closed : Bool) (counts : ℕ) (new : Held S) (result : Result Answer Refusal) : Type 0 where
+  pub was_clean : HasCleanDisk (state g new) → HasCleanDisk (state g old)
+  pub same : counts ≡ counted
+  pub shut : was_closed ≡ true → (result ≡ Err Closed) × (is_closed ≡ true) × (new ≡ old)
+  pub memory : result ≡ Err Memory → is_bad ≡ false
+  pub asked : HasCleanDisk (state g new) → (machine : Machine) → StandsAt machine was_closed counted (state g old) → was_closed ≡ false
+      → IsAskedAt g answer_of machine old is_closed new result
