@@ -8,7 +8,9 @@ use Rattle.wb_states.specs.Moves.{build_text_of}
 use Rattle.wb_states.specs.State.{name_of}
 use Rattle.wb_states.specs.declared.record.Record.{Record}
 use Rattle.wb_store.specs.declared.keyed.KeyedRecord.{KeyedRecord}
-use Rattle.wb_api.specs.Queries.{truth_text, quoted_or_null, decimal_or_null, fields_text, record_text, records_text, mine_text}
+use Rattle.wb_office.specs.declared.query.Answer.{Answer}
+use Rattle.wb_office.specs.declared.query.Answer.TheVariants.{Item, Mine}
+use Rattle.wb_api.specs.Queries.{truth_text, quoted_or_null, decimal_or_null, fields_text, record_text, records_text, query_text}
 use Rattle.wb_api.proofs.OneLineLemmas.{behind, decimal-one, quoted-one}
 
 signed_decimal-one : (z : ℤ) → IsOneLine (signed_decimal z)
@@ -46,7 +48,7 @@ fields_text-one arch source current =
     ∙ behind (quoted current.version) _ (quoted-one current.version)
     ∙ behind (quoted current.waits) _ (quoted-one current.waits)
 
-pub record_text-one : (row : KeyedRecord) → IsOneLine (record_text row)
+record_text-one : (row : KeyedRecord) → IsOneLine (record_text row)
 record_text-one row = fields_text-one row.arch row.source row.current
 
 records_text-one : (rows : List KeyedRecord) → IsOneLine (records_text rows)
@@ -55,7 +57,8 @@ records_text-one (row ∷ []) = record_text-one row
 records_text-one (row ∷ next ∷ rows) =
     behind (record_text row) _ (record_text-one row) ∙ records_text-one (next ∷ rows)
 
-pub mine_text-one : (builder : List ℕ) (rows : List KeyedRecord) → IsOneLine (mine_text builder rows)
-unfolding mine_text
-mine_text-one builder rows =
+pub query_text-one : (answer : Answer) → IsOneLine (query_text answer)
+unfolding query_text
+query_text-one (Item row) = record_text-one row
+query_text-one (Mine builder rows) =
     behind (quoted builder) _ (quoted-one builder) ∙ behind (records_text rows) _ (records_text-one rows)

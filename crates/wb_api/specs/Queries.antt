@@ -7,6 +7,8 @@ use Rattle.wb_states.specs.Moves.{build_text_of}
 use Rattle.wb_states.specs.State.{name_of}
 use Rattle.wb_states.specs.declared.record.Record.{Record}
 use Rattle.wb_store.specs.declared.keyed.KeyedRecord.{KeyedRecord}
+use Rattle.wb_office.specs.declared.query.Answer.{Answer}
+use Rattle.wb_office.specs.declared.query.Answer.TheVariants.{Item, Mine}
 
 -- the text of a truth value (RFC 8259, section 3)
 abbrev pub truth_text : Bool → List ℕ
@@ -50,8 +52,9 @@ record_text row = fields_text row.arch row.source row.current
 abbrev pub records_text : List KeyedRecord → List ℕ
 records_text rows = join_with_byte 44 (map record_text rows)
 
--- the text of the records that a builder holds (this project's own)
-unfoldable pub mine_text : List ℕ → List KeyedRecord → List ℕ
-mine_text builder rows = concat
+-- the text of the answer to a query: a record, or the records that a builder holds (this project's own)
+unfoldable pub query_text : Answer → List ℕ
+query_text (Item row) = record_text row
+query_text (Mine builder rows) = concat
     (codes "{\"builder\":" ∷ quoted builder ∷
     codes ",\"records\":[" ∷ records_text rows ∷ codes "]}" ∷ [])

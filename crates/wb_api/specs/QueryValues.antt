@@ -7,6 +7,8 @@ use Rattle.wb_states.specs.Moves.{build_text_of}
 use Rattle.wb_states.specs.State.{name_of}
 use Rattle.wb_states.specs.declared.record.Record.{Record}
 use Rattle.wb_store.specs.declared.keyed.KeyedRecord.{KeyedRecord}
+use Rattle.wb_office.specs.declared.query.Answer.{Answer}
+use Rattle.wb_office.specs.declared.query.Answer.TheVariants.{Item, Mine}
 
 -- the value of a text that may be missing (RFC 8259, section 3)
 abbrev pub string_or_null : Option (List ℕ) → Data
@@ -72,3 +74,8 @@ abbrev pub value_of_mine : List ℕ → List KeyedRecord → Data
 value_of_mine builder rows = object
     (member (codes "builder") (string builder)
     (member (codes "records") (array (values_of_records rows)) no_members))
+
+-- the object of the answer to a query (this project's own)
+abbrev pub value_of_answer : Answer → Data
+value_of_answer (Item row) = value_of_record row
+value_of_answer (Mine builder rows) = value_of_mine builder rows

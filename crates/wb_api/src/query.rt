@@ -3,45 +3,45 @@ ghost use Rattle.std.specs.Prelude.{◌≡◌, map, IfOk, OnOk};
 ghost use Rattle.std.specs.String.{string_bytes};
 ghost use Rattle.serde_json.specs.Data.{array, put as with_member, string};
 ghost use Rattle.serde_json.specs.View.{members_view, view};
-ghost use Rattle.wb_api.specs.Queries.{mine_text, record_text};
-ghost use Rattle.wb_api.specs.QueryValues.{number_or_null, string_or_null, value_of_fields};
-ghost use Rattle.wb_api.specs.QueryValues.{value_of_mine, value_of_record, values_of_records};
-ghost use Rattle.wb_api.specs.QueryValues.{with_standing, with_texts, with_version};
+ghost use Rattle.wb_api.specs.Queries.{query_text};
+ghost use Rattle.wb_api.specs.QueryValues.{number_or_null, string_or_null, value_of_answer};
+ghost use Rattle.wb_api.specs.QueryValues.{value_of_fields, value_of_mine, value_of_record};
+ghost use Rattle.wb_api.specs.QueryValues.{values_of_records, with_standing, with_texts};
+ghost use Rattle.wb_api.specs.QueryValues.{with_version};
 
 use crate::encode::array_of;
 use deb_text::Text;
 use serde_json::{Map, Value, json, put};
 use std::alloc::{AllocError, Global};
+use wb_office::Answer;
 use wb_states::{Record, build_text};
 use wb_store::KeyedRecord;
 
-/// A record as one JSON object.
+/// The answer to a query as one JSON object (RFC 8259), with no space and no line feed.
+///
+/// The answer to `item` is the record. That to `mine` has the builder and its records, in the order of their
+/// take numbers. A record tells under `build` the version of the binaries: the source version, followed by
+/// `+bN` for a binary-only rebuild N. A missing holder or take number is `null`. Texts and numbers stand as
+/// in `reply_json`, and a build priority below 0 after a minus sign. What a source package needs to be built
+/// is not told. The only error is that there is no memory for the text. The keys are this project's own.
 #[tactic(auto, using(crate::proofs::QueryLemmas::printing_of_queries))]
-pub fn item_json(alloc: Global, row: &KeyedRecord) -> Result<String, AllocError>
-    ensures value { IfOk result (λ text. string_bytes text ≡ record_text row.now) }
+pub fn query_json(alloc: Global, answer: &Answer) -> Result<String, AllocError>
+    ensures value { IfOk result (λ text. string_bytes text ≡ query_text answer.now) }
 {
-    let value = value_of_record(alloc, row)?;
+    let value = value_of_answer(alloc, answer)?;
     value.to_string(alloc)
 }
 
-/// The records that a builder holds as one JSON object.
-#[tactic(auto, using(crate::proofs::QueryLemmas::printing_of_queries))]
-pub fn mine_json(
-    alloc: Global,
-    builder: &Text,
-    rows: &[KeyedRecord],
-) -> Result<String, AllocError>
-    ensures value { IfOk result (λ text. string_bytes text ≡ mine_text builder.now rows.now) }
+fn value_of_answer(alloc: Global, answer: &Answer) -> Result<Value, AllocError>
+    ensures { IfOk result (λ value. view value ≡ value_of_answer answer.now) }
 {
-    let value = value_of_mine(alloc, builder, rows)?;
-    value.to_string(alloc)
+    match answer {
+        Answer::Item(row) => value_of_record(alloc, row),
+        Answer::Mine { builder, records } => value_of_mine(alloc, builder, records.as_slice()),
+    }
 }
 
-fn value_of_mine(
-    alloc: Global,
-    builder: &Text,
-    rows: &[KeyedRecord],
-) -> Result<Value, AllocError>
+fn value_of_mine(alloc: Global, builder: &Text, rows: &[KeyedRecord]) -> Result<Value, AllocError>
     ensures { IfOk result (λ value. view value ≡ value_of_mine builder.now rows.now) }
 {
     let records = values_of_records(alloc, rows)?;
@@ -104,7 +104,12 @@ fn put_version(
     put_text(alloc, members, "version", current.version.text())?;
     put(members, alloc, "number", Value::from(current.number))?;
     put_text(alloc, members, "build", build.as_str())?;
-    put(members, alloc, "build_priority", Value::from(current.build_priority))
+    put(
+        members,
+        alloc,
+        "build_priority",
+        Value::from(current.build_priority),
+    )
 }
 
 /// Puts where a record stands, and who holds it.
