@@ -1,3 +1,4 @@
+mod answers;
 mod failing;
 mod kept;
 mod limits;
