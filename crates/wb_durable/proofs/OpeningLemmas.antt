@@ -19,7 +19,7 @@ use Rattle.wb_schema.specs.Tables.{empty_schema, office_schema, scratch_source, 
 use Rattle.wb_states.specs.declared.arch.OsCpu.{OsCpu}
 use Rattle.wb_states.specs.declared.counts.Counts.{Counts}
 use Rattle.wb_states.specs.declared.store_fault.StoreFault.{StoreFault}
-use Rattle.wb_states.specs.declared.store_fault.StoreFault.TheVariants.{Damaged}
+use Rattle.wb_states.specs.declared.store_fault.StoreFault.TheVariants.{Damaged, NotOffice}
 use Rattle.wb_states.specs.declared.store_fault.Table.{Table}
 use Rattle.wb_states.specs.declared.store_fault.Table.TheVariants.{Builder, Office, ScratchSource, SourceRecord}
 use Rattle.wb_states.specs.Machine.{Key, Machine, empty_office}
@@ -326,40 +326,63 @@ empty_is_no_office is = both_ways (has_row empty_schema.tables) refl (ap (λ (s 
 settled_leaves : {machine : Machine} (s : State) → IsSettled machine s → LeavesFound machine s
 settled_leaves s settled db may = inl ((settled_back s settled).left db may)
 
+no_office : {schema : Schema} {P : Type 0} → schema ≡ empty_schema → schema ≡ office_schema → P
+no_office none office = absurd (empty_is_no_office (sym none ∙ office))
+
 module _ {S : Type 0} {g : Ghosts S} {old new : Held S} where
-  -- a database with tables is tested as it is
-  pub found_office : (r : Result Counts StoreFault) → old.schema ≢ empty_schema → Checks g old new r → FindsOffice g old new r
-  found_office (Ok counts) tables h = record {
+  -- a database with the office's tables is tested as it is
+  pub found_office : (r : Result Counts StoreFault) → old.schema ≡ office_schema → Checks g old new r → FindsOffice g old new r
+  found_office (Ok counts) office h = record {
     was_clean = h.was_clean;
     found = λ clean machine consistent at. elim at [
       | inl settled ↦ h.passes clean machine consistent settled
-      | inr blank ↦ absurd (tables blank.1.schema_is)
+      | inr blank ↦ no_office blank.1.schema_is office
     ];
     left = λ clean machine consistent at. elim at [
       | inl settled ↦ settled_leaves (state g new) (h.passes clean machine consistent settled).1
-      | inr blank ↦ absurd (tables blank.1.schema_is)
+      | inr blank ↦ no_office blank.1.schema_is office
     ];
     fails = λ clean machine consistent at. tt;
     good = h.good;
-    refuses = λ clean office. tt;
+    refuses = λ clean same. tt;
+    known = inr office;
+    other = λ tables others. absurd (others office);
   }
-  found_office (Err fault) tables h = record {
+  found_office (Err fault) office h = record {
     was_clean = h.was_clean;
     found = λ clean machine consistent at. tt;
     left = λ clean machine consistent at. elim at [
       | inl settled ↦ λ db may. inl ((h.fails clean machine consistent settled).0.left db may)
-      | inr blank ↦ absurd (tables blank.1.schema_is)
+      | inr blank ↦ no_office blank.1.schema_is office
     ];
     fails = λ clean machine consistent at. elim at [
       | inl settled ↦ inr (old, inl refl, (h.fails clean machine consistent settled).1)
+      | inr blank ↦ no_office blank.1.schema_is office
+    ];
+    good = λ clean same. tt;
+    refuses = h.refuses;
+    known = tt;
+    other = λ tables others. absurd (others office);
+  }
+
+  -- a database with other tables is refused
+  pub other_refused : old.schema ≢ empty_schema → old.schema ≢ office_schema → new ≡ old → FindsOffice g old new (Err NotOffice)
+  other_refused tables others same = record {
+    was_clean = λ clean. subst (λ h. HasCleanDisk (state g h)) same clean;
+    found = λ clean machine consistent at. tt;
+    left = λ clean machine consistent at. elim at [
+      | inl settled ↦ absurd (others settled.holds.schema_is)
+      | inr blank ↦ absurd (tables blank.1.schema_is)
+    ];
+    fails = λ clean machine consistent at. elim at [
+      | inl settled ↦ absurd (others settled.holds.schema_is)
       | inr blank ↦ absurd (tables blank.1.schema_is)
     ];
     good = λ clean office. tt;
-    refuses = h.refuses;
+    refuses = λ clean office. absurd (others office);
+    known = tt;
+    other = λ _ _. (refl, same);
   }
-
-no_office : {schema : Schema} {P : Type 0} → schema ≡ empty_schema → schema ≡ office_schema → P
-no_office none office = absurd (empty_is_no_office (sym none ∙ office))
 
 module _ {S : Type 0} {g : Ghosts S} {old new : Held S} (none : old.schema ≡ empty_schema) where
   -- an empty office is made, and then tested
@@ -379,6 +402,8 @@ module _ {S : Type 0} {g : Ghosts S} {old new : Held S} (none : old.schema ≡ e
     fails = λ clean machine consistent at. tt;
     good = λ clean office. no_office none office;
     refuses = λ clean office. tt;
+    known = inl none;
+    other = λ tables others. absurd (tables none);
   }
   made_and_tested {mid = mid} (Err fault) makes h = record {
     was_clean = λ clean. makes.was_clean (h.was_clean clean);
@@ -396,6 +421,8 @@ module _ {S : Type 0} {g : Ghosts S} {old new : Held S} (none : old.schema ≡ e
     ];
     good = λ clean office. tt;
     refuses = λ clean office. no_office none office;
+    known = tt;
+    other = λ tables others. absurd (tables none);
   }
 
   -- none could be made
@@ -410,4 +437,6 @@ module _ {S : Type 0} {g : Ghosts S} {old new : Held S} (none : old.schema ≡ e
     fails = λ clean machine consistent at. inl (e, makes.err clean, is);
     good = λ clean office. tt;
     refuses = λ clean office. no_office none office;
+    known = tt;
+    other = λ tables others. absurd (tables none);
   }

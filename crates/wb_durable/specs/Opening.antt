@@ -1,5 +1,5 @@
 -- What an opening tests of the tables of an office, in one call, and how it finds an office or makes one (this project's own).
-use Rattle.std.specs.Prelude.{◌≡◌, ◌≢◌, ◌⊎◌, ⊤, IsTrue, List, ℕ, [], Result, IfOk, IfErr, OnOk, OnErr}
+use Rattle.std.specs.Prelude.{◌≡◌, ◌≢◌, ◌⊎◌, ⊤, IsTrue, List, ℕ, [], Result, Err, IfOk, IfErr, OnOk, OnErr}
 use Rattle.sqlite_trees.specs.declared.store.Store.{Ghosts}
 use Rattle.sqlite.specs.declared.error.Error.{Error}
 use Rattle.sqlite.specs.Effect.{Database}
@@ -7,11 +7,11 @@ use Rattle.sqlite.specs.Held.{Held, state}
 use Rattle.sqlite.specs.State.{State, HasCleanDisk, IsUnchanged, Survives}
 use Rattle.wb_sql.specs.Transactions.{IsKeptOrUndone}
 use Rattle.wb_schema.specs.Statements as sql
-use Rattle.wb_schema.specs.Tables.{office_schema, scratch_source, scratch_binary}
+use Rattle.wb_schema.specs.Tables.{empty_schema, office_schema, scratch_source, scratch_binary}
 use Rattle.wb_states.specs.declared.arch.OsCpu.{OsCpu}
 use Rattle.wb_states.specs.declared.counts.Counts.{Counts}
 use Rattle.wb_states.specs.declared.store_fault.StoreFault.{StoreFault}
-use Rattle.wb_states.specs.declared.store_fault.StoreFault.TheVariants.{Damaged, Memory}
+use Rattle.wb_states.specs.declared.store_fault.StoreFault.TheVariants.{Damaged, Memory, NotOffice}
 use Rattle.wb_states.specs.declared.store_fault.Table.{Table}
 use Rattle.wb_states.specs.declared.store_fault.Table.TheVariants.{Office, Arch, Builder, SourceRecord, ScratchSource}
 use Rattle.wb_states.specs.Machine.{Key, Machine, IsConsistent, empty_office}
@@ -139,8 +139,8 @@ abbrev pub LacksAfter : {S : Type 0} → Ghosts S → Held S → Held S → Stor
 LacksAfter {S} g old new fault = (at : Held S) × ((old ≡ at) ⊎ IsSettled empty_office (state g at)) × LacksMemoryOrQuery g at new fault
 
 -- an office is found, or made in a database without a table: if that succeeds, it is settled at its state, with its counts; whatever it answers, a
--- crash leaves that state; it fails only where it could not be made, or where memory ran out or a query failed; and an office that is found has good
--- rows, or is refused by one of its tests
+-- crash leaves that state; it fails only where it could not be made, or where memory ran out or a query failed; an office that is found has good
+-- rows, or is refused by one of its tests; and a database with other tables is never taken for an office, and is left as it is
 pub record FindsOffice {S : Type 0} (g : Ghosts S) (old new : Held S) (result : Result Counts StoreFault) : Type 0 where
   pub was_clean : HasCleanDisk (state g new) → HasCleanDisk (state g old)
   pub found : HasCleanDisk (state g new) → (machine : Machine) → IsConsistent machine → IsFoundAt machine (state g old)
@@ -151,3 +151,5 @@ pub record FindsOffice {S : Type 0} (g : Ghosts S) (old new : Held S) (result : 
   pub good : HasCleanDisk (state g new) → old.schema ≡ office_schema
       → IfOk result (λ counts. HasGoodRowsWith (state g old).now counts × HasNoScratchRows (state g old).now × StaysAs g old new)
   pub refuses : HasCleanDisk (state g new) → old.schema ≡ office_schema → IfErr result (ComesLater g FailsOnOffice old new)
+  pub known : IfOk result (λ counts. (old.schema ≡ empty_schema) ⊎ (old.schema ≡ office_schema))
+  pub other : old.schema ≢ empty_schema → old.schema ≢ office_schema → (result ≡ Err NotOffice) × (new ≡ old)

@@ -1,13 +1,14 @@
 //! The office over tables: each command is one transaction.
-ghost use Rattle.std.specs.Prelude.{◌≡◌, ⊤, false, not, true, IfOk, IfErr};
+ghost use Rattle.std.specs.Prelude.{◌≡◌, ◌≢◌, ◌⊎◌, ⊤, false, not, true, Err, IfOk, IfErr};
 ghost use Rattle.sqlite.specs.Files.{file_state};
 ghost use Rattle.sqlite.specs.Held.{Held, state};
 ghost use Rattle.sqlite.specs.State.{HasCleanDisk};
 ghost use Rattle.sqlite_wal.specs.Reads.{AreClean};
 ghost use Rattle.wb_states.specs.Machine.{IsConsistent, Machine};
 ghost use Rattle.wb_states.specs.Names.{is_builder_name};
+ghost use Rattle.wb_states.specs.declared.store_fault.StoreFault.TheVariants.{NotOffice};
 ghost use Rattle.wb_tables.specs.Settled.{AreSettledAt};
-ghost use Rattle.wb_schema.specs.Tables.{office_schema};
+ghost use Rattle.wb_schema.specs.Tables.{empty_schema, office_schema};
 ghost use Rattle.wb_tables.specs.Opening.{HasGoodRows};
 ghost use Rattle.wb_durable.specs.Opening.{ComesLater, FailsOnOffice, HasNoScratchRows};
 ghost use Rattle.wb_durable.specs.Preparing.{IsFoundAt};
@@ -43,11 +44,12 @@ pub struct Office<S: Alter + Drop> {
 
 impl<S: Alter + Drop> Office<S> {
     /// Opens the office whose tables the connection has, which is in no transaction; a database without a table becomes
-    /// that of an empty office. Each row is tested. The faults are `NotOffice` if the tables are not those of an
-    /// office, `NewerSchema` if their format is newer than this program's, `Damaged` with the table and the first row,
-    /// counted from 1, that breaks the rules of an office, or with row 0 if a statement on the table was refused,
-    /// `Memory`, and `Device` if the disk failed or is full. After a fault a crash leaves the office as it was found, or
-    /// the tables of an empty one (this project's own).
+    /// that of an empty office. Each row is tested. The faults are `NotOffice` if the database has other tables, which
+    /// are then left as they are, or the row of the office is missing or of an older format, `NewerSchema` if that
+    /// format is newer than this program's, `Damaged` with the table and the first row, counted from 1, that breaks the
+    /// rules of an office, or with row 0 if a statement on the table was refused, `Memory`, and `Device` if the disk
+    /// failed or is full. After a fault a crash leaves the office as it was found, or the tables of an empty one (this
+    /// project's own).
     pub fn adopt(alloc: Global, conn: Connection<S>) -> Result<Office<S>, StoreFault>
         requires idle { conn.in_transaction ≡ false }
         ensures opened { IfOk result (λ office. office.is_closed ≡ false) }
@@ -57,6 +59,8 @@ impl<S: Alter + Drop> Office<S> {
         ensures good { IfOk result (λ office. HasCleanDisk (state S.Store office.conn)
             → conn.schema ≡ office_schema
             → HasGoodRows (state S.Store conn).now × HasNoScratchRows (state S.Store conn).now) }
+        ensures known { IfOk result (λ _. (conn.schema ≡ empty_schema) ⊎ (conn.schema ≡ office_schema)) }
+        ensures other { conn.schema ≢ empty_schema → conn.schema ≢ office_schema → result ≡ Err NotOffice }
         ensures refuses { IfErr result (λ fault. conn.schema ≡ office_schema → (at : Held _)
             × (HasCleanDisk (state S.Store at) → ComesLater S.Store FailsOnOffice conn at fault)) }
     {

@@ -4,22 +4,26 @@ ghost use Rattle.wb_durable.specs.Opening.{Checks, ChecksRows, ChecksScratch, Fi
 
 use crate::preparing::make_office;
 use sqlite::{Alter, Connection};
-use wb_schema::is_empty;
+use wb_schema::{has_office_tables, is_empty};
 use wb_states::{Counts, StoreFault, Table};
 use wb_tables::{
     check_archs, check_builders, check_counts, check_records, fault_of, has_scratch_rows,
 };
 
 /// The two counts of the office that the database holds, or of an empty one, whose tables are made first if the
-/// database has no table. The faults are those of [`check`], and before them those of the table of the office if the
+/// database has no table. The faults are `NotOffice` if the database has tables and they are not exactly those of an
+/// office, which is then left as it is, and those of [`check`], and before them those of the table of the office if the
 /// tables cannot be made. An office that was there stays as it is, but for a transaction that a failure of a query
 /// takes back; of a database without a table a crash leaves that, or the empty office (this project's own).
 pub(crate) fn find_office<S: Alter>(conn: &mut Connection<S>) -> Result<Counts, StoreFault>
     requires idle { conn.old.in_transaction ≡ false }
     ensures finds { FindsOffice S.Store conn.old conn.new result }
 {
-    if !is_empty(conn.schema()) {
+    if has_office_tables(conn.schema()) {
         return check(conn);
+    }
+    if !is_empty(conn.schema()) {
+        return Err(StoreFault::NotOffice);
     }
     match make_office(conn) {
         Ok(()) => check(conn),

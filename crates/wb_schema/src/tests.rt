@@ -1,5 +1,6 @@
-use crate::{prepare, texts};
+use crate::{has_office_tables, is_empty, prepare, texts};
 use sqlite::{Alter, Connection, Error, params};
+use std::alloc::Global;
 use std::test::Fail;
 use wb_sql::{Writing, begin, read};
 
@@ -63,5 +64,47 @@ fn an_office_is_prepared(rt: HostRuntime) -> Result<(), Fail> {
     let mut conn = Connection::open_in_memory(rt.alloc())?;
     assert!(rt; filled(&mut conn));
     assert_eq!(rt; head_of(&mut conn)?.as_str(), "bash");
+    Ok(())
+}
+
+fn change<S: Alter>(conn: &mut Connection<S>, sql: &str) -> Result<(), Error> {
+    let _changed = conn.execute(sql, &[])?;
+    Ok(())
+}
+
+/// Whether a database with an office's tables still has exactly them after a change.
+fn is_office_after(alloc: Global, sql: &str) -> Result<bool, Error> {
+    let mut conn = Connection::open_in_memory(alloc)?;
+    if !filled(&mut conn) {
+        return Err(Error::QueryReturnedNoRows);
+    }
+    change(&mut conn, sql)?;
+    Ok(has_office_tables(conn.schema()))
+}
+
+#[test]
+fn the_tables_of_an_office_are_told(rt: HostRuntime) -> Result<(), Fail> {
+    let cases = [
+        ("UPDATE office SET format = 99", true),
+        ("DELETE FROM source_record", true),
+        ("CREATE TABLE other(id INTEGER PRIMARY KEY)", false),
+        ("CREATE VIEW other AS SELECT name FROM arch", false),
+        ("CREATE INDEX other ON arch(os)", false),
+        ("DROP INDEX record_take", false),
+        ("DROP TABLE scratch_binary", false),
+        ("ALTER TABLE arch ADD COLUMN other TEXT", false),
+        ("ALTER TABLE arch RENAME COLUMN os TO other", false),
+    ];
+    for (sql, want) in cases {
+        assert_eq!(rt; is_office_after(rt.alloc(), sql)?, want, "{sql}");
+    }
+    Ok(())
+}
+
+#[test]
+fn an_empty_database_has_no_office(rt: HostRuntime) -> Result<(), Fail> {
+    let conn = Connection::open_in_memory(rt.alloc())?;
+    assert!(rt; is_empty(conn.schema()));
+    assert!(rt; !has_office_tables(conn.schema()));
     Ok(())
 }

@@ -14,3 +14,12 @@ returns-in-Ok-clause-found g c = λ clean machine consistent is.
 
 pub returns-in-Err-clause-refuses : goal.returns-in-Err-clause-refuses
 returns-in-Err-clause-refuses g c = λ schema. (c.find_office.new.conn, λ clean. c.in-Err.ensures.finds.refuses clean schema)
+
+pub returns-in-Ok-clause-known : goal.returns-in-Ok-clause-known
+returns-in-Ok-clause-known g c = c.in-Ok.ensures.finds.known
+
+pub returns-in-Ok-clause-other : goal.returns-in-Ok-clause-other
+returns-in-Ok-clause-other g c = λ tables others. let is = (c.in-Ok.ensures.finds.other tables others).0 in absurd (cc)
+
+pub returns-in-Err-clause-other : goal.returns-in-Err-clause-other
+returns-in-Err-clause-other g c = λ tables others. let is = (c.in-Err.ensures.finds.other tables others).0 in cc
