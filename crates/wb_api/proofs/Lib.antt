@@ -1,3 +1,3 @@
 mod EncodingLemmas
 pub mod OneLineLemmas
-mod PlainLemmas
+pub mod PlainLemmas

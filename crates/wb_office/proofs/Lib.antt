@@ -21,6 +21,7 @@ pub mod TransitionLemmas
 pub mod NamedLemmas
 pub mod NamedPartLemmas
 pub mod NextLemmas
+pub mod OfficeLemmas
 pub mod PartLemmas
 pub mod PartOfLemmas
 pub mod PassLemmas

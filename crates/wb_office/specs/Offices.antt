@@ -1,4 +1,5 @@
--- What is known of an office before and after a run, by the states at which it stands (this project's own).
+-- What is known of an office before and after it was used, by the states at which it stands (this project's own).
+use Rattle.std.specs.Prelude.{◌≡◌, ◌<◌, IsOk}
 use Rattle.wb_states.specs.Machine.{Machine}
 use Rattle.wb_states.specs.declared.command.Command.{Command}
 use Rattle.wb_office.specs.Step.{step}
@@ -32,3 +33,8 @@ abbrev pub IsSoOfEach : (Machine → Type 0) → Machine → Standing → Type 0
 IsSoOfEach IsSo machine Open = IsSo machine
 IsSoOfEach IsSo machine Shut = IsSo machine
 IsSoOfEach IsSo machine (InDoubt command) = IsSo machine × IsSo (step machine command).1
+
+-- a command is accepted, and the office is then in this state: it counts one more, which a repeated reply does not
+abbrev pub Accepts : Machine → Command → Machine → Type 0
+Accepts before command after =
+    IsOk (step before command).0 × (after ≡ (step before command).1) × (before.accepted < after.accepted)
