@@ -1,5 +1,4 @@
 pub mod ApartPartLemmas
-pub mod MoveOfCommandLemmas
 pub mod AssignmentLemmas
 pub mod CarriesLemmas
 pub mod ConsistencyLemmas
@@ -16,8 +15,8 @@ pub mod MergedLemmas
 pub mod MergedPartLemmas
 pub mod MergingLemmas
 pub mod MoveLemmas
+pub mod MoveOfCommandLemmas
 pub mod MovedRecordLemmas
-pub mod TransitionLemmas
 pub mod NamedLemmas
 pub mod NamedPartLemmas
 pub mod NextLemmas
@@ -25,6 +24,8 @@ pub mod OfficeLemmas
 pub mod PartLemmas
 pub mod PartOfLemmas
 pub mod PassLemmas
+pub mod PriorityLemmas
+pub mod QueryLemmas
 pub mod RefusalLemmas
 pub mod RetryLemmas
 pub mod SoughtLemmas
@@ -32,5 +33,5 @@ pub mod StepLemmas
 pub mod TakeLemmas
 pub mod TakeStateLemmas
 pub mod TextLemmas
+pub mod TransitionLemmas
 pub mod WantLemmas
-pub mod PriorityLemmas

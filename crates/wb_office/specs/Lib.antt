@@ -9,6 +9,7 @@ pub mod Named
 pub mod Offices
 pub mod Outcomes
 pub mod Parts
+pub mod Queries
 pub mod Replay
 pub mod Step
 pub mod Targets

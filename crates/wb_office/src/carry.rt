@@ -1,15 +1,17 @@
 //! What each office promises of the commands that it is given, wherever it keeps its state.
-ghost use Rattle.std.specs.Prelude.{◌≡◌, ⊤, IfOk, IfErr, Ok, Err, false};
+ghost use Rattle.std.specs.Prelude.{◌≡◌, ⊤, IfOk, IfErr, Ok, Err, false, true};
 ghost use Rattle.wb_states.specs.declared.command.Command.{Command};
 ghost use Rattle.wb_states.specs.declared.refusal.Refusal.TheVariants.{Closed, Memory, Store};
 ghost use Rattle.wb_states.specs.declared.store_fault.StoreFault.{StoreFault};
 ghost use Rattle.wb_states.specs.Machine.{IsConsistent, Machine};
+ghost use Rattle.wb_states.specs.Names.{is_builder_name};
 ghost use Rattle.wb_states.specs.Refusals.{IsOfMachine};
-ghost use Rattle.wb_office.specs.Checks.{MayWantMemory};
+ghost use Rattle.wb_office.specs.Checks.{MayWantMemory, has_bad_key};
 ghost use Rattle.wb_office.specs.Ends.{is_of_store};
+ghost use Rattle.wb_office.specs.Queries.{item_of, mine_of};
 ghost use Rattle.wb_office.specs.Step.{step};
 
-use crate::Office;
+use crate::{Answer, Office};
 use wb_states::{Command, Refusal, Reply};
 
 /// An office that carries out commands, in memory or over tables. Its clauses speak of a state of the office at which
@@ -58,6 +60,54 @@ pub trait CarryOut {
         ensures store { (machine : Machine) → is_clean self.new → stands_at self.old machine → (fault : StoreFault)
             → result ≡ Err (Store fault) → leaves self.new machine (step machine command.now).1 };
 
+    /// The record of the source package on the architecture.
+    ///
+    /// The refusals come in this order: `Closed`, `BadName` if a name is malformed, `UnknownArch` if the architecture
+    /// was never added, `UnknownSource` if the source package has no record there. `Memory` and `Store` come as they do
+    /// of [`carry_out`](CarryOut::carry_out), but for no malformed name. The office is as it was after each answer, also
+    /// when it is opened again after `Store` (this project's own).
+    fn item(&mut self, arch: &str, source: &str) -> Result<Answer, Refusal>
+        ensures clean { is_clean self.new → is_clean self.old }
+        ensures answer { (machine : Machine) → is_clean self.new → stands_at self.old machine
+            → IfOk result (λ answer. (item_of machine arch.now source.now ≡ Ok answer)
+            × stands_at self.new machine) }
+        ensures refused { (machine : Machine) → is_clean self.new → stands_at self.old machine
+            → IfErr result (λ refusal. IsOfMachine refusal → is_of_store refusal ≡ false
+            → (item_of machine arch.now source.now ≡ Err refusal) × stands_at self.new machine) }
+        ensures memory { (machine : Machine) → is_clean self.new → stands_at self.old machine
+            → result ≡ Err Memory
+            → (has_bad_key arch.now source.now ≡ false) × stands_at self.new machine }
+        ensures closed { (machine : Machine) → is_clean self.new → stands_at self.old machine
+            → result ≡ Err Closed → is_closed self.new × stands_at self.new machine }
+        ensures shut { (machine : Machine) → is_clean self.new → stands_at self.old machine
+            → result ≡ Err Closed → is_closed self.old }
+        ensures store { (machine : Machine) → is_clean self.new → stands_at self.old machine → (fault : StoreFault)
+            → result ≡ Err (Store fault) → leaves self.new machine machine };
+
+    /// What the builder holds, of all architectures, by take number.
+    ///
+    /// The refusals come in this order: `Closed`, `BadName` if the name is malformed, `UnknownBuilder` if the builder was
+    /// added for no architecture. `Memory` and `Store` come as they do of [`carry_out`](CarryOut::carry_out), but for no
+    /// malformed name. The office is as it was after each answer, also when it is opened again after `Store` (this
+    /// project's own).
+    fn mine(&mut self, builder: &str) -> Result<Answer, Refusal>
+        ensures clean { is_clean self.new → is_clean self.old }
+        ensures answer { (machine : Machine) → is_clean self.new → stands_at self.old machine
+            → IfOk result (λ answer. (mine_of machine builder.now ≡ Ok answer)
+            × stands_at self.new machine) }
+        ensures refused { (machine : Machine) → is_clean self.new → stands_at self.old machine
+            → IfErr result (λ refusal. IsOfMachine refusal → is_of_store refusal ≡ false
+            → (mine_of machine builder.now ≡ Err refusal) × stands_at self.new machine) }
+        ensures memory { (machine : Machine) → is_clean self.new → stands_at self.old machine
+            → result ≡ Err Memory
+            → (is_builder_name builder.now ≡ true) × stands_at self.new machine }
+        ensures closed { (machine : Machine) → is_clean self.new → stands_at self.old machine
+            → result ≡ Err Closed → is_closed self.new × stands_at self.new machine }
+        ensures shut { (machine : Machine) → is_clean self.new → stands_at self.old machine
+            → result ≡ Err Closed → is_closed self.old }
+        ensures store { (machine : Machine) → is_clean self.new → stands_at self.old machine → (fault : StoreFault)
+            → result ≡ Err (Store fault) → leaves self.new machine machine };
+
     // A state at which an office stands is consistent.
     ghost consistent: { (office : Self) (machine : Machine) → stands_at office machine → IsConsistent machine };
 }
@@ -82,6 +132,14 @@ impl CarryOut for Office {
 
     fn carry_out(&mut self, command: &Command) -> Result<Reply, Refusal> {
         self.apply(command)
+    }
+
+    fn item(&mut self, arch: &str, source: &str) -> Result<Answer, Refusal> {
+        Office::item(self, arch, source)
+    }
+
+    fn mine(&mut self, builder: &str) -> Result<Answer, Refusal> {
+        Office::mine(self, builder)
     }
 
     ghost consistent = { λ office machine stands. stands.1 };

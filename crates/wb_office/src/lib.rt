@@ -15,8 +15,10 @@ mod office;
 mod operator;
 mod part;
 mod priority;
+mod query;
 mod texts;
 mod transition;
 
 pub use carry::CarryOut;
 pub use office::{Office, carry_out};
+pub use query::Answer;

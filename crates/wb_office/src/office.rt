@@ -1,15 +1,17 @@
 //! The office over its store.
-ghost use Rattle.std.specs.Prelude.{◌≡◌, ◌≤◌, Ok, Err, IsOk, IfOk, IfErr, OnOk, OnErr};
+ghost use Rattle.std.specs.Prelude.{◌≡◌, ◌≤◌, false, true, Ok, Err, IsOk, IfOk, IfErr, OnOk, OnErr};
 ghost use Rattle.wb_states.specs.declared.refusal.Refusal.TheVariants.{Memory};
 ghost use Rattle.wb_states.specs.Limits.{count_limit};
 ghost use Rattle.wb_states.specs.Machine.{IsConsistent, empty_office};
+ghost use Rattle.wb_states.specs.Names.{is_builder_name};
 ghost use Rattle.wb_states.specs.Refusals.{IsOfMachine};
 ghost use Rattle.wb_office.specs.Carries.{Carries};
-ghost use Rattle.wb_office.specs.Checks.{MayWantMemory};
+ghost use Rattle.wb_office.specs.Checks.{MayWantMemory, has_bad_key};
+ghost use Rattle.wb_office.specs.Queries.{item_of, mine_of};
 ghost use Rattle.wb_office.specs.Step.{step};
 ghost use Rattle.wb_office.specs.Utf8.{HasUtf8Texts};
 
-use crate::{builder, holder, merging, named, operator, priority};
+use crate::{Answer, builder, holder, merging, named, operator, priority, query};
 use std::alloc::Global;
 use std::marker::Model;
 use wb_states::{Command, Counts, Move, Refusal, Reply, StoreFault};
@@ -100,6 +102,32 @@ impl Office {
         ensures consistent { IsConsistent self.new }
     {
         carry_out(self.alloc, &mut self.store, command)
+    }
+
+    /// The record of the source package on the architecture. The refusals are `BadName` if a name is malformed,
+    /// `UnknownArch` if the architecture was never added, `UnknownSource` if the source package has no record there, in
+    /// this order, and `Memory`, which comes for no malformed name (this project's own).
+    pub fn item(&self, arch: &str, source: &str) -> Result<Answer, Refusal>
+        ensures answer { IfOk result (λ answer. item_of self.now arch.now source.now ≡ Ok answer) }
+        ensures refused { IfErr result (λ refusal. IsOfMachine refusal
+            → item_of self.now arch.now source.now ≡ Err refusal) }
+        ensures memory { IfErr result (λ refusal. refusal ≡ Memory
+            → has_bad_key arch.now source.now ≡ false) }
+    {
+        query::item(self.alloc, &self.store, arch, source)
+    }
+
+    /// What the builder holds, of all architectures, by take number. The refusals are `BadName` if the name is malformed,
+    /// `UnknownBuilder` if the builder was added for no architecture, in this order, and `Memory`, which comes for no
+    /// malformed name (this project's own).
+    pub fn mine(&self, builder: &str) -> Result<Answer, Refusal>
+        ensures answer { IfOk result (λ answer. mine_of self.now builder.now ≡ Ok answer) }
+        ensures refused { IfErr result (λ refusal. IsOfMachine refusal
+            → mine_of self.now builder.now ≡ Err refusal) }
+        ensures memory { IfErr result (λ refusal. refusal ≡ Memory
+            → is_builder_name builder.now ≡ true) }
+    {
+        query::mine(self.alloc, &self.store, builder)
     }
 }
 
