@@ -1,2 +1,4 @@
 pub mod Encoding
+pub mod Queries
+pub mod QueryValues
 pub mod Values
