@@ -1,3 +1,5 @@
 mod EncodingLemmas
 pub mod OneLineLemmas
 pub mod PlainLemmas
+mod QueryLemmas
+pub mod QueryLineLemmas

@@ -24,7 +24,7 @@ use Rattle.wb_api.specs.Encoding.{name_of_relations_fault, reply_text, assignmen
 use Rattle.deb_text.proofs.ListLemmas.{IsOneLine-append}
 
 -- what stands behind a text of one line
-behind : (xs ys : List ℕ) → IsOneLine xs → list_any is_line_feed (xs ++ ys) ≡ list_any is_line_feed ys
+pub behind : (xs ys : List ℕ) → IsOneLine xs → list_any is_line_feed (xs ++ ys) ≡ list_any is_line_feed ys
 behind xs ys h = list_any-append is_line_feed xs ys ∙ ap (λ a. a || list_any is_line_feed ys) h
 
 -- a digit of a number
@@ -44,7 +44,7 @@ digits_onto-one (suc k) n text h =
       | false ↦ digits_onto-one k (n / 10) (digit_glyph false (n % 10) ∷ text) more
     ]
 
-decimal-one : (n : ℕ) → IsOneLine (decimal n)
+pub decimal-one : (n : ℕ) → IsOneLine (decimal n)
 unfolding digits
 decimal-one n = digits_onto-one 64 n [] refl
 
@@ -58,7 +58,7 @@ escape-one [] = refl
 escape-one (x ∷ text) = IsOneLine-append (escape_byte x) (escape text) (escape_byte-one x) (escape-one text)
 
 -- a text between quotation marks
-quoted-one : (text : List ℕ) → IsOneLine (quoted text)
+pub quoted-one : (text : List ℕ) → IsOneLine (quoted text)
 quoted-one text = IsOneLine-append (escape text) (34 ∷ []) (escape-one text) refl
 
 assignment_text-one : (name : List ℕ) (accepted : ℕ) (given : Assignment) → IsOneLine (assignment_text name accepted given)

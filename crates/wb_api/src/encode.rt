@@ -76,7 +76,8 @@ fn values_of_parts(alloc: Global, parts: &[PartReply]) -> Result<Value, AllocErr
     Ok(array_of(list_of_parts(alloc, parts)?))
 }
 
-fn array_of(values: Vec<Value>) -> Value
+/// The array of these values.
+pub(crate) fn array_of(values: Vec<Value>) -> Value
     ensures { view result ≡ array (items_view values.items) }
 {
     Value::Array(values)

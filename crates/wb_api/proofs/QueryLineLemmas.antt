@@ -1,0 +1,61 @@
+-- No answer to a query has a line feed.
+use Rattle.std.proofs.Common.{◌∙◌, refl, ℕ, suc, true, false, List, [], ◌∷◌}
+use Rattle.std.specs.Prelude.{Bool, Option, None, Some, ℤ, pos, negsuc, decimal}
+use Rattle.std.specs.Fmt.{signed_decimal}
+use Rattle.json.specs.Print.{quoted}
+use Rattle.deb_text.specs.Lines.{IsOneLine}
+use Rattle.wb_states.specs.Moves.{build_text_of}
+use Rattle.wb_states.specs.State.{name_of}
+use Rattle.wb_states.specs.declared.record.Record.{Record}
+use Rattle.wb_store.specs.declared.keyed.KeyedRecord.{KeyedRecord}
+use Rattle.wb_api.specs.Queries.{truth_text, quoted_or_null, decimal_or_null, fields_text, record_text, records_text, mine_text}
+use Rattle.wb_api.proofs.OneLineLemmas.{behind, decimal-one, quoted-one}
+
+signed_decimal-one : (z : ℤ) → IsOneLine (signed_decimal z)
+signed_decimal-one (pos n) = decimal-one n
+signed_decimal-one (negsuc n) = decimal-one (suc n)
+
+truth_text-one : (b : Bool) → IsOneLine (truth_text b)
+truth_text-one true = refl
+truth_text-one false = refl
+
+quoted_or_null-one : (text : Option (List ℕ)) → IsOneLine (quoted_or_null text)
+quoted_or_null-one None = refl
+quoted_or_null-one (Some text) = quoted-one text
+
+decimal_or_null-one : (n : Option ℕ) → IsOneLine (decimal_or_null n)
+decimal_or_null-one None = refl
+decimal_or_null-one (Some n) = decimal-one n
+
+fields_text-one : (arch source : List ℕ) (current : Record) → IsOneLine (fields_text arch source current)
+unfolding fields_text
+fields_text-one arch source current =
+    behind (quoted arch) _ (quoted-one arch)
+    ∙ behind (quoted (build_text_of current)) _ (quoted-one (build_text_of current))
+    ∙ behind (signed_decimal current.build_priority) _ (signed_decimal-one current.build_priority)
+    ∙ behind (truth_text current.earlier) _ (truth_text-one current.earlier)
+    ∙ behind (quoted_or_null current.holder) _ (quoted_or_null-one current.holder)
+    ∙ behind (quoted current.message) _ (quoted-one current.message)
+    ∙ behind (quoted current.note) _ (quoted-one current.note)
+    ∙ behind (decimal current.number) _ (decimal-one current.number)
+    ∙ behind (quoted current.priority) _ (quoted-one current.priority)
+    ∙ behind (quoted current.section) _ (quoted-one current.section)
+    ∙ behind (quoted source) _ (quoted-one source)
+    ∙ behind (quoted (name_of current.state)) _ (quoted-one (name_of current.state))
+    ∙ behind (decimal_or_null current.take) _ (decimal_or_null-one current.take)
+    ∙ behind (quoted current.version) _ (quoted-one current.version)
+    ∙ behind (quoted current.waits) _ (quoted-one current.waits)
+
+pub record_text-one : (row : KeyedRecord) → IsOneLine (record_text row)
+record_text-one row = fields_text-one row.arch row.source row.current
+
+records_text-one : (rows : List KeyedRecord) → IsOneLine (records_text rows)
+records_text-one [] = refl
+records_text-one (row ∷ []) = record_text-one row
+records_text-one (row ∷ next ∷ rows) =
+    behind (record_text row) _ (record_text-one row) ∙ records_text-one (next ∷ rows)
+
+pub mine_text-one : (builder : List ℕ) (rows : List KeyedRecord) → IsOneLine (mine_text builder rows)
+unfolding mine_text
+mine_text-one builder rows =
+    behind (quoted builder) _ (quoted-one builder) ∙ behind (records_text rows) _ (records_text-one rows)

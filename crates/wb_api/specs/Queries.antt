@@ -1,0 +1,57 @@
+-- The JSON texts of what the office answers to queries (RFC 8259), with their keys in byte order and no space; the keys are this project's own.
+use Rattle.std.specs.Prelude.{ℕ, Bool, true, false, List, ◌∷◌, [], map, Option, None, Some, codes, decimal}
+use Rattle.std.specs.Fmt.{signed_decimal}
+use Rattle.std.specs.List.{concat, join_with_byte}
+use Rattle.json.specs.Print.{quoted}
+use Rattle.wb_states.specs.Moves.{build_text_of}
+use Rattle.wb_states.specs.State.{name_of}
+use Rattle.wb_states.specs.declared.record.Record.{Record}
+use Rattle.wb_store.specs.declared.keyed.KeyedRecord.{KeyedRecord}
+
+-- the text of a truth value (RFC 8259, section 3)
+abbrev pub truth_text : Bool → List ℕ
+truth_text true = codes "true"
+truth_text false = codes "false"
+
+-- the text of a text that may be missing (RFC 8259, sections 3 and 7)
+abbrev pub quoted_or_null : Option (List ℕ) → List ℕ
+quoted_or_null None = codes "null"
+quoted_or_null (Some text) = quoted text
+
+-- the text of a number that may be missing (RFC 8259, sections 3 and 6)
+abbrev pub decimal_or_null : Option ℕ → List ℕ
+decimal_or_null None = codes "null"
+decimal_or_null (Some n) = decimal n
+
+-- the text of the record of a source package on an architecture (this project's own)
+unfoldable pub fields_text : List ℕ → List ℕ → Record → List ℕ
+fields_text arch source current = concat
+    (codes "{\"arch\":" ∷ quoted arch ∷
+    codes ",\"build\":" ∷ quoted (build_text_of current) ∷
+    codes ",\"build_priority\":" ∷ signed_decimal current.build_priority ∷
+    codes ",\"earlier\":" ∷ truth_text current.earlier ∷
+    codes ",\"holder\":" ∷ quoted_or_null current.holder ∷
+    codes ",\"message\":" ∷ quoted current.message ∷
+    codes ",\"note\":" ∷ quoted current.note ∷
+    codes ",\"number\":" ∷ decimal current.number ∷
+    codes ",\"priority\":" ∷ quoted current.priority ∷
+    codes ",\"section\":" ∷ quoted current.section ∷
+    codes ",\"source\":" ∷ quoted source ∷
+    codes ",\"state\":" ∷ quoted (name_of current.state) ∷
+    codes ",\"take\":" ∷ decimal_or_null current.take ∷
+    codes ",\"version\":" ∷ quoted current.version ∷
+    codes ",\"waits\":" ∷ quoted current.waits ∷ codes "}" ∷ [])
+
+-- the text of a record with its key (this project's own)
+abbrev pub record_text : KeyedRecord → List ℕ
+record_text row = fields_text row.arch row.source row.current
+
+-- the texts of records, with a comma between each two (this project's own)
+abbrev pub records_text : List KeyedRecord → List ℕ
+records_text rows = join_with_byte 44 (map record_text rows)
+
+-- the text of the records that a builder holds (this project's own)
+unfoldable pub mine_text : List ℕ → List KeyedRecord → List ℕ
+mine_text builder rows = concat
+    (codes "{\"builder\":" ∷ quoted builder ∷
+    codes ",\"records\":[" ∷ records_text rows ∷ codes "]}" ∷ [])
