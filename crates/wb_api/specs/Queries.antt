@@ -7,6 +7,8 @@ use Rattle.wb_states.specs.Moves.{build_text_of}
 use Rattle.wb_states.specs.State.{name_of}
 use Rattle.wb_states.specs.declared.record.Record.{Record}
 use Rattle.wb_store.specs.declared.keyed.KeyedRecord.{KeyedRecord}
+use Rattle.wb_office.specs.declared.query.Answer.{Answer}
+use Rattle.wb_office.specs.declared.query.Answer.TheVariants.{Item, Mine}
 
 -- the text of a truth value (RFC 8259, section 3)
 abbrev pub truth_text : Bool → List ℕ
@@ -55,3 +57,8 @@ unfoldable pub mine_text : List ℕ → List KeyedRecord → List ℕ
 mine_text builder rows = concat
     (codes "{\"builder\":" ∷ quoted builder ∷
     codes ",\"records\":[" ∷ records_text rows ∷ codes "]}" ∷ [])
+
+-- the text of the answer to a query (this project's own)
+abbrev pub answer_text : Answer → List ℕ
+answer_text (Item row) = record_text row
+answer_text (Mine builder records) = mine_text builder records

@@ -9,5 +9,5 @@ mod refusal;
 
 pub use encode::reply_json;
 pub use fault::{file_fault_json, line_fault_json};
-pub use query::{item_json, mine_json};
+pub use query::{item_json, mine_json, query_json};
 pub use refusal::{refusal_json, try_refusal_json};

@@ -3,7 +3,7 @@ ghost use Rattle.std.specs.Prelude.{◌≡◌, map, IfOk, OnOk};
 ghost use Rattle.std.specs.String.{string_bytes};
 ghost use Rattle.serde_json.specs.Data.{array, put as with_member, string};
 ghost use Rattle.serde_json.specs.View.{members_view, view};
-ghost use Rattle.wb_api.specs.Queries.{mine_text, record_text};
+ghost use Rattle.wb_api.specs.Queries.{answer_text, mine_text, record_text};
 ghost use Rattle.wb_api.specs.QueryValues.{number_or_null, string_or_null, value_of_fields};
 ghost use Rattle.wb_api.specs.QueryValues.{value_of_mine, value_of_record, values_of_records};
 ghost use Rattle.wb_api.specs.QueryValues.{with_standing, with_texts, with_version};
@@ -12,8 +12,20 @@ use crate::encode::array_of;
 use deb_text::Text;
 use serde_json::{Map, Value, json, put};
 use std::alloc::{AllocError, Global};
+use wb_office::Answer;
 use wb_states::{Record, build_text};
 use wb_store::KeyedRecord;
+
+/// The answer to a query as one JSON object (RFC 8259), with no space and no line feed: a record, or what a builder
+/// holds, by take number. The only error is that there is no memory for the text. The keys are this project's own.
+pub fn query_json(alloc: Global, answer: &Answer) -> Result<String, AllocError>
+    ensures value { IfOk result (λ text. string_bytes text ≡ answer_text answer.now) }
+{
+    match answer {
+        Answer::Item(row) => item_json(alloc, row),
+        Answer::Mine { builder, records } => mine_json(alloc, builder, records.as_slice()),
+    }
+}
 
 /// A record as one JSON object.
 #[tactic(auto, using(crate::proofs::QueryLemmas::printing_of_queries))]

@@ -2,13 +2,13 @@
 ghost use Rattle.std.specs.Prelude.{◌≡◌, IfSome, None};
 ghost use Rattle.wb_states.specs.Machine.{Machine};
 ghost use Rattle.wb_office.specs.Offices.{Accepts, Leads, Reaches};
-ghost use Rattle.wb_serve.specs.Exchange.{IsCommandAnswer, IsRefusal, memory_response, response_of_answer};
+ghost use Rattle.wb_serve.specs.Exchange.{fault_response, IsCommandAnswer, IsRefusal, memory_response, response_of_answer};
 
 use crate::status::status_of;
 use std::alloc::Global;
 use std::borrow::CowStr;
 use wb_api::{refusal_json, reply_json, try_refusal_json};
-use wb_http::Status;
+use wb_http::{Fault, Status};
 use wb_office::CarryOut;
 use wb_states::{Command, Refusal};
 
@@ -29,8 +29,18 @@ pub(crate) fn memory_answer(alloc: Global) -> Answer
     }
 }
 
+/// The answer to a fault of the request. Takes no memory.
+pub(crate) fn fault_answer(fault: Fault) -> Answer
+    ensures value { (machine : Machine) → response_of_answer result machine ≡ fault_response machine fault }
+{
+    Answer {
+        status: fault.status(),
+        text: CowStr::Borrowed(fault.json()),
+    }
+}
+
 /// The answer to what was refused, or that for want of memory if there is none for the text of the refusal.
-fn refusal_answer(alloc: Global, refusal: &Refusal) -> Answer
+pub(crate) fn refusal_answer(alloc: Global, refusal: &Refusal) -> Answer
     ensures value { (machine : Machine)
         → IsRefusal machine refusal.now (response_of_answer result machine) }
 {

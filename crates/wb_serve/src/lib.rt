@@ -2,9 +2,12 @@
 #![tactic(auto)]
 
 mod answer;
+mod query;
 mod serve;
 mod status;
 
-pub use serve::Served;
+pub use serve::{Served, serve_one};
 pub use status::status_of;
 
+#[cfg(test)]
+mod tests;

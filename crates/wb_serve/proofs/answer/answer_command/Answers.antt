@@ -43,31 +43,39 @@ returns-in-Ok-clause-memory g c = λ _ before clean stands.
     )
 
 pub returns-clause-value : goal.returns-clause-value
-returns-clause-value g c = λ before clean stands.
-    let said = c.refusal_answer.ensures.value before in
-    let response = response_of_answer c.refusal_answer.result before in
-    (elim (is_of_store c.in-Err.refusal) as (λ b. is_of_store c.in-Err.refusal ≡ b → _) [
-      | true ↦ λ is. elim (is_of_store-cases c.in-Err.refusal is) [
+returns-clause-value g c =
+    (elim (is_of_store c.in-Err.refusal) as (λ b. is_of_store c.in-Err.refusal ≡ b
+    → Leads g.O.CarryOut.is_clean g.O.CarryOut.is_closed g.O.CarryOut.stands_at g.O.CarryOut.leaves c.args.office.now c.carry_out.new.self (λ before after standing.
+    IsCommandAnswer g.O.CarryOut.may_want_memory before c.args.command.now (response_of_answer c.refusal_answer.result after) standing)) [
+      | true ↦ λ is before clean stands. elim (is_of_store-cases c.in-Err.refusal is) [
           | inl closed ↦ (
             before,
             Shut,
             c.in-Err.ensures.closed before clean stands (ap Err closed),
-            inr (inl (subst (λ refusal. IsRefusal before refusal response) closed said, refl)),
+            inr (inl (subst (λ refusal. IsRefusal before refusal (response_of_answer c.refusal_answer.result before)) closed (c.refusal_answer.ensures.value before), refl)),
           )
           | inr failed ↦ (
             before,
             InDoubt c.args.command.now,
             c.in-Err.ensures.store before clean stands failed.0 (ap Err failed.1),
-            inr (inr (failed.0, subst (λ refusal. IsRefusal before refusal response) failed.1 said, refl)),
+            inr (inr (failed.0, subst (λ refusal. IsRefusal before refusal (response_of_answer c.refusal_answer.result before)) failed.1 (c.refusal_answer.ensures.value before), refl)),
           )
         ]
-      | false ↦ λ other. elim (refusal-cases c.in-Err.refusal) [
+      | false ↦ λ other before clean stands. elim (refusal-cases c.in-Err.refusal) [
           | inl is ↦
-              let wants = c.in-Err.ensures.memory before clean stands (ap Err is) in
-              (before, Open, wants.1, memory-answered g.O.CarryOut.may_want_memory before c.args.command.now response wants.0
-              (subst (λ refusal. IsRefusal before refusal response) is said))
+              let wants = c.in-Err.ensures.memory before clean stands (ap Err is) in (
+                before,
+                Open,
+                wants.1,
+                memory-answered g.O.CarryOut.may_want_memory before c.args.command.now _ wants.0
+                    (subst (λ refusal. IsRefusal before refusal (response_of_answer c.refusal_answer.result before)) is (c.refusal_answer.ensures.value before)),
+              )
           | inr machine ↦
-              let refused = c.in-Err.ensures.refused before clean stands machine other in
-              (before, Open, refused.1, refusal-answered g.O.CarryOut.may_want_memory before c.args.command.now c.in-Err.refusal response refused.0 said)
+              let refused = c.in-Err.ensures.refused before clean stands machine other in (
+                before,
+                Open,
+                refused.1,
+                refusal-answered g.O.CarryOut.may_want_memory before c.args.command.now c.in-Err.refusal _ refused.0 (c.refusal_answer.ensures.value before),
+              )
         ]
     ]) refl
