@@ -10,4 +10,4 @@ mod refusal;
 pub use encode::reply_json;
 pub use fault::{file_fault_json, line_fault_json};
 pub use query::query_json;
-pub use refusal::refusal_json;
+pub use refusal::{refusal_json, try_refusal_json};

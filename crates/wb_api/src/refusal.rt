@@ -1,7 +1,9 @@
 //! The refusals of the office as compact JSON, with the keys of each object in byte order.
-ghost use Rattle.std.specs.Prelude.{◌≡◌, ◌⊎◌, true, is_some, IfOk, IfSome};
+ghost use Rattle.std.specs.Prelude.{◌≡◌, ◌⊎◌, true, is_some, IfOk, IfSome, Ok};
 ghost use Rattle.std.specs.String.{string_bytes};
 ghost use Rattle.std.specs.Cow.{cow_str_bytes, IsBorrowedStr};
+ghost use Rattle.std.specs.declared.alloc.Global.{Global as AnyGlobal};
+ghost use Rattle.std.specs.declared.borrow.CowStr.{CowStr as AnyCowStr};
 ghost use Rattle.serde_json.specs.View.{view};
 ghost use Rattle.wb_states.specs.declared.refusal.Refusal.TheVariants.{Memory};
 ghost use Rattle.wb_api.specs.Encoding.{is_plain, name_of_relations_fault, refusal_text};
@@ -50,19 +52,32 @@ fn constant_text(refusal: &Refusal) -> Option<&'static str>
 /// A refusal as one JSON object (RFC 8259), with no space and no line feed: its number, its name and what
 /// it tells further, in all as the keys of this project have it.
 ///
-/// There is no error. The text of a refusal that tells nothing further is a constant, which takes no
-/// memory; where there is no memory for that of another, the refusal for want of memory stands in its place.
+/// The only error is that there is no memory for the text. That of a refusal that tells nothing further is a constant,
+/// which takes no memory.
+pub fn try_refusal_json(
+    alloc: Global,
+    refusal: &Refusal,
+) -> Result<CowStr<'static>, AllocError>
+    ensures value { IfOk result (λ text. cow_str_bytes text ≡ refusal_text refusal.now) }
+    ensures plain { is_plain refusal.now ≡ true
+        → (text : AnyCowStr AnyGlobal) × (result ≡ Ok text) × IsBorrowedStr text }
+{
+    if let Some(text) = constant_text(refusal) {
+        return Ok(CowStr::Borrowed(text));
+    }
+    Ok(CowStr::Owned(text_of_refusal(alloc, refusal)?))
+}
+
+/// The same, with no error: where there is no memory for the text, that of the refusal for want of memory stands in its
+/// place.
 pub fn refusal_json(alloc: Global, refusal: &Refusal) -> CowStr<'static>
     ensures value { (cow_str_bytes result ≡ refusal_text refusal.now) ⊎ IsMemoryText result }
     ensures plain { is_plain refusal.now ≡ true
         → IsBorrowedStr result × (cow_str_bytes result ≡ refusal_text refusal.now) }
     ensures memory { refusal.now ≡ Memory → IsMemoryText result }
 {
-    if let Some(text) = constant_text(refusal) {
-        return CowStr::Borrowed(text);
-    }
-    match text_of_refusal(alloc, refusal) {
-        Ok(text) => CowStr::Owned(text),
+    match try_refusal_json(alloc, refusal) {
+        Ok(text) => text,
         Err(_) => CowStr::Borrowed(MEMORY),
     }
 }

@@ -26,8 +26,8 @@ use Rattle.wb_api.specs.Encoding.{line_fault_text, refusal_text, reply_text, is_
 use Rattle.deb_text.specs.Lines.{words_in, is_blank_line}
 use Rattle.wb_daemon.specs.Line.{is_long, with_line_feed}
 use Rattle.wb_daemon.specs.Lists.{MayRead, MayReadMerge, MayReadLess}
-use Rattle.wb_daemon.specs.Offices.{Standing, InDoubt, Open, Shut}
-use Rattle.wb_daemon.specs.Run.{LineResponse, IsLineResponse, IsSaidTo, Accepts, InvokesAs, LineInvokes, IsRefusedByStore, IsResponseOfKind, LineKind, Blank, Fault, Request, answer_response, command_response, kind_of_line, kind_of_invocation, invocation_of_line, line_fault_response, memory_response, needs_memory, refusal_response}
+use Rattle.wb_office.specs.Offices.{Standing, InDoubt, Open, Shut}
+use Rattle.wb_daemon.specs.Run.{LineResponse, IsLineResponse, IsSaidTo, InvokesAs, LineInvokes, IsRefusedByStore, IsResponseOfKind, LineKind, Blank, Fault, Request, answer_response, command_response, kind_of_line, kind_of_invocation, invocation_of_line, line_fault_response, memory_response, needs_memory, refusal_response}
 use Rattle.wb_daemon.specs.Turn.{Answers, IsCommandResponseOrMemory, IsInvocationResponseOrMemory, AnswersInPart, AppendsFront, TookEndedLine, TookLastLine, StopsAtLine, StopsTurn, Turns}
 use Rattle.wb_daemon.specs.declared.message.Cause.{Cause}
 use Rattle.wb_daemon.specs.declared.message.Cause.TheVariants as why
@@ -170,18 +170,6 @@ Turns-more old new m (Stop cause) before after standing i j a b t = StopsTurn-mo
 
 -- ---- what was written
 
--- a command that the office replies to is accepted, where the office counts one more after it
-pub reply-accepted : (machine : Machine) (command : Command) (reply : Reply) → (step machine command).0 ≡ Ok reply
-    → ¬ ((step machine command).1.accepted ≡ machine.accepted) → Accepts machine command (step machine command).1
-reply-accepted machine command reply e more =
-    let rises = step-accepted machine command in
-    (subst (λ (result : Result Reply Refusal). IsOk result) (sym e) refl, refl, omega (arith, rises, more))
-
--- a command after which the office counts no more changed nothing
-pub step-repeats : (machine : Machine) (command : Command) → (step machine command).1.accepted ≡ machine.accepted → (step machine command).1 ≡ machine
-step-repeats machine command =
-    step-either (λ after. after.accepted ≡ machine.accepted → after ≡ machine) machine command (λ _. refl) (λ _ _ e. absurd (omega (arith, e)))
-
 -- a line that is neither long nor blank asks for what its words ask for
 pub LineInvokes-invocation : (may_read : MayRead) (line : List ℕ) (invocation : Invocation) (command : Command) → is_long line ≡ false → is_blank_line line ≡ false
     → invocation_of_line line ≡ Some invocation → InvokesAs may_read invocation command → LineInvokes may_read line command
@@ -246,12 +234,6 @@ refusal-said may_want machine command refusal text e (inr short) plain =
       | false ↦ λ is. inr (inl (inr (refusal, e, is)), said-same short.1)
     ]) refl
 
--- a refusal that comes of the store is that the office is closed, or that its store failed
-pub is_of_store-cases : (refusal : Refusal) → is_of_store refusal ≡ true → (refusal ≡ Closed) ⊎ ((fault : StoreFault) × (refusal ≡ Store fault))
-is_of_store-cases Closed h = inl refl
-is_of_store-cases (Store fault) h = inr (fault, refl)
-is_of_store-cases refusal h = cc
-
 -- a reply is said
 pub reply-said : (may_want : Command → Type 0) (machine : Machine) (command : Command) (reply : Reply) (text : List ℕ) → (step machine command).0 ≡ Ok reply
     → text ≡ reply_text (name_of_command command) reply
@@ -278,8 +260,3 @@ store-said machine command refusal fault text e (inr short) = inr (fault, inr (s
 pub memory-said : (may_want : Command → Type 0) (machine : Machine) (command : Command) (text : CowStr Global) → may_want command → IsMemoryText text
     → IsCommandResponseOrMemory may_want machine command (record { text = with_line_feed (cow_str_bytes text); machine = machine; status = 1 })
 memory-said may_want machine command text wants short = inr (inl (inl wants), said-same short.1)
-
--- a refusal is that there is no memory, or another
-pub refusal-cases : (refusal : Refusal) → (refusal ≡ Memory) ⊎ IsOfMachine refusal
-refusal-cases Memory = inl refl
-refusal-cases refusal = inr (λ e. cc)

@@ -13,7 +13,7 @@ use Rattle.deb_text.proofs.ListLemmas.{slice_split-run, slice_split-end}
 use Rattle.deb_text.specs.Lines.{is_line_feed, IsOneLine}
 use Rattle.wb_daemon.specs.Line.{ended_in, is_long, input_lines, line_limit, lines_limit, through_long, with_line_feed, with_line_feeds, AreWithinLimit}
 use Rattle.wb_daemon.specs.Lists.{MayRead, IsAllOf}
-use Rattle.wb_daemon.specs.Offices.{Standing, Open}
+use Rattle.wb_office.specs.Offices.{Standing, Open}
 use Rattle.wb_daemon.specs.Run.{LineResponse, IsLineResponse, Runs, EndsInput, FailsFor, StopsAfter, StopsBeforeReply, StopsBetween, RunStopsFor, StopsWithin, WereActedOn, followed, no_response}
 use Rattle.wb_streams.specs.Streams.{Flags, Stream}
 use Rattle.wb_daemon.specs.Turn.{Answers, AnswersInPart, AnswersLast, IsCauseAtLine, TookEndedLine, TookLastLine, StopsAtLine, LacksReply, StopsTurn, fails_to_write}

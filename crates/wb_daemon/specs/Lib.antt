@@ -1,7 +1,6 @@
 pub mod Answered
 pub mod Line
 pub mod Lists
-pub mod Offices
 pub mod Replays
 pub mod Run
 pub mod Turn

@@ -19,7 +19,7 @@ use Rattle.wb_api.specs.Encoding.{reply_text, refusal_text, memory_text, line_fa
 use Rattle.deb_text.specs.Lines.{words_in, is_blank_line}
 use Rattle.wb_daemon.specs.Line.{is_long, input_lines, ended_in, lines_limit, with_line_feed, AreWithinLimit}
 use Rattle.wb_daemon.specs.Lists.{MayRead, MayReadMerge, IsAllOf, LacksMerge}
-use Rattle.wb_daemon.specs.Offices.{Standing, Open, Shut, InDoubt}
+use Rattle.wb_office.specs.Offices.{Accepts, Standing, Open, Shut, InDoubt}
 use Rattle.wb_streams.specs.Streams.{Stream}
 use Rattle.wb_daemon.specs.declared.message.Cause.{Cause}
 use Rattle.wb_daemon.specs.declared.message.Cause.TheVariants as why
@@ -85,11 +85,6 @@ InvokesAs may_read (invocation_Merge sources parts) command = MayReadMerge may_r
 -- a line asks for a command
 abbrev pub LineInvokes : MayRead → List ℕ → Command → Type 0
 LineInvokes may_read line command = (invocation : Invocation) × (kind_of_line line ≡ Request invocation) × InvokesAs may_read invocation command
-
--- a command is accepted, and the office is then in this state: it counts one more, which a repeated reply does not
-abbrev pub Accepts : Machine → Command → Machine → Type 0
-Accepts before command after =
-    IsOk (step before command).0 × (after ≡ (step before command).1) × (before.accepted < after.accepted)
 
 -- a refusal is what is said, which changes nothing that is known of the office
 abbrev pub refusal_response : Machine → Refusal → LineResponse

@@ -8,12 +8,12 @@ use Rattle.wb_states.specs.declared.refusal.Refusal.{Refusal}
 use Rattle.wb_office.specs.Step.{step}
 use Rattle.wb_words.specs.declared.words.Invocation.{Invocation}
 use Rattle.wb_words.specs.declared.words.Invocation.TheVariants.{Command as invocation_Command, Merge as invocation_Merge}
-use Rattle.wb_api.specs.Encoding.{is_plain}
+use Rattle.wb_api.specs.Memory.{MayLackMemory}
 use Rattle.deb_text.specs.Lines.{IsOneLine}
 use Rattle.wb_daemon.specs.Line.{is_long, with_line_feed}
 use Rattle.wb_daemon.specs.Lists.{MayRead}
-use Rattle.wb_daemon.specs.Offices.{Standing, Open}
-use Rattle.wb_daemon.specs.Run.{LineResponse, IsLineResponse, IsInvocationResponse, command_response, memory_response, Accepts, EndsInput, IsRefusedByStore, IsSaidTo, LineInvokes, RunStopsFor}
+use Rattle.wb_office.specs.Offices.{Accepts, Standing, Open}
+use Rattle.wb_daemon.specs.Run.{LineResponse, IsLineResponse, IsInvocationResponse, command_response, memory_response, EndsInput, IsRefusedByStore, IsSaidTo, LineInvokes, RunStopsFor}
 use Rattle.wb_daemon.specs.declared.answer.Answer.{Answer}
 use Rattle.wb_daemon.specs.declared.message.Cause.{Cause}
 use Rattle.wb_daemon.specs.declared.message.Cause.TheVariants.{Read, Write, Reply, Store, Lines, Room}
@@ -25,13 +25,6 @@ use Rattle.wb_daemon.specs.declared.run.Turn.TheVariants.{More, End, Stop}
 -- what is said by an answer after which the office is in this state
 abbrev pub response_of_answer : Answer → Machine → LineResponse
 response_of_answer answer after = record { text = with_line_feed (cow_str_bytes answer.text); machine = after; status = answer.status }
-
--- why a command may be answered by want of memory: it may want some, or its refusal tells more than a number and a name, or its reply repeats an assignment
-abbrev pub MayLackMemory : (Command → Type 0) → Machine → Command → Type 0
-MayLackMemory may_want machine command =
-    (may_want command
-    ⊎ ((refusal : Refusal) × ((step machine command).0 ≡ Err refusal) × (is_plain refusal ≡ false)))
-    ⊎ (IsOk (step machine command).0 × ((step machine command).1 ≡ machine))
 
 -- what may be said to a command: that there is no memory for it is possible too
 abbrev pub IsCommandResponseOrMemory : (Command → Type 0) → Machine → Command → LineResponse → Type 0

@@ -2,7 +2,7 @@
 ghost use Rattle.std.specs.Prelude.{◌≡◌, ◌⊎◌, ◌<◌, ◌≤◌, IfOk, IfErr, length, false};
 ghost use Rattle.wb_daemon.specs.Line.{is_long, line_limit};
 ghost use Rattle.wb_daemon.specs.Lists.{MayReadLess};
-ghost use Rattle.wb_daemon.specs.Offices.{IsSoOfEach, Leads, Open, Reaches};
+ghost use Rattle.wb_office.specs.Offices.{IsSoOfEach, Leads, Open, Reaches};
 ghost use Rattle.wb_daemon.specs.Replays.{LeavesReplay};
 ghost use Rattle.wb_daemon.specs.Run.{FailsFor, RunEndsWell, RunStops};
 ghost use Rattle.wb_streams.specs.Streams.{Flags};

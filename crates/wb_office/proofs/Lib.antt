@@ -20,6 +20,7 @@ pub mod MovedRecordLemmas
 pub mod NamedLemmas
 pub mod NamedPartLemmas
 pub mod NextLemmas
+pub mod OfficeLemmas
 pub mod PartLemmas
 pub mod PartOfLemmas
 pub mod PassLemmas

@@ -6,6 +6,7 @@ pub mod HandOuts
 pub mod Locality
 pub mod MergedParts
 pub mod Named
+pub mod Offices
 pub mod Outcomes
 pub mod Parts
 pub mod Queries

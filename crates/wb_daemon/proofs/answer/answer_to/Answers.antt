@@ -3,9 +3,10 @@ use Rattle.std.proofs.Common.{◌∙◌, Result, Err, IsOk, ap, inl, inr, refl, 
 use Rattle.wb_states.specs.declared.refusal.Refusal.{Refusal}
 use Rattle.wb_states.specs.declared.reply.Reply.{Reply}
 use Rattle.wb_office.specs.Step.{step}
+use Rattle.wb_office.proofs.OfficeLemmas.{is_of_store-cases, refusal-cases, reply-accepted, step-repeats}
 use Rattle.wb_api.specs.Encoding.{reply_text}
-use Rattle.wb_daemon.specs.Offices.{Shut, InDoubt}
-use Rattle.wb_daemon.proofs.AnswerLemmas.{closed-said, is_of_store-cases, memory-said, refusal-cases, refusal-said, reply-accepted, reply-said, step-repeats, store-said}
+use Rattle.wb_office.specs.Offices.{Shut, InDoubt}
+use Rattle.wb_daemon.proofs.AnswerLemmas.{closed-said, memory-said, refusal-said, reply-said, store-said}
 use Rattle.wb_daemon.proofs.answer.answer_to.Goals as goal
 
 pub returns-in-Ok-reply_json-clause-value : goal.returns-in-Ok-reply_json-clause-value

@@ -2,7 +2,7 @@
 use Rattle.std.proofs.Common.{◌∙◌, ◌≡◌, true, false, inl, inr, sym, refl, subst}
 use Rattle.std.specs.Io.KnownBytes.{Appends}
 use Rattle.wb_daemon.specs.Line.{with_line_feed}
-use Rattle.wb_daemon.specs.Offices.{Leads, Open}
+use Rattle.wb_office.specs.Offices.{Leads, Open}
 use Rattle.wb_daemon.specs.Turn.{AppendsFront, AnswersInPart, response_of_answer}
 use Rattle.wb_daemon.proofs.AnswerLemmas.{answers-blank}
 use Rattle.wb_daemon.proofs.run.answer_line.Goals as goal

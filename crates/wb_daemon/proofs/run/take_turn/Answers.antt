@@ -2,7 +2,7 @@
 use Rattle.std.proofs.Common.{not, refl, subst, take, inl, inr}
 use Rattle.std.specs.Io.KnownBytes.{Appends}
 use Rattle.wb_daemon.specs.Line.{with_line_feed}
-use Rattle.wb_daemon.specs.Offices.{Open}
+use Rattle.wb_office.specs.Offices.{Open}
 use Rattle.wb_streams.specs.Streams.{Flags}
 use Rattle.wb_daemon.specs.Turn.{Answers, AppendsFront, StopsAtLine}
 use Rattle.wb_daemon.proofs.AnswerLemmas.{answers-long, answers-long_cut, stops_turn}

@@ -1,0 +1,2 @@
+pub mod AcknowledgedLemmas
+pub mod ExchangeLemmas

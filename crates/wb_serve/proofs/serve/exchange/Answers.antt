@@ -1,0 +1,58 @@
+-- What was received is what the input means, and it was answered.
+use Rattle.std.proofs.Common.{refl, subst, sym, ◌∙◌}
+use Rattle.std.proofs.lemmas.Bool.{false≢true}
+use Rattle.wb_http.specs.declared.request.Received.TheVariants as received
+use Rattle.wb_office.specs.Offices.{Open}
+use Rattle.wb_serve.specs.Exchange.{Sends}
+use Rattle.wb_serve.proofs.serve.exchange.Goals as goal
+
+pub returns-in-Nothing-clause-value : goal.returns-in-Nothing-clause-value
+returns-in-Nothing-clause-value g c = (
+  received.Nothing,
+  (c.in-Nothing.ensures.value, c.in-Nothing.ensures.failed),
+  λ _. refl,
+  λ before clean stands. (before, Open, stands, (refl, refl, refl, refl)),
+)
+
+pub returns-in-Failed-clause-value : goal.returns-in-Failed-clause-value
+returns-in-Failed-clause-value g c = (
+  received.Failed,
+  (c.in-Failed.ensures.value, c.in-Failed.ensures.failed),
+  λ _. refl,
+  λ before clean stands. (before, Open, stands, (refl, refl, refl, refl)),
+)
+
+pub returns-in-Memory-clause-value : goal.returns-in-Memory-clause-value
+returns-in-Memory-clause-value g c = (
+  received.Memory,
+  (c.in-Memory.ensures.value, c.in-Memory.ensures.failed),
+  λ _. refl,
+  λ before clean stands.
+      let sent = subst (λ response. Sends response c.args.writer.now.bytes c.send.new.writer.bytes c.send.result) (c.memory_answer.ensures.value before) (c.send.ensures.value before) in
+      (before, Open, stands, (refl, refl, sent)),
+)
+
+pub returns-in-Memory-clause-silent : goal.returns-in-Memory-clause-silent
+returns-in-Memory-clause-silent g c = λ silent. absurd (false≢true (sym c.send.ensures.spoken ∙ silent))
+
+pub returns-in-Refused-clause-value : goal.returns-in-Refused-clause-value
+returns-in-Refused-clause-value g c = (
+  received.Refused c.in-Refused.fault,
+  (c.in-Refused.ensures.value, c.in-Refused.ensures.failed),
+  λ _. refl,
+  λ before clean stands.
+      let sent = subst (λ response. Sends response c.args.writer.now.bytes c.send-in-Refused.new.writer.bytes c.send-in-Refused.result)
+      (c.fault_answer.ensures.value before) (c.send-in-Refused.ensures.value before) in
+      (before, Open, stands, (refl, refl, sent)),
+)
+
+pub returns-in-Refused-clause-silent : goal.returns-in-Refused-clause-silent
+returns-in-Refused-clause-silent g c = λ silent. absurd (false≢true (sym c.send-in-Refused.ensures.spoken ∙ silent))
+
+pub returns-in-Asked-clause-value : goal.returns-in-Asked-clause-value
+returns-in-Asked-clause-value g c = (
+  received.Asked c.in-Asked.request,
+  (c.in-Asked.ensures.value, c.in-Asked.ensures.failed),
+  λ e. absurd (false≢true (sym e)),
+  c.respond.ensures.value,
+)
