@@ -1,11 +1,22 @@
 -- The program's own command line is one of which clap says what it reads.
-use Rattle.std.proofs.Common.{◌≡◌, ◌∙◌, true, refl, List, [], ap, subst, inl, inr, codes}
-use Rattle.clap.specs.Words.{App, HasKind, IsAmong, Row, Text, fault_of, first_of, is_simple, is_simple_and_free, kind_of, matches_of}
+use Rattle.std.proofs.Common.{◌≡◌, ◌∙◌, true, false, refl, sym, List, [], Option, None, Some, option_map, ap, ap₂, subst, inl, inr, codes}
+use Rattle.clap.specs.Words.{App, HasKind, IsAmong, Row, Text, fault_of, first_of, is_simple, is_simple_and_free, kind_of, matches_of, subcommand_of}
+use Rattle.std.specs.Prelude.{Box}
+use Rattle.std.specs.Borrow.{Bor}
+use Rattle.std.specs.Box.{box_value}
+use Rattle.std.proofs.lemmas.Option.{none-some, same_Some}
+use Rattle.clap.specs.Simple.{subcommand_rows, subcommand_rows_of}
+use Rattle.clap.specs.Words.{found_of, rows_of, subcommand_name_of}
+use Rattle.clap.specs.declared.parser.matches.ArgMatches.{ArgMatches}
+use Rattle.clap.specs.declared.parser.matches.ArgMatches.TheViews.{out-ArgMatches, out-SubCommand}
+use Rattle.clap.specs.declared.parser.matches.SubCommand.{SubCommand}
 use Rattle.clap.specs.declared.error.Error.{Error}
 use Rattle.clap.specs.declared.error.kind.ErrorKind.{ErrorKind}
 use Rattle.clap.specs.declared.error.kind.ErrorKind.TheVariants.{DisplayHelp, OutOfMemory}
 use Rattle.clap.proofs.OnLiterals.{clap_on_literals}
-use Rattle.wb_words.specs.Start.{start_app, start_faults, store_in}
+use Rattle.wb_words.specs.Start.{Asks, AsksNone, IsNoStart, Starts, begins_with_help, start_app, start_faults, store_in, subcommand_in}
+use Rattle.wb_words.specs.declared.start.Start.{Start}
+use Rattle.wb_words.specs.declared.start.Start.TheVariants.{Run, Serve, Help}
 
 start_app-free : is_simple_and_free start_app ≡ true
 unfolding start_app clap_on_literals
@@ -45,3 +56,68 @@ pub store_in-found : (app : App) (words : List Text) (rows : List Row) → app �
 unfolding store_in
 store_in-found app words rows e found =
     ap (first_of (codes "store")) (found (ap is_simple e ∙ start_app-simple) ∙ ap (λ (a : App). matches_of a words) e)
+
+-- the subcommand that was met is that of the words
+pub subcommand_in-met : (app : App) (words : List Text) (met : Option (Text × List Row)) → app ≡ start_app
+    → (is_simple app ≡ true → met ≡ subcommand_of app words) → met ≡ subcommand_in words
+unfolding subcommand_in
+subcommand_in-met app words met e found =
+    found (ap is_simple e ∙ start_app-simple) ∙ ap (λ (a : App). subcommand_of a words) e
+
+-- words that have no fault ask for what their subcommand asks for
+pub starts-asked : (words : List Text) (start : Start) → begins_with_help words ≡ false → start_faults words ≡ []
+    → Asks (store_in words) (subcommand_in words) start → Starts words start
+starts-asked words (Run store) h faults asks = (h, faults, asks)
+starts-asked words (Serve store port requests) h faults asks = (h, faults, asks)
+starts-asked words Help h faults asks = absurd (never (subcommand_in words) asks)
+  where
+    never : (named : Option (Text × List Row)) → Asks (store_in words) named Help → ⊥
+    never None asks = asks
+    never (Some named) asks = asks
+
+-- words whose subcommand, as it was met, asks for something
+pub starts-met : (app : App) (words : List Text) (rows : List Row) (met : Option (Text × List Row)) (start : Start)
+    → app ≡ start_app → begins_with_help words ≡ false
+    → (is_simple_and_free app ≡ true → fault_of app words ≡ [])
+    → (is_simple app ≡ true → (rows ≡ matches_of app words) × (met ≡ subcommand_of app words))
+    → Asks (first_of (codes "store") rows) met start → Starts words start
+starts-met app words rows met start e h free found asks =
+    let stored : first_of (codes "store") rows ≡ store_in words = store_in-found app words rows e (λ simple. (found simple).0) in
+    let named : met ≡ subcommand_in words = subcommand_in-met app words met e (λ simple. (found simple).1) in
+    starts-asked words start h (start_faults-none app words e free)
+    (subst (λ (sub : Option (Text × List Row)). Asks (store_in words) sub start) named
+    (subst (λ (file : Option Text). Asks file met start) stored asks))
+
+-- words whose subcommand, as it was met, asks for nothing
+pub starts-none : (app : App) (words : List Text) (rows : List Row) (met : Option (Text × List Row))
+    → app ≡ start_app → begins_with_help words ≡ false
+    → (is_simple_and_free app ≡ true → fault_of app words ≡ [])
+    → (is_simple app ≡ true → (rows ≡ matches_of app words) × (met ≡ subcommand_of app words))
+    → AsksNone met → IsNoStart words
+starts-none app words rows met e h free found none =
+    let named : met ≡ subcommand_in words = subcommand_in-met app words met e (λ simple. (found simple).1) in
+    (h, inr (start_faults-none app words e free, subst AsksNone named none))
+
+-- ---- the subcommand that was met
+
+names-of : (sub : Option (Text × List Row)) {A B : Type 0} (met : Option (A × B)) (name : A → Text) (rows : B → List Row)
+    → option_map (λ p. name p.0) met ≡ option_map (λ p. p.0) sub → option_map (λ p. rows p.1) met ≡ option_map (λ p. p.1) sub
+    → sub ≡ option_map (λ p. (name p.0, rows p.1)) met
+names-of None None name rows h k = refl
+names-of None (Some p) name rows h k = absurd (none-some _ (sym h))
+names-of (Some n) None name rows h k = absurd (none-some _ h)
+names-of (Some n) (Some p) name rows h k =
+    ap₂ (λ (x : Text) (y : List Row). Some (x, y)) (sym (same_Some _ _ h)) (sym (same_Some _ _ k))
+
+names-met : {Z : Type 0} (sub : Option (Box SubCommand Z))
+    → option_map (λ b. (out-SubCommand (box_value b)).name.now) sub ≡ option_map (λ p. p.0) (subcommand_rows sub)
+names-met None = refl
+names-met (Some b) = refl
+
+-- the subcommand that `clap` gives, as its name and its rows
+pub subcommand_rows-met : (m : ArgMatches) (met : Option (Bor Text × Bor ArgMatches))
+    → option_map (λ p. p.0.now) met ≡ subcommand_name_of m
+    → option_map (λ p. rows_of (found_of p.1.now)) met ≡ option_map (λ p. p.1) (subcommand_rows (out-ArgMatches m).subcommand)
+    → subcommand_rows_of m ≡ option_map (λ p. (p.0.now, rows_of (found_of p.1.now))) met
+subcommand_rows-met m met h k = names-of (subcommand_rows_of m) met (λ name. name.now) (λ arguments. rows_of (found_of arguments.now))
+    (h ∙ names-met (out-ArgMatches m).subcommand) k

@@ -1,5 +1,6 @@
 pub mod Arguments
 pub mod Faults
+pub mod Service
 pub mod Start
 pub mod Usages
 pub mod Words

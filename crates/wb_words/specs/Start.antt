@@ -1,23 +1,24 @@
 -- What the words after the program's name ask of it, as `clap` reads them (this project's own).
-use Rattle.std.specs.Prelude.{◌≡◌, ◌≢◌, ◌⊎◌, List, [], ◌∷◌, Bool, true, false, Option, codes, option_map}
+use Rattle.std.specs.Prelude.{◌≡◌, ◌≢◌, ◌⊎◌, List, [], ◌∷◌, Bool, true, false, Option, Some, None, codes, option_map, ⊤}
 use Rattle.std.specs.Str.{bytes_eq}
-use Rattle.clap.specs.Words.{App, IsAmong, Kinds, Text, fault_of, first_of, matches_of, new_app, with_subcommand}
+use Rattle.clap.specs.Words.{App, IsAmong, Kinds, Row, Text, fault_of, first_of, matches_of, new_app, subcommand_of, with_subcommand}
 use Rattle.clap.specs.declared.error.kind.ErrorKind.{ErrorKind}
 use Rattle.clap.specs.declared.error.kind.ErrorKind.TheVariants.{DisplayHelp}
+use Rattle.wb_words.specs.Service.{serve_app, service_named}
 use Rattle.wb_words.specs.Usages.{with_arguments}
 use Rattle.wb_words.specs.declared.usage.ArgumentKind.TheVariants.{NamedWord}
 use Rattle.wb_words.specs.declared.start.Start.{Start}
-use Rattle.wb_words.specs.declared.start.Start.TheVariants.{Run, Help}
+use Rattle.wb_words.specs.declared.start.Start.TheVariants.{Run, Serve, Help}
 
--- the program's own command line: the option `--store`, which takes a word, the subcommand `run`, and the options `--help` and `-h`
+-- the program's own command line: the option `--store`, which takes a word, the subcommands `run` and `serve`, and the options `--help` and `-h`
 unfoldable pub start_app : App
-start_app = with_subcommand (with_arguments (record (new_app (codes "wb")) {
+start_app = with_subcommand (with_subcommand (with_arguments (record (new_app (codes "wb")) {
   top = record ((new_app (codes "wb")).top) {
     no_binary_name = true;
     disable_help_subcommand = true;
     subcommand_required = true;
   };
-}) ((codes "store", NamedWord) ∷ [])) (new_app (codes "run")).top
+}) ((codes "store", NamedWord) ∷ [])) (new_app (codes "run")).top) serve_app.top
 
 -- the first word is `help`
 abbrev pub begins_with_help : List Text → Bool
@@ -32,12 +33,45 @@ start_faults words = fault_of start_app words
 unfoldable pub store_in : List Text → Option Text
 store_in words = first_of (codes "store") (matches_of start_app words)
 
+-- the subcommand that the words name, with its arguments
+unfoldable pub subcommand_in : List Text → Option (Text × List Row)
+subcommand_in words = subcommand_of start_app words
+
+-- a subcommand with its arguments asks for this, with the records in this file
+abbrev pub Names : Option Text → Text × List Row → Start → Type 0
+Names file named (Run store) = (option_map (λ file. file.now) store ≡ file) × (bytes_eq named.0 (codes "run") ≡ true)
+Names file named (Serve store port requests) = (option_map (λ file. file.now) store ≡ file) × (service_named named ≡ Some (port, requests))
+Names file named Help = ⊥
+
+-- a subcommand with its arguments asks for nothing
+abbrev pub NamesNone : Text × List Row → Type 0
+NamesNone named = (bytes_eq named.0 (codes "run") ≡ false) × (service_named named ≡ None)
+
+-- the subcommand, if there is one, asks for this
+abbrev pub Asks : Option Text → Option (Text × List Row) → Start → Type 0
+Asks file None start = ⊥
+Asks file (Some named) start = Names file named start
+
+-- there is no subcommand, or it asks for nothing
+abbrev pub AsksNone : Option (Text × List Row) → Type 0
+AsksNone None = ⊤
+AsksNone (Some named) = NamesNone named
+
+-- the words have no fault, and their subcommand asks for this
+abbrev pub IsRead : List Text → Start → Type 0
+IsRead words start = (begins_with_help words ≡ false) × (start_faults words ≡ []) × Asks (store_in words) (subcommand_in words) start
+
 -- the words ask for this
 abbrev pub Starts : List Text → Start → Type 0
-Starts words (Run store) = (begins_with_help words ≡ false) × (start_faults words ≡ []) × (option_map (λ file. file.now) store ≡ store_in words)
+Starts words (Run store) = IsRead words (Run store)
+Starts words (Serve store port requests) = IsRead words (Serve store port requests)
 Starts words Help = (begins_with_help words ≡ true) ⊎ IsAmong DisplayHelp (start_faults words)
 
--- the words ask for neither: a fault of another kind comes first
+-- the words have a fault other than that they ask for help
+abbrev pub IsFaulty : List Text → Type 0
+IsFaulty words = (kind : ErrorKind) × IsAmong kind (start_faults words) × (kind ≢ DisplayHelp)
+
+-- the words ask for nothing: a fault of another kind comes first, or no subcommand has all that it needs
 abbrev pub IsNoStart : List Text → Type 0
 IsNoStart words = (begins_with_help words ≡ false)
-    × ((kind : ErrorKind) × IsAmong kind (start_faults words) × (kind ≢ DisplayHelp))
+    × (IsFaulty words ⊎ ((start_faults words ≡ []) × AsksNone (subcommand_in words)))

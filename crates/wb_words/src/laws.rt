@@ -14,7 +14,7 @@ ghost use Rattle.wb_words.specs.Arguments.{integer_in, joined, number_in, parts_
 ghost use Rattle.wb_words.specs.Start.{IsNoStart, Starts, start_faults, store_in};
 ghost use Rattle.wb_words.specs.Usages.{usage_named, wb_usages};
 ghost use Rattle.wb_words.specs.Words.{command_named, invocation_by, invocation_in};
-ghost use Rattle.wb_words.specs.declared.start.Start.TheVariants.{Help, Run};
+ghost use Rattle.wb_words.specs.declared.start.Start.TheVariants.{Help, Run, Serve};
 ghost use Rattle.wb_words.specs.declared.words.Invocation.TheVariants.{Command, Merge};
 
 /// Each subcommand of operators with its arguments is a command.
@@ -262,6 +262,35 @@ pub fn starts_are_read()
     ensures unnamed { IsNoStart (codes "--store" ∷ []) }
     ensures twice { IsNoStart (codes "--store=a" ∷ codes "--store=b" ∷ codes "run" ∷ []) }
     ensures behind { IsNoStart (codes "run" ∷ codes "--store=a" ∷ []) }
+{}
+
+/// What the program serves: on which port, and how many connections. Both numbers are read as `numbers_are_read`
+/// has it, and stand within their limits.
+pub fn services_are_read()
+    ensures serve { Starts (codes "serve" ∷ codes "--port" ∷ codes "8080" ∷ codes "--requests" ∷ codes "10" ∷ [])
+        (Serve None 8080 10) }
+    ensures order { Starts (codes "serve" ∷ codes "--requests=+1" ∷ codes "--port=007" ∷ []) (Serve None 7 1) }
+    ensures greatest { Starts (codes "serve" ∷ codes "--port=65535" ∷ codes "--requests=1000000" ∷ [])
+        (Serve None 65535 1000000) }
+    ensures file { store_in (codes "--store" ∷ codes "wb.db" ∷ codes "serve" ∷ codes "--port=1" ∷ codes "--requests=1"
+        ∷ []) ≡ Some (codes "wb.db") }
+    ensures help { Starts (codes "serve" ∷ codes "--help" ∷ []) Help }
+    // a number is missing, or there are two
+    ensures bare { IsNoStart (codes "serve" ∷ []) }
+    ensures no_port { IsNoStart (codes "serve" ∷ codes "--requests=1" ∷ []) }
+    ensures no_requests { IsNoStart (codes "serve" ∷ codes "--port=1" ∷ []) }
+    ensures twice { IsNoStart (codes "serve" ∷ codes "--port=1" ∷ codes "--port=1" ∷ codes "--requests=1" ∷ []) }
+    // a number is out of range, or is none
+    ensures port_zero { IsNoStart (codes "serve" ∷ codes "--port=0" ∷ codes "--requests=1" ∷ []) }
+    ensures port_above { IsNoStart (codes "serve" ∷ codes "--port=65536" ∷ codes "--requests=1" ∷ []) }
+    ensures requests_zero { IsNoStart (codes "serve" ∷ codes "--port=1" ∷ codes "--requests=0" ∷ []) }
+    ensures requests_above { IsNoStart (codes "serve" ∷ codes "--port=1" ∷ codes "--requests=1000001" ∷ []) }
+    ensures word { IsNoStart (codes "serve" ∷ codes "--port=http" ∷ codes "--requests=1" ∷ []) }
+    // a word too many, and `--store` after the subcommand
+    ensures many { IsNoStart (codes "serve" ∷ codes "--port=1" ∷ codes "--requests=1" ∷ codes "now" ∷ []) }
+    ensures behind { IsNoStart (codes "serve" ∷ codes "--port=1" ∷ codes "--requests=1" ∷ codes "--store=a" ∷ []) }
+    // in a line of `run`
+    ensures line { invocation_by (codes "serve --port 1 --requests 1") ≡ None }
 {}
 
 /// A command is asked for by its own name, which its answer then reports.

@@ -8,6 +8,7 @@ mod fault;
 pub mod laws;
 mod lists;
 mod operator;
+mod service;
 mod start;
 mod tree;
 mod usage;

@@ -1,13 +1,15 @@
 //! What the program is started for.
-ghost use Rattle.std.specs.Prelude.{◌≡◌, ◌≢◌, false, map, IfErr, IfOk};
-ghost use Rattle.clap.specs.Words.{app_of, kind_of};
+ghost use Rattle.std.specs.Prelude.{◌≡◌, ◌≢◌, false, codes, map, option_map, IfErr, IfNone, IfOk, IfSome};
+ghost use Rattle.clap.specs.Words.{app_of, first_of, found_of, kind_of, rows_of, subcommand_rows_of};
 ghost use Rattle.clap.specs.declared.error.kind.ErrorKind.TheVariants.{OutOfMemory};
-ghost use Rattle.wb_words.specs.Start.{IsNoStart, Starts, begins_with_help, start_app};
+ghost use Rattle.wb_words.specs.Start.{Asks, AsksNone, IsNoStart, Names, NamesNone, Starts};
+ghost use Rattle.wb_words.specs.Start.{begins_with_help, start_app};
 
+use crate::service::{serve_command, service_of};
 use crate::tree::with_arguments;
 use crate::usage::ArgumentKind;
-use clap::Command;
 use clap::error::{Error, ErrorKind};
+use clap::{ArgMatches, Command};
 use std::alloc::{AllocError, Global};
 
 /// What the words after the program's name ask for.
@@ -17,6 +19,15 @@ pub enum Start<'a> {
     Run {
         /// The file that keeps the records; without one they end with the program.
         store: Option<&'a str>,
+    },
+    /// To answer requests of builders over HTTP.
+    Serve {
+        /// The file that keeps the records; without one they end with the program.
+        store: Option<&'a str>,
+        /// The port of TCP on 127.0.0.1, at least 1.
+        port: u16,
+        /// How many connections are served, from 1 to 1000000.
+        requests: u32,
     },
     /// To show how the program is used.
     Help,
@@ -28,13 +39,21 @@ The central office of an autobuilder network.
 
 Usage:
   wb [--store FILE] run    Answers the commands of its input
+  wb [--store FILE] serve --port P --requests N
+                           Answers HTTP requests of builders on this machine
   wb help                  Prints this text
   wb --version             Prints the version
 
 `wb run` reads one command from each line of its input. It answers each command
 with one line of JSON. With --store the records are kept in FILE, which is made
 if it is not there, and each answer is written only once its command is stored.
-Without it the records end with the program. The commands are:
+Without it the records end with the program.
+
+`wb serve` listens on port P of 127.0.0.1, serves N connections, one after
+another, and ends. P is from 1 to 65535, and N from 1 to 1000000. Each
+connection carries one request. --store keeps the records as with `wb run`.
+
+The commands of `wb run` are:
 
   add-arch NAME OS CPU
           Adds an architecture
@@ -96,7 +115,7 @@ fn begins_with_help(words: &[&str]) -> bool
 /// The options before the subcommand.
 const OPTIONS: [(&str, ArgumentKind); 1] = [("store", ArgumentKind::NamedWord)];
 
-/// The program's command line: the option `--store`, the subcommand `run`, and help.
+/// The program's command line: the option `--store`, the subcommands `run` and `serve`, and help.
 #[tactic(auto, unfolding(crate::specs::Start::start_app))]
 fn start_app<'a>(alloc: Global) -> Result<Command<'a>, AllocError>
     ensures value { IfOk result (λ command. app_of command ≡ start_app) }
@@ -105,14 +124,76 @@ fn start_app<'a>(alloc: Global) -> Result<Command<'a>, AllocError>
         .no_binary_name(true)
         .disable_help_subcommand(true)
         .subcommand_required(true);
-    with_arguments(alloc, bare, OPTIONS.as_slice())?.subcommand(Command::new(alloc, "run"))
+    with_arguments(alloc, bare, OPTIONS.as_slice())?
+        .subcommand(Command::new(alloc, "run"))?
+        .subcommand(serve_command(alloc)?)
+}
+
+/// What the subcommand `name` with these arguments asks for; none if there is no such subcommand, or if one of
+/// its numbers is missing or out of range.
+fn start_named<'a>(
+    store: Option<&'a str>,
+    name: &str,
+    arguments: &ArgMatches<'_>,
+) -> Option<Start<'a>>
+    ensures some { IfSome result (Names (option_map (λ file. file.now) store)
+        (name.now, rows_of (found_of arguments.now))) }
+    ensures none { IfNone result (NamesNone (name.now, rows_of (found_of arguments.now))) }
+{
+    match name {
+        "run" => Some(Start::Run { store }),
+        "serve" => {
+            let (port, requests) = service_of(arguments)?;
+            Some(Start::Serve {
+                store,
+                port,
+                requests,
+            })
+        }
+        _ => None,
+    }
+}
+
+/// What the words that were read ask for; none if their subcommand asks for nothing.
+fn start_in<'a>(matches: &ArgMatches<'a>) -> Option<Start<'a>>
+    ensures some { IfSome result (Asks (first_of (codes "store") (rows_of (found_of matches.now)))
+        (subcommand_rows_of matches.now)) }
+    ensures none { IfNone result (AsksNone (subcommand_rows_of matches.now)) }
+{
+    let store = matches.get_str("store");
+    let (name, arguments) = matches.subcommand()?;
+    start_named(store, name, arguments)
+}
+
+/// The fault of words whose subcommand asks for nothing, as `clap` words it.
+fn asks_nothing(alloc: Global) -> Result<Error, AllocError> {
+    start_app(alloc)?.error(
+        ErrorKind::MissingRequiredArgument,
+        "a subcommand lacks what it needs",
+    )
+}
+
+/// What the words that were read ask for. The error is that their subcommand asks for nothing, or that there is
+/// no memory to say so.
+fn started<'a>(alloc: Global, matches: &ArgMatches<'a>) -> Result<Start<'a>, Error>
+    ensures value { IfOk result (Asks (first_of (codes "store") (rows_of (found_of matches.now)))
+        (subcommand_rows_of matches.now)) }
+    ensures refused { IfErr result (λ error. kind_of error ≢ OutOfMemory
+        → AsksNone (subcommand_rows_of matches.now)) }
+{
+    match start_in(matches) {
+        Some(start) => Ok(start),
+        None => Err(asks_nothing(alloc)?),
+    }
 }
 
 /// Reads the words after the program's name.
 ///
 /// `help` as the first word asks for help, whatever follows; `--help` and `-h` do if no word before
-/// them is at fault or is `--`. `--store FILE` or `--store=FILE` before `run` names the file that keeps the records. The error is that of `clap`, with a text for the terminal: the words
-/// ask for neither, or there is no memory to read them, which may come at any words. The grammar is
+/// them is at fault or is `--`. `--store FILE` or `--store=FILE` before the subcommand names the file that keeps
+/// the records. `serve` wants `--port` with a number from 1 to 65535 and `--requests` with one from 1 to 1000000,
+/// each in decimal digits after at most one plus sign. The error is that of `clap`, with a text for the terminal:
+/// the words ask for nothing, or there is no memory to read them, which may come at any words. The grammar is
 /// this project's own.
 pub fn start_of<'a>(alloc: Global, words: &'a [&'a str]) -> Result<Start<'a>, Error>
     ensures value { IfOk result (Starts (map (λ word. word.now) words.entry.now)) }
@@ -123,9 +204,7 @@ pub fn start_of<'a>(alloc: Global, words: &'a [&'a str]) -> Result<Start<'a>, Er
         return Ok(Start::Help);
     }
     match start_app(alloc)?.try_get_matches_from(words) {
-        Ok(matches) => Ok(Start::Run {
-            store: matches.get_str("store"),
-        }),
+        Ok(matches) => started(alloc, &matches),
         Err(error) => match error.kind() {
             ErrorKind::DisplayHelp => Ok(Start::Help),
             _ => Err(error),

@@ -19,3 +19,54 @@ fn starts(rt: HostRuntime) {
     let words = ["--store", "office.db", "run"];
     assert_eq!(rt; start_of(rt.alloc(), &words).ok(), Some(stored), "a file");
 }
+
+#[test]
+fn services(rt: HostRuntime) {
+    let words = ["serve", "--requests", "1000000", "--port=+65535"];
+    let plain = Start::Serve {
+        store: None,
+        port: 65_535,
+        requests: 1_000_000,
+    };
+    assert_eq!(rt;
+        start_of(rt.alloc(), &words).ok(),
+        Some(plain),
+        "the greatest"
+    );
+    let words = [
+        "--store",
+        "wb.db",
+        "serve",
+        "--port",
+        "1",
+        "--requests",
+        "1",
+    ];
+    let stored = Start::Serve {
+        store: Some("wb.db"),
+        port: 1,
+        requests: 1,
+    };
+    assert_eq!(rt;
+        start_of(rt.alloc(), &words).ok(),
+        Some(stored),
+        "the least"
+    );
+    for (port, requests) in [
+        ("0", "1"),
+        ("65536", "1"),
+        ("1", "0"),
+        ("1", "1000001"),
+        ("-1", "1"),
+        ("1.0", "1"),
+        ("", "1"),
+        ("18446744073709551617", "1"),
+    ] {
+        let words = ["serve", "--port", port, "--requests", requests];
+        assert_eq!(rt;
+            start_of(rt.alloc(), &words).ok(),
+            None,
+            "{port} {requests}"
+        );
+    }
+}

@@ -1,23 +1,23 @@
 use Rattle.std.proofs.Common.{inl, inr, refl}
 use Rattle.clap.specs.declared.error.kind.ErrorKind.TheVariants as kind
 use Rattle.clap.proofs.OnLiterals.{clap_on_literals}
-use Rattle.wb_words.specs.Start.{start_app, start_faults, store_in}
+use Rattle.wb_words.specs.Start.{start_app, start_faults, store_in, subcommand_in}
 use Rattle.wb_words.proofs.laws.starts_are_read.Goals as goal
 
 pub returns : goal.returns
-unfolding start_faults store_in start_app clap_on_literals
+unfolding start_faults store_in subcommand_in start_app clap_on_literals
 returns c = record {
-  run = (refl, refl, refl);
+  run = (refl, refl, refl, refl);
   stored = refl;
   file = refl;
   equals = refl;
   help = inl refl;
   long_help = inr (inl refl);
   short_help = inr (inl refl);
-  nothing = (refl, (kind.MissingSubcommand, inl refl, λ e. cc));
-  command = (refl, (kind.UnknownArgument, inl refl, λ e. cc));
-  many = (refl, (kind.UnknownArgument, inl refl, λ e. cc));
-  unnamed = (refl, (kind.InvalidValue, inl refl, λ e. cc));
-  twice = (refl, (kind.ArgumentConflict, inl refl, λ e. cc));
-  behind = (refl, (kind.UnknownArgument, inl refl, λ e. cc));
+  nothing = (refl, inl (kind.MissingSubcommand, inl refl, λ e. cc));
+  command = (refl, inl (kind.UnknownArgument, inl refl, λ e. cc));
+  many = (refl, inl (kind.UnknownArgument, inl refl, λ e. cc));
+  unnamed = (refl, inl (kind.InvalidValue, inl refl, λ e. cc));
+  twice = (refl, inl (kind.ArgumentConflict, inl refl, λ e. cc));
+  behind = (refl, inl (kind.UnknownArgument, inl refl, λ e. cc));
 }

@@ -1,17 +1,18 @@
-use Rattle.std.proofs.Common.{◌∙◌, codes, sym, inr}
-use Rattle.clap.specs.Words.{found_of, kind_of}
-use Rattle.clap.proofs.WalkLemmas.{first_value-rows}
-use Rattle.wb_words.proofs.StartLemmas.{start_faults-failed, start_faults-help, start_faults-none, store_in-found}
+use Rattle.std.proofs.Common.{◌∙◌, sym, inl, inr}
+use Rattle.std.proofs.lemmas.Result.{IfErr-weaker, IfOk-weaker}
+use Rattle.clap.specs.Words.{kind_of}
+use Rattle.wb_words.proofs.StartLemmas.{start_faults-failed, start_faults-help, starts-met, starts-none}
 use Rattle.wb_words.proofs.start.start_of.Goals as goal
 
 pub returns-in-Ok : goal.returns-in-Ok
 returns-in-Ok c = record {
-  value = (
-    sym c.begins_with_help.ensures.value ∙ c.if-begins_with_help.false,
-    start_faults-none _ _ c.in_ok-start_app.ensures.value c.in-Ok.ensures.kinds,
-    c.get_str.ensures ∙ first_value-rows (found_of c.in-Ok.matches) (codes "store") ∙ store_in-found _ _ _ c.in_ok-start_app.ensures.value (λ simple. (c.in-Ok.ensures.matches simple).0),
-  );
-  refused = tt;
+  value = IfOk-weaker c.started.result _ _ (λ start asks. starts-met _ _ _ _ start c.in_ok-start_app.ensures.value
+      (sym c.begins_with_help.ensures.value ∙ c.if-begins_with_help.false) c.in-Ok.ensures.kinds c.in-Ok.ensures.matches asks)
+      c.started.ensures.value;
+  refused = IfErr-weaker c.started.result _ _ (λ error none other. starts-none _ _ _ _ c.in_ok-start_app.ensures.value
+      (sym c.begins_with_help.ensures.value ∙ c.if-begins_with_help.false) c.in-Ok.ensures.kinds c.in-Ok.ensures.matches
+      (none other))
+      c.started.ensures.refused;
 }
 
 pub returns-in-DisplayHelp : goal.returns-in-DisplayHelp
@@ -25,7 +26,7 @@ returns c = record {
   value = tt;
   refused = λ other. (
     sym c.begins_with_help.ensures.value ∙ c.if-begins_with_help.false,
-    (
+    inl (
       kind_of c.in-Err.error,
       start_faults-failed _ _ c.in-Err.error c.in_ok-start_app.ensures.value c.in-Err.ensures.kinds other,
       λ is_help. c.in_default.not-DisplayHelp (c.kind.ensures ∙ is_help),
