@@ -1,6 +1,7 @@
 //! The program `wb`: the central office of an autobuilder network.
 #![tactic(auto)]
 
+mod serve;
 mod store;
 
 use std::alloc::{AllocError, Global};
@@ -59,11 +60,12 @@ fn say(rt: &impl Eprint, message: Message<'_>) {
     let _ = eprintln!(rt; "wb: {message}");
 }
 
-/// Answers the lines of the input, or says how the program is used or which it is.
+/// Answers the lines of the input or the requests on a port, or says how the program is used or which it is.
 ///
-/// Ends with 0 where all was accepted, or help or the version was asked for, with 1 after a refusal, with 2
-/// where a line or the program's own words are no command, and with 3 where a list cannot be read, where the store
-/// cannot be opened or failed, or where reading, writing or memory failed before the end of the input.
+/// Ends with 0 where all was accepted, where all connections were served, or where help or the version was asked for, with
+/// 1 after a refusal, with 2 where a line or the program's own words are no command, and with 3 where a list cannot be
+/// read, where the store cannot be opened or failed, where the port cannot be had, or where reading, writing or memory
+/// failed before the end of the input.
 fn main(rt: HostRuntime) -> ExitCode {
     let status = match words_of(&rt) {
         Some(words) => start(&rt, &words),
@@ -86,13 +88,47 @@ fn start(rt: &HostRuntime, arguments: &[String]) -> u8 {
         return said(rt.println(VERSION), status::ACCEPTED);
     }
     match start_of(rt.alloc(), &words) {
-        Ok(Start::Run { store: None }) => run(rt, &mut Office::new(rt.alloc())),
-        Ok(Start::Run { store: Some(file) }) => store::run_stored(rt, file),
+        Ok(Start::Run { store }) => open_for(rt, store, Work::Run),
+        Ok(Start::Serve {
+            store,
+            port,
+            requests,
+        }) => open_for(rt, store, Work::Serve { port, requests }),
         Ok(Start::Help) => said(rt.print(HELP), status::ACCEPTED),
         Err(error) => {
             let _ = rt.eprintln(error);
             answer_no_command(rt)
         }
+    }
+}
+
+/// What an office is opened for.
+#[derive(Clone, Copy)]
+pub(crate) enum Work {
+    /// To answer the lines of standard input.
+    Run,
+    /// To answer this many connections on this port.
+    Serve { port: u16, requests: u32 },
+}
+
+/// Has an office do its work, over the records in the file if one is named, and else over records in memory.
+fn open_for(rt: &HostRuntime, store: Option<&str>, work: Work) -> u8 {
+    match store {
+        Some(file) => store::open_for(rt, file, work),
+        None => act(rt, &mut Office::new(rt.alloc()), work, |_| false),
+    }
+}
+
+/// Has the office do this work.
+pub(crate) fn act<O: CarryOut>(
+    rt: &HostRuntime,
+    office: &mut O,
+    work: Work,
+    is_closed: impl Fn(&O) -> bool,
+) -> u8 {
+    match work {
+        Work::Run => run(rt, office),
+        Work::Serve { port, requests } => serve::serve(rt, office, port, requests, is_closed),
     }
 }
 

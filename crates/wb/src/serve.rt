@@ -1,34 +1,43 @@
-//! Requests of builders over HTTP, one connection after another.
-use std::net::{TcpListener, TcpStream};
+//! The office over HTTP, on a port of this machine.
+
+use std::alloc::Global;
+use std::io::{self, Read};
+use std::net::{Ipv4Addr, Shutdown, SocketAddr, TcpListener, TcpStream};
 use std::time::Duration;
 use wb_daemon::status;
 use wb_office::CarryOut;
 use wb_serve::serve_one;
 use wb_streams::{WatchedReader, WatchedWriter};
 
-/// How many seconds a read or a write of a connection may take; one that takes longer failed.
-const LIMIT_SECONDS: u64 = 30;
+/// How long one read or write of a connection may take; then it counts as one that failed.
+const TIME_LIMIT: Duration = Duration::from_secs(30);
 
-/// Serves this many connections on this port of 127.0.0.1, one after another, each with one exchange. One that cannot be
-/// accepted counts too. Ends with 0, or with 3 if the port cannot be listened on, which is said on standard error, and
-/// after the exchange that left the office closed.
+/// How long a client that was answered may take for the next bytes that nobody reads.
+const CLOSING_LIMIT: Duration = Duration::from_secs(1);
+
+/// How many reads are made of what a client sends after its answer.
+const CLOSING_READS: usize = 1024;
+
+/// Serves this many connections on the port of 127.0.0.1, one after another, and ends before if the office is closed then.
+/// A connection that cannot be accepted counts too.
 pub(crate) fn serve<O: CarryOut>(
     rt: &HostRuntime,
     office: &mut O,
-    is_closed: impl Fn(&O) -> bool,
     port: u16,
     requests: u32,
+    is_closed: impl Fn(&O) -> bool,
 ) -> u8 {
-    let listener = match TcpListener::bind(rt, ("127.0.0.1", port)) {
+    let address = SocketAddr::from((Ipv4Addr::LOCALHOST, port));
+    let listener = match TcpListener::bind(rt, address) {
         Ok(listener) => listener,
         Err(error) => {
-            let _ = eprintln!(rt; "wb: port {port} of 127.0.0.1 cannot be listened on: {error}");
+            let _ = eprintln!(rt; "wb: nothing can be served on port {port} of 127.0.0.1: {error}");
             return status::STOPPED;
         }
     };
     for _ in 0..requests {
         if let Ok((stream, _)) = listener.accept() {
-            serve_connection(rt, office, &stream);
+            serve_stream(rt.alloc(), office, &stream);
         }
         if is_closed(office) {
             return status::STOPPED;
@@ -37,14 +46,34 @@ pub(crate) fn serve<O: CarryOut>(
     status::ACCEPTED
 }
 
-/// Serves one exchange on the connection. One whose limits cannot be set is not served.
-fn serve_connection<O: CarryOut>(rt: &HostRuntime, office: &mut O, stream: &TcpStream) {
-    let limit = Some(Duration::from_secs(LIMIT_SECONDS));
-    if stream.set_read_timeout(limit).is_err() || stream.set_write_timeout(limit).is_err() {
+/// Answers the request of one connection, and closes the connection.
+fn serve_stream<O: CarryOut>(alloc: Global, office: &mut O, stream: &TcpStream) {
+    if limit_times(stream).is_err() {
         return;
     }
     let mut reader = WatchedReader::new(stream);
     let mut writer = WatchedWriter::new(stream);
-    // how it ended is the client's matter, which gets the answer or not
-    let _ = serve_one(rt.alloc(), office, &mut reader, &mut writer);
+    let _ = serve_one(alloc, office, &mut reader, &mut writer);
+    close(stream);
+}
+
+/// Gives each read and each write of the connection its limit of time.
+fn limit_times(stream: &TcpStream) -> io::Result<()> {
+    stream.set_read_timeout(Some(TIME_LIMIT))?;
+    stream.set_write_timeout(Some(TIME_LIMIT))
+}
+
+/// Closes the connection in stages, so that a client which is still sending gets its answer (RFC 9112, section 9.6).
+fn close(stream: &TcpStream) {
+    if stream.shutdown(Shutdown::Write).is_err() || stream.set_read_timeout(Some(CLOSING_LIMIT)).is_err() {
+        return;
+    }
+    let mut reader = stream;
+    let mut room = [0u8; 16384];
+    for _ in 0..CLOSING_READS {
+        match reader.read(&mut room) {
+            Ok(0) | Err(_) => return,
+            Ok(_) => {}
+        }
+    }
 }

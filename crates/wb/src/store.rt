@@ -1,6 +1,6 @@
-//! The run over records that a file keeps.
+//! The office over records that a file keeps.
 
-use crate::{run, said};
+use crate::{Work, act, said};
 use sqlite::{Connection, Error, ErrorCode};
 use std::fs::{File, OpenOptions, TryLockError};
 use std::io;
@@ -17,9 +17,9 @@ enum LockRefusal {
     Fault(StoreFault),
 }
 
-/// Answers the lines of standard input over the records in the file, which is made if it is not there, with a sum of
-/// each page. One program at a time has the file: it holds a lock on the file with this name and `.lock` behind it.
-pub(crate) fn run_stored(rt: &HostRuntime, file: &str) -> u8 {
+/// Has the office over the records in the file do its work. The file is made if it is not there, with a sum of each page.
+/// One program at a time has the file: it holds a lock on the file with this name and `.lock` behind it.
+pub(crate) fn open_for(rt: &HostRuntime, file: &str, work: Work) -> u8 {
     let _lock = match lock_of(rt, file) {
         Ok(lock) => lock,
         Err(LockRefusal::InUse) => return refuse_held(rt, file),
@@ -33,7 +33,7 @@ pub(crate) fn run_stored(rt: &HostRuntime, file: &str) -> u8 {
         Ok(office) => office,
         Err(fault) => return refuse_fault(rt, file, fault),
     };
-    let status = run(rt, &mut office);
+    let status = act(rt, &mut office, work, |office| office.closed());
     match office.close() {
         Ok(_) => status,
         Err(fault) => {
