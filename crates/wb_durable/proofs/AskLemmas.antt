@@ -51,6 +51,11 @@ pub mine-is : (machine : Machine) (builder : List ℕ) (rows : List KeyedRecord)
     → Ok (Mine builder rows) ≡ mine_in machine builder
 mine-is machine builder rows known held = sym (λ i. cond (known i) (Err UnknownBuilder) (Ok (Mine builder (keyed-entries held i))))
 
+-- a builder's name of which it is not so that it is malformed has its form
+pub has_form : (b : Bool) → not b ≡ false → b ≡ true
+has_form true is = refl
+has_form false is = cc
+
 -- ---- one query
 
 module _ {S : Type 0} {g : Ghosts S} {answer_of : Machine → Result Answer Refusal} {is_bad was_closed : Bool} {counted : ℕ} {old : Held S} where

@@ -22,6 +22,7 @@ fn office(alloc: Global) -> Result<Office, Fail> {
 }
 
 /// A record of those that the lines of the setup make.
+#[derive(Clone, Copy)]
 struct Held<'a> {
     arch: &'a str,
     source: &'a str,
