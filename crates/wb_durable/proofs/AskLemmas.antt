@@ -1,5 +1,5 @@
 -- What an office over tables answers to a query, and how it stands then.
-use Rattle.std.proofs.Common.{◌≡◌, ◌≢◌, ◌⊎◌, inl, inr, true, false, not, cond, Bool, ℕ, List, map as each, Option, is_some, Result, Ok, Err, IsTrue, IfOk, IfErr, refl, sym, ap, subst, ◌∙◌}
+use Rattle.std.proofs.Common.{◌≡◌, ◌≢◌, inl, inr, true, false, not, cond, Bool, ℕ, List, map as each, Option, is_some, Result, Ok, Err, IsTrue, IfOk, IfErr, refl, sym, ap, subst, ◌∙◌}
 use Rattle.std.proofs.lemmas.Bool.{both_ways}
 use Rattle.std.specs.FinMap as map
 use Rattle.sqlite_trees.specs.declared.store.Store.{Ghosts}
@@ -24,10 +24,10 @@ use Rattle.wb_office.specs.Ends.{is_of_store}
 use Rattle.wb_office.specs.Queries.{found_at, item_in, mine_in}
 use Rattle.wb_office.proofs.QueryLemmas.{keyed-entries}
 use Rattle.wb_tables.specs.Faults.{fault_of}
-use Rattle.wb_tables.specs.Settled.{IsSettled, IsBackAt}
+use Rattle.wb_tables.specs.Settled.{IsBackAt}
 use Rattle.wb_tables.proofs.SettledLemmas.{settled_back}
-use Rattle.wb_durable.specs.Asks.{Asks, FailsByName, IsAskedAt, IsAnswered, IsUnread}
-use Rattle.wb_durable.specs.Applies.{EndsWith, refusal_for}
+use Rattle.wb_durable.specs.Asks.{Asks, FailsByName, IsAskedAt, IsUnread}
+use Rattle.wb_durable.specs.Applies.{EndsWith}
 use Rattle.wb_durable.specs.Finds.{Finds}
 use Rattle.wb_durable.specs.Standing.{StandsAt, LeavesOne}
 use Rattle.wb_durable.proofs.AnswerLemmas.{found, not_found, was_clean}
