@@ -1,5 +1,5 @@
 -- What an office over tables answers to a query, and how it stands then.
-use Rattle.std.proofs.Common.{◌≡◌, ◌≢◌, ◌⊎◌, inl, inr, true, false, not, cond, Bool, ℕ, List, map as each, Option, is_some, Result, Ok, Err, IsTrue, IfOk, IfErr, refl, sym, ap, subst, ◌∙◌}
+use Rattle.std.proofs.Common.{◌≡◌, ◌≢◌, inl, inr, true, false, not, cond, Bool, ℕ, List, map as each, Option, is_some, Result, Ok, Err, IsTrue, IfOk, IfErr, refl, sym, ap, subst, ◌∙◌}
 use Rattle.std.proofs.lemmas.Bool.{both_ways}
 use Rattle.std.specs.FinMap as map
 use Rattle.sqlite_trees.specs.declared.store.Store.{Ghosts}
@@ -24,10 +24,10 @@ use Rattle.wb_office.specs.Ends.{is_of_store}
 use Rattle.wb_office.specs.Queries.{found_at, item_in, mine_in}
 use Rattle.wb_office.proofs.QueryLemmas.{keyed-entries}
 use Rattle.wb_tables.specs.Faults.{fault_of}
-use Rattle.wb_tables.specs.Settled.{IsSettled, IsBackAt}
+use Rattle.wb_tables.specs.Settled.{IsBackAt}
 use Rattle.wb_tables.proofs.SettledLemmas.{settled_back}
-use Rattle.wb_durable.specs.Asks.{Asks, FailsByName, IsAskedAt, IsAnswered, IsUnread}
-use Rattle.wb_durable.specs.Applies.{EndsWith, refusal_for}
+use Rattle.wb_durable.specs.Asks.{Asks, FailsByName, IsAskedAt, IsUnread}
+use Rattle.wb_durable.specs.Applies.{EndsWith}
 use Rattle.wb_durable.specs.Finds.{Finds}
 use Rattle.wb_durable.specs.Standing.{StandsAt, LeavesOne}
 use Rattle.wb_durable.proofs.AnswerLemmas.{found, not_found, was_clean}
@@ -50,6 +50,11 @@ mine_with builder records = Ok (Mine builder records)
 pub mine-is : (machine : Machine) (builder : List ℕ) (rows : List KeyedRecord) → is_unknown_builder machine builder ≡ false → each entry_of rows ≡ held_of machine builder
     → Ok (Mine builder rows) ≡ mine_in machine builder
 mine-is machine builder rows known held = sym (λ i. cond (known i) (Err UnknownBuilder) (Ok (Mine builder (keyed-entries held i))))
+
+-- a builder's name of which it is not so that it is malformed has its form
+pub has_form : (b : Bool) → not b ≡ false → b ≡ true
+has_form true is = refl
+has_form false is = cc
 
 -- ---- one query
 
@@ -76,13 +81,14 @@ module _ {S : Type 0} {g : Ghosts S} {answer_of : Machine → Result Answer Refu
     shut = λ closed. absurd (both_ways was_closed opened closed);
     memory = λ is. elim fails [ inl bad ↦ absurd (no_memory (sym bad.1 ∙ told is)) | inr none ↦ none.0 ];
     asked = λ clean machine stands _. elim fails [
-      inl bad ↦ inl (refuses machine bad.0 ∙ ap Err (sym bad.1), settled_at stands opened, opened)
+      | inl bad ↦ inl (refuses machine bad.0 ∙ ap Err (sym bad.1), settled_at stands opened, opened)
       | inr none ↦ inr (refusal, refl, inr (none.1, refl, opened))
     ];
   })
     where
       no_memory : ¬ (BadName ≡ Memory)
       no_memory is = cc
+
       told : {a b : Refusal} → ◌≡◌ {A = Result Answer Refusal} (Err a) (Err b) → a ≡ b
       told is = cc
 
@@ -109,15 +115,19 @@ module _ {S : Type 0} {g : Ghosts S} {answer_of : Machine → Result Answer Refu
     memory = λ is. is_good;
     asked = λ clean machine stands _.
         let failed = not_found g old at finds (ends.was_clean clean) (settled_at stands opened) in
-        inr (refusal, refl, inl (record {
-          error = e;
-          at = at;
-          failed = failed.0;
-          told = ends.told;
-          back = ends.back clean machine failed.1;
-          is_open = ends.is_open clean;
-          ends = ends.ends;
-        }));
+        inr (
+          refusal,
+          refl,
+          inl (record {
+            error = e;
+            at = at;
+            failed = failed.0;
+            told = ends.told;
+            back = ends.back clean machine failed.1;
+            is_open = ends.is_open clean;
+            ends = ends.ends;
+          }),
+        );
   }
 
 -- ---- the office that answers queries
@@ -178,8 +188,10 @@ module _ {S : Type 0} {g : Ghosts S} {answer_of : Machine → Result Answer Refu
     where
       shut_plain : (Closed ≢ Memory) × (is_of_store Closed ≡ false) → ⊥
       shut_plain other = cc
+
       plain_at : {refusal : Refusal} → r ≡ Err refusal → (refusal ≢ Memory) × (is_of_store refusal ≡ false)
       plain_at failed = subst (λ x. IfErr x (λ refusal. (refusal ≢ Memory) × (is_of_store refusal ≡ false))) (sym is ∙ failed) plain
+
       at_answer : IsAskedAt g answer_of machine old is_closed new r → answer_of machine ≡ result
       at_answer (inl answered) = answered.0 ∙ is
       at_answer (inr (refusal, failed, inl unread)) =
@@ -230,6 +242,7 @@ module _ {S : Type 0} {g : Ghosts S} {answer_of : Machine → Result Answer Refu
     where
       store_is_not_closed : ¬ ◌≡◌ {A = Result Answer Refusal} (Err (Store f)) (Err Closed)
       store_is_not_closed same = cc
+
       closes : IsAskedAt g answer_of machine old is_closed new r → is_closed ≡ true
       closes (inl answered) = absurd (of_state machine (Store f) refl (answered.0 ∙ is))
       closes (inr (refusal, failed, inl unread)) = unread.ends (ap is_of_store (told (sym failed ∙ is)))

@@ -22,6 +22,7 @@ fn office(alloc: Global) -> Result<Office, Fail> {
 }
 
 /// A record of those that the lines of the setup make.
+#[derive(Clone, Copy)]
 struct Held<'a> {
     arch: &'a str,
     source: &'a str,
@@ -58,7 +59,10 @@ fn assert_held(rt: &impl Abort, row: &KeyedRecord, want: &Held) {
     assert_eq!(rt; row.arch.as_str(), want.arch);
     assert_eq!(rt; row.source.as_str(), want.source);
     assert_eq!(rt; row.current.version.text(), want.version);
-    assert_eq!(rt; row.current.holder.as_ref().map(Text::as_str), Some(want.holder));
+    assert_eq!(rt;
+        row.current.holder.as_ref().map(Text::as_str),
+        Some(want.holder)
+    );
     assert_eq!(rt; row.current.take, Some(want.take));
 }
 
@@ -127,7 +131,11 @@ fn builders_hold_what_they_took(rt: HostRuntime) -> Result<(), Fail> {
 #[test]
 fn builders_are_refused(rt: HostRuntime) -> Result<(), Fail> {
     let office = office(rt.alloc())?;
-    for (builder, want) in [("", "BadName"), ("b 4", "BadName"), ("b4", "UnknownBuilder")] {
+    for (builder, want) in [
+        ("", "BadName"),
+        ("b 4", "BadName"),
+        ("b4", "UnknownBuilder"),
+    ] {
         let answer = office.mine(builder);
         assert_eq!(rt; refused(&answer), want, "{builder}");
     }

@@ -1,6 +1,5 @@
 use Rattle.std.proofs.Common.{not, sym, ap, ◌∙◌, Ok, Err}
 use Rattle.deb_text.specs.Lists.{is_nonempty}
-use Rattle.wb_office.specs.declared.query.Answer.TheVariants.{Mine}
 use Rattle.wb_tables.proofs.ReadLemmas.{handed_on}
 use Rattle.wb_durable.proofs.AskLemmas.{mine-is, mine_with}
 use Rattle.wb_durable.proofs.FindsLemmas.{fails_to_find, finds_looked_up, finds_then, then_fails}
