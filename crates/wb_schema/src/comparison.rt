@@ -58,7 +58,8 @@ pub(crate) fn is_free(table: &Table) -> bool
 
 /// Whether the table has no check, and one reference: the column at this place, to an architecture.
 pub(crate) fn refers_to_arch(table: &Table, place: usize) -> bool
-    ensures value { IsTrue result ↔ ((table.now.checks ≡ []) × (table.now.references ≡ names_arch place ∷ [])) }
+    ensures value { IsTrue result
+        ↔ ((table.now.checks ≡ []) × (table.now.references ≡ names_arch place ∷ [])) }
 {
     are_no_terms(&table.checks) && is_one_reference(table.references.as_slice(), place)
 }
