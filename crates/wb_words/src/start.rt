@@ -136,7 +136,7 @@ fn start_named<'a>(
     name: &str,
     arguments: &ArgMatches<'_>,
 ) -> Option<Start<'a>>
-    ensures some { IfSome result (Names (option_map (λ file. file.now) store)
+    ensures some { IfSome result (Names (option_map (λ file. file.now) store.entry)
         (name.now, rows_of (found_of arguments.now))) }
     ensures none { IfNone result (NamesNone (name.now, rows_of (found_of arguments.now))) }
 {

@@ -10,9 +10,9 @@ use Rattle.wb_words.proofs.laws.services_are_read.Goals as goal
 pub returns : goal.returns
 unfolding start_faults store_in subcommand_in start_app service_of limited_number_of number_of number_in word_of words_on_literals clap_on_literals
 returns c = record {
-  serve = (refl, refl, refl, refl);
-  order = (refl, refl, refl, refl);
-  greatest = (refl, refl, refl, refl);
+  serve = (refl, refl, (refl, refl));
+  order = (refl, refl, (refl, refl));
+  greatest = (refl, refl, (refl, refl));
   file = refl;
   help = inr (inl refl);
   bare = (refl, inl (kind.MissingRequiredArgument, inl refl, λ e. cc));

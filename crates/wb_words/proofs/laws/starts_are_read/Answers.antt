@@ -7,7 +7,7 @@ use Rattle.wb_words.proofs.laws.starts_are_read.Goals as goal
 pub returns : goal.returns
 unfolding start_faults store_in subcommand_in start_app clap_on_literals
 returns c = record {
-  run = (refl, refl, refl, refl);
+  run = (refl, refl, (refl, refl));
   stored = refl;
   file = refl;
   equals = refl;
