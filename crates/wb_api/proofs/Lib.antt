@@ -1,5 +1,5 @@
 mod EncodingLemmas
 pub mod OneLineLemmas
-mod PlainLemmas
+pub mod PlainLemmas
 mod QueryLemmas
 pub mod QueryLineLemmas

@@ -1,4 +1,5 @@
 pub mod Encoding
+pub mod Memory
 pub mod Queries
 pub mod QueryValues
 pub mod Values
