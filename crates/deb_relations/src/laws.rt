@@ -92,17 +92,14 @@ pub fn strays_stand_in_the_text()
 /// and when they are satisfied.
 /// Source: Debian Policy 7.1.
 pub fn examples_of_relations()
-    ensures sources {
-        (left_for i386 (codes "kernel-headers-2.2.10 [!hurd-i386], hurd-dev [hurd-i386], gnumach-dev [hurd-i386]")
+    ensures sources { (left_for i386 (codes "kernel-headers-2.2.10 [!hurd-i386], hurd-dev [hurd-i386], gnumach-dev [hurd-i386]")
         ≡ Some (codes "kernel-headers-2.2.10"))
         × (left_for hurd_i386 (codes "kernel-headers-2.2.10 [!hurd-i386], hurd-dev [hurd-i386], gnumach-dev [hurd-i386]")
         ≡ Some (codes "hurd-dev, gnumach-dev")) }
-    ensures alternatives {
-        (left_for i386 (codes "foo [!i386] | bar [!amd64]") ≡ Some (codes "bar"))
+    ensures alternatives { (left_for i386 (codes "foo [!i386] | bar [!amd64]") ≡ Some (codes "bar"))
         × (left_for amd64 (codes "foo [!i386] | bar [!amd64]") ≡ Some (codes "foo"))
         × (left_for hurd_i386 (codes "foo [!i386] | bar [!amd64]") ≡ Some (codes "foo | bar")) }
-    ensures wildcards {
-        (left_for amd64 (codes "foo [linux-any], bar [any-i386], baz [!linux-any]") ≡ Some (codes "foo"))
+    ensures wildcards { (left_for amd64 (codes "foo [linux-any], bar [any-i386], baz [!linux-any]") ≡ Some (codes "foo"))
         × (left_for i386 (codes "foo [linux-any], bar [any-i386], baz [!linux-any]") ≡ Some (codes "foo, bar"))
         × (left_for hurd_i386 (codes "foo [linux-any], bar [any-i386], baz [!linux-any]") ≡ Some (codes "bar, baz")) }
     ensures versions { (pairs : Pairs)
@@ -112,8 +109,7 @@ pub fn examples_of_relations()
         × (is_met pairs (reading_of (codes "libc6 (>= 2.10.1)")) ≡ Some false)
         × (is_met pairs (reading_of (codes "exim | libc6")) ≡ Some true)
         × (is_met pairs (reading_of (codes "exim, libc6")) ≡ Some false) }
-    ensures unread {
-        (left_for amd64 (codes "foo [i386") ≡ None)
+    ensures unread { (left_for amd64 (codes "foo [i386") ≡ None)
         × (left_for amd64 (codes "foo [i386 !amd64]") ≡ None)
         × (left_for amd64 (codes "foo (2.0)") ≡ None) }
 {}

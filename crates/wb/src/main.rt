@@ -89,11 +89,13 @@ fn start(rt: &HostRuntime, arguments: &[String]) -> u8 {
     }
     match start_of(rt.alloc(), &words) {
         Ok(Start::Run { store }) => open_for(rt, store, Work::Run),
-        Ok(Start::Serve {
-            store,
-            port,
-            requests,
-        }) => open_for(rt, store, Work::Serve { port, requests }),
+        Ok(
+            Start::Serve {
+                store,
+                port,
+                requests,
+            },
+        ) => open_for(rt, store, Work::Serve { port, requests }),
         Ok(Start::Help) => said(rt.print(HELP), status::ACCEPTED),
         Err(error) => {
             let _ = rt.eprintln(error);

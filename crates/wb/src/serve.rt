@@ -65,7 +65,9 @@ fn limit_times(stream: &TcpStream) -> io::Result<()> {
 
 /// Closes the connection in stages, so that a client which is still sending gets its answer (RFC 9112, section 9.6).
 fn close(stream: &TcpStream) {
-    if stream.shutdown(Shutdown::Write).is_err() || stream.set_read_timeout(Some(CLOSING_LIMIT)).is_err() {
+    if stream.shutdown(Shutdown::Write).is_err()
+        || stream.set_read_timeout(Some(CLOSING_LIMIT)).is_err()
+    {
         return;
     }
     let mut reader = stream;

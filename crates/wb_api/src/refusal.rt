@@ -54,10 +54,7 @@ fn constant_text(refusal: &Refusal) -> Option<&'static str>
 ///
 /// The only error is that there is no memory for the text. That of a refusal that tells nothing further is a constant,
 /// which takes no memory.
-pub fn try_refusal_json(
-    alloc: Global,
-    refusal: &Refusal,
-) -> Result<CowStr<'static>, AllocError>
+pub fn try_refusal_json(alloc: Global, refusal: &Refusal) -> Result<CowStr<'static>, AllocError>
     ensures value { IfOk result (λ text. cow_str_bytes text ≡ refusal_text refusal.now) }
     ensures plain { is_plain refusal.now ≡ true
         → (text : AnyCowStr AnyGlobal) × (result ≡ Ok text) × IsBorrowedStr text }

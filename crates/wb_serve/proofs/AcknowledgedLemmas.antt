@@ -65,7 +65,6 @@ sends-ok response old new result sent (inr e) = let told = subst (λ r. Sends re
 silent-not_ok : (result other : Served) → result ≡ other → ¬ (TellsOk other) → ¬ (TellsOk result)
 silent-not_ok result other e none tells = none (subst TellsOk e tells)
 
-
 failed-not_ok : ¬ (TellsOk served.ReadFailed)
 failed-not_ok (inl e) = cc
 failed-not_ok (inr e) = cc

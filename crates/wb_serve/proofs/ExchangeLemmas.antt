@@ -36,8 +36,11 @@ pub reply-answered : (may_want : Command → Type 0) (machine : Machine) (comman
     → (step machine command).0 ≡ Ok reply → text ≡ reply_text (name_of_command command) reply
     → IsCommandAnswer may_want machine command (record { status = code.Ok; body = text; machine = (step machine command).1 }) Open
 reply-answered may_want machine command reply text e said =
-    inl (inl (ap (λ t. record { status = code.Ok; body = t; machine = (step machine command).1 }) said
-    ∙ sym (ap (λ (r : Result Reply Refusal). reply_response (name_of_command command) r (step machine command).1) e)), refl)
+    inl (
+      inl (ap (λ t. record { status = code.Ok; body = t; machine = (step machine command).1 }) said
+          ∙ sym (ap (λ (r : Result Reply Refusal). reply_response (name_of_command command) r (step machine command).1) e)),
+      refl,
+    )
 
 -- a refusal of the machine is answered, or that there is no memory for its text
 pub refusal-answered : (may_want : Command → Type 0) (machine : Machine) (command : Command) (refusal : Refusal) (response : Response)

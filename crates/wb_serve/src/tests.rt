@@ -182,7 +182,13 @@ fn a_builder_is_answered(rt: HostRuntime) -> Result<(), Fail> {
 fn a_request_is_answered_however_it_is_cut(rt: HostRuntime) -> Result<(), Fail> {
     for length in 0..NEXT.len() + 1 {
         let mut office = waiting_office(&rt, rt.alloc())?;
-        let (ended, _) = served(rt.alloc(), &mut office, &NEXT.as_bytes()[..length], 7, 100_000);
+        let (ended, _) = served(
+            rt.alloc(),
+            &mut office,
+            &NEXT.as_bytes()[..length],
+            7,
+            100_000,
+        );
         let want = if length == 0 {
             Served::Nothing
         } else if length < 94 {
@@ -193,7 +199,11 @@ fn a_request_is_answered_however_it_is_cut(rt: HostRuntime) -> Result<(), Fail> 
             Served::Answered { status: Status::Ok }
         };
         assert_eq!(rt; ended, want, "after {length} bytes");
-        assert_eq!(rt; office.accepted(), if length < 94 { 3 } else { 4 }, "after {length} bytes");
+        assert_eq!(rt;
+            office.accepted(),
+            if length < 94 { 3 } else { 4 },
+            "after {length} bytes"
+        );
     }
     Ok(())
 }

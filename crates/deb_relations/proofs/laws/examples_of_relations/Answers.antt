@@ -37,8 +37,9 @@ unfolding arch_matches is_not_blank is_white is_profile_char is_op_char is_quali
 returns-clause-versions c = λ pairs here none.
     let least : List ℕ → Option Restriction = λ version. Some (record { op = LaterOrEqual; version = version }) in
     let met : Option Restriction → List (List ℕ) → Bool = λ asked versions. list_any (meets_restriction asked) versions in
-    let libc : List (List ℕ) = versions_of pairs (codes "libc6") in
-    ( ap (λ versions. Some ((met (least (codes "2.2.1")) versions || false) && true)) here
-    , ap (λ versions. Some ((met (least (codes "2.10.1")) versions || false) && true)) here
-    , ap (λ versions. Some ((met None versions || (met None libc || false)) && true)) none ∙ ap (λ versions. Some ((met None versions || false) && true)) here
-    , ap (λ versions. Some ((met None versions || false) && ((met None libc || false) && true))) none )
+    let libc : List (List ℕ) = versions_of pairs (codes "libc6") in (
+      ap (λ versions. Some ((met (least (codes "2.2.1")) versions || false) && true)) here,
+      ap (λ versions. Some ((met (least (codes "2.10.1")) versions || false) && true)) here,
+      ap (λ versions. Some ((met None versions || (met None libc || false)) && true)) none ∙ ap (λ versions. Some ((met None versions || false) && true)) here,
+      ap (λ versions. Some ((met None versions || false) && ((met None libc || false) && true))) none,
+    )

@@ -48,34 +48,34 @@ returns-clause-value g c =
     → Leads g.O.CarryOut.is_clean g.O.CarryOut.is_closed g.O.CarryOut.stands_at g.O.CarryOut.leaves c.args.office.now c.carry_out.new.self (λ before after standing.
     IsCommandAnswer g.O.CarryOut.may_want_memory before c.args.command.now (response_of_answer c.refusal_answer.result after) standing)) [
       | true ↦ λ is before clean stands. elim (is_of_store-cases c.in-Err.refusal is) [
-          | inl closed ↦ (
-            before,
-            Shut,
-            c.in-Err.ensures.closed before clean stands (ap Err closed),
-            inr (inl (subst (λ refusal. IsRefusal before refusal (response_of_answer c.refusal_answer.result before)) closed (c.refusal_answer.ensures.value before), refl)),
-          )
-          | inr failed ↦ (
-            before,
-            InDoubt c.args.command.now,
-            c.in-Err.ensures.store before clean stands failed.0 (ap Err failed.1),
-            inr (inr (failed.0, subst (λ refusal. IsRefusal before refusal (response_of_answer c.refusal_answer.result before)) failed.1 (c.refusal_answer.ensures.value before), refl)),
-          )
-        ]
+        | inl closed ↦ (
+          before,
+          Shut,
+          c.in-Err.ensures.closed before clean stands (ap Err closed),
+          inr (inl (subst (λ refusal. IsRefusal before refusal (response_of_answer c.refusal_answer.result before)) closed (c.refusal_answer.ensures.value before), refl)),
+        )
+        | inr failed ↦ (
+          before,
+          InDoubt c.args.command.now,
+          c.in-Err.ensures.store before clean stands failed.0 (ap Err failed.1),
+          inr (inr (failed.0, subst (λ refusal. IsRefusal before refusal (response_of_answer c.refusal_answer.result before)) failed.1 (c.refusal_answer.ensures.value before), refl)),
+        )
+      ]
       | false ↦ λ other before clean stands. elim (refusal-cases c.in-Err.refusal) [
-          | inl is ↦
-              let wants = c.in-Err.ensures.memory before clean stands (ap Err is) in (
-                before,
-                Open,
-                wants.1,
-                memory-answered g.O.CarryOut.may_want_memory before c.args.command.now _ wants.0
-                    (subst (λ refusal. IsRefusal before refusal (response_of_answer c.refusal_answer.result before)) is (c.refusal_answer.ensures.value before)),
-              )
-          | inr machine ↦
-              let refused = c.in-Err.ensures.refused before clean stands machine other in (
-                before,
-                Open,
-                refused.1,
-                refusal-answered g.O.CarryOut.may_want_memory before c.args.command.now c.in-Err.refusal _ refused.0 (c.refusal_answer.ensures.value before),
-              )
-        ]
+        | inl is ↦
+            let wants = c.in-Err.ensures.memory before clean stands (ap Err is) in (
+              before,
+              Open,
+              wants.1,
+              memory-answered g.O.CarryOut.may_want_memory before c.args.command.now _ wants.0
+                  (subst (λ refusal. IsRefusal before refusal (response_of_answer c.refusal_answer.result before)) is (c.refusal_answer.ensures.value before)),
+            )
+        | inr machine ↦
+            let refused = c.in-Err.ensures.refused before clean stands machine other in (
+              before,
+              Open,
+              refused.1,
+              refusal-answered g.O.CarryOut.may_want_memory before c.args.command.now c.in-Err.refusal _ refused.0 (c.refusal_answer.ensures.value before),
+            )
+      ]
     ]) refl
