@@ -9,11 +9,11 @@ use wb_office::CarryOut;
 use wb_serve::serve_one;
 use wb_streams::{WatchedReader, WatchedWriter};
 
-/// How long one read or write of a connection may take; then it counts as one that failed.
-const TIME_LIMIT: Duration = Duration::from_secs(30);
+/// How many seconds one read or write of a connection may take; then it counts as one that failed.
+const LIMIT_SECONDS: u64 = 30;
 
-/// How long a client that was answered may take for the next bytes that nobody reads.
-const CLOSING_LIMIT: Duration = Duration::from_secs(1);
+/// How many seconds a client that was answered may take for the next bytes, which nobody reads.
+const CLOSING_SECONDS: u64 = 1;
 
 /// How many reads are made of what a client sends after its answer.
 const CLOSING_READS: usize = 1024;
@@ -59,14 +59,17 @@ fn serve_stream<O: CarryOut>(alloc: Global, office: &mut O, stream: &TcpStream) 
 
 /// Gives each read and each write of the connection its limit of time.
 fn limit_times(stream: &TcpStream) -> io::Result<()> {
-    stream.set_read_timeout(Some(TIME_LIMIT))?;
-    stream.set_write_timeout(Some(TIME_LIMIT))
+    let limit = Some(Duration::from_secs(LIMIT_SECONDS));
+    stream.set_read_timeout(limit)?;
+    stream.set_write_timeout(limit)
 }
 
 /// Closes the connection in stages, so that a client which is still sending gets its answer (RFC 9112, section 9.6).
 fn close(stream: &TcpStream) {
     if stream.shutdown(Shutdown::Write).is_err()
-        || stream.set_read_timeout(Some(CLOSING_LIMIT)).is_err()
+        || stream
+            .set_read_timeout(Some(Duration::from_secs(CLOSING_SECONDS)))
+            .is_err()
     {
         return;
     }
