@@ -4,6 +4,7 @@
 mod serve;
 mod store;
 
+use serve::MayClose;
 use std::alloc::{AllocError, Global};
 use std::io::{self, BufReader, Read};
 use std::process::ExitCode;
@@ -117,20 +118,15 @@ pub(crate) enum Work {
 fn open_for(rt: &HostRuntime, store: Option<&str>, work: Work) -> u8 {
     match store {
         Some(file) => store::open_for(rt, file, work),
-        None => act(rt, &mut Office::new(rt.alloc()), work, |_| false),
+        None => act(rt, &mut Office::new(rt.alloc()), work),
     }
 }
 
 /// Has the office do this work.
-pub(crate) fn act<O: CarryOut>(
-    rt: &HostRuntime,
-    office: &mut O,
-    work: Work,
-    is_closed: impl Fn(&O) -> bool,
-) -> u8 {
+pub(crate) fn act<O: CarryOut + MayClose>(rt: &HostRuntime, office: &mut O, work: Work) -> u8 {
     match work {
         Work::Run => run(rt, office),
-        Work::Serve { port, requests } => serve::serve(rt, office, port, requests, is_closed),
+        Work::Serve { port, requests } => serve::serve(rt, office, port, requests),
     }
 }
 

@@ -1,5 +1,6 @@
 //! The office over HTTP, on a port of this machine.
 
+use sqlite::Alter;
 use std::alloc::Global;
 use std::io::{self, Read};
 use std::net::{Ipv4Addr, Shutdown, SocketAddr, TcpListener, TcpStream};
@@ -18,14 +19,31 @@ const CLOSING_SECONDS: u64 = 1;
 /// How many reads are made of what a client sends after its answer.
 const CLOSING_READS: usize = 1024;
 
+/// An office that a fault of its store may close.
+pub(crate) trait MayClose {
+    /// Whether it is closed: it answers `Closed` until it is opened again.
+    fn is_closed(&self) -> bool;
+}
+
+impl MayClose for wb_office::Office {
+    fn is_closed(&self) -> bool {
+        false
+    }
+}
+
+impl<S: Alter + Drop> MayClose for wb_durable::Office<S> {
+    fn is_closed(&self) -> bool {
+        self.closed()
+    }
+}
+
 /// Serves this many connections on the port of 127.0.0.1, one after another, and ends before if the office is closed then.
 /// A connection that cannot be accepted counts too.
-pub(crate) fn serve<O: CarryOut>(
+pub(crate) fn serve<O: CarryOut + MayClose>(
     rt: &HostRuntime,
     office: &mut O,
     port: u16,
     requests: u32,
-    is_closed: impl Fn(&O) -> bool,
 ) -> u8 {
     let address = SocketAddr::from((Ipv4Addr::LOCALHOST, port));
     let listener = match TcpListener::bind(rt, address) {
@@ -39,7 +57,7 @@ pub(crate) fn serve<O: CarryOut>(
         if let Ok((stream, _)) = listener.accept() {
             serve_stream(rt.alloc(), office, &stream);
         }
-        if is_closed(office) {
+        if office.is_closed() {
             return status::STOPPED;
         }
     }

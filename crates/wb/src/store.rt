@@ -33,7 +33,7 @@ pub(crate) fn open_for(rt: &HostRuntime, file: &str, work: Work) -> u8 {
         Ok(office) => office,
         Err(fault) => return refuse_fault(rt, file, fault),
     };
-    let status = act(rt, &mut office, work, |office| office.closed());
+    let status = act(rt, &mut office, work);
     match office.close() {
         Ok(_) => status,
         Err(fault) => {
