@@ -1,5 +1,5 @@
 -- Lemmas on what the bytes of a connection ask for.
-use Rattle.std.proofs.Common.{◌≡◌, ◌∙◌, inl, inr, refl, ap, sym, subst, ℕ, ◌+◌, ◌-◌, ◌<◌, ◌≤◌, true, false, nat_le, List, [], ◌++◌, length, take, drop, map, Option, None, Some, IfSome, Result, Ok, Err, arith, append_assoc, append-nil, length-append}
+use Rattle.std.proofs.Common.{◌≡◌, ◌∙◌, inl, inr, refl, ap, sym, subst, ℕ, ◌+◌, ◌-◌, ◌<◌, ◌≤◌, Bool, true, false, nat_le, codes, List, [], ◌++◌, length, take, drop, map, Option, None, Some, IfSome, Result, Ok, Err, arith, append_assoc, append-nil, length-append}
 use Rattle.std.specs.Io.KnownBytes.{Consumes, IsAtEnd}
 use Rattle.std.proofs.lemmas.Bool.Decides.{nat_tests}
 use Rattle.std.proofs.lemmas.List.{take-append-le}
@@ -10,10 +10,17 @@ use Rattle.httparse.proofs.GrammarLemmas.{ReadsRequest-append}
 use Rattle.wb_http.specs.Commands.{command_of}
 use Rattle.wb_http.specs.Fields.{NameAndValue}
 use Rattle.wb_http.specs.Heads.{HasManyFields, IsHeadAt, IsMalformed, IsTooLarge, IsUnfinished, head_limit}
+use Rattle.wb_http.specs.Requests.{Answers, IsHead, Means, TakesMemory, WantsOr, asked, body_asked, query_wanted, wanted_by, wanted_of}
+use Rattle.wb_http.specs.Routes.{and_then, command_at, decoded_text, item_query, mine_query}
+use Rattle.wb_http.specs.declared.route.Query.{Query}
+use Rattle.wb_http.specs.declared.route.Query.TheVariants as query
+use Rattle.wb_http.specs.declared.request.Wanted.TheVariants as wanted
+use Rattle.wb_http.specs.declared.fault.Fault.{Fault}
+use Rattle.wb_http.specs.declared.fault.RequestError.TheVariants as error
 use Rattle.wb_http.specs.Outcomes.{GivesOr}
-use Rattle.wb_http.specs.Requests.{Answers, IsHead, Means, asked, body_asked, wanted_by, wanted_of}
-use Rattle.wb_http.specs.Routes.{and_then, command_at}
-use Rattle.wb_http.specs.declared.fault.Fault.TheVariants.{BadHead, BodyCut, HeadTooLarge}
+use Rattle.std.specs.Str.{bytes_eq, is_utf8}
+use Rattle.percent_encoding.specs.Percent.{percent_decode}
+use Rattle.wb_http.specs.declared.fault.Fault.TheVariants.{BadHead, BadPath, BodyCut, HeadTooLarge}
 use Rattle.wb_http.specs.declared.fault.RequestError.{RequestError}
 use Rattle.wb_http.specs.declared.request.Received.{Received}
 use Rattle.wb_http.specs.declared.request.Received.TheVariants as received
@@ -24,12 +31,60 @@ use Rattle.wb_http.specs.declared.route.CommandKind.{CommandKind}
 -- what is wanted by the parts of a head is what the head wants
 pub wanted_same : (result : Result Wanted RequestError) (head other : RequestHead) (method target : List ℕ) (fields : List NameAndValue)
     → head ≡ other → method ≡ other.method → target ≡ other.target → fields ≡ map name_and_value other.fields
-    → GivesOr result (wanted_by (command_at target) method target fields) → GivesOr result (wanted_of head)
+    → WantsOr result (wanted_by (command_at target) method target fields) → WantsOr result (wanted_of head)
 wanted_same result head other method target fields same em et ef h =
-    let one = subst (λ m. GivesOr result (wanted_by (command_at target) m target fields)) em h in
-    let two = subst (λ t. GivesOr result (wanted_by (command_at t) other.method t fields)) et one in
-    let three = subst (λ f. GivesOr result (wanted_by (command_at other.target) other.method other.target f)) ef two in
-    subst (λ k. GivesOr result (wanted_of k)) (sym same) three
+    let one = subst (λ m. WantsOr result (wanted_by (command_at target) m target fields)) em h in
+    let two = subst (λ t. WantsOr result (wanted_by (command_at t) other.method t fields)) et one in
+    let three = subst (λ f. WantsOr result (wanted_by (command_at other.target) other.method other.target f)) ef two in
+    subst (λ k. WantsOr result (wanted_of k)) (sym same) three
+
+-- ---- queries
+
+decoded_text-fault : (part : List ℕ) (fault : Fault) (b : Bool) → is_utf8 (percent_decode part) ≡ b → decoded_text part ≡ Err fault → fault ≡ BadPath
+unfolding decoded_text
+decoded_text-fault part fault true is e = let bad = rw is at e in cc
+decoded_text-fault part fault false is e = let bad = rw is at e in cc
+
+text_fault : (part : List ℕ) (fault : Fault) → decoded_text part ≡ Err fault → fault ≡ BadPath
+text_fault part fault e = decoded_text-fault part fault (is_utf8 (percent_decode part)) refl e
+
+-- the only fault that decoding has
+abbrev OnlyBadPath : {X : Type 0} → Result X Fault → Type 0
+OnlyBadPath what = (fault : Fault) → what ≡ Err fault → fault ≡ BadPath
+
+ok-only : {X : Type 0} (x : X) → OnlyBadPath (Ok x)
+ok-only x fault e = cc
+
+then-only : {X Y : Type 0} (what : Result X Fault) (next : X → Result Y Fault) → OnlyBadPath what → ((x : X) → OnlyBadPath (next x)) → OnlyBadPath (and_then what next)
+then-only (Ok x) next first then_ fault e = then_ x fault e
+then-only (Err other) next first then_ fault e = let same : other ≡ fault = cc in sym same ∙ first other refl
+
+item-only : (arch source : List ℕ) → OnlyBadPath (item_query arch source)
+unfolding item_query
+item-only arch source = then-only (decoded_text arch) _ (text_fault arch) (λ a. then-only (decoded_text source) _ (text_fault source) (λ s. ok-only (query.Item a s)))
+
+mine-only : (builder : List ℕ) → OnlyBadPath (mine_query builder)
+unfolding mine_query
+mine-only builder = then-only (decoded_text builder) _ (text_fault builder) (λ b. ok-only (query.Mine b))
+
+-- a query that could not be read is no wish, and memory ran out only while it was decoded
+wants-Err : (what : Result Query Fault) (error : RequestError) → OnlyBadPath what → GivesOr (Err error) what → WantsOr (Err error) (and_then what (λ q. Ok (wanted.Query q)))
+wants-Err (Ok q) (error.Fault fault) only gives = absurd (let e = gives in cc)
+wants-Err (Ok q) error.Memory only gives = tt
+wants-Err (Err other) (error.Fault fault) only gives = let same : other ≡ fault = cc in ap Err same
+wants-Err (Err other) error.Memory only gives = only other refl
+
+wants-method : (what : Result Query Fault) (method : List ℕ) (failed : RequestError) → bytes_eq method (codes "GET") ≡ true
+    → WantsOr (Err failed) (and_then what (λ q. Ok (wanted.Query q))) → WantsOr (Err failed) (query_wanted (Some what) method)
+wants-method what method failed get h = rw get h
+
+pub item_wants : (method arch source : List ℕ) (failed : RequestError) → bytes_eq method (codes "GET") ≡ true
+    → GivesOr (Err failed) (item_query arch source) → WantsOr (Err failed) (query_wanted (Some (item_query arch source)) method)
+item_wants method arch source failed get gives = wants-method (item_query arch source) method failed get (wants-Err (item_query arch source) failed (item-only arch source) gives)
+
+pub mine_wants : (method builder : List ℕ) (failed : RequestError) → bytes_eq method (codes "GET") ≡ true
+    → GivesOr (Err failed) (mine_query builder) → WantsOr (Err failed) (query_wanted (Some (mine_query builder)) method)
+mine_wants method builder failed get gives = wants-method (mine_query builder) method failed get (wants-Err (mine_query builder) failed (mine-only builder) gives)
 
 -- ---- bodies
 
@@ -82,23 +137,25 @@ IsHead-from seen left count head at within = record {
 }
 
 -- what follows a head is what the input asks for
-pub means_by : (input : List ℕ) (head : RequestHead) (rest : List ℕ) (result : Received) → IsHead input head rest → Answers (asked head rest) result → Means input result
-means_by input head rest received.Nothing is h = absurd h
-means_by input head rest received.Failed is h = tt
-means_by input head rest received.Memory is h = tt
-means_by input head rest (received.Refused fault) is h = inl (head, rest, is, h)
-means_by input head rest (received.Asked asks) is h = (head, rest, is, h)
+pub means_by : (input : List ℕ) (head : RequestHead) (rest : List ℕ) (result : Received) → IsHead input head rest → (result ≡ received.Memory → TakesMemory (wanted_of head))
+    → Answers (asked head rest) result → Means input result
+means_by input head rest received.Nothing is memory h = absurd h
+means_by input head rest received.Failed is memory h = tt
+means_by input head rest received.Memory is memory h = (head, rest, is, memory refl)
+means_by input head rest (received.Refused fault) is memory h = inl (head, rest, is, h)
+means_by input head rest (received.Asked asks) is memory h = (head, rest, is, h)
 
 -- a head came, and what follows it is known
 pub means_head : (old new : Option (List ℕ)) (seen : List ℕ) (count : ℕ) (head : RequestHead) (result : Received)
     → Consumes old new seen → length seen ≤ head_limit → IsHeadAt seen count head
+    → ((result ≡ received.Memory) → (k : RequestHead) → IsHeadAt seen count k → TakesMemory (wanted_of k))
     → IfSome new (λ left. (k : RequestHead) → IsHeadAt seen count k → Answers (asked k (drop count seen ++ left)) result)
     → IfSome old (λ input. Means input result)
-means_head None new seen count head result p within at h = tt
-means_head (Some l) None seen count head result p within at h = absurd p
-means_head (Some l) (Some r) seen count head result p within at h =
+means_head None new seen count head result p within at memory h = tt
+means_head (Some l) None seen count head result p within at memory h = absurd p
+means_head (Some l) (Some r) seen count head result p within at memory h =
     subst (λ x. Means x result) (sym p)
-    (means_by (seen ++ r) head (drop count seen ++ r) result (IsHead-from seen r count head at within) (h head at))
+    (means_by (seen ++ r) head (drop count seen ++ r) result (IsHead-from seen r count head at within) (λ is. memory is head at) (h head at))
 
 NeverHasRequest-append : (xs ys : List ℕ) → NeverHasRequest xs → NeverHasRequest (xs ++ ys)
 NeverHasRequest-append xs ys never = λ more. subst HasNoRequest (sym (append_assoc xs ys more)) (never (ys ++ more))
@@ -123,7 +180,7 @@ means_malformed (Some l) (Some r) seen p some (within, inr (short, none, end)) =
     let all : l ≡ seen = p ∙ ap (λ x. seen ++ x) end ∙ append-nil seen in
     subst (λ x. Means x (received.Refused BadHead)) (sym all) (inr (inl (refl, (some, inr (short, none)))))
 
-HasManyFields-append : (xs ys : List ℕ) → HasManyFields xs → HasManyFields (xs ++ ys)
+pub HasManyFields-append : (xs ys : List ℕ) → HasManyFields xs → HasManyFields (xs ++ ys)
 HasManyFields-append xs ys (over, exceeds) = (
   λ more head rest reads. over (ys ++ more) head rest (subst (λ b. ReadsRequest b head rest) (append_assoc xs ys more) reads),
   (exceeds.0, exceeds.1 ++ ys, ap (λ b. b ++ ys) exceeds.2 ∙ append_assoc exceeds.0 exceeds.1 ys, exceeds.3, exceeds.4, exceeds.5),

@@ -10,7 +10,9 @@ use Rattle.wb_http.specs.Fields.{NameAndValue, content_length, has_field, length
 use Rattle.wb_http.specs.Heads.{HasManyFields, IsUnfinished, field_limit, head_limit}
 use Rattle.wb_http.specs.Routes.{and_then, command_at, item_at, item_query, mine_at, mine_query}
 use Rattle.wb_http.specs.declared.fault.Fault.{Fault}
-use Rattle.wb_http.specs.declared.fault.Fault.TheVariants.{BadHead, HeadTooLarge, NoRoute, WrongMethod, NotSupported, BodyCut}
+use Rattle.wb_http.specs.declared.fault.Fault.TheVariants.{BadHead, BadPath, HeadTooLarge, NoRoute, WrongMethod, NotSupported, BodyCut}
+use Rattle.wb_http.specs.declared.fault.RequestError.{RequestError}
+use Rattle.wb_http.specs.declared.fault.RequestError.TheVariants as error
 use Rattle.wb_http.specs.declared.request.Received.{Received}
 use Rattle.wb_http.specs.declared.request.Received.TheVariants as received
 use Rattle.wb_http.specs.declared.request.Request.{Request}
@@ -44,6 +46,17 @@ wanted_by None method target fields = query_wanted (query_at target) method
 -- what a head asks for
 abbrev pub wanted_of : RequestHead → Result Wanted Fault
 wanted_of head = wanted_by (command_at head.target) head.method head.target (map name_and_value head.fields)
+
+-- a head whose wish takes memory: one without a fault, or one whose path is decoded before its fault is found
+abbrev pub TakesMemory : Result Wanted Fault → Type 0
+TakesMemory (Ok w) = ⊤
+TakesMemory (Err fault) = fault ≡ BadPath
+
+-- what a head asks for, or its fault; memory ran out only for what takes memory
+abbrev pub WantsOr : Result Wanted RequestError → Result Wanted Fault → Type 0
+WantsOr (Ok w) what = what ≡ Ok w
+WantsOr (Err (error.Fault fault)) what = what ≡ Err fault
+WantsOr (Err error.Memory) what = TakesMemory what
 
 -- what is asked for by a body of this many bytes at the front of what follows the head
 unfoldable pub body_asked : CommandKind → ℕ → List ℕ → Result Request Fault
@@ -98,11 +111,12 @@ Answers what received.Memory = ⊤
 Answers what (received.Refused fault) = what ≡ Err fault
 Answers what (received.Asked request) = what ≡ Ok request
 
--- what is received of an input: nothing only if it is empty, else what its head and what follows ask for, or the fault of a head
+-- what is received of an input: nothing only if it is empty, else what its head and what follows ask for, or the fault of a head;
+-- memory ran out only after a head that takes memory
 abbrev pub Means : List ℕ → Received → Type 0
 Means input received.Nothing = input ≡ []
 Means input received.Failed = ⊤
-Means input received.Memory = ⊤
+Means input received.Memory = (head : RequestHead) × (rest : List ℕ) × IsHead input head rest × TakesMemory (wanted_of head)
 Means input (received.Refused fault) = ((head : RequestHead) × (rest : List ℕ) × IsHead input head rest × (asked head rest ≡ Err fault))
     ⊎ HasHeadFault input fault
 Means input (received.Asked request) = (head : RequestHead) × (rest : List ℕ) × IsHead input head rest × (asked head rest ≡ Ok request)

@@ -1,11 +1,14 @@
 //! Laws of the definitions, each on a function with nothing to run.
-ghost use Rattle.std.specs.Prelude.{◌≡◌, ℕ, pos, neg_ℤ, List, codes, None, Some, Ok, Err};
+ghost use Rattle.std.specs.Prelude.{◌≡◌, ℕ, ◌++◌, pos, neg_ℤ, List, codes, None, Some, Ok, Err};
 ghost use Rattle.httparse.specs.Grammar.{RequestHead};
 ghost use Rattle.wb_states.specs.Forms.{Attempted, BuildPriority};
 ghost use Rattle.wb_http.specs.Commands.{value_in};
-ghost use Rattle.wb_http.specs.Requests.{Answers, asked, IsHead, Means, posted};
-ghost use Rattle.wb_http.specs.declared.fault.Fault.TheVariants.{BadBody};
+ghost use Rattle.wb_http.specs.Requests.{Answers, asked, IsHead, Means, posted, TakesMemory, wanted_of};
+ghost use Rattle.wb_http.specs.declared.fault.Fault.TheVariants.{BadBody, BadHead, BodyCut};
+ghost use Rattle.wb_http.specs.declared.fault.Fault.{Fault as AnyFault};
 ghost use Rattle.wb_http.specs.declared.request.Received.{Received as AnyReceived};
+ghost use Rattle.wb_http.specs.declared.request.Received.TheVariants.{Asked, Memory, Refused};
+ghost use Rattle.wb_http.specs.declared.request.Request.{Request as AnyRequest};
 ghost use Rattle.wb_http.specs.declared.request.Request.TheVariants.{Command};
 
 /// An input that begins with a head within the limits is received as what this head and the bytes after it
@@ -14,6 +17,18 @@ ghost use Rattle.wb_http.specs.declared.request.Request.TheVariants.{Command};
 pub fn a_head_decides()
     ensures value { (input : List ℕ) (head : RequestHead) (rest : List ℕ) (received : AnyReceived)
         → IsHead input head rest → Means input received → Answers (asked head rest) received }
+    // memory runs out only where what the head asks for takes some
+    ensures memory { (input : List ℕ) (head : RequestHead) (rest : List ℕ)
+        → IsHead input head rest → Means input Memory → TakesMemory (wanted_of head) }
+{}
+
+/// What follows a request plays no part: a request is the same request with any bytes after it, and so is the fault of
+/// one, unless it is that the input ended within the head or the body (RFC 9112, section 6.3).
+pub fn what_follows_plays_no_part()
+    ensures asked { (input more : List ℕ) (request : AnyRequest)
+        → Means input (Asked request) → Means (input ++ more) (Asked request) }
+    ensures refused { (input more : List ℕ) (fault : AnyFault) → ¬ (fault ≡ BodyCut) → ¬ (fault ≡ BadHead)
+        → Means input (Refused fault) → Means (input ++ more) (Refused fault) }
 {}
 
 /// The report of a failed build and a build priority are commands, each with its own path and keys.

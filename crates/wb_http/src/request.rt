@@ -1,13 +1,13 @@
 //! A request (RFC 9112, section 2.1), read from a stream.
-ghost use Rattle.std.specs.Prelude.{◌≡◌, ℕ, ◌≤◌, ◌++◌, drop, length, IfSome, map};
+ghost use Rattle.std.specs.Prelude.{◌≡◌, ℕ, ◌≤◌, ◌++◌, drop, length, IfSome, map, Some};
 ghost use Rattle.httparse.specs.Borrowed.{header_parts};
 ghost use Rattle.httparse.specs.Grammar.{RequestHead};
 ghost use Rattle.wb_streams.specs.Streams.{Flags};
 ghost use Rattle.wb_http.specs.Heads.{IsHeadAt};
-ghost use Rattle.wb_http.specs.Outcomes.{GivesOr};
 ghost use Rattle.wb_http.specs.Requests.{Answers, asked, body_asked, command_wanted, is_failed, Means};
-ghost use Rattle.wb_http.specs.Requests.{query_at, query_wanted, wanted_by, wanted_of};
-ghost use Rattle.wb_http.specs.Routes.{command_at};
+ghost use Rattle.wb_http.specs.Requests.{query_at, query_wanted, TakesMemory, wanted_by, wanted_of, WantsOr};
+ghost use Rattle.wb_http.specs.declared.request.Received.TheVariants as received;
+ghost use Rattle.wb_http.specs.Routes.{command_at, item_query, mine_query};
 
 use crate::body::{BodyRead, read_body};
 use crate::command::command_of;
@@ -72,32 +72,53 @@ fn command_wanted(kind: CommandKind, method: &str, fields: &[Header<'_>]) -> Res
     }
 }
 
+/// What the head of a query for an item asks for, of parts as they are written. The errors are those of its method and
+/// of the parts, and that memory ran out.
+#[tactic(auto, using(crate::proofs::RequestLemmas::item_wants))]
+fn item_wanted(
+    alloc: Global,
+    method: &str,
+    arch: &[u8],
+    source: &[u8],
+) -> Result<Wanted, RequestError>
+    ensures value { WantsOr result (query_wanted (Some (item_query arch.now source.now)) method.now) }
+{
+    if method != "GET" {
+        return Err(RequestError::Fault(Fault::WrongMethod));
+    }
+    match item(alloc, arch, source) {
+        Ok(query) => Ok(Wanted::Query(query)),
+        Err(error) => Err(error),
+    }
+}
+
+/// What the head of a query for what a builder holds asks for, of a part as it is written. The errors are those of its
+/// method and of the part, and that memory ran out.
+#[tactic(auto, using(crate::proofs::RequestLemmas::mine_wants))]
+fn mine_wanted(alloc: Global, method: &str, builder: &[u8]) -> Result<Wanted, RequestError>
+    ensures value { WantsOr result (query_wanted (Some (mine_query builder.now)) method.now) }
+{
+    if method != "GET" {
+        return Err(RequestError::Fault(Fault::WrongMethod));
+    }
+    match mine(alloc, builder) {
+        Ok(query) => Ok(Wanted::Query(query)),
+        Err(error) => Err(error),
+    }
+}
+
 /// What the head of a query asks for. The errors are that no query has the target, those of its method and
 /// of the parts of its path, and that memory ran out.
 #[tactic(auto, unfolding(crate::specs::Requests::query_at))]
 fn query_wanted(alloc: Global, method: &str, target: &str) -> Result<Wanted, RequestError>
-    ensures value { GivesOr result (query_wanted (query_at target.now) method.now) }
+    ensures value { WantsOr result (query_wanted (query_at target.now) method.now) }
 {
-    let query = match item_at(target.as_bytes()) {
-        Some((arch, source)) => {
-            if method != "GET" {
-                return Err(RequestError::Fault(Fault::WrongMethod));
-            }
-            item(alloc, arch, source)
-        }
+    match item_at(target.as_bytes()) {
+        Some((arch, source)) => item_wanted(alloc, method, arch, source),
         None => match mine_at(target.as_bytes()) {
-            Some(builder) => {
-                if method != "GET" {
-                    return Err(RequestError::Fault(Fault::WrongMethod));
-                }
-                mine(alloc, builder)
-            }
-            None => return Err(RequestError::Fault(Fault::NoRoute)),
+            Some(builder) => mine_wanted(alloc, method, builder),
+            None => Err(RequestError::Fault(Fault::NoRoute)),
         },
-    };
-    match query {
-        Ok(query) => Ok(Wanted::Query(query)),
-        Err(error) => Err(error),
     }
 }
 
@@ -108,7 +129,7 @@ fn wanted_by(
     target: &str,
     fields: &[Header<'_>],
 ) -> Result<Wanted, RequestError>
-    ensures value { GivesOr result
+    ensures value { WantsOr result
         (wanted_by (command_at target.now) method.now target.now (map header_parts fields.now)) }
 {
     match command_at(target) {
@@ -123,7 +144,7 @@ fn wanted_by(
 /// What the head at the front of the bytes asks for.
 fn wanted_of(alloc: Global, bytes: &[u8]) -> Result<Wanted, RequestError>
     ensures value { (count : ℕ) (head : RequestHead) → IsHeadAt bytes.now count head
-        → GivesOr result (wanted_of head) }
+        → WantsOr result (wanted_of head) }
 {
     let mut fields = [EMPTY_HEADER; FIELD_LIMIT];
     let mut request = httparse::Request::new(&mut fields);
@@ -170,6 +191,8 @@ fn receive_rest<R: Read + Drop>(
     requires { count ≤ length already.now }
     ensures value { IfSome reader.old.bytes (λ left. (head : RequestHead) → IsHeadAt already.now count head
         → Answers (asked head (drop count already.now ++ left)) result) }
+    ensures memory { result ≡ received.Memory → (head : RequestHead) → IsHeadAt already.now count head
+        → TakesMemory (wanted_of head) }
     ensures failed { Flags (is_failed result) reader.old reader.new }
 {
     match wanted_of(alloc, already) {

@@ -1,5 +1,5 @@
 -- What a status of 200 says of the office.
-use Rattle.std.proofs.Common.{◌≡◌, ℕ, List, Option, Result, Ok, Err, IsOk, ◌⊎◌, inl, inr, refl, sym, ap, ◌∙◌, subst}
+use Rattle.std.proofs.Common.{◌≡◌, ℕ, List, Option, Result, Ok, Err, IsOk, inl, inr, refl, sym, ap, ◌∙◌, subst}
 use Rattle.wb_states.specs.Commands.{name_of_command}
 use Rattle.wb_states.specs.Machine.{Machine}
 use Rattle.wb_states.specs.declared.command.Command.{Command}
@@ -15,12 +15,12 @@ use Rattle.wb_http.specs.declared.request.Received.TheVariants as received
 use Rattle.wb_http.specs.declared.request.Request.{Request}
 use Rattle.wb_http.specs.declared.request.Request.TheVariants as request
 use Rattle.wb_http.specs.declared.status.Status.TheVariants as code
-use Rattle.wb_serve.specs.Exchange.{Exchanges, IsAnswer, IsRefusal, Response, Responds, Sends, TellsOk, command_response, memory_response, reply_response, status_of_refusal}
+use Rattle.wb_serve.specs.Exchange.{Exchanges, IsAnswer, IsRefusal, Response, Responds, Sends, TellsOk, memory_response, reply_response, status_of_refusal}
 use Rattle.wb_serve.specs.declared.serve.Served.{Served}
 use Rattle.wb_serve.specs.declared.serve.Served.TheVariants as served
 
 -- no refusal is told with 200
-refusal-not_ok : (refusal : Refusal) → ¬ (status_of_refusal refusal ≡ code.Ok)
+pub refusal-not_ok : (refusal : Refusal) → ¬ (status_of_refusal refusal ≡ code.Ok)
 refusal-not_ok UnknownArch e = cc
 refusal-not_ok UnknownBuilder e = cc
 refusal-not_ok WrongArch e = cc
@@ -43,10 +43,10 @@ refusal-not_ok Closed e = cc
 refusal-not_ok Memory e = cc
 refusal-not_ok (Store fault) e = cc
 
-memory-not_ok : (machine : Machine) (response : Response) → response ≡ memory_response machine → ¬ (response.status ≡ code.Ok)
+pub memory-not_ok : (machine : Machine) (response : Response) → response ≡ memory_response machine → ¬ (response.status ≡ code.Ok)
 memory-not_ok machine response same e = refusal-not_ok Memory (sym (ap (λ (r : Response). r.status) same) ∙ e)
 
-is_refusal-not_ok : (machine : Machine) (refusal : Refusal) (response : Response) → IsRefusal machine refusal response → ¬ (response.status ≡ code.Ok)
+pub is_refusal-not_ok : (machine : Machine) (refusal : Refusal) (response : Response) → IsRefusal machine refusal response → ¬ (response.status ≡ code.Ok)
 is_refusal-not_ok machine refusal response (inl same) e = refusal-not_ok refusal (sym (ap (λ (r : Response). r.status) same) ∙ e)
 is_refusal-not_ok machine refusal response (inr (long, same)) e = memory-not_ok machine response same e
 
@@ -57,7 +57,7 @@ reply-ok name (Ok reply) after e = (refl, refl)
 reply-ok name (Err refusal) after e = absurd (refusal-not_ok refusal e)
 
 -- what was written with 200 is an answer with that status
-sends-ok : (response : Response) (old new : Option (List ℕ)) (result : Served) → Sends response old new result → TellsOk result → response.status ≡ code.Ok
+pub sends-ok : (response : Response) (old new : Option (List ℕ)) (result : Served) → Sends response old new result → TellsOk result → response.status ≡ code.Ok
 sends-ok response old new result sent (inl e) = let told = subst (λ r. Sends response old new r) e sent in sym told.0
 sends-ok response old new result sent (inr e) = let told = subst (λ r. Sends response old new r) e sent in sym told.0
 

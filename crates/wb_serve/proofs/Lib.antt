@@ -1,2 +1,3 @@
 pub mod AcknowledgedLemmas
 pub mod ExchangeLemmas
+pub mod RunLemmas

@@ -2,6 +2,7 @@
 #![tactic(auto)]
 
 mod answer;
+pub mod laws;
 mod query;
 mod serve;
 mod status;

@@ -1,5 +1,6 @@
 -- What was read of the input decides what it means, whatever is left.
-use Rattle.wb_http.proofs.RequestLemmas.{means_large, means_malformed}
+use Rattle.wb_http.proofs.RequestLemmas.{means_head, means_large, means_malformed}
+use Rattle.std.proofs.Common.{rules, arith}
 use Rattle.wb_http.proofs.request.read_request.Goals as goal
 
 pub returns-in-Malformed-clause-value : goal.returns-in-Malformed-clause-value
@@ -11,3 +12,8 @@ pub returns-in-TooLarge-clause-value : goal.returns-in-TooLarge-clause-value
 returns-in-TooLarge-clause-value g c =
     let took = c.in-TooLarge.ensures.value in
     means_large c.args.reader.now.bytes _ took.0 took.1 took.2
+
+pub returns-in-Whole-clause-value : goal.returns-in-Whole-clause-value
+returns-in-Whole-clause-value g c =
+    let took = c.in-Whole.ensures.value in
+    means_head _ _ _ _ took.2 _ took.1 (search (rules, arith)) took.3 c.receive_rest.ensures.memory c.receive_rest.ensures.value

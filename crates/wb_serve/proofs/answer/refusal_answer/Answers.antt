@@ -1,5 +1,5 @@
 -- The text of a plain refusal needs no memory.
-use Rattle.std.proofs.Common.{rules, ◌≡◌, true, false, Err, Ok, inr}
+use Rattle.std.proofs.Common.{rules, inr}
 use Rattle.std.proofs.lemmas.Bool.{false_from_ne_true}
 use Rattle.wb_api.specs.Encoding.{is_plain}
 use Rattle.wb_serve.proofs.answer.refusal_answer.Goals as goal

@@ -1,5 +1,5 @@
 -- What was answered was written, or a front of it.
-use Rattle.std.proofs.Common.{false, inl, inr, refl, sym, ◌∙◌}
+use Rattle.std.proofs.Common.{inl, inr, refl, sym, ◌∙◌}
 use Rattle.std.proofs.lemmas.Bool.{false≢true}
 use Rattle.wb_office.specs.Offices.{Open}
 use Rattle.wb_serve.specs.Exchange.{response_of_answer}

@@ -1,5 +1,5 @@
 -- What a status of 200 says follows from what the exchange did.
-use Rattle.std.proofs.Common.{IfSome, Ok, subst, sym}
+use Rattle.std.proofs.Common.{IfSome, subst}
 use Rattle.wb_http.proofs.LawLemmas.{head_decides}
 use Rattle.wb_http.specs.Requests.{Answers, Means}
 use Rattle.wb_office.specs.Offices.{Stands}

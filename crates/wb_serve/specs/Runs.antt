@@ -1,0 +1,37 @@
+-- What a run of exchanges leaves (this project's own).
+use Rattle.std.specs.Prelude.{◌≡◌, ◌⊎◌, ℕ, List, [], ◌∷◌, Option, IsOk}
+use Rattle.wb_states.specs.Machine.{Machine}
+use Rattle.wb_states.specs.declared.command.Command.{Command}
+use Rattle.wb_office.specs.Offices.{Standing, Open}
+use Rattle.wb_office.specs.Step.{step}
+use Rattle.wb_http.specs.declared.request.Received.{Received}
+use Rattle.wb_http.specs.declared.request.Received.TheVariants as received
+use Rattle.wb_http.specs.declared.request.Request.TheVariants as request
+use Rattle.wb_serve.specs.Exchange.{Exchanges, TellsOk}
+use Rattle.wb_serve.specs.declared.serve.Served.{Served}
+
+-- one exchange of a run: what was received, and how the exchange ended
+pub record Exchange : Type 0 where
+  pub received : Received
+  pub ended : Served
+
+-- exchanges one after another take the office from a state to another, and it stands so after the last; before each it stands open
+abbrev pub Serves : (Command → Type 0) → List Exchange → Machine → Machine → Standing → Type 0
+Serves may_want [] before after standing = (after ≡ before) × (standing ≡ Open)
+Serves may_want (one ∷ others) before after standing =
+    (between : Machine) × (stands : Standing) × (old new : Option (List ℕ))
+    × Exchanges may_want one.received before between stands old new one.ended
+    × (((others ≡ []) × (after ≡ between) × (standing ≡ stands)) ⊎ ((stands ≡ Open) × Serves may_want others between after standing))
+
+-- a command was answered with status 200, of which a byte may have come
+abbrev pub IsAcknowledged : Exchange → Command → Type 0
+IsAcknowledged one command = (one.received ≡ received.Asked (request.Command command)) × TellsOk one.ended
+
+-- the commands that exchanges from this state had the office accept, in their order; none that was acknowledged is missing
+abbrev pub AreAccepted : Machine → List Exchange → List Command → Type 0
+AreAccepted machine [] commands = commands ≡ []
+AreAccepted machine (one ∷ others) commands =
+    (((command : Command) → ¬ (IsAcknowledged one command)) × AreAccepted machine others commands)
+    ⊎ ((command : Command) × (later : List Command) × (commands ≡ command ∷ later)
+    × (one.received ≡ received.Asked (request.Command command)) × IsOk (step machine command).0
+    × AreAccepted (step machine command).1 others later)
