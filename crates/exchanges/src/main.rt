@@ -1,0 +1,75 @@
+//! Answers requests by an office in memory, with neither sockets nor files. Standard input has frames: a decimal length, a line feed and so
+//! many bytes. The first three are the Sources list and the Packages lists of amd64 and arm64 that the office begins with, and each other
+//! is all that a client sends on a connection. For each of these a line goes to standard output, and after it what is answered: how the
+//! exchange ended, the status or 0 for none, and how many bytes were answered, as in `answered 200 145`.
+#![tactic(auto)]
+
+mod frames;
+mod opening;
+
+use anyhow::{Context, Result};
+use std::alloc::Global;
+use std::io::{self, BufRead, BufReader, BufWriter, Write};
+use wb_office::Office;
+use wb_serve::{Served, serve_one};
+use wb_streams::{WatchedReader, WatchedWriter};
+
+fn main(rt: HostRuntime) -> Result<()> {
+    let mut input = BufReader::new(rt.alloc(), rt.reader())?;
+    let mut output = BufWriter::new(rt.alloc(), io::writer(&rt))?;
+    match frames::next(rt.alloc(), &mut input)? {
+        Some(sources) => {
+            let mut office = begun(rt.alloc(), &mut input, sources)?;
+            answer_all(rt.alloc(), &mut office, &mut input, &mut output)
+        }
+        None => Ok(()),
+    }
+}
+
+/// The office over this Sources list and the Packages lists that stand next in the input.
+fn begun<R: BufRead + Drop>(alloc: Global, input: &mut R, sources: Vec<u8>) -> Result<Office> {
+    let amd64 = frames::next(alloc, input)?.context("there is no list of amd64")?;
+    let arm64 = frames::next(alloc, input)?.context("there is no list of arm64")?;
+    opening::office_of(alloc, sources, amd64, arm64)
+}
+
+/// Answers each request of the input. Each answer is written before the next request is read.
+fn answer_all<R: BufRead + Drop, W: Write + Drop>(
+    alloc: Global,
+    office: &mut Office,
+    input: &mut R,
+    output: &mut W,
+) -> Result<()> {
+    for _ in 0..u64::MAX {
+        let Some(request) = frames::next(alloc, input)? else {
+            break;
+        };
+        let (served, answer) = answered(alloc, office, &request);
+        let (word, status) = word_of(served);
+        writeln!(output, "{word} {status} {}", answer.len())?;
+        output.write_all(&answer)?;
+        output.flush()?;
+    }
+    Ok(())
+}
+
+/// How the exchange for this request ended, and what was answered.
+fn answered(alloc: Global, office: &mut Office, request: &[u8]) -> (Served, Vec<u8>) {
+    let mut answer: Vec<u8> = Vec::new(alloc);
+    let mut reader = WatchedReader::new(request);
+    let mut writer = WatchedWriter::new(&mut answer);
+    let served = serve_one(alloc, office, &mut reader, &mut writer);
+    drop(writer);
+    (served, answer)
+}
+
+/// The word for how an exchange ended, and the status of what was answered.
+fn word_of(served: Served) -> (&'static str, u16) {
+    match served {
+        Served::Nothing => ("nothing", 0),
+        Served::ReadFailed => ("read-failed", 0),
+        Served::Answered { status } => ("answered", status.code()),
+        Served::WriteFailed { status } => ("write-failed", status.code()),
+        Served::Mute => ("mute", 0),
+    }
+}

@@ -1,0 +1,278 @@
+"""A second reading of docs/PROTOCOL.md, for tools/test_requests: an office of two architectures, with the commands and the queries that HTTP has.
+It answers each with a status and an object. It is written from the page and shares nothing with the program.
+
+What it does not read is relations in general. For a text that RELATIONS does not have it takes what the program answered of that text alone, as
+long as the page has such an answer, and keeps what waits are printed open until an answer shows them.
+"""
+import re
+from dataclasses import dataclass
+
+ARCHS = ("amd64", "arm64")
+BUILDERS = {"b1": {"amd64"}, "b2": {"arm64"}, "b3": {"amd64", "arm64"}}
+PRIORITIES = "required important standard optional extra".split()
+SECTIONS = "libs base devel kernel shells perl python admin utils text net web mail database editors interpreters graphics sound video x11 gnome kde"
+SECTIONS = (SECTIONS + " science math doc misc oldlibs games").split()
+
+# Relations that are read, with how they are printed for both architectures; None if nothing of them is left.
+RELATIONS = {text: text for text in ("libz", "debhelper (>= 13)", "liba (>= 2), libb", "gcc-13 | clang", "libc6 (<< 2:3.1~rc1-2)")}
+RELATIONS |= {"libz [armhf]": None, "liba [!amd64 !arm64] | libb [s390x]": None}
+RELATION_FAULTS = {"BadName", "BadOperator", "BadVersion", "Mixed", "Unclosed", "EmptyAlternative", "Stray"}
+
+CODES = {"UnknownArch": 1, "UnknownBuilder": 2, "WrongArch": 3, "UnknownSource": 4, "OtherVersion": 5, "WrongState": 6, "QueueEmpty": 7}
+CODES |= {"NotHeld": 8, "AfterAhead": 9, "BadName": 11, "BadVersion": 12, "BadRelations": 13, "BadNumber": 14, "TextTooLong": 17}
+STATUSES = dict.fromkeys(("UnknownArch", "UnknownBuilder", "UnknownSource"), 404)
+STATUSES |= dict.fromkeys(("WrongArch", "OtherVersion", "WrongState", "QueueEmpty", "NotHeld", "AfterAhead"), 409)
+STATUSES |= dict.fromkeys(("BadName", "BadVersion", "BadRelations", "BadNumber", "TextTooLong"), 422)
+
+# The states from which each command moves a record, and the state into which it moves.
+MOVES = {
+    "next": ("Needs-Build", "Building"),
+    "take": ("Needs-Build", "Building"),
+    "built": ("Building", "Built"),
+    "uploaded": ("Building Built", "Uploaded"),
+    "waits": ("Building", "Dep-Wait"),
+    "put-back": ("Building", "Needs-Build"),
+    "attempted": ("Building", "Build-Attempted"),
+    "give-back": ("Building Built Uploaded Dep-Wait BD-Uninstallable Failed Not-For-Us Build-Attempted", "Needs-Build"),
+    "dep-wait": ("Needs-Build Building BD-Uninstallable Failed Build-Attempted", "Dep-Wait"),
+    "fail": ("Needs-Build Building Built Dep-Wait BD-Uninstallable Build-Attempted", "Failed"),
+    "not-for-us": ("Needs-Build Building Dep-Wait BD-Uninstallable Failed Build-Attempted", "Not-For-Us"),
+    "rebuild": ("Installed", "Needs-Build"),
+}
+HELD = ("Building", "Built", "Uploaded")
+
+
+class Refused(Exception):
+    """A refusal, with its further key."""
+
+    def __init__(self, name, **more):
+        super().__init__(name)
+        self.name, self.more = name, more
+
+
+def check(holds, name, **more):
+    if not holds:
+        raise Refused(name, **more)
+
+
+# ---- names and versions
+
+FORMS = {
+    "arch": re.compile(r"(?!(?:all|any|source)\Z)[a-z0-9][a-z0-9-]{0,39}\Z"),
+    "builder": re.compile(r"[A-Za-z0-9][A-Za-z0-9._-]{0,63}\Z"),
+    "source": re.compile(r"[a-z0-9][a-z0-9+.-]{1,199}\Z"),
+}
+
+
+def parts_of(version):
+    """The epoch, the upstream version and the revision (Debian Policy 5.6.12), or the first fault of the text."""
+
+    def test(holds, fault):
+        check(holds, "BadVersion", fault=fault)
+
+    test(version, "Empty")
+    test(len(version.encode()) <= 1000, "TooLong")
+    epoch, colon, rest = version.rpartition(":") if ":" not in version else version.partition(":")
+    if colon:
+        test(epoch, "EpochEmpty")
+        test(re.fullmatch("[0-9]+", epoch), "EpochNotNumber")
+        test(int(epoch) <= 2147483647, "EpochTooLarge")
+    upstream, hyphen, revision = rest.rpartition("-") if "-" in rest else (rest, "", "")
+    test(upstream, "UpstreamEmpty")
+    test(re.fullmatch("[A-Za-z0-9.+~:-]+", upstream), "UpstreamBad")
+    test(revision or not hyphen, "RevisionEmpty")
+    test(re.fullmatch("[A-Za-z0-9.+~]*", revision), "RevisionBad")
+    return int(epoch or "0"), upstream, revision
+
+
+def order_of(text):
+    """A key by which the order of two upstream versions or revisions is that of the policy: letters and numbers in turn."""
+    key = []
+    for letters, digits in re.findall(r"([^0-9]*)([0-9]*)", text):
+        key.append([-1 if c == "~" else ord(c) if c.isalpha() else ord(c) + 256 for c in letters] + [0])
+        key.append(int(digits or "0"))
+    while len(key) > 1 and key[-2:] == [[0], 0]:
+        del key[-2:]
+    return key
+
+
+def are_equal(one, other):
+    return [one[0]] + [order_of(part) for part in one[1:]] == [other[0]] + [order_of(part) for part in other[1:]]
+
+
+# ---- records and the office
+
+
+@dataclass
+class Record:
+    arch: str
+    source: str
+    version: str
+    priority: str
+    section: str
+    state: str
+    number: int = 0
+    build_priority: int = 0
+    message: str = ""
+    note: str = ""
+    holder: str = None
+    take: int = None
+    waits: str = ""  # None if an answer has still to show it
+
+    @property
+    def earlier(self):
+        return self.state == "Installed" or self.number > 0
+
+    @property
+    def build(self):
+        return self.version + (f"+b{self.number}" if self.number else "")
+
+    def place(self):
+        """The place in the queue."""
+        priority = PRIORITIES.index(self.priority) if self.priority in PRIORITIES else len(PRIORITIES)
+        section = self.section.partition("/")[2] if "/" in self.section else self.section
+        section = SECTIONS.index(section) if section in SECTIONS else len(SECTIONS)
+        return -self.build_priority, not self.earlier, priority, section, self.source.encode()
+
+    def shown(self):
+        keys = "arch build build_priority earlier holder message note number priority section source state take version waits".split()
+        return {key: getattr(self, key) for key in keys}
+
+
+class Office:
+    """The office after its first commands: two architectures, four pairs of a builder and an architecture, and a merge."""
+
+    def __init__(self, records):
+        self.accepted, self.handed = 7, 0
+        self.records = {(record.arch, record.source): record for record in records}
+        self.said = None
+
+    # -- what is looked up, with its refusals in the order of the page
+
+    def of_state(self, arch, state):
+        return [record for record in self.records.values() if record.arch == arch and record.state == state]
+
+    def held_under(self, take):
+        found = [record for record in self.records.values() if record.take == take]
+        check(found, "NotHeld")
+        return found[0]
+
+    def record_of(self, body, version):
+        record = self.records.get((body["arch"], body["source"]))
+        check(record, "UnknownSource")
+        check(are_equal(parts_of(record.version), version), "OtherVersion", have=record.version)
+        return record
+
+    def check_builder(self, body):
+        check(body["builder"] in BUILDERS, "UnknownBuilder")
+        check(body["arch"] in BUILDERS[body["builder"]], "WrongArch")
+
+    def relations_of(self, text):
+        """What is printed of the relations; None if it is not known."""
+        check(len(text.encode()) <= 65536, "BadRelations", fault="TooLong")
+        if text in RELATIONS:
+            return RELATIONS[text]
+        met = self.said if isinstance(self.said, dict) else {}
+        fault = met.get("fault") if met.get("refused") == "BadRelations" else None
+        check(fault not in RELATION_FAULTS, "BadRelations", fault=fault)
+        return None
+
+    # -- commands
+
+    def command(self, name, body, said):
+        """The status and the object that are answered to a command. What the program said decides about relations that are not known."""
+        self.said = said
+        try:
+            return 200, self.carry_out(name, body)
+        except Refused as why:
+            return STATUSES[why.name], {"code": CODES[why.name], "refused": why.name, **why.more}
+
+    def carry_out(self, name, body):
+        for key in FORMS:
+            check(key not in body or FORMS[key].match(body[key]), "BadName")
+        version = parts_of(body["version"]) if "version" in body else None
+        relations = self.relations_of(body["relations"]) if "relations" in body else None
+        check("number" not in body or 1 <= body["number"] <= 999, "BadNumber")
+        check("value" not in body or -1000 <= body["value"] <= 1000, "BadNumber")
+        text = next((body[key] for key in ("note", "reason", "message") if key in body), "")
+        check(len(text.encode()) <= 1000, "TextTooLong")
+        check("arch" not in body or body["arch"] in ARCHS, "UnknownArch")
+        if "builder" in body:
+            self.check_builder(body)
+        if name == "next":
+            return self.hand_out_next(body)
+        record = self.held_under(body["take"]) if "take" in body else self.record_of(body, version)
+        if name == "build-priority":
+            record.build_priority = body["value"]
+            return self.accept(name)
+        check(record.state in MOVES[name][0].split(), "WrongState", state=record.state)
+        if name == "take":
+            return self.hand_out(name, record, body["builder"])
+        if name == "rebuild":
+            check(body["number"] > record.number, "BadNumber")
+            record.number, record.message, text = body["number"], body["message"], ""
+        if "relations" in body:
+            self.check_waits(body["relations"], relations)
+        self.move(record, name, text)
+        record.waits = relations if "relations" in body else ""
+        return self.accept(name)
+
+    def check_waits(self, text, printed):
+        met = self.said if isinstance(self.said, dict) else {}
+        if text in RELATIONS or not re.search("[a-z0-9][a-z0-9+.-]", text):
+            check(printed is not None, "BadRelations", fault="Nothing")
+        check(met.get("fault") not in ("Nothing", "TooLong"), "BadRelations", fault=met.get("fault"))
+
+    def move(self, record, name, note):
+        record.state, record.note, record.waits = MOVES[name][1], note, ""
+        if record.state not in HELD:
+            record.holder = record.take = None
+
+    def accept(self, name, **more):
+        self.accepted += 1
+        return {"accepted": self.accepted, "ok": name, **more}
+
+    def hand_out(self, name, record, builder):
+        self.move(record, name, "")
+        self.handed += 1
+        record.holder, record.take = builder, self.handed
+        return self.accept(name, **assignment(record))
+
+    def hand_out_next(self, body):
+        after = body["after"]
+        if after is not None:
+            check(after <= self.handed, "AfterAhead", handed=self.handed)
+            held = [record for record in self.of_state(body["arch"], "Building") if record.holder == body["builder"] and record.take > after]
+            if held:
+                first = min(held, key=lambda record: record.take)
+                return {"accepted": self.accepted, "ok": "again", **assignment(first)}
+        waiting = self.of_state(body["arch"], "Needs-Build")
+        check(waiting, "QueueEmpty")
+        return self.hand_out("next", min(waiting, key=Record.place), body["builder"])
+
+    # -- queries
+
+    def query(self, name, parts, said):
+        try:
+            return 200, self.item(*parts, said) if name == "item" else self.mine(*parts, said)
+        except Refused as why:
+            return STATUSES[why.name], {"code": CODES[why.name], "refused": why.name, **why.more}
+
+    def item(self, arch, source, said):
+        check(FORMS["arch"].match(arch) and FORMS["source"].match(source), "BadName")
+        check(arch in ARCHS, "UnknownArch")
+        record = self.records.get((arch, source))
+        check(record, "UnknownSource")
+        if record.waits is None and isinstance(said, dict) and isinstance(said.get("waits"), str):
+            record.waits = said["waits"]
+        return record.shown()
+
+    def mine(self, builder, _said):
+        check(FORMS["builder"].match(builder), "BadName")
+        check(builder in BUILDERS, "UnknownBuilder")
+        held = sorted((record for record in self.records.values() if record.holder == builder), key=lambda record: record.take)
+        return {"builder": builder, "records": [record.shown() for record in held]}
+
+
+def assignment(record):
+    return {key: getattr(record, key) for key in ("arch", "build", "message", "number", "source", "take", "version")}
