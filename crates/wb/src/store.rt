@@ -1,13 +1,12 @@
 //! The office over records that a file keeps.
 
 use crate::{Work, act, said};
-use sqlite::{Connection, Error, ErrorCode};
+use sqlite::Connection;
 use std::fs::{File, OpenOptions, TryLockError};
 use std::io;
 use wb_daemon::status;
-use wb_durable::Office;
-use wb_states::{StoreFault, Table};
-use wb_tables::fault_of;
+use wb_durable::{Office, opening_fault};
+use wb_states::StoreFault;
 
 /// Why the lock on the file of an office is not got.
 enum LockRefusal {
@@ -65,20 +64,6 @@ fn lock_of(rt: &HostRuntime, file: &str) -> Result<File, LockRefusal> {
 fn refuse_lock(rt: &HostRuntime, name: &str, error: io::Error) -> LockRefusal {
     let _ = eprintln!(rt; "wb: {name} cannot be locked: {error}");
     LockRefusal::Fault(StoreFault::Device)
-}
-
-/// What an error is to the store if the file could not be opened: a path that cannot be opened is a fault of the
-/// device, and any other error than of memory or the disk says that the file is no office.
-fn opening_fault(error: Error) -> StoreFault {
-    match error {
-        Error::SqliteFailure(ErrorCode::CannotOpen | ErrorCode::DatabaseBusy) => {
-            StoreFault::Device
-        }
-        error => match fault_of(error, Table::Office) {
-            StoreFault::Damaged { .. } => StoreFault::NotOffice,
-            fault => fault,
-        },
-    }
 }
 
 /// Says that the store cannot be opened, for this fault.

@@ -2,6 +2,7 @@ pub mod AnswerLemmas
 pub mod ApplyLemmas
 pub mod AskLemmas
 pub mod CarryLemmas
+pub mod FileLemmas
 pub mod FindsLemmas
 pub mod MergeAnswerLemmas
 pub mod MergeCarryLemmas

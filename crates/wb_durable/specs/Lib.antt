@@ -3,6 +3,7 @@ pub mod Applies
 pub mod Asks
 pub mod Carried
 pub mod Changed
+pub mod Files
 pub mod Finds
 pub mod Keys
 pub mod MergeCarried

@@ -153,3 +153,7 @@ pub record FindsOffice {S : Type 0} (g : Ghosts S) (old new : Held S) (result : 
   pub refuses : HasCleanDisk (state g new) → old.schema ≡ office_schema → IfErr result (ComesLater g FailsOnOffice old new)
   pub known : IfOk result (λ counts. (old.schema ≡ empty_schema) ⊎ (old.schema ≡ office_schema))
   pub other : old.schema ≢ empty_schema → old.schema ≢ office_schema → (result ≡ Err NotOffice) × (new ≡ old)
+
+-- an opening was refused, and its connection given up, at a state that finding the office left
+abbrev pub IsRefusedFrom : {S : Type 0} → Ghosts S → Held S → StoreFault → Type 0
+IsRefusedFrom {S} g old fault = (at : Held S) × FindsOffice g old at (Err fault)

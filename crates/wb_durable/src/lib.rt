@@ -5,6 +5,7 @@
 mod answer;
 mod carry;
 mod change;
+mod fault;
 mod merge;
 mod merge_part;
 mod merging;
@@ -14,4 +15,6 @@ mod opening;
 mod preparing;
 mod query;
 
+pub use fault::opening_fault;
 pub use office::Office;
+pub use opening::find_office;

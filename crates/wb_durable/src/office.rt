@@ -1,5 +1,5 @@
 //! The office over tables: each command is one transaction.
-ghost use Rattle.std.specs.Prelude.{◌≡◌, ◌≢◌, ◌⊎◌, ⊤, false, not, true, Err, IfOk, IfErr};
+ghost use Rattle.std.specs.Prelude.{◌≡◌, ◌≢◌, ◌⊎◌, ⊤, false, not, true, Err, IfOk, IfErr, IsTrue};
 ghost use Rattle.sqlite.specs.Files.{file_state};
 ghost use Rattle.sqlite.specs.Held.{Held, state};
 ghost use Rattle.sqlite.specs.State.{HasCleanDisk};
@@ -10,7 +10,8 @@ ghost use Rattle.wb_states.specs.declared.store_fault.StoreFault.TheVariants.{No
 ghost use Rattle.wb_tables.specs.Settled.{AreSettledAt};
 ghost use Rattle.wb_schema.specs.Tables.{empty_schema, office_schema};
 ghost use Rattle.wb_tables.specs.Opening.{HasGoodRows};
-ghost use Rattle.wb_durable.specs.Opening.{ComesLater, FailsOnOffice, HasNoScratchRows};
+ghost use Rattle.wb_durable.specs.Opening.{HasNoScratchRows, IsRefusedFrom};
+ghost use Rattle.wb_durable.specs.Files.{AreFoundAt, FailsToOpen, IsFaultOfClosing, IsRefusedOver};
 ghost use Rattle.wb_durable.specs.Preparing.{IsFoundAt};
 ghost use Rattle.wb_durable.specs.declared.answer.Failure.TheVariants.{Uncommitted};
 ghost use Rattle.wb_durable.specs.Answers.{accepted_of};
@@ -23,9 +24,10 @@ ghost use Rattle.wb_durable.specs.Standing.{LeavesOne, StandsAt};
 
 use crate::answer::{Failure, answer};
 use crate::carry::CarryError;
+use crate::fault::opening_fault;
 use crate::opening::find_office;
 use crate::query::{builder_of, find_item, find_mine, key_of};
-use sqlite::{Alter, Connection, FileStore, Files};
+use sqlite::{Alter, Connection, FileStore, Files, Options};
 use sqlite_disk::Disk;
 use std::alloc::Global;
 use wb_office::{Answer, CarryOut};
@@ -61,8 +63,8 @@ impl<S: Alter + Drop> Office<S> {
             → HasGoodRows (state S.Store conn).now × HasNoScratchRows (state S.Store conn).now) }
         ensures known { IfOk result (λ _. (conn.schema ≡ empty_schema) ⊎ (conn.schema ≡ office_schema)) }
         ensures other { conn.schema ≢ empty_schema → conn.schema ≢ office_schema → result ≡ Err NotOffice }
-        ensures refuses { IfErr result (λ fault. conn.schema ≡ office_schema → (at : Held _)
-            × (HasCleanDisk (state S.Store at) → ComesLater S.Store FailsOnOffice conn at fault)) }
+        ensures clean { IfOk result (λ office. HasCleanDisk (state S.Store office.conn) → HasCleanDisk (state S.Store conn)) }
+        ensures refused { IfErr result (IsRefusedFrom S.Store conn) }
     {
         let mut conn = conn;
         match find_office(&mut conn) {
@@ -167,13 +169,37 @@ impl<S: Alter + Drop> Office<S> {
 }
 
 impl<D: Disk + Drop> Office<FileStore<D>> {
-    /// Closes the office, and gives back its files: of an open office they hold its state, also after a crash. The
-    /// fault is `Memory`, or `Device` if the disk failed or is full; what was committed stands then too (this project's
-    /// own).
+    /// Opens the office that two files hold, a database and its log; a database without a table becomes that of an
+    /// empty office. Each row is tested. The faults are those of [`opening_fault`] if the files cannot be opened as a
+    /// database, and those of [`adopt`](Office::adopt) (this project's own).
+    pub fn open(
+        alloc: Global,
+        files: Files<D>,
+        options: Options,
+    ) -> Result<Office<FileStore<D>>, StoreFault>
+        requires log { IsTrue (D.Disk.is_usable files.log) }
+        requires db { IsTrue (D.Disk.is_usable files.db) }
+        ensures opened { IfOk result (λ office. office.is_closed ≡ false) }
+        ensures found { IfOk result (λ office. HasCleanDisk (file_state office.conn)
+            → (machine : Machine) → IsConsistent machine → AreFoundAt D.Disk files machine
+            → StandsAt machine office.is_closed office.accepted (file_state office.conn)) }
+        ensures refused { IfErr result (λ fault. FailsToOpen D.Disk files fault ⊎ IsRefusedOver D.Disk files fault) }
+    {
+        match wb_sql::open(alloc, files, options) {
+            Ok(conn) => Office::adopt(alloc, conn),
+            Err((error, _)) => Err(opening_fault(error)),
+        }
+    }
+
+    /// Closes the office, and gives back its files: they hold its state, also after a crash. The fault is `Memory`, or
+    /// `Device` if the disk failed or is full, or if a fault shut the connection before; a crash then leaves no more than
+    /// before (this project's own).
     pub fn close(self) -> Result<Files<D>, StoreFault>
         ensures settled { IfOk result (λ files. AreClean D.Disk files.log files.db → (machine : Machine)
-            → StandsAt machine self.is_closed self.accepted (file_state self.conn) → self.is_closed ≡ false
+            → StandsAt machine self.is_closed self.accepted (file_state self.conn)
             → AreSettledAt D.Disk files machine) }
+        ensures usable { IfOk result (λ files. IsTrue (D.Disk.is_usable files.log) × IsTrue (D.Disk.is_usable files.db)) }
+        ensures err { IfErr result (IsFaultOfClosing self.conn) }
     {
         let Office {
             alloc: _,
@@ -181,7 +207,7 @@ impl<D: Disk + Drop> Office<FileStore<D>> {
             accepted: _,
             is_closed: _,
         } = self;
-        match wb_sql::close(conn) {
+        match conn.close_files() {
             Ok(files) => Ok(files),
             Err((error, _)) => Err(fault_of(error, Table::Office)),
         }

@@ -1,6 +1,14 @@
-use Rattle.std.proofs.Common.{rules}
-use Rattle.wb_durable.proofs.ApplyLemmas.{closed_files}
+use Rattle.wb_durable.proofs.FileLemmas.{closed_at}
 use Rattle.wb_durable.proofs.«office».«Office+FileStore+D».close.Goals as goal
 
-pub returns-in-Ok : goal.returns-in-Ok
-returns-in-Ok g c = record { settled = closed_files c.args.self.conn c.in-Ok.files (search rules) c.in-Ok.ensures.settled }
+pub returns-in-Ok-clause-settled : goal.returns-in-Ok-clause-settled
+returns-in-Ok-clause-settled g c = closed_at c.args.self.conn c.in-Ok.files c.in-Ok.ensures.copied
+
+pub returns-clause-err : goal.returns-clause-err
+returns-clause-err g c = record {
+  error = c.in-Err.error;
+  last = c.in-Err.field-0-1;
+  is = c.fault_of.ensures.value;
+  closed = c.in-Err.ensures.err.0;
+  cause = c.in-Err.ensures.err.1;
+}

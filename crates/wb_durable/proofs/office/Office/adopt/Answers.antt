@@ -12,8 +12,11 @@ returns-in-Ok-clause-found g c = λ clean machine consistent is.
       is_open = λ _. found.1.is_open;
     }
 
-pub returns-in-Err-clause-refuses : goal.returns-in-Err-clause-refuses
-returns-in-Err-clause-refuses g c = λ schema. (c.find_office.new.conn, λ clean. c.in-Err.ensures.finds.refuses clean schema)
+pub returns-in-Ok-clause-clean : goal.returns-in-Ok-clause-clean
+returns-in-Ok-clause-clean g c = c.in-Ok.ensures.finds.was_clean
+
+pub returns-in-Err-clause-refused : goal.returns-in-Err-clause-refused
+returns-in-Err-clause-refused g c = (c.find_office.new.conn, c.in-Err.ensures.finds)
 
 pub returns-in-Ok-clause-known : goal.returns-in-Ok-clause-known
 returns-in-Ok-clause-known g c = c.in-Ok.ensures.finds.known
