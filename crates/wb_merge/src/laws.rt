@@ -190,8 +190,8 @@ pub fn examples_of_merges()
         (Some (record (record_in Installed (codes "2.10-3")) { earlier = true; number = 2 })) }
     // a later version is listed than the record has: as if it had none, but Not-For-Us stays
     ensures newer { Becomes (codes "bash") (listed_at (codes "5.2.21-2")) None
-        (Some (record (held_in Building (codes "5.2.15-2")) { number = 1; message = codes "new readline" }))
-        (Some (record_in NeedsBuild (codes "5.2.21-2"))) }
+        (Some (record (held_in Building (codes "5.2.15-2")) { earlier = true; number = 1; message = codes "new readline" }))
+        (Some (record (record_in NeedsBuild (codes "5.2.21-2")) { earlier = true })) }
     ensures newer_built { Becomes (codes "bash") (listed_at (codes "5.2.21-2")) (built_at (codes "5.2.21-2") 0)
         (Some (held_in Uploaded (codes "5.2.15-2")))
         (Some (record (record_in Installed (codes "5.2.21-2")) { earlier = true })) }
@@ -209,7 +209,7 @@ pub fn examples_of_merges()
         (Some (record (record_in Failed (codes "5.2.15-2")) { section = codes "shells"; note = codes "cc died" }))
         (Some (record (record_in Failed (codes "5.2.15-2")) { note = codes "cc died" })) }
     ensures same_removed { Becomes (codes "bash") (listed_at (codes "5.2.15-2")) None
-        (Some (record_in Installed (codes "5.2.15-2")))
+        (Some (record (record_in Installed (codes "5.2.15-2")) { earlier = true }))
         (Some (record (record_in NeedsBuild (codes "5.2.15-2")) { earlier = true })) }
     // the record's version is listed and built: Installed, but a rebuild needs at least its number, and Not-For-Us stays
     ensures same_built { Becomes (codes "bash") (listed_at (codes "5.2.15-2")) (built_at (codes "5.2.15-2") 0)
