@@ -23,23 +23,24 @@ fn connected(
     Ok((client, server))
 }
 
-/// Serves one exchange as the program does, with a limit of time for each read and each write, and stops writing after it.
+/// Serves one exchange as the program does, with a limit of time in milliseconds for each read and each write.
 fn served(
     alloc: Global,
     office: &mut Office,
     server: &TcpStream,
-    limit: Duration,
+    milliseconds: u64,
 ) -> io::Result<Served> {
-    server.set_read_timeout(Some(limit))?;
-    server.set_write_timeout(Some(limit))?;
+    let limit = Some(Duration::from_millis(milliseconds));
+    server.set_read_timeout(limit)?;
+    server.set_write_timeout(limit)?;
     let mut reader = WatchedReader::new(server);
     let mut writer = WatchedWriter::new(server);
     let ended = serve_one(alloc, office, &mut reader, &mut writer);
     Ok(ended)
 }
 
-/// A limit of time that no read and no write here reaches.
-const AMPLE: Duration = Duration::from_secs(30);
+/// A limit of time in milliseconds that no read and no write here reaches.
+const AMPLE: u64 = 30_000;
 
 /// What a client that sends these bytes, and then waits for the answer, is answered.
 fn answered(
@@ -109,7 +110,7 @@ fn a_read_that_takes_too_long_fails(rt: HostRuntime) -> Result<(), Fail> {
         let mut office = waiting_office(&rt, rt.alloc())?;
         let (client, server) = connected(&rt)?;
         (&client).write_all(&NEXT.as_bytes()[..length])?;
-        let ended = served(rt.alloc(), &mut office, &server, Duration::from_millis(5))?;
+        let ended = served(rt.alloc(), &mut office, &server, 5)?;
         assert_eq!(rt; ended, Served::ReadFailed, "after {length} bytes");
         assert_eq!(rt; office.accepted(), 3);
         drop(server);
@@ -142,9 +143,13 @@ fn reset(client: TcpStream, server: &TcpStream) -> io::Result<()> {
 }
 
 /// What was carried out stands though its answer cannot be written, and is repeated over the next connection.
-fn assert_again(rt: &HostRuntime, office: &mut Office) -> Result<(), Fail> {
+fn assert_again(
+    rt: &(impl Abort + Net<Listener = TcpListener, Stream = TcpStream>),
+    alloc: Global,
+    office: &mut Office,
+) -> Result<(), Fail> {
     assert_eq!(rt; office.accepted(), 4);
-    let again = answered(rt, rt.alloc(), office, NEXT_AFTER)?;
+    let again = answered(rt, alloc, office, NEXT_AFTER)?;
     assert_eq!(rt; again.as_str(), ASSIGNED_AGAIN);
     assert_eq!(rt; office.accepted(), 4);
     Ok(())
@@ -161,7 +166,7 @@ fn a_write_to_a_connection_that_was_shut_down_fails(rt: HostRuntime) -> Result<(
     assert_eq!(rt; ended, Served::WriteFailed { status: Status::Ok });
     drop(server);
     assert!(rt; io::read_to_string(rt.alloc(), client)?.is_empty());
-    assert_again(&rt, &mut office)
+    assert_again(&rt, rt.alloc(), &mut office)
 }
 
 /// A client that resets the connection once its request is sent: the request is carried out, and whether the writes of its
@@ -179,5 +184,5 @@ fn a_client_that_resets_the_connection_loses_its_answer(rt: HostRuntime) -> Resu
         }
         ended => assert_eq!(rt; ended, Served::WriteFailed { status }),
     }
-    assert_again(&rt, &mut office)
+    assert_again(&rt, rt.alloc(), &mut office)
 }
