@@ -1,15 +1,42 @@
--- What a merge of the architecture amd64 makes of one source package, for examples (this project's own).
-use Rattle.std.specs.Prelude.{◌≡◌, ℕ, List, codes, Option, Some}
+-- What lists have of one source package, and what a merge of the architecture amd64 makes of it, for examples (this project's own).
+use Rattle.std.specs.Prelude.{◌≡◌, ℕ, false, List, [], codes, Option, Some, option_map}
 use Rattle.std.specs.FinMap as map
+use Rattle.deb_relations.specs.declared.arch.ArchWords.{ArchWords}
 use Rattle.deb_relations.specs.Satisfaction.{versions_of}
 use Rattle.wb_states.specs.declared.record.Record.{Record}
 use Rattle.wb_states.specs.declared.state.State.{State}
 use Rattle.wb_merge.specs.declared.listing.Listed.{Listed}
 use Rattle.wb_merge.specs.declared.listing.Built.{Built}
-use Rattle.wb_merge.specs.Listing.{ArchiveListing}
+use Rattle.wb_merge.specs.Rows.{BinaryRow, SourceRow, with_source}
+use Rattle.wb_merge.specs.Listing.{ArchiveListing, listed_of}
 use Rattle.wb_merge.specs.Merge.{blank_record}
 use Rattle.wb_merge.specs.Merged.{Records, merged}
 use Rattle.wb_merge.specs.Steps.{Key}
+
+-- ---- what lists have of it
+
+-- a source package in a Sources list, of this version and for these architectures
+abbrev pub source_of : List ℕ → List ℕ → List (List ℕ) → SourceRow
+source_of name version archs = record {
+  name = name;
+  version = version;
+  archs = archs;
+  is_extra = false;
+  priority = codes "optional";
+  section = codes "utils";
+  depends = codes "debhelper-compat (= 13)";
+  depends_arch = [];
+}
+
+-- a package in a Packages list, of this version and architecture, and with this text of its field Source
+abbrev pub binary_of : List ℕ → List ℕ → List ℕ → List ℕ → BinaryRow
+binary_of name version arch source = with_source name version arch (Some source)
+
+-- the version that is listed of a source package for an architecture, if one is
+abbrev pub version_listed : ArchWords → List SourceRow → List ℕ → Option (List ℕ)
+version_listed arch rows name = option_map (λ listed. listed.version) (listed_of arch rows name)
+
+-- ---- what a merge makes of it
 
 -- the key of a source package on amd64
 abbrev pub on_amd64 : List ℕ → Key

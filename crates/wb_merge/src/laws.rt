@@ -8,11 +8,12 @@ ghost use Rattle.deb_version.specs.Order.{version_cmp};
 ghost use Rattle.deb_version.specs.Syntax.{is_version_text, value_of};
 ghost use Rattle.deb_control.specs.Lines.{lines_of, paragraphs_in};
 ghost use Rattle.deb_relations.specs.declared.arch.ArchWords.{ArchWords};
+ghost use Rattle.deb_relations.specs.Examples.{amd64, hurd_i386};
 ghost use Rattle.deb_relations.specs.Satisfaction.{versions_of};
 ghost use Rattle.wb_merge.specs.declared.listing.Listed.{Listed};
 ghost use Rattle.wb_merge.specs.declared.listing.Built.{Built};
 ghost use Rattle.wb_merge.specs.Rows.{AreRows, IsFirstFault, NamesSource, SourceRow, BinaryRow, binary_paragraph, binary_rows, is_source_text, rebuild_number, source_name, source_paragraph, source_rows, with_version};
-ghost use Rattle.wb_merge.specs.Listing.{IsGreatest, available_of, installable_versions, listed_cmp, candidates, built_cmp, builds, listing_of_rows, ArchiveListing};
+ghost use Rattle.wb_merge.specs.Listing.{IsGreatest, available_of, built_of, installable_versions, is_listed, listed_cmp, candidates, built_cmp, builds, listing_of_rows, ArchiveListing};
 ghost use Rattle.wb_states.specs.declared.record.Record.{Record};
 ghost use Rattle.wb_states.specs.declared.refusal.Refusal.{Refusal};
 ghost use Rattle.wb_states.specs.declared.refusal.ListKind.TheVariants.{Sources, Packages};
@@ -22,7 +23,7 @@ ghost use Rattle.wb_states.specs.Moves.{build_text_of};
 ghost use Rattle.deb_relations.specs.Names.{is_package_name};
 ghost use Rattle.wb_states.specs.State.{is_held};
 ghost use Rattle.wb_merge.specs.Merge.{ends_hold, HasSameHold};
-ghost use Rattle.wb_merge.specs.Examples.{Becomes, BecomesBeside, built_at, held_in, listed_at, record_in};
+ghost use Rattle.wb_merge.specs.Examples.{Becomes, BecomesBeside, binary_of, built_at, held_in, listed_at, record_in, source_of, version_listed};
 ghost use Rattle.wb_merge.specs.Merged.{Records, BecomesAt, record_after_at, all_kept, is_same_record, merge_counts, merged, recorded_names};
 ghost use Rattle.wb_merge.specs.Steps.{Key};
 
@@ -173,6 +174,31 @@ pub fn source_texts_read_back()
         → NamesSource (with_version name version) name (Some version) }
     ensures only { (text : List ℕ) → IsTrue (is_source_text text) → (text ≡ source_name text)
         ⊎ ((version : List ℕ) × (text ≡ with_version (source_name text) version)) }
+{}
+
+/// Examples of what lists have of a source package: for which architectures it is listed and in which version, and what
+/// is built of it on an architecture.
+/// Source: Debian Policy 5.6.8 and 11.1.1; the rest is this project's own.
+pub fn examples_of_listings()
+    // it is listed if a word of its Architecture matches, unless Extra-Source-Only is yes
+    ensures archs { (is_listed amd64 (source_of (codes "bash") (codes "5.2.15-2") (codes "any" ∷ [])) ≡ true)
+        × (is_listed amd64 (source_of (codes "systemd") (codes "252.17-1") (codes "linux-any" ∷ [])) ≡ true)
+        × (is_listed hurd_i386 (source_of (codes "systemd") (codes "252.17-1") (codes "linux-any" ∷ [])) ≡ false)
+        × (is_listed amd64 (source_of (codes "memtest86+") (codes "6.10-4") (codes "amd64" ∷ codes "i386" ∷ [])) ≡ true)
+        × (is_listed hurd_i386 (source_of (codes "memtest86+") (codes "6.10-4") (codes "amd64" ∷ codes "i386" ∷ [])) ≡ false)
+        × (is_listed amd64 (source_of (codes "tzdata") (codes "2023c-5") (codes "all" ∷ [])) ≡ false) }
+    ensures extra { is_listed amd64
+        (record (source_of (codes "ghc") (codes "9.0.2-4") (codes "any" ∷ [])) { is_extra = true }) ≡ false }
+    // of several versions the greatest one that is listed
+    ensures versions { version_listed amd64 (source_of (codes "linux") (codes "6.1.55-1") (codes "linux-any" ∷ [])
+        ∷ source_of (codes "linux") (codes "6.1.106-3") (codes "linux-any" ∷ [])
+        ∷ source_of (codes "linux") (codes "6.10.6-1") (codes "i386" ∷ []) ∷ []) (codes "linux")
+        ≡ Some (codes "6.1.106-3") }
+    // of several builds on the architecture the latest, with the number of its rebuild
+    ensures builds { built_of amd64 (binary_of (codes "libc6") (codes "2.36-9") (codes "amd64") (codes "glibc")
+        ∷ binary_of (codes "libc-bin") (codes "2.36-9+b1") (codes "amd64") (codes "glibc (2.36-9)")
+        ∷ binary_of (codes "libc6") (codes "2.37-1") (codes "i386") (codes "glibc") ∷ []) (codes "glibc")
+        ≡ built_at (codes "2.36-9") 1 }
 {}
 
 /// Examples of merges of the architecture amd64, one clause for each case: what becomes of the record of a source
