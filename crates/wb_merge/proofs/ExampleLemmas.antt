@@ -1,7 +1,6 @@
 -- What a merge makes of one source package of the architecture follows from the cases alone: the lemmas behind the examples.
 use Rattle.std.proofs.Common.{◌≡◌, ℕ, Bool, true, false, if◌then◌else◌, ◌&&◌, ◌||◌, List, codes, Option, Some, None, ap, ◌∙◌}
 use Rattle.std.specs.List.{list_any}
-use Rattle.std.specs.FinMap as finite
 use Rattle.deb_relations.specs.Grammar.{is_not_blank, is_white, is_profile_char, is_op_char, is_qualifier, is_word, op_of, words}
 use Rattle.deb_relations.specs.Names.{is_lower_or_digit, is_package_char, is_arch_char, is_arch_word, is_package_name}
 use Rattle.deb_relations.specs.Reader.{is_solid, between, read_name, read_qualifier, restriction_of, read_restriction, term_of, terms_of, archs_of, read_archs, profile_of, read_profiles, read_alternative, read_group, read_groups, with_group}
@@ -15,16 +14,15 @@ use Rattle.wb_states.specs.declared.state.State.TheVariants.{NeedsBuild}
 use Rattle.wb_states.specs.declared.record.Record.{Record}
 use Rattle.wb_merge.specs.declared.listing.Listed.{Listed}
 use Rattle.wb_merge.specs.declared.listing.Built.{Built}
-use Rattle.wb_merge.specs.Listing.{ArchiveListing}
 use Rattle.wb_merge.specs.Merge.{record_after, relisted, are_waits_met}
-use Rattle.wb_merge.specs.Merged.{Records, merged}
-use Rattle.wb_merge.specs.Examples.{on_amd64, Becomes, BecomesBeside}
+use Rattle.wb_merge.specs.Examples.{Becomes, BecomesBeside}
 use Rattle.wb_merge.proofs.MergeLemmas.{merged-listed}
 
 -- what the cases give is what becomes of the record
 pub becomes : (name : List ℕ) {listed : Option Listed} {built : Option Built} {current new : Option Record}
     → ((available : Pairs) → record_after current listed built available ≡ new) → Becomes name listed built current new
-becomes name given old listing is_listed is_built was = merged-listed old _ listing _ ∙ (λ i. record_after (was i) (is_listed i) (is_built i) listing.available) ∙ given listing.available
+becomes name given old listing is_listed is_built was =
+    merged-listed old _ listing _ ∙ (λ i. record_after (was i) (is_listed i) (is_built i) listing.available) ∙ given listing.available
 
 -- the same where what is available plays a part
 pub becomes-beside : (other name : List ℕ) {versions : List (List ℕ)} {listed : Option Listed} {built : Option Built} {current new : Option Record}

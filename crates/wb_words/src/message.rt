@@ -60,7 +60,10 @@ pub(crate) fn malformed_text(
         .and_then(|(name, arguments)| formed_of(name, arguments))
     {
         Some(formed) => {
-            format!(in alloc; "{} is {}, and has to be {}", formed.name, formed.word, formed.form)
+            format!(in alloc;
+                "{} is {}, and has to be {}",
+                formed.name, formed.word, formed.form
+            )
         }
         None => format!(in alloc; "an argument is malformed"),
     }

@@ -74,7 +74,12 @@ fn a_cut_body_is_answered_over_a_socket(rt: HostRuntime) -> Result<(), Fail> {
     (&client).write_all(&NEXT.as_bytes()[..78])?;
     client.shutdown(Shutdown::Write)?;
     let ended = served(rt.alloc(), &mut office, &server, AMPLE)?;
-    assert_eq!(rt; ended, Served::Answered { status: Status::BadRequest });
+    assert_eq!(rt;
+        ended,
+        Served::Answered {
+            status: Status::BadRequest
+        }
+    );
     assert_eq!(rt; office.accepted(), 3);
     drop(server);
     assert_eq!(rt;
