@@ -1,6 +1,7 @@
 pub mod AvailableLemmas
 pub mod ChosenLemmas
 pub mod CountLemmas
+pub mod ExampleLemmas
 pub mod FirstFaultLemmas
 pub mod FoldLemmas
 pub mod ForwardLemmas

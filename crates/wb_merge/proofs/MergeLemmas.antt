@@ -216,6 +216,11 @@ merged-get old arch listing key =
       | false ↦ λ e. sym (nowhere old arch listing key e)
     ] refl
 
+-- the record of a source package of the architecture is that of the cases
+pub merged-listed : (old : Records) (arch : List ℕ) (listing : ArchiveListing) (name : List ℕ)
+    → finite.get (merged old arch listing) (arch, name) ≡ record_after_named listing name (finite.get old (arch, name))
+merged-listed old arch listing name = merged-get old arch listing (arch, name) ∙ after-here old arch listing name
+
 -- the records of other architectures stay
 pub merged-others : (old : Records) (arch : List ℕ) (listing : ArchiveListing) (key : Key) → (key.0 ≡ arch → ⊥) → finite.get (merged old arch listing) key ≡ finite.get old key
 merged-others old arch listing key other =
@@ -225,7 +230,7 @@ merged-others old arch listing key other =
 pub merged-unlisted : (old : Records) (arch : List ℕ) (listing : ArchiveListing) (name : List ℕ) → finite.get listing.listed name ≡ None
     → finite.get (merged old arch listing) (arch, name) ≡ None
 merged-unlisted old arch listing name none =
-    merged-get old arch listing (arch, name) ∙ after-here old arch listing name
+    merged-listed old arch listing name
     ∙ ap (λ (o : Option Listed). record_after (finite.get old (arch, name)) o (finite.get listing.built name) listing.available) none
     ∙ nothing (finite.get old (arch, name)) (finite.get listing.built name) listing.available
   where

@@ -1,5 +1,6 @@
 pub mod Backwards
 pub mod Coded
+pub mod Examples
 pub mod Growth
 pub mod Listing
 pub mod Merge

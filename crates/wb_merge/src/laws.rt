@@ -1,5 +1,5 @@
 //! Laws of the listing and of the merge, each on a function that does nothing.
-ghost use Rattle.std.specs.Prelude.{◌≡◌, ◌≢◌, ℕ, pos, ◌+◌, ◌≤◌, List, ◌++◌, length, codes, Option, Some, None, Ok, Err, ◌↔◌, ◌⊎◌, IsTrue, true, false};
+ghost use Rattle.std.specs.Prelude.{◌≡◌, ◌≢◌, ℕ, pos, ◌+◌, ◌≤◌, List, [], ◌∷◌, ◌++◌, length, codes, Option, Some, None, Ok, Err, ◌↔◌, ◌⊎◌, IsTrue, true, false};
 ghost use Rattle.std.specs.List.{list_all};
 ghost use Rattle.std.specs.Char.{is_ascii_digit};
 ghost use Rattle.std.specs.declared.cmp.Ordering.TheVariants.{Less, Equal};
@@ -8,20 +8,22 @@ ghost use Rattle.deb_version.specs.Order.{version_cmp};
 ghost use Rattle.deb_version.specs.Syntax.{is_version_text, value_of};
 ghost use Rattle.deb_control.specs.Lines.{lines_of, paragraphs_in};
 ghost use Rattle.deb_relations.specs.declared.arch.ArchWords.{ArchWords};
+ghost use Rattle.deb_relations.specs.Examples.{amd64, hurd_i386};
 ghost use Rattle.deb_relations.specs.Satisfaction.{versions_of};
 ghost use Rattle.wb_merge.specs.declared.listing.Listed.{Listed};
 ghost use Rattle.wb_merge.specs.declared.listing.Built.{Built};
 ghost use Rattle.wb_merge.specs.Rows.{AreRows, IsFirstFault, NamesSource, SourceRow, BinaryRow, binary_paragraph, binary_rows, is_source_text, rebuild_number, source_name, source_paragraph, source_rows, with_version};
-ghost use Rattle.wb_merge.specs.Listing.{IsGreatest, available_of, installable_versions, listed_cmp, candidates, built_cmp, builds, listing_of_rows, ArchiveListing};
+ghost use Rattle.wb_merge.specs.Listing.{IsGreatest, available_of, built_of, installable_versions, is_listed, listed_cmp, candidates, built_cmp, builds, listing_of_rows, ArchiveListing};
 ghost use Rattle.wb_states.specs.declared.record.Record.{Record};
 ghost use Rattle.wb_states.specs.declared.refusal.Refusal.{Refusal};
 ghost use Rattle.wb_states.specs.declared.refusal.ListKind.TheVariants.{Sources, Packages};
-ghost use Rattle.wb_states.specs.declared.state.State.TheVariants.{NotForUs};
+ghost use Rattle.wb_states.specs.declared.state.State.TheVariants.{Building, DepWait, Failed, Installed, NeedsBuild, NotForUs, Uploaded};
 ghost use Rattle.wb_states.specs.Limits.{rebuild_limit};
 ghost use Rattle.wb_states.specs.Moves.{build_text_of};
 ghost use Rattle.deb_relations.specs.Names.{is_package_name};
 ghost use Rattle.wb_states.specs.State.{is_held};
 ghost use Rattle.wb_merge.specs.Merge.{ends_hold, HasSameHold};
+ghost use Rattle.wb_merge.specs.Examples.{Becomes, BecomesBeside, binary_of, built_at, held_in, listed_at, record_in, source_of, version_listed};
 ghost use Rattle.wb_merge.specs.Merged.{Records, BecomesAt, record_after_at, all_kept, is_same_record, merge_counts, merged, recorded_names};
 ghost use Rattle.wb_merge.specs.Steps.{Key};
 
@@ -172,4 +174,92 @@ pub fn source_texts_read_back()
         → NamesSource (with_version name version) name (Some version) }
     ensures only { (text : List ℕ) → IsTrue (is_source_text text) → (text ≡ source_name text)
         ⊎ ((version : List ℕ) × (text ≡ with_version (source_name text) version)) }
+{}
+
+/// Examples of what lists have of a source package: for which architectures it is listed and in which version, and what
+/// is built of it on an architecture.
+/// Source: Debian Policy 5.6.8 and 11.1.1; the rest is this project's own.
+pub fn examples_of_listings()
+    // it is listed if a word of its Architecture matches, unless Extra-Source-Only is yes
+    ensures archs { (is_listed amd64 (source_of (codes "bash") (codes "5.2.15-2") (codes "any" ∷ [])) ≡ true)
+        × (is_listed amd64 (source_of (codes "systemd") (codes "252.17-1") (codes "linux-any" ∷ [])) ≡ true)
+        × (is_listed hurd_i386 (source_of (codes "systemd") (codes "252.17-1") (codes "linux-any" ∷ [])) ≡ false)
+        × (is_listed amd64 (source_of (codes "memtest86+") (codes "6.10-4") (codes "amd64" ∷ codes "i386" ∷ [])) ≡ true)
+        × (is_listed hurd_i386 (source_of (codes "memtest86+") (codes "6.10-4") (codes "amd64" ∷ codes "i386" ∷ [])) ≡ false)
+        × (is_listed amd64 (source_of (codes "tzdata") (codes "2023c-5") (codes "all" ∷ [])) ≡ false) }
+    ensures extra { is_listed amd64
+        (record (source_of (codes "ghc") (codes "9.0.2-4") (codes "any" ∷ [])) { is_extra = true }) ≡ false }
+    // of several versions the greatest one that is listed
+    ensures versions { version_listed amd64 (source_of (codes "linux") (codes "6.1.55-1") (codes "linux-any" ∷ [])
+        ∷ source_of (codes "linux") (codes "6.1.106-3") (codes "linux-any" ∷ [])
+        ∷ source_of (codes "linux") (codes "6.10.6-1") (codes "i386" ∷ []) ∷ []) (codes "linux")
+        ≡ Some (codes "6.1.106-3") }
+    // of several builds on the architecture the latest, with the number of its rebuild
+    ensures builds { built_of amd64 (binary_of (codes "libc6") (codes "2.36-9") (codes "amd64") (codes "glibc")
+        ∷ binary_of (codes "libc-bin") (codes "2.36-9+b1") (codes "amd64") (codes "glibc (2.36-9)")
+        ∷ binary_of (codes "libc6") (codes "2.37-1") (codes "i386") (codes "glibc") ∷ []) (codes "glibc")
+        ≡ built_at (codes "2.36-9") 1 }
+{}
+
+/// Examples of merges of the architecture amd64, one clause for each case: what becomes of the record of a source
+/// package by what is listed and built of it, whatever else is recorded or listed.
+/// Source: this project's own.
+pub fn examples_of_merges()
+    // of what is not listed there is no record
+    ensures unlisted { Becomes (codes "bash") None None (Some (record_in Failed (codes "5.2.15-2"))) None }
+    // what had no record is Installed if this version or a later one is built, else it waits for a builder
+    ensures added { Becomes (codes "hello") (listed_at (codes "2.10-3")) None None
+        (Some (record_in NeedsBuild (codes "2.10-3"))) }
+    ensures added_behind { Becomes (codes "hello") (listed_at (codes "2.10-3")) (built_at (codes "2.10-2") 0) None
+        (Some (record (record_in NeedsBuild (codes "2.10-3")) { earlier = true })) }
+    ensures added_built { Becomes (codes "hello") (listed_at (codes "2.10-3")) (built_at (codes "2.10-3") 2) None
+        (Some (record (record_in Installed (codes "2.10-3")) { earlier = true; number = 2 })) }
+    // a later version is listed than the record has: as if it had none, but Not-For-Us stays
+    ensures newer { Becomes (codes "bash") (listed_at (codes "5.2.21-2")) None
+        (Some (record (held_in Building (codes "5.2.15-2")) { earlier = true; number = 1; message = codes "new readline" }))
+        (Some (record (record_in NeedsBuild (codes "5.2.21-2")) { earlier = true })) }
+    ensures newer_built { Becomes (codes "bash") (listed_at (codes "5.2.21-2")) (built_at (codes "5.2.21-2") 0)
+        (Some (held_in Uploaded (codes "5.2.15-2")))
+        (Some (record (record_in Installed (codes "5.2.21-2")) { earlier = true })) }
+    ensures newer_not_for_us { Becomes (codes "alsa-lib") (listed_at (codes "1.2.10-3")) None
+        (Some (record (record_in NotForUs (codes "1.2.8-1")) { note = codes "no sound" }))
+        (Some (record (record_in NotForUs (codes "1.2.10-3")) { note = codes "no sound" })) }
+    // an earlier version is listed than the record has: the record stays
+    ensures older { Becomes (codes "bash") (listed_at (codes "5.2.15-2")) (built_at (codes "5.2.15-2") 0)
+        (Some (held_in Building (codes "5.2.21-2")))
+        (Some (held_in Building (codes "5.2.21-2"))) }
+    // the record's version is listed, and nothing of it is built: an Installed one waits again, and others stay
+    ensures same_held { Becomes (codes "bash") (listed_at (codes "5.2.15-2")) None
+        (Some (held_in Building (codes "5.2.15-2"))) (Some (held_in Building (codes "5.2.15-2"))) }
+    ensures same_listing { Becomes (codes "bash") (listed_at (codes "5.2.15-2")) None
+        (Some (record (record_in Failed (codes "5.2.15-2")) { section = codes "shells"; note = codes "cc died" }))
+        (Some (record (record_in Failed (codes "5.2.15-2")) { note = codes "cc died" })) }
+    ensures same_removed { Becomes (codes "bash") (listed_at (codes "5.2.15-2")) None
+        (Some (record (record_in Installed (codes "5.2.15-2")) { earlier = true }))
+        (Some (record (record_in NeedsBuild (codes "5.2.15-2")) { earlier = true })) }
+    // the record's version is listed and built: Installed, but a rebuild needs at least its number, and Not-For-Us stays
+    ensures same_built { Becomes (codes "bash") (listed_at (codes "5.2.15-2")) (built_at (codes "5.2.15-2") 0)
+        (Some (held_in Uploaded (codes "5.2.15-2")))
+        (Some (record (record_in Installed (codes "5.2.15-2")) { earlier = true })) }
+    ensures same_not_rebuilt { Becomes (codes "bash") (listed_at (codes "5.2.15-2")) (built_at (codes "5.2.15-2") 1)
+        (Some (record (record_in NeedsBuild (codes "5.2.15-2")) { earlier = true; number = 2 }))
+        (Some (record (record_in NeedsBuild (codes "5.2.15-2")) { earlier = true; number = 2 })) }
+    ensures same_rebuilt { Becomes (codes "bash") (listed_at (codes "5.2.15-2")) (built_at (codes "5.2.15-2") 3)
+        (Some (record (record_in NeedsBuild (codes "5.2.15-2")) { earlier = true; number = 2 }))
+        (Some (record (record_in Installed (codes "5.2.15-2")) { earlier = true; number = 3 })) }
+    ensures same_not_for_us { Becomes (codes "bash") (listed_at (codes "5.2.15-2")) (built_at (codes "5.2.15-2") 0)
+        (Some (record_in NotForUs (codes "5.2.15-2")))
+        (Some (record (record_in NotForUs (codes "5.2.15-2")) { earlier = true })) }
+    // the version is equal in the order of versions, and the record keeps its text
+    ensures same_text { Becomes (codes "bash") (listed_at (codes "0:5.2.15-02")) None
+        (Some (record_in NeedsBuild (codes "5.2.15-2"))) (Some (record_in NeedsBuild (codes "5.2.15-2"))) }
+    // the record's version is listed and the record is in Dep-Wait: until what it waits for is available
+    ensures waits_unmet { BecomesBeside (codes "libssl-dev") (codes "1.1.1w-0+deb11u1" ∷ [])
+        (codes "curl") (listed_at (codes "7.88.1-10")) None
+        (Some (record (record_in DepWait (codes "7.88.1-10")) { waits = codes "libssl-dev (>= 3)" }))
+        (Some (record (record_in DepWait (codes "7.88.1-10")) { waits = codes "libssl-dev (>= 3)" })) }
+    ensures waits_met { BecomesBeside (codes "libssl-dev") (codes "3.0.11-1" ∷ [])
+        (codes "curl") (listed_at (codes "7.88.1-10")) None
+        (Some (record (record_in DepWait (codes "7.88.1-10")) { waits = codes "libssl-dev (>= 3)" }))
+        (Some (record_in NeedsBuild (codes "7.88.1-10"))) }
 {}

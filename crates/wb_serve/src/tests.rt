@@ -1,3 +1,5 @@
+mod sockets;
+
 use crate::{Served, serve_one};
 use deb_text::Text;
 use std::alloc::{AllocError, Global};

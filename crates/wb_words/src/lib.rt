@@ -7,6 +7,7 @@ mod builder;
 mod fault;
 pub mod laws;
 mod lists;
+mod message;
 mod operator;
 mod service;
 mod start;

@@ -5,6 +5,7 @@ ghost use Rattle.wb_words.specs.declared.fault.WordsFault.TheVariants.{Memory};
 ghost use Rattle.wb_words.specs.Faults.{Reads};
 ghost use Rattle.wb_words.specs.Words.{command_named, invocation_in, invocation_named};
 
+use crate::message::malformed_text;
 use crate::tree::{arguments_of, subcommand_app, wb_app};
 use crate::{WordsFault, builder, lists, operator};
 use clap::ArgMatches;
@@ -93,11 +94,11 @@ pub fn invocation_of<'a>(alloc: Global, words: &'a [&'a str]) -> Result<Invocati
     invocation_named(alloc, name, &arguments)
 }
 
-/// Why words are no command, for a person: what `clap` says of them, or that an argument is malformed
-/// as a number or as a part. The error is that there is no memory for the text.
+/// Why words are no command, for a person: what `clap` says of them, or which argument is malformed, and what it
+/// has to be. The error is that there is no memory for the text.
 pub fn fault_of<'a>(alloc: Global, words: &'a [&'a str]) -> Result<String, AllocError> {
     match wb_app(alloc)?.try_get_matches_from(words) {
-        Ok(_) => format!(in alloc; "an argument is no number, or no part ARCH=PACKAGESFILE"),
+        Ok(matches) => malformed_text(alloc, &matches),
         Err(error) => format!(in alloc; "{error}"),
     }
 }

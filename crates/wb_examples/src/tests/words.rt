@@ -1,5 +1,6 @@
 //! What the program's words ask for.
-use wb_words::{Start, start_of};
+use std::alloc::AllocError;
+use wb_words::{Start, fault_of, start_of};
 
 #[test]
 fn starts(rt: HostRuntime) {
@@ -69,4 +70,59 @@ fn services(rt: HostRuntime) {
             "{port} {requests}"
         );
     }
+}
+
+/// Words of a line of which one argument is malformed, and what is said of it.
+static MALFORMED: [(&[&str], &str); 8] = [
+    (
+        &["next", "amd64", "b1", "--after", "x"],
+        "N of --after is x, and has to be a whole number from 0 to 18446744073709551615",
+    ),
+    (
+        &["built", "1.5"],
+        "TAKE is 1.5, and has to be a whole number from 0 to 18446744073709551615",
+    ),
+    (
+        &["waits", "18446744073709551616", "libfoo"],
+        "TAKE is 18446744073709551616, and has to be a whole number from 0 to 18446744073709551615",
+    ),
+    (
+        &["put-back", "--", "-1"],
+        "TAKE is -1, and has to be a whole number from 0 to 18446744073709551615",
+    ),
+    (
+        &["rebuild", "amd64", "hello", "1.0", "one", "new", "libc"],
+        "NUMBER is one, and has to be a whole number from 0 to 18446744073709551615",
+    ),
+    (
+        &["build-priority", "amd64", "hello", "1.0", "five"],
+        "VALUE is five, and has to be an integer from -9223372036854775808 to 9223372036854775807",
+    ),
+    (
+        &["merge", "Sources", "amd64"],
+        "PART is amd64, and has to be ARCH=PACKAGESFILE",
+    ),
+    (
+        &["merge", "Sources", "amd64=Packages", "i386", "arm64"],
+        "PART is i386, and has to be ARCH=PACKAGESFILE",
+    ),
+];
+
+#[test]
+fn malformed_arguments_are_named(rt: HostRuntime) -> Result<(), AllocError> {
+    for (words, want) in &MALFORMED {
+        let fault = fault_of(rt.alloc(), words)?;
+        assert_eq!(rt; fault.as_str(), *want);
+    }
+    let others: [&[&str]; 4] = [
+        &["--", "built", "1"],
+        &["built"],
+        &["built", "1", "2"],
+        &["buil", "1"],
+    ];
+    for words in others {
+        let fault = fault_of(rt.alloc(), words)?;
+        assert!(rt; fault.as_str().starts_with("error: "), "{fault}");
+    }
+    Ok(())
 }
