@@ -88,15 +88,24 @@ pub record IsUnderWay {S : Type 0} (g : Ghosts S) (q : TableQuery) (old now : He
   pub runs : HasCleanDisk (state g now) → old.schema ≡ office_schema → HasGiven g text [] now given × IsUnchanged (state g old) (state g now)
   pub survives : Survives (state g old) (state g now) (λ _. old.schema ≢ office_schema)
 
+-- a crash in a query that writes nothing
+crash_plain : {S : Type 0} (g : Ghosts S) {text : List ℕ} {q : TableQuery} (asks : Asks office_schema text q) (old new : Held S) → Survives (state g old) (state g new) (CommitsShowing text [] (state g old))
+    → Survives (state g old) (state g new) (λ _. old.schema ≢ office_schema)
+crash_plain g {text} asks old new =
+    survives_weaker (state g old) (state g new) (CommitsShowing text [] (state g old)) (λ _. old.schema ≢ office_schema)
+    (λ clean db made office. never_commits text [] (state g old) db (plain_over asks office) made)
+
+-- a crash in a query after one more call
+crash_later : {S : Type 0} (g : Ghosts S) (old now new : Held S) → Survives (state g old) (state g now) (λ _. old.schema ≢ office_schema) → Survives (state g now) (state g new) (λ _. ⊥)
+    → Survives (state g old) (state g new) (λ _. old.schema ≢ office_schema)
+crash_later g old now new =
+    survives_then (state g old) (state g now) (state g new) (λ _. old.schema ≢ office_schema) (λ _. ⊥) (λ _. old.schema ≢ office_schema) (λ clean db other. other) (λ clean db none. absurd none)
+
 module _ {S : Type 0} {g : Ghosts S} {text : List ℕ} {q : TableQuery} (asks : Asks office_schema text q) {old new : Held S}
     (survives : Survives (state g old) (state g new) (CommitsShowing text [] (state g old))) where
-  -- a crash in a query that writes nothing
-  crash_plain : Survives (state g old) (state g new) (λ _. old.schema ≢ office_schema)
-  crash_plain = survives_weaker (state g old) (state g new) _ _ (λ clean db made office. never_commits text [] (state g old) db (plain_over asks office) made) survives
-
   -- the query begins
   pub begins : (HasCleanDisk (state g new) → HasBegun g text [] old new) → IsUnderWay g q old new []
-  begins begun = record { text = text; asks = asks; runs = λ clean office. begun_plain g text [] old new (plain_over asks office) (begun clean); survives = crash_plain }
+  begins begun = record { text = text; asks = asks; runs = λ clean office. begun_plain g text [] old new (plain_over asks office) (begun clean); survives = crash_plain g asks old new survives }
 
   -- the query does not begin
   pub tests_refused : {A : Type 0} {table : Table} {Good : List Row → A → Type 0} {Bad : List Row → StoreFault → Type 0} {r : Result A StoreFault} (e : Error)
@@ -105,17 +114,16 @@ module _ {S : Type 0} {g : Ghosts S} {text : List ℕ} {q : TableQuery} (asks : 
     value = λ clean office. tt;
     same = λ clean office. tt;
     err = λ clean office. let failed = fails clean in inl (e, ((text, [], failed), query_kept text [] (state g old) (state g new) e failed), refl);
-    survives = crash_plain;
+    survives = crash_plain g asks old new survives;
   })
 
+-- what a test says of a state says it of the same state
+pub tests_at : {S A : Type 0} {g : Ghosts S} {q : TableQuery} {table : Table} {Good : List Row → A → Type 0} {Bad : List Row → StoreFault → Type 0} {old now new : Held S} {r : Result A StoreFault}
+    → Tests g q table Good Bad old now r → new ≡ now → Tests g q table Good Bad old new r
+tests_at {g} {q} {table} {Good} {Bad} {old} {r} tests same = subst (λ h. Tests g q table Good Bad old h r) (sym same) tests
+
 module _ {S : Type 0} {g : Ghosts S} {q : TableQuery} {old now : Held S} {given : List Row} (under : IsUnderWay g q old now given) where
-  module _ {new : Held S} (later : Survives (state g now) (state g new) (λ _. ⊥)) where
-    crash_later : Survives (state g old) (state g new) (λ _. old.schema ≢ office_schema)
-    crash_later = survives_then (state g old) (state g now) (state g new) _ _ _ (λ clean db other. other) (λ clean db none. absurd none) under.survives later
-
-    before : HasCleanDisk (state g new) → HasCleanDisk (state g now)
-    before clean = omega (arith, clean, later.clean)
-
+  module _ (new : Held S) (later : Survives (state g now) (state g new) (λ _. ⊥)) where
     -- one more row is given
     pub moves : (row : Row) → (HasCleanDisk (state g new) → Advances g now new (Some row)) → (HasCleanDisk (state g new) → IsUnchanged (state g now) (state g new))
         → IsUnderWay g q old new (given ++ row ∷ [])
@@ -123,8 +131,8 @@ module _ {S : Type 0} {g : Ghosts S} {q : TableQuery} {old now : Held S} {given 
       text = under.text;
       asks = under.asks;
       runs = λ clean office.
-          let was = under.runs (before clean) office in (advances clean under.text [] given was.0, unchanged_then (state g old) (state g now) (state g new) was.1 (same clean));
-      survives = crash_later;
+          let was = under.runs (omega (arith, clean, later.clean)) office in (advances clean under.text [] given was.0, unchanged_then (state g old) (state g now) (state g new) was.1 (same clean));
+      survives = crash_later g old now new under.survives later;
     }
 
     module _ {A : Type 0} {table : Table} {Good : List Row → A → Type 0} {Bad : List Row → StoreFault → Type 0} {r : Result A StoreFault} where
@@ -133,11 +141,11 @@ module _ {S : Type 0} {g : Ghosts S} {q : TableQuery} {old now : Held S} {given 
           → Tests g q table Good Bad old new r
       tests_ended x advances same good is = subst (λ (r : Result A StoreFault). Tests g q table Good Bad old new r) (sym is) (record {
         value = λ clean office.
-            let was = under.runs (before clean) office in
+            let was = under.runs (omega (arith, clean, later.clean)) office in
             (given, answer_ends under.text q (state g old) (state g now) (state g new) given (asked_over under.asks office) was.1 (advances clean under.text [] given was.0), good);
-        same = λ clean office. unchanged_then (state g old) (state g now) (state g new) (under.runs (before clean) office).1 (same clean);
+        same = λ clean office. unchanged_then (state g old) (state g now) (state g new) (under.runs (omega (arith, clean, later.clean)) office).1 (same clean);
         err = λ clean office. tt;
-        survives = crash_later;
+        survives = crash_later g old now new under.survives later;
       })
 
       -- the next row cannot be read
@@ -146,11 +154,11 @@ module _ {S : Type 0} {g : Ghosts S} {q : TableQuery} {old now : Held S} {given 
         value = λ clean office. tt;
         same = λ clean office. tt;
         err = λ clean office.
-            let was = under.runs (before clean) office in
+            let was = under.runs (omega (arith, clean, later.clean)) office in
             let plain = plain_over under.asks office in
             let failed = fails_from_start under.text [] (state g old) (state g now) (state g new) was.1 under.survives.counts under.survives.limit plain e (fails clean under.text [] given was.0) in
             inl (e, ((under.text, [], failed), query_kept under.text [] (state g old) (state g new) e failed), refl);
-        survives = crash_later;
+        survives = crash_later g old now new under.survives later;
       })
 
   -- the rows so far show that the test fails, whatever comes after them
