@@ -22,14 +22,15 @@ use wb_schema::texts;
 use wb_states::{OsCpu, StoreFault, Table};
 use wb_store::KeyedRecord;
 
-/// Tests each row of the records beside these architectures with their words, these builders with their architectures,
-/// and the greatest take number that was given. A row is good if it is that of a record: its names and its fields have
-/// their forms, its rank is that of the record, its architecture is one of these, its holder is one of the builders,
-/// for this architecture, its waits can be read and are reduced for the architecture, its take number is from 1 to
-/// `handed`, and no row before it has this take number. The faults are `Damaged` with the number of the first row that
-/// is not, counted from 1 in the order of the architectures and then of the source packages, `Memory`, and those of
-/// the query. The database stays as it is, but for a transaction that a failure of the query takes back (this
-/// project's own).
+/// Tests each row of the records, as it is read, beside these architectures with their words, these builders with
+/// their architectures, and the greatest take number that was given. A row is good if it is that of a record: its names
+/// and its fields have their forms, its rank is that of the record, its architecture is one of these, its holder is one
+/// of the builders, for this architecture, its waits can be read and are reduced for the architecture, its take number
+/// is from 1 to `handed`, and no row before it has this take number. Of the rows before it only their take numbers are
+/// kept. The faults are `Damaged` with the number of the first row that is not, counted from 1 in the order of the
+/// architectures and then of the source packages, `Memory`, also if there are 2^64 - 1 rows or more, and those of the
+/// query. The database stays as it is, but for a transaction that a failure of the query takes back (this project's
+/// own).
 pub fn check_records<S: Alter>(
     alloc: Global,
     conn: &mut Connection<S>,
@@ -71,7 +72,7 @@ fn test_rows<S: Alter>(conn: &mut Connection<S>, kept: &Kept<'_>) -> Result<(), 
             Err(error) => return Err(fault_of(error, Table::SourceRecord)),
         }
     }
-    // There are more rows than there are numbers for them.
+    // There is no number for another row.
     Err(StoreFault::Memory)
 }
 

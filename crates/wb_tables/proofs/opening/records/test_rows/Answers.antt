@@ -38,8 +38,10 @@ returns-in_err-test_row-in-Ok-Some g c =
     let fault = c.in_err-test_row-in-Ok-Some.field-0.0 in
     let moved = rw (c.in-Ok-Some.is, c.in-Ok-Some.field-0-is) at c.next.follows.holds-at-none in
     let under = moves so.1 c.next.follows.lender-at-none.conn.now moved.survives row moved.ok moved.same in
-    record { tests = tests_at (tests_bad under fault
-    (λ rest. is_bad kept.archs.now kept.builders.now kept.handed so.2 row rest (c.rows.before + 1) fault (omega arith) c.in_err-test_row-in-Ok-Some.ensures.err) (faulted c.from_residual.result c.from_residual.ensures.1)) (search rules) }
+    record {
+      tests = tests_at (tests_bad under fault
+          (λ rest. is_bad kept.archs.now kept.builders.now kept.handed so.2 row rest (c.rows.before + 1) fault (omega arith) c.in_err-test_row-in-Ok-Some.ensures.err) (faulted c.from_residual.result c.from_residual.ensures.1)) (search rules);
+    }
 
 pub returns-in-Ok-None : goal.returns-in-Ok-None
 returns-in-Ok-None g c =
