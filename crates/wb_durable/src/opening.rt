@@ -51,7 +51,7 @@ fn check_rows<S: Alter>(conn: &mut Connection<S>) -> Result<Counts, StoreFault>
     let counts = check_counts(conn)?;
     let archs = check_archs(conn)?;
     let builders = check_builders(conn, &archs)?;
-    check_records(conn, &archs, &builders, counts.handed)?;
+    check_records(*archs.allocator(), conn, &archs, &builders, counts.handed)?;
     Ok(counts)
 }
 

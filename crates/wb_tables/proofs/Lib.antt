@@ -15,6 +15,7 @@ pub mod OpeningCountLemmas
 pub mod OpeningLemmas
 pub mod OpeningRecordLemmas
 pub mod OpeningSoundLemmas
+pub mod OpeningStreamLemmas
 pub mod OpeningWaitLemmas
 pub mod OrderLemmas
 pub mod ReadLemmas

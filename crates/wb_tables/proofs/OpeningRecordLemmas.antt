@@ -8,6 +8,7 @@ use Rattle.std.specs.FinMap.Entries as entries_of
 use Rattle.std.specs.FinSet as set
 use Rattle.std.specs.Ordering.{eq_by_cmp, ordering_then}
 use Rattle.std.proofs.lemmas.Bool.Decides.{nat_tests}
+use Rattle.std.proofs.lemmas.List.{map-append}
 use Rattle.std.proofs.lemmas.List.Folds.{list_any-append}
 use Rattle.sqlite.specs.Effect.{Database}
 use Rattle.sqlite.specs.Held.{Held, state}
@@ -25,7 +26,6 @@ use Rattle.deb_text.proofs.KeyLemmas.{pair_cmp_total}
 use Rattle.wb_states.specs.declared.arch.OsCpu.{OsCpu}
 use Rattle.wb_states.specs.declared.record.Record.{Record}
 use Rattle.wb_states.specs.declared.store_fault.StoreFault.{StoreFault}
-use Rattle.wb_states.specs.declared.store_fault.StoreFault.TheVariants.{Damaged}
 use Rattle.wb_states.specs.declared.store_fault.Table.TheVariants.{SourceRecord}
 use Rattle.wb_states.specs.Holds.{is_taken_as}
 use Rattle.wb_states.specs.Machine.{Key, Machine, AreWaits, IsConsistent, IsRecord, arch_words, with_words}
@@ -34,7 +34,7 @@ use Rattle.wb_states.proofs.QueueLemmas.{IsIn-entries}
 use Rattle.wb_rows.specs.Cells.{record_cells}
 use Rattle.wb_rows.specs.Reading.{IsNoRecord}
 use Rattle.wb_rows.proofs.CellsLemmas.{record_cells-same}
-use Rattle.wb_tables.specs.Opening.{AllAfter, AreBadRecords, AreKept, FitsRecords, HasGoodRecords, HasOwnTake, HoldsRecords, IsBadRow, IsFormedRecord, IsRowOf, PassesWith, Tests, has_pair, words_among}
+use Rattle.wb_tables.specs.Opening.{AllAfter, AreBadRecords, AreKept, FitsBeside, FitsRecords, HasGoodRecords, HasOwnTake, HoldsRecords, IsBadRow, IsFormedRecord, IsRowOf, IsTestedRow, PassesWith, Tests, has_pair, words_among}
 use Rattle.wb_tables.specs.Stands.{StandsFor, builder_pairs}
 use Rattle.wb_tables.proofs.ArchLemmas.{name_test}
 use Rattle.wb_tables.proofs.FormLemmas.{arch_known, formed_readable}
@@ -43,7 +43,6 @@ use Rattle.wb_tables.proofs.MapLemmas.{contains-keys}
 use Rattle.wb_tables.proofs.OpeningAfterLemmas.{all_after-append, none_before, only_memory_after}
 use Rattle.wb_tables.proofs.OpeningLemmas.{passes_from}
 use Rattle.wb_tables.proofs.OrderLemmas.{entries_ascend, map_injective}
-use Rattle.wb_tables.proofs.ReadLemmas.{row_read}
 use Rattle.wb_tables.proofs.TableLemmas.{SkipsRowid, IsBefore, rising_answer}
 
 or_false : (b : Bool) → (b || false) ≡ b
@@ -67,12 +66,23 @@ module _ (archs : List (List ℕ × OsCpu)) (builders : List Key) (handed : ℕ)
   pub unformed_record : (row : Row) (read : Entry) → row ≡ record_cells read → ¬ IsFormed read → ¬ IsRowOf record_cells IsFormed row
   unformed_record row read same unformed (entry, fit, is) = unformed (subst IsFormed (record_cells-same entry read (sym is ∙ same)) fit)
 
+  module _ {has_take : ℕ → Bool} (row : Row) where
+    -- a row that is that of no record with its form is that of none that fits
+    pub unfit_row : (place : ℕ) (fault : StoreFault) → IsBadRow SourceRecord place (IsRowOf record_cells IsFormed row) fault
+        → IsBadRow SourceRecord place (IsRowOf record_cells (FitsBeside archs builders handed has_take) row) fault
+    unfit_row place fault (inl memory) = inl memory
+    unfit_row place fault (inr (damaged, bad)) = inr (damaged, λ of. bad (of.0, of.1.formed, of.2))
+
+    -- nor is the row of a record with one of the take numbers
+    pub repeated : (read : Entry) → row ≡ record_cells read → ¬ IfSome read.1.take (λ n. has_take n ≡ false) → ¬ IsRowOf record_cells (FitsBeside archs builders handed has_take) row
+    repeated read same taken (entry, fits, is) = taken (subst (λ (e : Entry). IfSome e.1.take (λ n. has_take n ≡ false)) (record_cells-same entry read (sym is ∙ same)) fits.own_take)
+
 -- ---- the rows, one after another
 
--- the rows up to here are those of records that fit, so many, with the take numbers that are told
-pub record IsTested (archs : List (List ℕ × OsCpu)) (builders : List Key) (handed : ℕ) (has_take : ℕ → Bool) (number : ℕ) (left all : List Row) : Type 0 where
+-- the rows are those of records that fit, so many, with the take numbers that are told
+pub record IsTested (archs : List (List ℕ × OsCpu)) (builders : List Key) (handed : ℕ) (has_take : ℕ → Bool) (number : ℕ) (rows : List Row) : Type 0 where
   pub made : List Entry
-  pub same : map record_cells made ++ left ≡ all
+  pub same : rows ≡ map record_cells made
   pub fit : AllAfter (FitsRecords archs builders handed) [] made
   pub counted : number ≡ length made
   pub among : (n : ℕ) → has_take n ≡ list_any (is_taken_as n) made
@@ -81,66 +91,49 @@ if_some_with : {X : Type 0} (P Q : X → Type 0) (found : Option X) → ((x : X)
 if_some_with P Q None follows h = tt
 if_some_with P Q (Some x) follows h = follows x h
 
-module _ (archs : List (List ℕ × OsCpu)) (builders : List Key) (handed : ℕ) {has_take : ℕ → Bool} {number : ℕ} {left all : List Row} (tested : IsTested archs builders handed has_take number left all)
-    (row : Row) (rest : List Row) (next : left ≡ row ∷ rest) where
-  -- so many rows are no more than there are
-  pub number_within : number < length all
-  number_within =
-      let count = tested.counted in
-      let whole = ap length (sym tested.same ∙ ap (λ l. map record_cells tested.made ++ l) next) in
-      let sizes = length_of tested.made in
-      let joined = length-append (map record_cells tested.made) (row ∷ rest) in
-      omega (arith, count, whole, sizes, joined)
-    where
-      length_of : (xs : List Entry) → length (map record_cells xs) ≡ length xs
-      length_of [] = refl
-      length_of (x ∷ xs) = ap suc (length_of xs)
+module _ (archs : List (List ℕ × OsCpu)) (builders : List Key) (handed : ℕ) where
+  -- no row is tested yet
+  pub none_tested : {has_take : ℕ → Bool} → ((n : ℕ) → has_take n ≡ false) → IsTested archs builders handed has_take 0 []
+  none_tested none = record { made = []; same = refl; fit = tt; counted = refl; among = none }
 
-  bad_here : (place : ℕ) (fault : StoreFault) → place ≡ suc number → fault ≡ Damaged SourceRecord place → ¬ IsRowOf record_cells (FitsRecords archs builders handed tested.made) row → AreBadRecords archs builders handed all fault
-  bad_here place fault counted damaged bad = inr (
-    place,
-    damaged,
-    record {
-      before = tested.made;
-      row = row;
-      rest = rest;
-      all = sym tested.same ∙ ap (λ l. map record_cells tested.made ++ l) next;
-      good = tested.fit;
-      bad = bad;
-      counted = counted ∙ ap suc tested.counted;
-    },
-  )
+  module _ {has_take : ℕ → Bool} {number : ℕ} {rows : List Row} (tested : IsTested archs builders handed has_take number rows) where
+    -- the rows are good
+    pub holds_tested : HoldsRecords archs builders handed rows
+    holds_tested = (tested.made, tested.same, tested.fit)
 
-  -- the row is the first that is that of no record with its form
-  pub is_bad : (place : ℕ) (fault : StoreFault) → place ≡ suc number → IsBadRow SourceRecord place (IsRowOf record_cells (IsFormedRecord archs builders handed) row) fault → AreBadRecords archs builders handed all fault
-  is_bad place fault counted (inl memory) = inl memory
-  is_bad place fault counted (inr (damaged, bad)) = bad_here place fault counted damaged (λ of. bad (of.0, of.1.formed, of.2))
+    module _ (row : Row) where
+      -- one more row fits
+      pub fits_too : {more : ℕ → Bool} {after : ℕ} → after ≡ suc number → IsTestedRow archs builders handed has_take more row → IsTested archs builders handed more after (rows ++ row ∷ [])
+      fits_too {more} counted new = record {
+        made = tested.made ++ new.entry ∷ [];
+        same = ap (λ l. l ++ row ∷ []) tested.same ∙ ap (λ r. map record_cells tested.made ++ r ∷ []) new.same ∙ sym (map-append record_cells tested.made (new.entry ∷ []));
+        fit = all_after-append (FitsRecords archs builders handed) [] tested.made new.entry tested.fit
+            (record { formed = new.fits.formed; own_take = if_some_with _ _ new.entry.1.take (λ n none. sym (tested.among n) ∙ none) new.fits.own_take });
+        counted = counted ∙ ap suc tested.counted ∙ sym (length_more tested.made);
+        among = λ n. new.among n ∙ ap₂ ◌||◌ (tested.among n) (sym (or_false (is_taken_as n new.entry))) ∙ sym (list_any-append (is_taken_as n) tested.made (new.entry ∷ []));
+      }
+        where
+          length_more : (xs : List Entry) → length (xs ++ new.entry ∷ []) ≡ suc (length xs)
+          length_more [] = refl
+          length_more (x ∷ xs) = ap suc (length_more xs)
 
-  module _ (read : Entry) (is : row ≡ record_cells read) where
-    told : HasOwnTake tested.made read → IfSome read.1.take (λ n. has_take n ≡ false)
-    told = if_some_with _ _ read.1.take (λ n none. tested.among n ∙ none)
-
-    -- the row is the first with the take number of one before it
-    pub repeats : (place : ℕ) (fault : StoreFault) → place ≡ suc number → fault ≡ Damaged SourceRecord place → ¬ IfSome read.1.take (λ n. has_take n ≡ false) → AreBadRecords archs builders handed all fault
-    repeats place fault counted damaged taken =
-        bad_here place fault counted damaged
-        (λ of. taken (told (subst (HasOwnTake tested.made) (record_cells-same of.0 read (sym of.2 ∙ is)) of.1.own_take)))
-
-    -- one more row fits
-    pub fits_too : {more : ℕ → Bool} {after : ℕ} → after ≡ suc number → IsFormedRecord archs builders handed read → IfSome read.1.take (λ n. has_take n ≡ false)
-        → ((n : ℕ) → more n ≡ (has_take n || has_value (nat_eq n) read.1.take)) → IsTested archs builders handed more after rest all
-    fits_too {more} counted formed own among = record {
-      made = tested.made ++ read ∷ [];
-      same = row_read record_cells tested.made (tested.made ++ read ∷ []) read row rest left all tested.same next refl is;
-      fit = all_after-append (FitsRecords archs builders handed) [] tested.made read tested.fit
-          (record { formed = formed; own_take = if_some_with _ _ read.1.take (λ n none. sym (tested.among n) ∙ none) own });
-      counted = counted ∙ ap suc tested.counted ∙ sym (length_more tested.made);
-      among = λ n. among n ∙ ap₂ ◌||◌ (tested.among n) (sym (or_false (is_taken_as n read))) ∙ sym (list_any-append (is_taken_as n) tested.made (read ∷ []));
-    }
-      where
-        length_more : (xs : List Entry) → length (xs ++ read ∷ []) ≡ suc (length xs)
-        length_more [] = refl
-        length_more (x ∷ xs) = ap suc (length_more xs)
+      -- the row is the first that does not fit, whatever comes after it
+      pub is_bad : (rest : List Row) (place : ℕ) (fault : StoreFault) → place ≡ suc number → IsBadRow SourceRecord place (IsRowOf record_cells (FitsBeside archs builders handed has_take) row) fault
+          → AreBadRecords archs builders handed ((rows ++ row ∷ []) ++ rest) fault
+      is_bad rest place fault counted (inl memory) = inl memory
+      is_bad rest place fault counted (inr (damaged, bad)) = inr (
+        place,
+        damaged,
+        record {
+          before = tested.made;
+          row = row;
+          rest = rest;
+          all = append_assoc rows (row ∷ []) rest ∙ ap (λ l. l ++ row ∷ rest) tested.same;
+          good = tested.fit;
+          bad = λ of. bad (of.0, record { formed = of.1.formed; own_take = if_some_with _ _ of.0.1.take (λ n none. tested.among n ∙ none) of.1.own_take }, of.2);
+          counted = counted ∙ ap suc tested.counted;
+        },
+      )
 
 -- ---- the records of a consistent office
 

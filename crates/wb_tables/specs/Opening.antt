@@ -1,5 +1,5 @@
 -- What an opening tests of the office's tables, row by row (this project's own).
-use Rattle.std.specs.Prelude.{◌≡◌, ◌≢◌, ◌⊎◌, ◌++◌, ℕ, suc, ◌<◌, ◌≤◌, ⊤, Bool, false, ◌&&◌, bytes_eq, IsTrue, List, [], ◌∷◌, length, map, find, Option, IfSome, Result, Vec, IfOk, IfErr, OnOk}
+use Rattle.std.specs.Prelude.{◌≡◌, ◌≢◌, ◌⊎◌, ◌++◌, ℕ, suc, ◌<◌, ◌≤◌, ⊤, Bool, false, ◌&&◌, ◌||◌, nat_eq, bytes_eq, IsTrue, List, [], ◌∷◌, length, map, find, Option, IfSome, Result, Vec, IfOk, IfErr, OnOk}
 use Rattle.std.specs.Option.{option_map, IsSomeAnd}
 use Rattle.std.specs.List.{AllByRecursion, list_any}
 use Rattle.std.specs.FinMap as finite
@@ -28,6 +28,7 @@ use Rattle.wb_states.specs.Names.{is_arch_name, is_builder_name}
 use Rattle.wb_states.specs.Queue.{Entry}
 use Rattle.wb_states.specs.Record.{IsWellFormed}
 use Rattle.deb_relations.specs.Names.{is_package_name}
+use Rattle.deb_text.specs.Options.{has_value}
 use Rattle.wb_rows.specs.Cells.{arch_cells, builder_cells, number, record_cells}
 use Rattle.wb_tables.specs.Stands.{StandsFor, builder_pairs}
 use Rattle.wb_tables.specs.Calls.{FailsToRead}
@@ -183,6 +184,18 @@ HasOwnTake before entry = IfSome entry.1.take (λ take_number. list_any (is_take
 pub record FitsRecords (archs : List (List ℕ × OsCpu)) (builders : List Key) (handed : ℕ) (before : List Entry) (entry : Entry) : Type 0 where
   pub formed : IsFormedRecord archs builders handed entry
   pub own_take : HasOwnTake before entry
+
+-- a record has its form, and its take number, if it has one, is none of these
+pub record FitsBeside (archs : List (List ℕ × OsCpu)) (builders : List Key) (handed : ℕ) (has_take : ℕ → Bool) (entry : Entry) : Type 0 where
+  pub formed : IsFormedRecord archs builders handed entry
+  pub own_take : IfSome entry.1.take (λ take_number. has_take take_number ≡ false)
+
+-- the row is that of a record that fits beside some take numbers, which are those after it with its own
+pub record IsTestedRow (archs : List (List ℕ × OsCpu)) (builders : List Key) (handed : ℕ) (before after : ℕ → Bool) (row : Row) : Type 0 where
+  pub entry : Entry
+  pub same : row ≡ record_cells entry
+  pub fits : FitsBeside archs builders handed before entry
+  pub among : (n : ℕ) → after n ≡ (before n || has_value (nat_eq n) entry.1.take)
 
 -- after these, each of those fits the ones before it
 abbrev pub AllAfter : {X : Type 0} → (List X → X → Type 0) → List X → List X → Type 0

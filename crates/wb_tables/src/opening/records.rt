@@ -9,28 +9,30 @@ ghost use Rattle.wb_schema.specs.Statements.{all_records};
 ghost use Rattle.wb_store.specs.Lookups.{entry_of};
 ghost use Rattle.wb_rows.specs.Cells.{record_cells};
 ghost use Rattle.wb_tables.specs.Lookups.{keyed_cells};
-ghost use Rattle.wb_tables.specs.Opening.{AreBadRecords, AreKept, HasGoodRecords, HoldsRecords, IsBadRow, IsFormedRecord, IsRowOf, PassesWith, Tests};
+ghost use Rattle.wb_tables.specs.Opening.{AreBadRecords, AreKept, FitsBeside, HasGoodRecords, HoldsRecords, IsBadRow, IsFormedRecord, IsRowOf, IsTestedRow, PassesWith, Tests};
 
 use super::forms::{Kept, is_formed};
-use super::rows::rows_of;
+use crate::fault::fault_of;
 use deb_text::Text;
 use sqlite::{Alter, Connection, Row};
-use std::alloc::AllocFailed;
+use std::alloc::{AllocFailed, Global};
 use std::collections::BTreeSet;
 use wb_rows::record_of;
 use wb_schema::texts;
 use wb_states::{OsCpu, StoreFault, Table};
 use wb_store::KeyedRecord;
 
-/// Tests each row of the records beside these architectures with their words, these builders with their architectures,
-/// and the greatest take number that was given. A row is good if it is that of a record: its names and its fields have
-/// their forms, its rank is that of the record, its architecture is one of these, its holder is one of the builders,
-/// for this architecture, its waits can be read and are reduced for the architecture, its take number is from 1 to
-/// `handed`, and no row before it has this take number. The faults are `Damaged` with the number of the first row that
-/// is not, counted from 1 in the order of the architectures and then of the source packages, `Memory`, and those of
-/// the query. The database stays as it is, but for a transaction that a failure of the query takes back (this
-/// project's own).
+/// Tests each row of the records, as it is read, beside these architectures with their words, these builders with
+/// their architectures, and the greatest take number that was given. A row is good if it is that of a record: its names
+/// and its fields have their forms, its rank is that of the record, its architecture is one of these, its holder is one
+/// of the builders, for this architecture, its waits can be read and are reduced for the architecture, its take number
+/// is from 1 to `handed`, and no row before it has this take number. Of the rows before it only their take numbers are
+/// kept. The faults are `Damaged` with the number of the first row that is not, counted from 1 in the order of the
+/// architectures and then of the source packages, `Memory`, also if there are 2^64 - 1 rows or more, and those of the
+/// query. The database stays as it is, but for a transaction that a failure of the query takes back (this project's
+/// own).
 pub fn check_records<S: Alter>(
+    alloc: Global,
     conn: &mut Connection<S>,
     archs: &[(Text, OsCpu)],
     builders: &[(Text, Text)],
@@ -43,33 +45,56 @@ pub fn check_records<S: Alter>(
         (λ machine done. AreKept archs.now builders.now handed machine → HasGoodRecords machine)
         conn.old conn.new result }
 {
-    let rows = rows_of(conn, texts::all_records(), Table::SourceRecord)?;
     let kept = Kept {
-        alloc: *rows.allocator(),
+        alloc,
         archs,
         builders,
         handed,
     };
-    test_rows(rows, &kept)
+    test_rows(conn, &kept)
 }
 
-/// Tests these rows, one after another.
-fn test_rows(rows: Vec<Row>, kept: &Kept<'_>) -> Result<(), StoreFault>
-    ensures value { IfOk result (λ done.
-        HoldsRecords kept.now.archs.now kept.now.builders.now kept.now.handed rows.items) }
-    ensures err { IfErr result
-        (AreBadRecords kept.now.archs.now kept.now.builders.now kept.now.handed rows.items) }
+/// Tests the rows of the records, each as it is read.
+fn test_rows<S: Alter>(conn: &mut Connection<S>, kept: &Kept<'_>) -> Result<(), StoreFault>
+    ensures tests { Tests S.Store all_records SourceRecord
+        (λ rows done. HoldsRecords kept.now.archs.now kept.now.builders.now kept.now.handed rows)
+        (AreBadRecords kept.now.archs.now kept.now.builders.now kept.now.handed) conn.old conn.new result }
 {
     let mut takes = BTreeSet::new(kept.alloc);
-    let mut number = 0;
-    for row in rows {
-        number += 1;
-        let read = record_in(&row, number, kept)?;
-        if !is_own(&mut takes, read.current.take)? {
-            return Err(damaged(number));
+    let mut rows = match conn.query(texts::all_records(), &[]) {
+        Ok(rows) => rows,
+        Err(error) => return Err(fault_of(error, Table::SourceRecord)),
+    };
+    'rows: for before in 0..u64::MAX {
+        match rows.next() {
+            Ok(Some(row)) => test_row(row, before + 1, kept, &mut takes)?,
+            Ok(None) => return Ok(()),
+            Err(error) => return Err(fault_of(error, Table::SourceRecord)),
         }
     }
-    Ok(())
+    // There is no number for another row.
+    Err(StoreFault::Memory)
+}
+
+/// Tests the row of this number beside the take numbers of the rows before it, among which its own is from then on.
+fn test_row(
+    row: &Row,
+    number: u64,
+    kept: &Kept<'_>,
+    takes: &mut BTreeSet<u64>,
+) -> Result<(), StoreFault>
+    ensures value { IfOk result (λ done.
+        IsTestedRow kept.now.archs.now kept.now.builders.now kept.now.handed
+        (contains nat_cmp takes.old) (contains nat_cmp takes.new) row.now) }
+    ensures err { IfErr result (IsBadRow SourceRecord number (IsRowOf record_cells
+        (FitsBeside kept.now.archs.now kept.now.builders.now kept.now.handed (contains nat_cmp takes.old)) row.now)) }
+{
+    let read = record_in(row, number, kept)?;
+    if is_own(takes, read.current.take)? {
+        Ok(())
+    } else {
+        Err(damaged(number))
+    }
 }
 
 /// The record in the row of this number, if it has its form.

@@ -34,19 +34,20 @@ fn known_builders<S: Alter>(
 }
 
 fn test_records<S: Alter>(
+    alloc: Global,
     conn: &mut Connection<S>,
     archs: &[(Text, OsCpu)],
     builders: &[(Text, Text)],
     handed: u64,
 ) -> Result<(), StoreFault> {
-    check_records(conn, archs, builders, handed)
+    check_records(alloc, conn, archs, builders, handed)
 }
 
 fn test_all<S: Alter>(conn: &mut Connection<S>) -> Result<(), StoreFault> {
     let handed = handed(conn)?;
     let archs = known_archs(conn)?;
     let builders = known_builders(conn, &archs)?;
-    test_records(conn, &archs, &builders, handed)
+    test_records(*archs.allocator(), conn, &archs, &builders, handed)
 }
 
 fn has_scratch<S: Alter>(conn: &mut Connection<S>) -> Result<bool, Error> {
