@@ -76,7 +76,7 @@ HoldsStep g command key after old db =
 
 -- the change of an accepted command in a transaction of its own, over a connection that is settled at the whole office: if it succeeds, the
 -- connection is settled at the office after the command; if it fails, the office is as before, but where the commit is in doubt a crash leaves
--- the one or the other; and a crash at any moment leaves no third
+-- the one or the other; and a crash after it leaves no third
 pub record CarriesOut {S A : Type 0} (g : Ghosts S) (command : Command) (key : Option Key) (after : Machine) (old new : Held S) (result : Result A CarryError) : Type 0 where
   pub ok : HasCleanDisk (state g new) → (whole : Machine) → IsSettled whole (state g old) → IsStepOf whole command key after
       → OnOk result (IsSettled (step whole command).1 (state g new))

@@ -36,7 +36,7 @@ HoldsMerge g sources parts before after old db =
 
 -- what a merge changed, in a transaction of its own, over a connection that is settled at the whole office: if it succeeds, the connection is
 -- settled at the office after the merge; if it fails, the office is as before, but where the commit is in doubt a crash leaves the one or the
--- other; and a crash at any moment leaves no third
+-- other; and a crash after it leaves no third
 pub record CarriesMerge {S A : Type 0} (g : Ghosts S) (sources : List ℕ) (parts : List Part) (before after : Machine) (old new : Held S)
     (result : Result A CarryError) : Type 0 where
   pub ok : HasCleanDisk (state g new) → (whole : Machine) → IsSettled whole (state g old) → IsMergeIn whole sources parts before after

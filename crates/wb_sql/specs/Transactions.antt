@@ -1,4 +1,4 @@
--- Transactions: what they end in, and what a crash at any moment of one may leave (SQL's BEGIN, COMMIT and ROLLBACK).
+-- Transactions: what they end in, and what a crash after each call of one may leave (SQL's BEGIN, COMMIT and ROLLBACK).
 use Rattle.std.specs.Prelude.{◌≡◌, ◌⊎◌, ℕ, false, List, [], codes, Err, IsTrue}
 use Rattle.sqlite_trees.specs.declared.store.Store.{Ghosts}
 use Rattle.sqlite.specs.declared.error.Error.{Error}
