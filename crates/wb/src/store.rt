@@ -2,11 +2,15 @@
 
 use crate::{Work, act, said};
 use sqlite::Connection;
-use std::fs::{File, OpenOptions, TryLockError};
+use std::alloc::AllocError;
+use std::fs::{self, File, OpenOptions, TryLockError};
 use std::io;
 use wb_daemon::status;
 use wb_durable::{Office, opening_fault};
 use wb_states::StoreFault;
+
+/// How many bytes the log of a file has if it holds no commit: those of its header.
+const EMPTY_LOG: u64 = 41;
 
 /// Why the lock on the file of an office is not got.
 enum LockRefusal {
@@ -16,14 +20,20 @@ enum LockRefusal {
     Fault(StoreFault),
 }
 
-/// Has the office over the records in the file do its work. The file is made if it is not there, with a sum of each page.
-/// One program at a time has the file: it holds a lock on the file with this name and `.lock` behind it.
+/// Has the office over the records in the file do its work. The file is made if it is not there, with a sum of each page,
+/// unless its log holds commits, which would then be written over. One program at a time has the file: it holds a lock
+/// on the file with this name and `.lock` behind it.
 pub(crate) fn open_for(rt: &HostRuntime, file: &str, work: Work) -> u8 {
     let _lock = match lock_of(rt, file) {
         Ok(lock) => lock,
         Err(LockRefusal::InUse) => return refuse_held(rt, file),
         Err(LockRefusal::Fault(fault)) => return refuse_fault(rt, file, fault),
     };
+    match is_lost_beside_its_log(rt, file) {
+        Ok(false) => {}
+        Ok(true) => return refuse_lost(rt, file),
+        Err(AllocError) => return refuse_fault(rt, file, StoreFault::Memory),
+    }
     let conn = match Connection::open_with_sums(rt, file) {
         Ok(conn) => conn,
         Err(error) => return refuse_fault(rt, file, opening_fault(error)),
@@ -39,6 +49,20 @@ pub(crate) fn open_for(rt: &HostRuntime, file: &str, work: Work) -> u8 {
             let _ = eprintln!(rt; "wb: {file} was not closed: {fault}");
             status
         }
+    }
+}
+
+/// Whether the file is not there, or is empty, while its log holds commits.
+fn is_lost_beside_its_log(rt: &HostRuntime, file: &str) -> Result<bool, AllocError> {
+    let log = format!(in rt.alloc(); "{file}-wal")?;
+    Ok(size_of(rt, file) == 0 && EMPTY_LOG < size_of(rt, log.as_str()))
+}
+
+/// The size of a file in bytes, 0 if there is none that can be seen.
+fn size_of(rt: &HostRuntime, name: &str) -> u64 {
+    match fs::metadata(rt, name) {
+        Ok(found) => found.len(),
+        Err(_) => 0,
     }
 }
 
@@ -70,6 +94,14 @@ fn refuse_lock(rt: &HostRuntime, name: &str, error: io::Error) -> LockRefusal {
 fn refuse_fault(rt: &HostRuntime, file: &str, fault: StoreFault) -> u8 {
     let _ = eprintln!(rt; "wb: {file} cannot be opened: {fault}");
     said_store(rt, fault.name())
+}
+
+/// Says that the store cannot be opened, since its file is lost and its log is not.
+fn refuse_lost(rt: &HostRuntime, file: &str) -> u8 {
+    let _ = eprintln!(rt;
+        "wb: {file} cannot be opened: it is empty or not there, and its log {file}-wal holds commits"
+    );
+    said_store(rt, StoreFault::NotOffice.name())
 }
 
 /// Says that the store cannot be opened, since another program has it.
