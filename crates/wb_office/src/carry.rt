@@ -21,14 +21,13 @@ pub trait CarryOut {
     // writes them and the disk gives back what it was given.
     ghost is_clean: { Self → Type 0 };
 
-    // The office is in this state, which is consistent. If the office is closed, this is the state that is found when
-    // it is opened again.
+    // The office is in this state, which is consistent. A crash leaves this state alone, also of a closed office.
     ghost stands_at: { Self → Machine → Type 0 };
 
     // The office is closed: it answers `Closed` to each command until it is opened again.
     ghost is_closed: { Self → Type 0 };
 
-    // The office is closed, and one of these two states is found when it is opened again.
+    // The office is closed, and a crash leaves one of these two states.
     ghost leaves: { Self → Machine → Machine → Type 0 };
 
     // A command for which there may be no memory.
@@ -43,8 +42,8 @@ pub trait CarryOut {
     ///
     /// The refusal is the first that is true of the command in the order of [`Refusal`], and the office is then as it
     /// was. `Memory` comes where there is no memory for it; the office is then as it was, but may be closed. `Store`
-    /// comes where the store failed: the office is closed, and the command stands whole or not at all when the office
-    /// is opened again. A closed office answers `Closed` to each command (this project's own).
+    /// comes where the store failed: the office is closed, and a crash leaves the state before the command or the state
+    /// after it, whole. A closed office answers `Closed` to each command (this project's own).
     fn carry_out(&mut self, command: &Command) -> Result<Reply, Refusal>
         ensures clean { is_clean self.new → is_clean self.old }
         ensures reply { (machine : Machine) → is_clean self.new → stands_at self.old machine
@@ -64,8 +63,8 @@ pub trait CarryOut {
     ///
     /// The refusals come in this order: `Closed`, `BadName` if a name is malformed, `UnknownArch` if the architecture
     /// was never added, `UnknownSource` if the source package has no record there. `Memory` and `Store` come as they do
-    /// of [`carry_out`](CarryOut::carry_out), but for no malformed name. The office is as it was after each answer, also
-    /// when it is opened again after `Store` (this project's own).
+    /// of [`carry_out`](CarryOut::carry_out), but for no malformed name. The office is as it was after each answer; after
+    /// `Store` it is closed, and a crash leaves the state that it had (this project's own).
     fn item(&mut self, arch: &str, source: &str) -> Result<Answer, Refusal>
         ensures clean { is_clean self.new → is_clean self.old }
         ensures answer { (machine : Machine) → is_clean self.new → stands_at self.old machine
@@ -88,8 +87,8 @@ pub trait CarryOut {
     ///
     /// The refusals come in this order: `Closed`, `BadName` if the name is malformed, `UnknownBuilder` if the builder was
     /// added for no architecture. `Memory` and `Store` come as they do of [`carry_out`](CarryOut::carry_out), but for no
-    /// malformed name. The office is as it was after each answer, also when it is opened again after `Store` (this
-    /// project's own).
+    /// malformed name. The office is as it was after each answer; after `Store` it is closed, and a crash leaves the
+    /// state that it had (this project's own).
     fn mine(&mut self, builder: &str) -> Result<Answer, Refusal>
         ensures clean { is_clean self.new → is_clean self.old }
         ensures answer { (machine : Machine) → is_clean self.new → stands_at self.old machine

@@ -21,9 +21,12 @@ pub struct Writing<'conn, S: Alter> {
 /// Why a commit is not known to be made.
 #[derive(Debug, Drop)]
 pub enum CommitError {
-    /// Memory ran out before anything was committed, and the transaction is taken back.
+    /// COMMIT failed, since memory ran out. Nothing is committed: the transaction is as it was before the call, or it is
+    /// taken back, and a crash leaves no more than before.
     Memory,
-    /// The store failed, or the transaction was over. Whether the commit was made is not known.
+    /// COMMIT failed with this error. The connection keeps the commit that it had: the transaction is as it was before
+    /// the call, or it is taken back. But a crash may leave what the transaction wrote, as well as what it could leave
+    /// before.
     InDoubt(Error),
 }
 
@@ -110,7 +113,7 @@ impl<S: Alter> Writing<'_, S> {
         Ok(())
     }
 
-    /// Ends the transaction, and makes what it wrote last.
+    /// Ends the transaction, and makes what it wrote last. [`CommitError`] says what holds if it fails.
     pub fn commit(self) -> Result<(), CommitError>
         ensures ok { HasCleanDisk (state S.Store self.exit.0.now)
             → OnOk result (Commits (state S.Store self.entry.conn.now) (state S.Store self.exit.0.now)) }
