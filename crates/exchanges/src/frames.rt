@@ -4,19 +4,37 @@ use anyhow::{Context, Result};
 use std::alloc::Global;
 use std::io::BufRead;
 
-/// The bytes of the next frame; none at the end of the input.
-pub(crate) fn next<R: BufRead + Drop>(alloc: Global, input: &mut R) -> Result<Option<Vec<u8>>> {
+/// The bytes of a frame, and how a reader gives them: at most `step` a read, and a failure after so many reads.
+#[derive(Drop)]
+pub(crate) struct Frame {
+    pub(crate) bytes: Vec<u8>,
+    pub(crate) step: usize,
+    pub(crate) reads: usize,
+}
+
+/// The next frame; none at the end of the input.
+pub(crate) fn next<R: BufRead + Drop>(alloc: Global, input: &mut R) -> Result<Option<Frame>> {
     let mut line = String::new(alloc);
     if input.read_line(&mut line)? == 0 {
         return Ok(None);
     }
-    let length = line
-        .trim_end()
-        .parse::<usize>()
-        .context("a frame does not begin with its length")?;
+    let words = line.trim_end();
+    let length = number(words, 0)?;
+    let step = number(words, 1)?;
+    let reads = number(words, 2)?;
     let mut bytes = vec![in alloc; 0u8; length]?;
     input
         .read_exact(&mut bytes)
         .context("the input ends inside a frame")?;
-    Ok(Some(bytes))
+    Ok(Some(Frame { bytes, step, reads }))
+}
+
+/// The number at this place of a line, counted from 0; the greatest one if the line ends before.
+fn number(words: &str, place: usize) -> Result<usize> {
+    match words.split(' ').nth(place) {
+        Some(word) => word
+            .parse::<usize>()
+            .context("a frame does not begin with numbers"),
+        None => Ok(usize::MAX),
+    }
 }

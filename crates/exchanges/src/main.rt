@@ -1,12 +1,17 @@
 //! Answers requests by an office in memory, with neither sockets nor files. Standard input has frames: a decimal length, a line feed and so
 //! many bytes. The first three are the Sources list and the Packages lists of amd64 and arm64 that the office begins with, and each other
-//! is all that a client sends on a connection. For each of these a line goes to standard output, and after it what is answered: how the
-//! exchange ended, the status or 0 for none, and how many bytes were answered, as in `answered 200 145`.
+//! is all that a client sends on a connection. After the length, a blank and a number say how many bytes a read gives at most, and a blank
+//! and a second number how many reads give bytes before one fails; else a read gives all that fit, and none fails. For each request a line
+//! goes to standard output, and after it what is answered: how the exchange ended, the status or 0 for none, and how many bytes were
+//! answered, as in `answered 200 145`.
 #![tactic(auto)]
 
 mod frames;
 mod opening;
+mod reader;
 
+use crate::frames::Frame;
+use crate::reader::CutReader;
 use anyhow::{Context, Result};
 use std::alloc::Global;
 use std::io::{self, BufRead, BufReader, BufWriter, Write};
@@ -19,7 +24,7 @@ fn main(rt: HostRuntime) -> Result<()> {
     let mut output = BufWriter::new(rt.alloc(), io::writer(&rt))?;
     match frames::next(rt.alloc(), &mut input)? {
         Some(sources) => {
-            let mut office = begun(rt.alloc(), &mut input, sources)?;
+            let mut office = begun(rt.alloc(), &mut input, sources.bytes)?;
             answer_all(rt.alloc(), &mut office, &mut input, &mut output)
         }
         None => Ok(()),
@@ -30,7 +35,7 @@ fn main(rt: HostRuntime) -> Result<()> {
 fn begun<R: BufRead + Drop>(alloc: Global, input: &mut R, sources: Vec<u8>) -> Result<Office> {
     let amd64 = frames::next(alloc, input)?.context("there is no list of amd64")?;
     let arm64 = frames::next(alloc, input)?.context("there is no list of arm64")?;
-    opening::office_of(alloc, sources, amd64, arm64)
+    opening::office_of(alloc, sources, amd64.bytes, arm64.bytes)
 }
 
 /// Answers each request of the input. Each answer is written before the next request is read.
@@ -54,9 +59,9 @@ fn answer_all<R: BufRead + Drop, W: Write + Drop>(
 }
 
 /// How the exchange for this request ended, and what was answered.
-fn answered(alloc: Global, office: &mut Office, request: &[u8]) -> (Served, Vec<u8>) {
+fn answered(alloc: Global, office: &mut Office, request: &Frame) -> (Served, Vec<u8>) {
     let mut answer: Vec<u8> = Vec::new(alloc);
-    let mut reader = WatchedReader::new(request);
+    let mut reader = WatchedReader::new(CutReader::new(request));
     let mut writer = WatchedWriter::new(&mut answer);
     let served = serve_one(alloc, office, &mut reader, &mut writer);
     drop(writer);

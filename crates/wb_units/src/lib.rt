@@ -1,5 +1,4 @@
-//! Tests of what lies below the office: versions, names, moves, the queue, and the tables, in memory and in a database;
-//! and of HTTP requests and answers.
+//! Tests of what lies below the office: versions, names, moves, the queue, and the tables, in memory and in a database.
 #![tactic(auto)]
 
 #[cfg(test)]

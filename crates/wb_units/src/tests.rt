@@ -2,7 +2,6 @@ mod database;
 mod moves;
 mod names;
 mod ranks;
-mod requests;
 mod rows;
 mod statements;
 mod stores;
