@@ -21,7 +21,7 @@ pub trait CarryOut {
     // writes them and the disk gives back what it was given.
     ghost is_clean: { Self → Type 0 };
 
-    // The office is in this state, which is consistent. A crash leaves this state alone, also of a closed office.
+    // The office is in this state, which is consistent. If the office is closed, a crash leaves this state.
     ghost stands_at: { Self → Machine → Type 0 };
 
     // The office is closed: it answers `Closed` to each command until it is opened again.

@@ -24,9 +24,9 @@ pub enum CommitError {
     /// COMMIT failed, since memory ran out. Nothing is committed: the transaction is as it was before the call, or it is
     /// taken back, and a crash leaves no more than before.
     Memory,
-    /// COMMIT failed with this error. The connection keeps the commit that it had: the transaction is as it was before
-    /// the call, or it is taken back. But a crash may leave what the transaction wrote, as well as what it could leave
-    /// before.
+    /// COMMIT failed with this error. The transaction is as it was before the call, or it is taken back, and a connection
+    /// that is still open keeps the commit that it had. But a crash may leave what the transaction wrote, as well as what
+    /// it could leave before.
     InDoubt(Error),
 }
 
