@@ -1,4 +1,5 @@
-"""Runs of the program with its records in a file, `wb --store FILE run`, for tools/test_store and tools/test_store_files.
+"""Runs of the program with its records in a file, `wb --store FILE run`, and that file as sqlite3 reads and changes it, for tools/test_run,
+tools/test_store, tools/test_store_files and tools/test_serve.
 
 From the environment: WB is the program, ./wb of this repository where it is not set, and SEED is added to the number of each random choice.
 """
@@ -6,6 +7,11 @@ import contextlib
 import json
 import os
 import queue
+import resource
+import shutil
+import signal
+import sqlite3
+import struct
 import subprocess
 import tempfile
 import threading
@@ -40,6 +46,16 @@ def run(folder, lines, store="store", prepare=None):
     return done.returncode, done.stdout
 
 
+def limit_files(size):
+    """For `run`: no file of the program may grow beyond so many bytes, as on a full disk."""
+
+    def prepare():
+        signal.signal(signal.SIGXFSZ, signal.SIG_IGN)
+        resource.setrlimit(resource.RLIMIT_FSIZE, (size, size))
+
+    return prepare
+
+
 def answers_of(folder, lines, store="store"):
     """The answers of a run that comes to the end of its input, each as an object."""
     status, said = run(folder, lines, store)
@@ -54,6 +70,50 @@ def refusal_of(said):
     fault = json.loads(said)
     expect(fault["store"] in FAULTS, f"no such fault: {said}")
     return fault["store"]
+
+
+@contextlib.contextmanager
+def copied_database(folder):
+    """A copy of the file `store` and its log, opened by sqlite3."""
+    with tempfile.TemporaryDirectory() as copy:
+        for name in ("store", "store-wal"):
+            if (folder / name).exists():
+                shutil.copy(folder / name, copy)
+        with contextlib.closing(sqlite3.connect(Path(copy) / "store")) as database:
+            yield database
+
+
+def rows_of(folder, query):
+    """The rows that sqlite3 finds in a copy of the store."""
+    with copied_database(folder) as database:
+        return database.execute(query).fetchall()
+
+
+def page_size(data):
+    size = int.from_bytes(data[16:18], "big")
+    return 65536 if size == 1 else size
+
+
+def seal(path):
+    """Gives each page the sum of SQLite's extension cksumvfs, if the file has sums; without the extension sqlite3 leaves the old ones."""
+    data = bytearray(path.read_bytes())
+    size = page_size(data)
+    for start in range(0, len(data) if data[20] == 8 else 0, size):
+        words = struct.unpack_from(f"<{(size - 8) // 4}I", data, start)
+        first = second = 0
+        for one, other in zip(words[::2], words[1::2]):
+            first = (first + one + second) & 0xFFFFFFFF
+            second = (second + other + first) & 0xFFFFFFFF
+        struct.pack_into("<2I", data, start + size - 8, first, second)
+    path.write_bytes(data)
+
+
+def edit(path, *statements):
+    """Changes a database by sqlite3, which copies the log into the file as it closes it."""
+    with contextlib.closing(sqlite3.connect(path, isolation_level=None)) as database:
+        for statement in statements:
+            database.execute(statement)
+    seal(path)
 
 
 class Session:
@@ -117,19 +177,19 @@ def filled(folder):
     return 41
 
 
-def test_all(tests, names):
-    """Runs the tests, or those of these names, each in an empty folder. Gives the status."""
+def test_all(tests, names, kind="store"):
+    """Runs the tests, or those of these names, each in an empty folder, and prints what they are of before their names. Gives the status."""
     chosen = [test for test in tests if not names or test.__name__ in names]
     failed = 0
     for test in chosen:
-        name = f"store_{test.__name__}"
+        name = f"{kind}_{test.__name__}"
         with tempfile.TemporaryDirectory() as folder:
             try:
                 more = test(Path(folder))
                 print(f"ok {name}" + (f"\n    {more}" if more else ""), flush=True)
             except Exception as why:  # whatever it is, the other tests are run
                 failed += 1
-                kind = "" if isinstance(why, Failure) else f"{type(why).__name__}: "
-                print(f"failed {name}: {kind}{why}", flush=True)
+                type_of = "" if isinstance(why, Failure) else f"{type(why).__name__}: "
+                print(f"failed {name}: {type_of}{why}", flush=True)
     print(f"{len(chosen) - failed} passed, {failed} failed")
     return 1 if failed or not chosen else 0

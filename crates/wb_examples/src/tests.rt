@@ -1,7 +1,0 @@
-mod answers;
-mod failing;
-mod kept;
-mod limits;
-mod lists;
-mod queries;
-mod words;
