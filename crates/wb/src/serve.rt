@@ -1,11 +1,12 @@
 //! The office over HTTP, on a port of this machine.
 
+use crate::say;
 use sqlite::Alter;
 use std::alloc::Global;
 use std::io::{self, Read};
 use std::net::{Ipv4Addr, Shutdown, SocketAddr, TcpListener, TcpStream};
 use std::time::Duration;
-use wb_daemon::status;
+use wb_daemon::{Cause, Message, status};
 use wb_office::CarryOut;
 use wb_serve::serve_one;
 use wb_streams::{WatchedReader, WatchedWriter};
@@ -58,6 +59,12 @@ pub(crate) fn serve<O: CarryOut + MayClose>(
             serve_stream(rt.alloc(), office, &stream);
         }
         if office.is_closed() {
+            say(
+                rt,
+                Message::Stopped {
+                    cause: Cause::Store,
+                },
+            );
             return status::STOPPED;
         }
     }

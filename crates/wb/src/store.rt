@@ -22,7 +22,7 @@ enum LockRefusal {
 
 /// Has the office over the records in the file do its work. The file is made if it is not there, with a sum of each page,
 /// unless its log holds commits, which would then be written over. One program at a time has the file: it holds a lock
-/// on the file with this name and `.lock` behind it.
+/// on the file with this name and `.lock` behind it. Standard error is told of a new office, since its name may be a slip.
 pub(crate) fn open_for(rt: &HostRuntime, file: &str, work: Work) -> u8 {
     let _lock = match lock_of(rt, file) {
         Ok(lock) => lock,
@@ -34,6 +34,7 @@ pub(crate) fn open_for(rt: &HostRuntime, file: &str, work: Work) -> u8 {
         Ok(true) => return refuse_lost(rt, file),
         Err(AllocError) => return refuse_fault(rt, file, StoreFault::Memory),
     }
+    let is_new = size_of(rt, file) == 0;
     let conn = match Connection::open_with_sums(rt, file) {
         Ok(conn) => conn,
         Err(error) => return refuse_fault(rt, file, opening_fault(error)),
@@ -42,6 +43,9 @@ pub(crate) fn open_for(rt: &HostRuntime, file: &str, work: Work) -> u8 {
         Ok(office) => office,
         Err(fault) => return refuse_fault(rt, file, fault),
     };
+    if is_new {
+        let _ = eprintln!(rt; "wb: {file} was empty or not there: a new office begins in it");
+    }
     let status = act(rt, &mut office, work);
     match office.close() {
         Ok(_) => status,

@@ -1,5 +1,6 @@
 -- An office over two files: what an opening finds in them, and what a close leaves of them.
 use Rattle.std.proofs.Common.{◌≡◌, ◌⊎◌, ℕ, Bool, inl, inr, Result, Ok, Err, IfOk, IfErr, sym, ap, subst, ◌∙◌}
+use Rattle.std.proofs.Math.Logic.{∥∥₁_map}
 use Rattle.sqlite_disk.specs.declared.Disk.{Ghosts}
 use Rattle.sqlite_disk.specs.declared.Files.{Files}
 use Rattle.sqlite_wal.specs.Reads.{AreClean}
@@ -11,11 +12,11 @@ use Rattle.sqlite.specs.Tree.{Trees}
 use Rattle.sqlite.specs.Closing.{IsCopied}
 use Rattle.sqlite.specs.Effect.{Database}
 use Rattle.sqlite.specs.Held.{Held}
-use Rattle.sqlite.specs.Files.{file_state, over_files, IsOpened}
+use Rattle.sqlite.specs.Files.{file_state, over_files, HoldsDatabase, IsOpened}
 use Rattle.sqlite.specs.State.{HasCleanDisk}
 use Rattle.wb_sql.specs.Transactions.{LeavesAlone}
 use Rattle.wb_sql.proofs.SettledLemmas.{settled_by_close}
-use Rattle.wb_sql.specs.Settled.{AreSettled}
+use Rattle.wb_sql.specs.Settled.{AreSettled, LeaveOnly}
 use Rattle.wb_schema.specs.Tables.{empty_schema}
 use Rattle.wb_states.specs.declared.store_fault.StoreFault.{StoreFault}
 use Rattle.wb_states.specs.Machine.{IsConsistent, Machine}
@@ -75,3 +76,9 @@ pub refused_over : {D X : Type 0} (g : Ghosts D) (c : Held (FileStore D g)) (fil
     → IfErr r (IsRefusedFrom over_files c) → IfErr r (λ fault. FailsToOpen g files fault ⊎ IsRefusedOver g files fault)
 refused_over g c files (Ok x) over refused = tt
 refused_over g c files (Err fault) over refused = inr (record { conn = c; opened = over; refused = refused })
+
+-- files of which a crash leaves only what is allowed leave only what is allowed by a wider account
+pub leave_wider : {D : Type 0} (g : Ghosts D) (files : Files D) {Allowed Wider : Trees → Type 0} → ((db : Trees) → Allowed db → Wider db)
+    → LeaveOnly g files Allowed → LeaveOnly g files Wider
+leave_wider g files {Wider = Wider} wider leave image may = ∥∥₁_map (leave image may) (λ found.
+    let r : (db : Trees) × Wider db × HoldsDatabase image db = (found.0, wider found.0 found.1, found.2) in r)

@@ -7,7 +7,8 @@ ghost use Rattle.sqlite_wal.specs.Reads.{AreClean};
 ghost use Rattle.wb_states.specs.Machine.{IsConsistent, Machine};
 ghost use Rattle.wb_states.specs.Names.{is_builder_name};
 ghost use Rattle.wb_states.specs.declared.store_fault.StoreFault.TheVariants.{NotOffice};
-ghost use Rattle.wb_tables.specs.Settled.{AreSettledAt};
+ghost use Rattle.wb_sql.specs.Settled.{LeaveOnly};
+ghost use Rattle.wb_tables.specs.Settled.{AreSettledAt, StandsForTrees};
 ghost use Rattle.wb_schema.specs.Tables.{empty_schema, office_schema};
 ghost use Rattle.wb_tables.specs.Opening.{HasGoodRows};
 ghost use Rattle.wb_durable.specs.Opening.{HasNoScratchRows, IsRefusedFrom};
@@ -211,6 +212,21 @@ impl<D: Disk + Drop> Office<FileStore<D>> {
             Ok(files) => Ok(files),
             Err((error, _)) => Err(fault_of(error, Table::Office)),
         }
+    }
+
+    /// Gives the office up, as after a fault, and hands out its files without a read or a write. A crash leaves of them
+    /// what it could leave of the office: its state, or, after a commit in doubt, the state before or after it (this
+    /// project's own).
+    pub fn surrender(self) -> Files<D>
+        ensures left { AreClean D.Disk result.log result.db → LeaveOnly D.Disk result (file_state self.conn).may_leave }
+        ensures stands { AreClean D.Disk result.log result.db → (machine : Machine)
+            → StandsAt machine self.is_closed self.accepted (file_state self.conn)
+            → LeaveOnly D.Disk result (StandsForTrees machine) }
+        ensures either { AreClean D.Disk result.log result.db → (before after : Machine)
+            → LeavesOne before after self.is_closed (file_state self.conn)
+            → LeaveOnly D.Disk result (λ db. StandsForTrees before db ⊎ StandsForTrees after db) }
+    {
+        wb_sql::surrender(self.conn)
     }
 }
 

@@ -1,0 +1,66 @@
+//! Has an office work over two files in memory, a database and its log, that stop at a given call, and shows what is found in them
+//! afterwards. Each line of standard input is a trial: stages, one after another, which begin from the files that were kept last, at first
+//! empty ones.
+//!
+//! ```text
+//! run LINES LOG DB LOG-LEFT DB-LEFT      opens the office, answers the lines of the file LINES, and gives the office up
+//! open LOG DB LOG-LEFT DB-LEFT           opens the office, and gives it up
+//! close LOG DB LOG-LEFT DB-LEFT          opens the office, and closes it
+//! keep                                   at the end: the files that are left are those of the trials from here on
+//! ```
+//!
+//! LOG and DB are how many calls the log and the database take before each later call fails and changes nothing. LOG-LEFT and DB-LEFT are
+//! `kept` where the file then holds all that was written, as after a kill, and `lost` where it holds what was synced, as a power cut may
+//! leave it. To standard output go the answers; `fault NAME` where an opening or a closing fails; and, unless the files are kept, each row
+//! of the office that is found in them at the end. The last line of a trial is `end`. A run whose office is not opened ends the program.
+#![tactic(auto)]
+
+mod disk;
+mod lists;
+mod rows;
+mod stage;
+mod work;
+
+use anyhow::Result;
+use disk::Images;
+use stage::Stage;
+use std::alloc::Global;
+use std::io::{self, BufRead, BufReader, BufWriter, Write};
+use std::rt::Files as FileHandle;
+
+fn main(rt: HostRuntime) -> Result<()> {
+    let mut input = BufReader::new(rt.alloc(), rt.reader())?;
+    let mut output = BufWriter::new(rt.alloc(), io::writer(&rt))?;
+    let mut kept = Images::none(rt.alloc());
+    for _ in 0..u64::MAX {
+        let mut line = String::new(rt.alloc());
+        if input.read_line(&mut line)? == 0 {
+            break;
+        }
+        let (stages, keeps) = stage::stages_of(rt.alloc(), &line)?;
+        let images = carry_out(&rt, rt.alloc(), &kept, &stages, &mut output)?;
+        if keeps {
+            kept = images;
+        } else {
+            rows::show(rt.alloc(), &images, &mut output)?;
+        }
+        writeln!(output, "end")?;
+        output.flush()?;
+    }
+    Ok(())
+}
+
+/// What the files hold after these stages.
+fn carry_out<F: FileHandle + AllocGlobal, W: Write>(
+    rt: &F,
+    alloc: Global,
+    kept: &Images,
+    stages: &[Stage<'_>],
+    output: &mut W,
+) -> Result<Images> {
+    let mut images = kept.copied()?;
+    for stage in stages {
+        images = work::carry_out(rt, alloc, &images, stage, output)?;
+    }
+    Ok(images)
+}

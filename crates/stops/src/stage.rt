@@ -1,0 +1,84 @@
+//! The stages of a trial, from its line.
+
+use anyhow::{Context, Result, bail};
+use std::alloc::Global;
+use std::str::SplitWhitespace;
+
+/// What an office does until its files stop.
+#[derive(Clone, Copy)]
+pub(crate) enum Work<'a> {
+    /// It is opened, answers the lines of the file of this name, and is given up.
+    Run(&'a str),
+    /// It is opened, and given up.
+    Open,
+    /// It is opened, and closed.
+    Close,
+}
+
+/// When a file stops, and what is left of it.
+#[derive(Clone, Copy)]
+pub(crate) struct Stop {
+    /// How many calls it takes.
+    pub(crate) calls: u64,
+    /// Whether all that was written is left, or only what was synced.
+    pub(crate) is_kept: bool,
+}
+
+/// Work over two files that stop.
+#[derive(Clone, Copy)]
+pub(crate) struct Stage<'a> {
+    pub(crate) work: Work<'a>,
+    pub(crate) log: Stop,
+    pub(crate) db: Stop,
+}
+
+/// The stages that a line names, and whether the files are kept that they leave.
+pub(crate) fn stages_of<'a>(alloc: Global, line: &'a str) -> Result<(Vec<Stage<'a>>, bool)> {
+    let mut stages = Vec::new(alloc);
+    let mut words = line.split_whitespace();
+    for _ in 0..line.len() {
+        let work = match words.next() {
+            None => break,
+            Some("run") => Work::Run(words.next().context("a run has no lines")?),
+            Some("open") => Work::Open,
+            Some("close") => Work::Close,
+            Some("keep") => return Ok((stages, true)),
+            Some(_) => bail!("a stage begins with run, open, close or keep"),
+        };
+        stages.push(stage_of(work, &mut words)?)?;
+    }
+    Ok((stages, false))
+}
+
+/// The stage with this work, the stops of which are the next four words.
+fn stage_of<'a>(work: Work<'a>, words: &mut SplitWhitespace<'a>) -> Result<Stage<'a>> {
+    let log_calls = number_of(words.next())?;
+    let db_calls = number_of(words.next())?;
+    Ok(Stage {
+        work,
+        log: Stop {
+            calls: log_calls,
+            is_kept: is_kept(words.next())?,
+        },
+        db: Stop {
+            calls: db_calls,
+            is_kept: is_kept(words.next())?,
+        },
+    })
+}
+
+/// The number of calls that a word says.
+fn number_of(word: Option<&str>) -> Result<u64> {
+    word.context("a stage has two numbers of calls")?
+        .parse::<u64>()
+        .context("a number of calls is not decimal")
+}
+
+/// Whether a word says that what was written is kept.
+fn is_kept(word: Option<&str>) -> Result<bool> {
+    match word {
+        Some("kept") => Ok(true),
+        Some("lost") => Ok(false),
+        _ => bail!("what is left of a file is kept or lost"),
+    }
+}
