@@ -9,8 +9,6 @@ pub mod laws;
 mod lines;
 mod paragraph;
 mod paragraphs;
-#[cfg(test)]
-mod tests;
 
 pub use fault::{ControlFault, ControlFaultKind};
 pub use field::{Field, Lines};

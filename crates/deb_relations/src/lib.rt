@@ -18,6 +18,3 @@ pub use available::Available;
 pub use fault::RelationFault;
 pub use names::{is_arch_word, is_package_name};
 pub use relations::{RELATIONS_LIMIT, Relations};
-
-#[cfg(test)]
-mod tests;

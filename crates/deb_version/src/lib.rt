@@ -12,6 +12,3 @@ pub use fault::VersionFault;
 pub use operator::{Op, meets};
 pub use order::{ByOrder, compare};
 pub use version::Version;
-
-#[cfg(test)]
-mod tests;

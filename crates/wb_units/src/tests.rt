@@ -1,7 +1,9 @@
+mod control;
 mod database;
 mod moves;
 mod names;
 mod ranks;
+mod relations;
 mod rows;
 mod statements;
 mod stores;

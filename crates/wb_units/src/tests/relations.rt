@@ -1,6 +1,5 @@
-mod reading;
-
-use crate::{
+//! Relations: words of architectures, names, what is available, and texts at the limits.
+use deb_relations::{
     ArchWords, Available, RelationFault, Relations, arch_matches, is_arch_word, is_package_name,
 };
 use deb_version::{Version, VersionFault};
