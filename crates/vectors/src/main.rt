@@ -1,5 +1,6 @@
-//! Tries versions, relations and the reading of control data on the cases of other programs. For each name that it is given a
-//! line goes to standard output that says how many cases there are and how many differ, and a line for each that does.
+//! Tries versions, relations and the reading of control data on the cases of other programs and this project's own. For each
+//! name that it is given a line goes to standard output that says how many cases there are and how many differ, and a line for
+//! each that does.
 #![tactic(auto)]
 
 mod control;

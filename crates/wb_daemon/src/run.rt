@@ -212,7 +212,7 @@ fn run_in_room<O: CarryOut, R: Read + Drop, W: Write + Drop, L: Lists>(
 /// and nothing of it was written; or the store failed or the office is closed, and the answer to the last line
 /// that was acted on says so; or more follows the 1000000000th line feed; or there was no memory for the
 /// room that holds a line, and nothing was read. The commands of all lines that were acted on stand; one at
-/// which the store failed stands whole or not at all when the office is opened again (this project's own).
+/// which the store failed is left by a crash whole or not at all (this project's own).
 pub fn run_lines<O: CarryOut, R: Read + Drop, W: Write + Drop, L: Lists>(
     alloc: Global,
     office: &mut O,

@@ -91,9 +91,8 @@ impl<S: Alter + Drop> Office<S> {
     ///
     /// An accepted command is one transaction, which is committed before it is answered. The refusal is the first that
     /// is true of the command in the order of [`Refusal`]; the office is then as it was. After `Memory` it is as it
-    /// was too, but is closed if the transaction could not be taken back. After `Store` it is closed, and the command
-    /// stands whole or not at all when the office is opened again. A closed office answers `Closed` to each command
-    /// (this project's own).
+    /// was too, but is closed if the transaction could not be taken back. After `Store` it is closed, and a crash
+    /// leaves the command whole or not at all. A closed office answers `Closed` to each command (this project's own).
     pub fn apply(&mut self, command: &Command) -> Result<Reply, Refusal>
         ensures applies { Applies S.Store command.now self.old.is_closed self.old.accepted self.old.conn
             self.new.is_closed self.new.accepted self.new.conn result }
@@ -214,9 +213,8 @@ impl<D: Disk + Drop> Office<FileStore<D>> {
         }
     }
 
-    /// Gives the office up, as after a fault, and hands out its files without a read or a write. A crash leaves of them
-    /// what it could leave of the office: its state, or, after a commit in doubt, the state before or after it (this
-    /// project's own).
+    /// Gives the office up, as after a fault, and hands out its files. A crash leaves of them what it could leave of the
+    /// office: its state, or, after a commit in doubt, the state before or after it (this project's own).
     pub fn surrender(self) -> Files<D>
         ensures left { AreClean D.Disk result.log result.db → LeaveOnly D.Disk result (file_state self.conn).may_leave }
         ensures stands { AreClean D.Disk result.log result.db → (machine : Machine)

@@ -28,8 +28,7 @@ pub fn close<D: Disk + Drop>(
     conn.close_files()
 }
 
-/// Gives up a connection, as after a fault, and hands out its files without a read or a write. They hold what the
-/// connection could leave.
+/// Gives up a connection, as after a fault, and hands out its files. They hold what the connection could leave.
 pub fn surrender<D: Disk + Drop>(conn: Connection<FileStore<D>>) -> Files<D>
     ensures left { AreClean D.Disk result.log result.db → LeaveOnly D.Disk result (file_state conn).may_leave }
 {
