@@ -4,7 +4,7 @@ ghost use Rattle.std.specs.Prelude.{◌≡◌, IsTrue, IfOk, IfErr};
 ghost use Rattle.sqlite.specs.WalReads.{AreClean};
 ghost use Rattle.sqlite.specs.State.{HasCleanDisk};
 ghost use Rattle.sqlite.specs.Held.{IsNew};
-ghost use Rattle.sqlite.specs.Files.{file_state, IsOpened, IsClosed, FailsToClose};
+ghost use Rattle.sqlite.specs.Files.{file_state, Finds, IsOpened, IsClosed, FailsToClose};
 ghost use Rattle.sqlite.specs.Files.{IsCleanLeft, FailsToOpenFiles, LeavesFiles};
 ghost use Rattle.sqlite_store.specs.FileStore.{view};
 ghost use Rattle.sqlite_trees.specs.View.{IsClean};
@@ -31,6 +31,7 @@ pub fn close<D: Disk + Drop>(
 /// Gives up a connection, as after a fault, and hands out its files. They hold what the connection could leave.
 pub fn surrender<D: Disk + Drop>(conn: Connection<FileStore<D>>) -> Files<D>
     ensures left { AreClean D.Disk result.log result.db → LeaveOnly D.Disk result (file_state conn).may_leave }
+    ensures clean { AreClean D.Disk result.log result.db → HasCleanDisk (file_state conn) }
 {
     conn.into_store().close()
 }
@@ -45,6 +46,7 @@ pub fn open<D: Disk + Drop>(
     requires log { IsTrue (D.Disk.is_usable files.log) }
     requires db { IsTrue (D.Disk.is_usable files.db) }
     ensures opened { IfOk result (λ c. HasCleanDisk (file_state c) → IsOpened c) }
+    ensures finds { IfOk result (λ c. HasCleanDisk (file_state c) → Finds files c) }
     ensures found { IfOk result (λ c. HasCleanDisk (file_state c)
         → (db : _) → AreSettled D.Disk files db → (file_state c).committed.trees ≡ db) }
     ensures alone { IfOk result (λ c. HasCleanDisk (file_state c)

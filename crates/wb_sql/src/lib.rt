@@ -9,6 +9,6 @@ mod reading;
 mod writing;
 
 pub use files::{close, open, surrender};
-pub use power::{Power, cut_power};
+pub use power::{Crashes, Power, cut_power};
 pub use reading::read;
 pub use writing::{CommitError, Writing, begin, is_usable};

@@ -1,40 +1,53 @@
 //! A power cut, after which the files are one of those that a crash may leave.
 
-ghost use Rattle.std.specs.Prelude.{◌≡◌, ℕ, ◌<◌, ◌+◌, IsTrue};
-ghost use Rattle.sqlite.specs.Files.{image_of};
+ghost use Rattle.std.specs.Prelude.{IfOk, IsTrue};
 ghost use Rattle.sqlite.specs.WalFiles.{outcomes};
+ghost use Rattle.sqlite.specs.WalReads.{AreClean};
 ghost use Rattle.wb_sql.specs.Settled.{AreSettled};
 
 use sqlite::Files;
-use sqlite_disk::Disk;
+use sqlite_disk::{Crash, Disk};
+use std::alloc::AllocError;
 
-/// What cuts the power, a number of times, and hands back the files as they are once it is back.
+/// What cuts the power, and hands back the files as they are once it is back.
 pub trait Power<D: Disk> {
-    ghost cuts: { Self → ℕ };
+    /// Cuts the power. The files that come back can be used, and a crash of them leaves no more than one before could.
+    /// It fails if memory runs out, as it may for files in memory.
+    fn cut(&mut self, files: Files<D>) -> Result<Files<D>, AllocError>
+        ensures fewer { IfOk result (λ back. (image : _) → outcomes D.Disk back.log back.db image
+            → outcomes D.Disk files.log files.db image) }
+        ensures clean { IfOk result (λ back. AreClean D.Disk back.log back.db → AreClean D.Disk files.log files.db) }
+        ensures usable { IfOk result (λ back. IsTrue (D.Disk.is_usable back.log) × IsTrue (D.Disk.is_usable back.db)) };
+}
 
-    /// How many cuts are left.
-    fn left(&self) -> u64
-        ensures { result ≡ cuts self.now };
+/// The power of disks that can be made to crash: each cut is a crash of both.
+#[derive(Clone, Copy)]
+pub struct Crashes;
 
-    /// Cuts the power. The files that come back are one of those that a crash could leave, and nothing of them is in
-    /// doubt.
-    fn back(&mut self, files: Files<D>) -> Files<D>
-        requires { 0 < cuts self.old }
-        ensures left { cuts self.new + 1 ≡ cuts self.old }
-        ensures one { outcomes D.Disk files.log files.db (image_of D.Disk result) }
-        ensures alone { (image : _) → outcomes D.Disk result.log result.db image → image ≡ image_of D.Disk result }
-        ensures usable { IsTrue (D.Disk.is_usable result.log) × IsTrue (D.Disk.is_usable result.db) };
+impl<D: Crash> Power<D> for Crashes {
+    fn cut(&mut self, files: Files<D>) -> Result<Files<D>, AllocError>
+        ensures fewer { IfOk result (λ back. (image : _) → outcomes D.Disk back.log back.db image
+            → outcomes D.Disk files.log files.db image) }
+        ensures clean { IfOk result (λ back. AreClean D.Disk back.log back.db → AreClean D.Disk files.log files.db) }
+        ensures usable { IfOk result (λ back. IsTrue (D.Disk.is_usable back.log) × IsTrue (D.Disk.is_usable back.db)) }
+    {
+        let Files { mut log, mut db } = files;
+        log.crash();
+        db.crash();
+        Ok(Files { log, db })
+    }
 }
 
 /// Cuts the power once. A crash after it leaves no more than a crash before it, so files that were settled still are.
-pub fn cut_power<D: Disk, P: Power<D>>(power: &mut P, files: Files<D>) -> Files<D>
-    requires { 0 < P.Power.cuts power.old }
-    ensures left { P.Power.cuts power.new + 1 ≡ P.Power.cuts power.old }
-    ensures fewer { (image : _) → outcomes D.Disk result.log result.db image
-        → outcomes D.Disk files.log files.db image }
-    ensures alone { (image : _) → outcomes D.Disk result.log result.db image → image ≡ image_of D.Disk result }
-    ensures settled { (db : _) → AreSettled D.Disk files db → AreSettled D.Disk result db }
-    ensures usable { IsTrue (D.Disk.is_usable result.log) × IsTrue (D.Disk.is_usable result.db) }
+pub fn cut_power<D: Disk, P: Power<D>>(
+    power: &mut P,
+    files: Files<D>,
+) -> Result<Files<D>, AllocError>
+    ensures fewer { IfOk result (λ back. (image : _) → outcomes D.Disk back.log back.db image
+        → outcomes D.Disk files.log files.db image) }
+    ensures settled { IfOk result (λ back. (db : _) → AreSettled D.Disk files db → AreSettled D.Disk back db) }
+    ensures clean { IfOk result (λ back. AreClean D.Disk back.log back.db → AreClean D.Disk files.log files.db) }
+    ensures usable { IfOk result (λ back. IsTrue (D.Disk.is_usable back.log) × IsTrue (D.Disk.is_usable back.db)) }
 {
-    power.back(files)
+    power.cut(files)
 }

@@ -24,23 +24,27 @@ module _ {D : Type 0} (g : Ghosts D) where
   files_settled {machine = machine} c files h are =
       ((file_state c).committed.trees, subst (λ (d : Database). StandsForTrees machine d.trees) h.committed h.holds.trees_are, are)
 
-  -- a connection that finds what such files hold is settled at their state
-  pub found_settled : {machine : Machine} (c : Held (FileStore D g)) (files : Files D) → AreSettledAt g files machine → IsOpened c
-      → ((db : Trees) → AreSettled g files db → (file_state c).committed.trees ≡ db) → LeavesAlone (file_state c) (file_state c).committed.trees → IsSettled machine (file_state c)
-  found_settled {machine = machine} c files held opened found alone =
-      let here = found held.0 held.2 in
-      let there : (file_state c).now.trees ≡ held.0 = ap (λ (d : Database). d.trees) opened.0.clean ∙ here in
+  -- a connection that was opened is settled at the state for which its database stands
+  pub holds_settled : {machine : Machine} (c : Held (FileStore D g)) → StandsForTrees machine (file_state c).committed.trees → IsOpened c → LeavesAlone (file_state c) (file_state c).committed.trees → IsSettled machine (file_state c)
+  holds_settled {machine = machine} c stands opened alone =
+      let there : (file_state c).now.trees ≡ (file_state c).committed.trees = ap (λ (d : Database). d.trees) opened.0.clean in
       let listed = (opened.1 opened.0.is_open).0.lists in
       record {
         is_open = opened.0.is_open;
         idle = opened.0.autocommit;
         committed = opened.0.clean;
         holds = record {
-          schema_is = lists_once (held.0 catalog_tree) (file_state c).now.schema office_schema (subst (λ (trees : Trees). Lists (trees catalog_tree) (file_state c).now.schema) there listed) held.1.sound.lists;
-          trees_are = subst (StandsForTrees machine) (sym there) held.1;
+          schema_is = lists_once ((file_state c).committed.trees catalog_tree) (file_state c).now.schema office_schema (subst (λ (trees : Trees). Lists (trees catalog_tree) (file_state c).now.schema) there listed) stands.sound.lists;
+          trees_are = subst (StandsForTrees machine) (sym there) stands;
         };
-        alone = λ db may. alone db may ∙ here ∙ sym there;
+        alone = λ db may. alone db may ∙ sym there;
       }
+
+  -- a connection that finds what such files hold is settled at their state
+  pub found_settled : {machine : Machine} (c : Held (FileStore D g)) (files : Files D) → AreSettledAt g files machine → IsOpened c
+      → ((db : Trees) → AreSettled g files db → (file_state c).committed.trees ≡ db) → LeavesAlone (file_state c) (file_state c).committed.trees → IsSettled machine (file_state c)
+  found_settled {machine = machine} c files held opened found alone =
+      holds_settled c (subst (StandsForTrees machine) (sym (found held.0 held.2)) held.1) opened alone
 
 module _ {D : Type 0} (g : Ghosts D) {E : Type 0} where
   -- what `close` promises of its files, said of an office
