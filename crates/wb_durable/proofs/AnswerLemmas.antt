@@ -140,7 +140,7 @@ reply_is_new machine (of.Next fields) = assigned_is_new machine (target_of machi
 reply_is_new machine (of.Take fields) = assigned_is_new machine (target_of machine (of.Take fields))
 
 -- a command that is answered with an assignment again leaves the office as it was
-told_again : (machine : Machine) (command : Command) (reply : Reply) → (step machine command).0 ≡ Ok reply → is_again reply ≡ true → (step machine command).1 ≡ machine
+pub told_again : (machine : Machine) (command : Command) (reply : Reply) → (step machine command).0 ≡ Ok reply → is_again reply ≡ true → (step machine command).1 ≡ machine
 unfolding step
 told_again machine command reply is told = again_stays (first_refusal machine command) (again_of machine command) machine command reply (reply_is_new machine command) is told
 

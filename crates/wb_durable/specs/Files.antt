@@ -1,5 +1,5 @@
 -- An office over two files, the database and its log: what is found in them, and why they are not opened or closed (this project's own).
-use Rattle.std.specs.Prelude.{◌≡◌}
+use Rattle.std.specs.Prelude.{◌≡◌, ◌⊎◌, ℕ, Bool, []}
 use Rattle.sqlite_disk.specs.declared.Disk.{Ghosts}
 use Rattle.sqlite_disk.specs.declared.Files.{Files}
 use Rattle.sqlite_store.specs.declared.store.FileStore.{FileStore}
@@ -12,8 +12,8 @@ use Rattle.sqlite.specs.declared.file.Leftover.{Leftover}
 use Rattle.sqlite.specs.Tree.{Trees}
 use Rattle.sqlite.specs.Files.{file_state, over_files, FailsToClose, FailsToOpenFiles, IsCleanLeft, IsClosed, IsOpened, LeavesFiles}
 use Rattle.sqlite.specs.Held.{Held}
-use Rattle.sqlite.specs.State.{HasCleanDisk}
-use Rattle.wb_sql.specs.Settled.{AreSettled}
+use Rattle.sqlite.specs.State.{HasCleanDisk, State}
+use Rattle.wb_sql.specs.Settled.{AreSettled, LeaveOnly}
 use Rattle.wb_states.specs.declared.store_fault.StoreFault.{StoreFault}
 use Rattle.wb_states.specs.declared.store_fault.StoreFault.TheVariants.{Device, Memory, NotOffice}
 use Rattle.wb_states.specs.declared.store_fault.Table.TheVariants.{Office}
@@ -21,6 +21,7 @@ use Rattle.wb_states.specs.Machine.{Machine}
 use Rattle.wb_tables.specs.Faults.{fault_of}
 use Rattle.wb_durable.specs.Opening.{IsRefusedFrom}
 use Rattle.wb_durable.specs.Preparing.{HoldOffice, IsFoundAt}
+use Rattle.wb_durable.specs.Standing.{StandsAt}
 
 -- the fault of the store where files are not opened for this error
 abbrev pub opening_fault : Error → StoreFault
@@ -36,6 +37,18 @@ opening_fault _ = NotOffice
 -- whatever a crash leaves of the files, it is one database, which holds the office in this state, or the empty office of which no table is made yet
 abbrev pub AreFoundAt : {D : Type 0} → Ghosts D → Files D → Machine → Type 0
 AreFoundAt g files machine = (db : Trees) × HoldOffice machine db × AreSettled g files db
+
+-- whatever a crash leaves of the files is a database, which holds the office in the one state or in the other
+abbrev pub LeaveOffice : {D : Type 0} → Ghosts D → Files D → Machine → Machine → Type 0
+LeaveOffice g files one other = LeaveOnly g files (λ db. HoldOffice one db ⊎ HoldOffice other db)
+
+-- no database was made in the files yet: that of the database is empty
+abbrev pub AreNew : {D : Type 0} → Ghosts D → Files D → Type 0
+AreNew g files = g.seen files.db ≡ []
+
+-- an office stands at the one state or at the other
+abbrev pub StandsAtOne : Machine → Machine → Bool → ℕ → State → Type 0
+StandsAtOne one other is_closed accepted s = ∥ (StandsAt one is_closed accepted s ⊎ StandsAt other is_closed accepted s) ∥₁
 
 -- the files were not opened as a database, for the error of which this is the fault, and what they hold was left
 pub record FailsToOpen {D : Type 0} (g : Ghosts D) (files : Files D) (fault : StoreFault) : Type 0 where

@@ -9,6 +9,7 @@ pub mod Keys
 pub mod MergeCarried
 pub mod MergePart
 pub mod MergeWritten
+pub mod Offices
 pub mod Opening
 pub mod Preparing
 pub mod Sought

@@ -4,7 +4,7 @@ ghost use Rattle.sqlite.specs.Files.{file_state};
 ghost use Rattle.sqlite.specs.Held.{Held, state};
 ghost use Rattle.sqlite.specs.State.{HasCleanDisk};
 ghost use Rattle.sqlite_wal.specs.Reads.{AreClean};
-ghost use Rattle.wb_states.specs.Machine.{IsConsistent, Machine};
+ghost use Rattle.wb_states.specs.Machine.{Machine, empty_office};
 ghost use Rattle.wb_states.specs.Names.{is_builder_name};
 ghost use Rattle.wb_states.specs.declared.store_fault.StoreFault.TheVariants.{NotOffice};
 ghost use Rattle.wb_sql.specs.Settled.{LeaveOnly};
@@ -12,7 +12,8 @@ ghost use Rattle.wb_tables.specs.Settled.{AreSettledAt, StandsForTrees};
 ghost use Rattle.wb_schema.specs.Tables.{empty_schema, office_schema};
 ghost use Rattle.wb_tables.specs.Opening.{HasGoodRows};
 ghost use Rattle.wb_durable.specs.Opening.{HasNoScratchRows, IsRefusedFrom};
-ghost use Rattle.wb_durable.specs.Files.{AreFoundAt, FailsToOpen, IsFaultOfClosing, IsRefusedOver};
+ghost use Rattle.wb_durable.specs.Files.{AreFoundAt, AreNew, FailsToOpen, IsFaultOfClosing, IsRefusedOver};
+ghost use Rattle.wb_durable.specs.Files.{LeaveOffice, StandsAtOne};
 ghost use Rattle.wb_durable.specs.Preparing.{IsFoundAt};
 ghost use Rattle.wb_durable.specs.declared.answer.Failure.TheVariants.{Uncommitted};
 ghost use Rattle.wb_durable.specs.Answers.{accepted_of};
@@ -57,7 +58,7 @@ impl<S: Alter + Drop> Office<S> {
         requires idle { conn.in_transaction ≡ false }
         ensures opened { IfOk result (λ office. office.is_closed ≡ false) }
         ensures found { IfOk result (λ office. HasCleanDisk (state S.Store office.conn)
-            → (machine : Machine) → IsConsistent machine → IsFoundAt machine (state S.Store conn)
+            → (machine : Machine) → IsFoundAt machine (state S.Store conn)
             → StandsAt machine office.is_closed office.accepted (state S.Store office.conn)) }
         ensures good { IfOk result (λ office. HasCleanDisk (state S.Store office.conn)
             → conn.schema ≡ office_schema
@@ -181,8 +182,15 @@ impl<D: Disk + Drop> Office<FileStore<D>> {
         requires db { IsTrue (D.Disk.is_usable files.db) }
         ensures opened { IfOk result (λ office. office.is_closed ≡ false) }
         ensures found { IfOk result (λ office. HasCleanDisk (file_state office.conn)
-            → (machine : Machine) → IsConsistent machine → AreFoundAt D.Disk files machine
+            → (machine : Machine) → AreFoundAt D.Disk files machine
             → StandsAt machine office.is_closed office.accepted (file_state office.conn)) }
+        ensures left { IfOk result (λ office. HasCleanDisk (file_state office.conn)
+            → (one other : Machine) → LeaveOffice D.Disk files one other
+            → StandsAtOne one other office.is_closed office.accepted (file_state office.conn)) }
+        ensures new { IfOk result (λ office. HasCleanDisk (file_state office.conn) → AreNew D.Disk files
+            → StandsAt empty_office office.is_closed office.accepted (file_state office.conn)) }
+        ensures clean { IfOk result (λ office. HasCleanDisk (file_state office.conn)
+            → AreClean D.Disk files.log files.db) }
         ensures refused { IfErr result (λ fault. FailsToOpen D.Disk files fault ⊎ IsRefusedOver D.Disk files fault) }
     {
         match wb_sql::open(alloc, files, options) {
@@ -198,6 +206,9 @@ impl<D: Disk + Drop> Office<FileStore<D>> {
         ensures settled { IfOk result (λ files. AreClean D.Disk files.log files.db → (machine : Machine)
             → StandsAt machine self.is_closed self.accepted (file_state self.conn)
             → AreSettledAt D.Disk files machine) }
+        ensures either { IfOk result (λ files. AreClean D.Disk files.log files.db → (before after : Machine)
+            → LeavesOne before after self.is_closed (file_state self.conn)
+            → AreSettledAt D.Disk files before ⊎ AreSettledAt D.Disk files after) }
         ensures usable { IfOk result (λ files. IsTrue (D.Disk.is_usable files.log) × IsTrue (D.Disk.is_usable files.db)) }
         ensures err { IfErr result (IsFaultOfClosing self.conn) }
     {
@@ -217,6 +228,7 @@ impl<D: Disk + Drop> Office<FileStore<D>> {
     /// office: its state, or, after a commit in doubt, the state before or after it (this project's own).
     pub fn surrender(self) -> Files<D>
         ensures left { AreClean D.Disk result.log result.db → LeaveOnly D.Disk result (file_state self.conn).may_leave }
+        ensures clean { AreClean D.Disk result.log result.db → HasCleanDisk (file_state self.conn) }
         ensures stands { AreClean D.Disk result.log result.db → (machine : Machine)
             → StandsAt machine self.is_closed self.accepted (file_state self.conn)
             → LeaveOnly D.Disk result (StandsForTrees machine) }

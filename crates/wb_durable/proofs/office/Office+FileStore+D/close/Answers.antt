@@ -1,8 +1,11 @@
-use Rattle.wb_durable.proofs.FileLemmas.{closed_at}
+use Rattle.wb_durable.proofs.FileLemmas.{closed_at, closed_at_one}
 use Rattle.wb_durable.proofs.«office».«Office+FileStore+D».close.Goals as goal
 
 pub returns-in-Ok-clause-settled : goal.returns-in-Ok-clause-settled
 returns-in-Ok-clause-settled g c = closed_at c.args.self.conn c.in-Ok.files c.in-Ok.ensures.copied
+
+pub returns-in-Ok-clause-either : goal.returns-in-Ok-clause-either
+returns-in-Ok-clause-either g c = closed_at_one c.args.self.conn c.in-Ok.files g.met.D.Disk.seen_may_stay c.in-Ok.ensures.copied
 
 pub returns-clause-err : goal.returns-clause-err
 returns-clause-err g c = record {

@@ -1,9 +1,11 @@
 use Rattle.sqlite.specs.Held.{state}
 use Rattle.wb_tables.proofs.SettledLemmas.{settled_back}
+use Rattle.wb_durable.proofs.FileLemmas.{found_consistent}
 use Rattle.wb_durable.proofs.office.Office.adopt.Goals as goal
 
 pub returns-in-Ok-clause-found : goal.returns-in-Ok-clause-found
-returns-in-Ok-clause-found g c = λ clean machine consistent is.
+returns-in-Ok-clause-found g c = λ clean machine is.
+    let consistent = found_consistent (state g.S.Store c.args.conn) is (λ schema. (c.in-Ok.ensures.finds.good clean schema).0.0) in
     let found = c.in-Ok.ensures.finds.found clean machine consistent is in
     record {
       consistent = consistent;

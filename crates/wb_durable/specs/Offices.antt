@@ -1,0 +1,16 @@
+-- An office over files: at which state it stands, and whether its disk is clean (this project's own).
+use Rattle.sqlite_disk.specs.declared.Disk.{Ghosts}
+use Rattle.sqlite_store.specs.declared.store.FileStore.{FileStore}
+use Rattle.sqlite.specs.Files.{file_state}
+use Rattle.sqlite.specs.State.{HasCleanDisk}
+use Rattle.wb_states.specs.Machine.{Machine}
+use Rattle.wb_durable.specs.declared.office.Office.{Office}
+use Rattle.wb_durable.specs.Standing.{StandsAt}
+
+-- what the office read of its files was what was written to them
+abbrev pub HasCleanFiles : {D : Type 0} {g : Ghosts D} → Office (FileStore D g) → Type 0
+HasCleanFiles office = HasCleanDisk (file_state office.conn)
+
+-- the office stands at this state
+abbrev pub IsAt : {D : Type 0} {g : Ghosts D} → Office (FileStore D g) → Machine → Type 0
+IsAt office machine = StandsAt machine office.is_closed office.accepted (file_state office.conn)
