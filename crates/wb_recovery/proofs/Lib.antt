@@ -1,0 +1,2 @@
+pub mod LifeLemmas
+pub mod SessionLemmas

@@ -1,0 +1,18 @@
+-- The files can be used, and what is left to be lived makes the whole.
+use Rattle.std.proofs.Common.{◌++◌, List, IsTrue, drop}
+use Rattle.sqlite_store.specs.declared.store.FileStore.{FileStore}
+use Rattle.sqlite_wal.specs.Reads.{AreClean}
+use Rattle.wb_durable.specs.declared.office.Office.{Office}
+use Rattle.wb_durable.specs.Offices.{HasCleanFiles, IsAt}
+use Rattle.wb_recovery.specs.Lives.{Outcome}
+use Rattle.wb_recovery.proofs.SessionLemmas.{LeadTo}
+use Rattle.wb_recovery.proofs.history.lives.Given as goal
+
+abbrev pub invariant-loop-commands : goal.invariant-loop-commands
+invariant-loop-commands g l = record {
+  log : IsTrue (g.D.Disk.is_usable l.current.log);
+  db : IsTrue (g.D.Disk.is_usable l.current.db);
+  rest : (more : List (List Outcome)) (office : Office (FileStore g.row.D.Denot g.D.Disk))
+      → LeadTo g.D.Disk IsAt HasCleanFiles (λ files. AreClean g.D.Disk files.log files.db) l.current (drop l.commands-index l.lives) more office
+      → LeadTo g.D.Disk IsAt HasCleanFiles (λ files. AreClean g.D.Disk files.log files.db) l.fn.files l.lives (l.outcomes ++ more) office;
+}

@@ -1,0 +1,56 @@
+//! The lives of an office over files, one after another.
+ghost use Rattle.std.specs.Prelude.{IfOk, IfErr, IsTrue};
+ghost use Rattle.sqlite_wal.specs.Reads.{AreClean};
+ghost use Rattle.wb_states.specs.Machine.{Machine};
+ghost use Rattle.wb_durable.specs.Offices.{HasCleanFiles, IsAt};
+ghost use Rattle.wb_recovery.specs.Files.{FindsAfter, HoldOne, IsFaultOfLives};
+
+use crate::commands::Outcome;
+use crate::life::{SessionEnd, session};
+use deb_text::Items;
+use sqlite::{FileStore, Files, Options};
+use sqlite_disk::Disk;
+use std::alloc::Global;
+use wb_durable::Office;
+use wb_sql::{Power, cut_power};
+use wb_states::{Command, StoreFault};
+
+/// An office that was opened after lives of it.
+#[derive(Drop)]
+pub struct LivesEnd<D: Disk + Drop> {
+    /// What the commands of each life were answered, life by life.
+    pub outcomes: Items<Items<Outcome>>,
+    /// The office, opened once more.
+    pub office: Office<FileStore<D>>,
+}
+
+/// Has an office live once for each list of commands, and opens it once more. After each life the power is cut, so the next
+/// one begins with files that a crash may leave. The faults are those of [`session`], and `Memory` if there is no memory for
+/// the files or the outcomes (this project's own).
+pub fn lives<D: Disk + Drop, P: Power<D>>(
+    alloc: Global,
+    files: Files<D>,
+    options: Options,
+    power: &mut P,
+    lives: &[Items<Command>],
+) -> Result<LivesEnd<D>, StoreFault>
+    requires log { IsTrue (D.Disk.is_usable files.log) }
+    requires db { IsTrue (D.Disk.is_usable files.db) }
+    ensures clean { IfOk result (λ end. HasCleanFiles end.office → AreClean D.Disk files.log files.db) }
+    ensures found { IfOk result (λ end. HasCleanFiles end.office → (one other : Machine) → HoldOne D.Disk files one other
+        → FindsAfter IsAt one other lives.now end.outcomes end.office) }
+    ensures refused { IfErr result (IsFaultOfLives D.Disk) }
+{
+    let mut outcomes = Items::new(alloc);
+    let mut current = files;
+    for commands in lives {
+        let SessionEnd {
+            outcomes: answers,
+            files: left,
+        } = session(alloc, current, options, commands.as_slice())?;
+        outcomes.push(answers)?;
+        current = cut_power(power, left)?;
+    }
+    let office = Office::open(alloc, current, options)?;
+    Ok(LivesEnd { outcomes, office })
+}
