@@ -45,6 +45,14 @@ impl Images {
         })
     }
 
+    /// What the files hold.
+    pub(crate) fn of(alloc: Global, files: &Files<Memory>) -> Result<Images, AllocError> {
+        let mut images = Images::none(alloc);
+        images.log.extend_from_slice(files.log.bytes())?;
+        images.db.extend_from_slice(files.db.bytes())?;
+        Ok(images)
+    }
+
     /// What is left of the files after these stops.
     pub(crate) fn left(
         alloc: Global,

@@ -7,16 +7,19 @@
 //! open LOG DB LOG-LEFT DB-LEFT           opens the office, and gives it up
 //! close LOG DB LOG-LEFT DB-LEFT          opens the office, and closes it
 //! keep                                   at the end: the files that are left are those of the trials from here on
+//! lives LINES..                          alone: over new files, an office lives once for each file of lines, none of which is a merge
 //! ```
 //!
 //! LOG and DB are how many calls the log and the database take before each later call fails and changes nothing. LOG-LEFT and DB-LEFT are
 //! `kept` where the file then holds all that was written, as after a kill, and `lost` where it holds what was synced, as a power cut may
 //! leave it. To standard output go the answers; `fault NAME` where an opening or a closing fails; and, unless the files are kept, each row
 //! of the office that is found in them at the end. The last line of a trial is `end`. A run whose office is not opened ends the program.
+//! What is not synced at the end of a life is lost.
 #![tactic(auto)]
 
 mod disk;
 mod lists;
+mod lives;
 mod rows;
 mod stage;
 mod work;
@@ -36,6 +39,12 @@ fn main(rt: HostRuntime) -> Result<()> {
         let mut line = String::new(rt.alloc());
         if input.read_line(&mut line)? == 0 {
             break;
+        }
+        if let Some(names) = line.strip_prefix("lives ") {
+            lives::show(&rt, rt.alloc(), names, &mut output)?;
+            writeln!(output, "end")?;
+            output.flush()?;
+            continue;
         }
         let (stages, keeps) = stage::stages_of(rt.alloc(), &line)?;
         let images = carry_out(&rt, rt.alloc(), &kept, &stages, &mut output)?;

@@ -1,0 +1,85 @@
+//! The lives of an office over files in memory, one after another, with a power cut after each.
+
+use crate::disk::Images;
+use crate::rows;
+use anyhow::{Result, anyhow, bail};
+use deb_text::Items;
+use sqlite::{Files, Options};
+use sqlite_disk::{Disk, Memory};
+use std::alloc::Global;
+use std::io::Write;
+use std::rt::Files as FileHandle;
+use std::{fs, str};
+use wb_api::{refusal_json, reply_json};
+use wb_recovery::{Outcome, lives};
+use wb_sql::Crashes;
+use wb_states::Command;
+use wb_words::{Invocation, invocation_of};
+
+/// Has an office live once for each file of lines that is named, over new files, and writes what the commands of each life
+/// were answered, and the rows that are found after the last. At the end of each life what was not synced is lost.
+pub(crate) fn show<F: FileHandle + AllocGlobal, W: Write>(
+    rt: &F,
+    alloc: Global,
+    names: &str,
+    output: &mut W,
+) -> Result<()> {
+    let mut commands = Vec::new(alloc);
+    for name in names.split_whitespace() {
+        commands.push(commands_of(rt, alloc, name)?)?;
+    }
+    let files = Files {
+        log: Memory::new(alloc),
+        db: Memory::new(alloc),
+    };
+    let lived = match lives(alloc, files, Options::new(1), &mut Crashes, &commands) {
+        Ok(lived) => lived,
+        Err(fault) => return Err(anyhow!("an opening failed: {fault}")),
+    };
+    for (life, outcomes) in commands.iter().zip(lived.outcomes.as_slice()) {
+        show_outcomes(alloc, life.as_slice(), outcomes.as_slice(), output)?;
+    }
+    let images = Images::of(alloc, &lived.office.surrender())?;
+    rows::show(alloc, &images, output)
+}
+
+/// The commands that the lines of a file ask for, of which none is a merge.
+fn commands_of<F: FileHandle + AllocGlobal>(
+    rt: &F,
+    alloc: Global,
+    name: &str,
+) -> Result<Items<Command>> {
+    let bytes = fs::read(rt, name)?;
+    let mut commands = Items::new(alloc);
+    for line in str::from_utf8(&bytes)?.lines() {
+        let mut words = Vec::new(alloc);
+        for word in line.split_whitespace() {
+            words.push(word)?;
+        }
+        match invocation_of(alloc, &words) {
+            Ok(Invocation::Command { command }) => commands.push(command)?,
+            _ => bail!("a line asks for no command, or for a merge"),
+        }
+    }
+    Ok(commands)
+}
+
+/// Writes what the commands of a life were answered.
+fn show_outcomes<W: Write>(
+    alloc: Global,
+    commands: &[Command],
+    outcomes: &[Outcome],
+    output: &mut W,
+) -> Result<()> {
+    for (command, outcome) in commands.iter().zip(outcomes) {
+        match outcome {
+            Ok(reply) => {
+                writeln!(output, "{}", reply_json(alloc, command.name(), reply)?)?;
+            }
+            Err(refusal) => {
+                writeln!(output, "{}", refusal_json(alloc, refusal))?;
+            }
+        }
+    }
+    Ok(())
+}
