@@ -1,4 +1,5 @@
 -- An office over files: at which state it stands, and whether its disk is clean (this project's own).
+use Rattle.std.specs.Prelude.{◌≡◌, false}
 use Rattle.sqlite_disk.specs.declared.Disk.{Ghosts}
 use Rattle.sqlite_store.specs.declared.store.FileStore.{FileStore}
 use Rattle.sqlite.specs.Files.{file_state}
@@ -14,3 +15,7 @@ HasCleanFiles office = HasCleanDisk (file_state office.conn)
 -- the office stands at this state
 abbrev pub IsAt : {D : Type 0} {g : Ghosts D} → Office (FileStore D g) → Machine → Type 0
 IsAt office machine = StandsAt machine office.is_closed office.accepted (file_state office.conn)
+
+-- the office answers commands: no fault of its store has closed it
+abbrev pub IsOpenOffice : {D : Type 0} {g : Ghosts D} → Office (FileStore D g) → Type 0
+IsOpenOffice office = office.is_closed ≡ false

@@ -2,7 +2,7 @@
 ghost use Rattle.std.specs.Prelude.{IfOk, IfErr, IsTrue};
 ghost use Rattle.sqlite_wal.specs.Reads.{AreClean};
 ghost use Rattle.wb_states.specs.Machine.{Machine};
-ghost use Rattle.wb_durable.specs.Offices.{HasCleanFiles, IsAt};
+ghost use Rattle.wb_durable.specs.Offices.{HasCleanFiles, IsAt, IsOpenOffice};
 ghost use Rattle.wb_recovery.specs.Files.{FindsAfter, HoldOne, IsFaultOfLives};
 
 use crate::commands::Outcome;
@@ -36,6 +36,7 @@ pub fn lives<D: Disk + Drop, P: Power<D>>(
 ) -> Result<LivesEnd<D>, StoreFault>
     requires log { IsTrue (D.Disk.is_usable files.log) }
     requires db { IsTrue (D.Disk.is_usable files.db) }
+    ensures opened { IfOk result (λ end. IsOpenOffice end.office) }
     ensures clean { IfOk result (λ end. HasCleanFiles end.office → AreClean D.Disk files.log files.db) }
     ensures found { IfOk result (λ end. HasCleanFiles end.office → (one other : Machine) → HoldOne D.Disk files one other
         → FindsAfter IsAt one other lives.now end.outcomes end.office) }
