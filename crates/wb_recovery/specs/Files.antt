@@ -10,7 +10,7 @@ use Rattle.wb_states.specs.declared.store_fault.StoreFault.TheVariants.{Memory}
 use Rattle.wb_durable.specs.Files.{AreNew, FailsToOpen, IsRefusedOver, LeaveOffice}
 use Rattle.wb_recovery.specs.Lives.{Outcome, AllLeaveStanding, LeavesStanding}
 
--- an opening of the files finds the office in the one state or in the other: a crash leaves no third; or they are new, and the one is the empty office
+-- an opening of the files finds the office in the one state or in the other: a crash leaves no third; or no database was made in them, and the one is the empty office
 abbrev pub HoldOne : {D : Type 0} → Ghosts D → Files D → Machine → Machine → Type 0
 HoldOne g files one other = LeaveOffice g files one other ⊎ ((one ≡ empty_office) × AreNew g files)
 
@@ -44,6 +44,6 @@ FindsAfter stands_at one other lives all office = ∥ IsFoundAfter stands_at one
 abbrev pub IsFaultOfOpening : {D : Type 0} → (g : Ghosts D) → Files D → StoreFault → Type 0
 IsFaultOfOpening g files fault = FailsToOpen g files fault ⊎ IsRefusedOver g files fault
 
--- lives end with this fault: memory ran out, or an opening of some files failed with it
+-- the fault of lives: that of memory, or one with which the opening of some files may fail
 abbrev pub IsFaultOfLives : {D : Type 0} → (g : Ghosts D) → StoreFault → Type 0
 IsFaultOfLives {D} g fault = (fault ≡ Memory) ⊎ ((files : Files D) × IsFaultOfOpening g files fault)

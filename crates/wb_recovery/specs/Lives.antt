@@ -23,9 +23,9 @@ is_last (Err refusal) = is_of_store refusal
 abbrev pub acknowledged : Command → Reply → List Command
 acknowledged command reply = if is_again reply then [] else command ∷ []
 
--- these commands stand after a life, in their order: each that was acknowledged, and no other, but that one at which the store failed, which is the
--- last, may stand or not. The office was in this state when the life began, and each outcome is that of the step after the commands before it, or
--- that memory ran out
+-- these commands stand after a life that began at this state, in their order: each that was acknowledged, and no other, but that the one at which the
+-- store failed, which is the last, may stand or not. Each reply, and each refusal of the state, is that of the step after the commands before it; out of
+-- memory, a failed store and a closed office are answered for causes that are not said here
 abbrev pub LeavesStanding : Machine → List Command → List Outcome → List Command → Type 0
 LeavesStanding machine [] [] standing = standing ≡ []
 LeavesStanding machine [] (outcome ∷ outcomes) standing = ⊥
