@@ -11,7 +11,7 @@ use std::io::Write;
 use std::rt::Files as FileHandle;
 use std::{fs, str};
 use wb_api::{refusal_json, reply_json};
-use wb_recovery::{Outcome, lives};
+use wb_recovery::{LivesEnd, Outcome, lives};
 use wb_sql::Crashes;
 use wb_states::Command;
 use wb_words::{Invocation, invocation_of};
@@ -28,19 +28,35 @@ pub(crate) fn show<F: FileHandle + AllocGlobal, W: Write>(
     for name in names.split_whitespace() {
         commands.push(commands_of(rt, alloc, name)?)?;
     }
+    let LivesEnd { outcomes, office } = lived(alloc, &commands)?;
+    show_lives(alloc, &commands, outcomes.as_slice(), output)?;
+    let images = Images::of(alloc, &office.surrender())?;
+    rows::show(alloc, &images, output)
+}
+
+/// What lives with these commands end with, over new files.
+fn lived(alloc: Global, commands: &[Items<Command>]) -> Result<LivesEnd<Memory>> {
     let files = Files {
         log: Memory::new(alloc),
         db: Memory::new(alloc),
     };
-    let lived = match lives(alloc, files, Options::new(1), &mut Crashes, &commands) {
-        Ok(lived) => lived,
-        Err(fault) => return Err(anyhow!("an opening failed: {fault}")),
-    };
-    for (life, outcomes) in commands.iter().zip(lived.outcomes.as_slice()) {
-        show_outcomes(alloc, life.as_slice(), outcomes.as_slice(), output)?;
+    match lives(alloc, files, Options::new(1), &mut Crashes, commands) {
+        Ok(end) => Ok(end),
+        Err(fault) => Err(anyhow!("an opening failed: {fault}")),
     }
-    let images = Images::of(alloc, &lived.office.surrender())?;
-    rows::show(alloc, &images, output)
+}
+
+/// Writes what the commands of each life were answered.
+fn show_lives<W: Write>(
+    alloc: Global,
+    commands: &[Items<Command>],
+    outcomes: &[Items<Outcome>],
+    output: &mut W,
+) -> Result<()> {
+    for (life, answers) in commands.iter().zip(outcomes) {
+        show_outcomes(alloc, life.as_slice(), answers.as_slice(), output)?;
+    }
+    Ok(())
 }
 
 /// The commands that the lines of a file ask for, of which none is a merge.
@@ -52,16 +68,21 @@ fn commands_of<F: FileHandle + AllocGlobal>(
     let bytes = fs::read(rt, name)?;
     let mut commands = Items::new(alloc);
     for line in str::from_utf8(&bytes)?.lines() {
-        let mut words = Vec::new(alloc);
-        for word in line.split_whitespace() {
-            words.push(word)?;
-        }
-        match invocation_of(alloc, &words) {
-            Ok(Invocation::Command { command }) => commands.push(command)?,
-            _ => bail!("a line asks for no command, or for a merge"),
-        }
+        commands.push(command_of(alloc, line)?)?;
     }
     Ok(commands)
+}
+
+/// The command that a line asks for.
+fn command_of(alloc: Global, line: &str) -> Result<Command> {
+    let mut words = Vec::new(alloc);
+    for word in line.split_whitespace() {
+        words.push(word)?;
+    }
+    match invocation_of(alloc, &words) {
+        Ok(Invocation::Command { command }) => Ok(command),
+        _ => bail!("a line asks for no command, or for a merge"),
+    }
 }
 
 /// Writes what the commands of a life were answered.
@@ -72,14 +93,21 @@ fn show_outcomes<W: Write>(
     output: &mut W,
 ) -> Result<()> {
     for (command, outcome) in commands.iter().zip(outcomes) {
-        match outcome {
-            Ok(reply) => {
-                writeln!(output, "{}", reply_json(alloc, command.name(), reply)?)?;
-            }
-            Err(refusal) => {
-                writeln!(output, "{}", refusal_json(alloc, refusal))?;
-            }
-        }
+        show_outcome(alloc, command.name(), outcome, output)?;
+    }
+    Ok(())
+}
+
+/// Writes what a command of this name was answered.
+fn show_outcome<W: Write>(
+    alloc: Global,
+    name: &str,
+    outcome: &Outcome,
+    output: &mut W,
+) -> Result<()> {
+    match outcome {
+        Ok(reply) => writeln!(output, "{}", reply_json(alloc, name, reply)?)?,
+        Err(refusal) => writeln!(output, "{}", refusal_json(alloc, refusal))?,
     }
     Ok(())
 }
