@@ -8,6 +8,3 @@ mod text;
 pub use items::Items;
 pub use lines::is_blank_line;
 pub use text::Text;
-
-#[cfg(test)]
-mod tests;

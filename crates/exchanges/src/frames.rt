@@ -4,12 +4,14 @@ use anyhow::{Context, Result};
 use std::alloc::Global;
 use std::io::BufRead;
 
-/// The bytes of a frame, and how a reader gives them: at most `step` a read, and a failure after so many reads.
+/// The bytes of a frame, and how a reader gives them: at most `step` a read, and a failure after so many reads. After so many
+/// writes, each of at most `step` bytes too, one of the answer fails.
 #[derive(Drop)]
 pub(crate) struct Frame {
     pub(crate) bytes: Vec<u8>,
     pub(crate) step: usize,
     pub(crate) reads: usize,
+    pub(crate) writes: usize,
 }
 
 /// The next frame; none at the end of the input.
@@ -22,11 +24,17 @@ pub(crate) fn next<R: BufRead + Drop>(alloc: Global, input: &mut R) -> Result<Op
     let length = number(words, 0)?;
     let step = number(words, 1)?;
     let reads = number(words, 2)?;
+    let writes = number(words, 3)?;
     let mut bytes = vec![in alloc; 0u8; length]?;
     input
         .read_exact(&mut bytes)
         .context("the input ends inside a frame")?;
-    Ok(Some(Frame { bytes, step, reads }))
+    Ok(Some(Frame {
+        bytes,
+        step,
+        reads,
+        writes,
+    }))
 }
 
 /// The number at this place of a line, counted from 0; the greatest one if the line ends before.

@@ -1,17 +1,19 @@
 //! Answers requests by an office in memory, with neither sockets nor files. Standard input has frames: a decimal length, a line feed and so
 //! many bytes. The first three are the Sources list and the Packages lists of amd64 and arm64 that the office begins with, and each other
-//! is all that a client sends on a connection. After the length, a blank and a number say how many bytes a read gives at most, and a blank
-//! and a second number how many reads give bytes before one fails; else a read gives all that fit, and none fails. For each request a line
-//! goes to standard output, and after it what is answered: how the exchange ended, the status or 0 for none, and how many bytes were
-//! answered, as in `answered 200 145`.
+//! is all that a client sends on a connection. After the length may stand up to three numbers, each after a blank: how many bytes a read
+//! gives and a write takes at most, how many reads give bytes before one fails, and how many writes take bytes before one fails. Without
+//! them all that fit are read and written, and none fails. For each request a line goes to standard output, and after it what is answered:
+//! how the exchange ended, the status or 0 for none, and how many bytes were answered, as in `answered 200 145`.
 #![tactic(auto)]
 
 mod frames;
 mod opening;
 mod reader;
+mod writer;
 
 use crate::frames::Frame;
 use crate::reader::CutReader;
+use crate::writer::CutWriter;
 use anyhow::{Context, Result};
 use std::alloc::Global;
 use std::io::{self, BufRead, BufReader, BufWriter, Write};
@@ -60,12 +62,12 @@ fn answer_all<R: BufRead + Drop, W: Write + Drop>(
 
 /// How the exchange for this request ended, and what was answered.
 fn answered(alloc: Global, office: &mut Office, request: &Frame) -> (Served, Vec<u8>) {
-    let mut answer: Vec<u8> = Vec::new(alloc);
+    let mut answer = CutWriter::new(alloc, request);
     let mut reader = WatchedReader::new(CutReader::new(request));
     let mut writer = WatchedWriter::new(&mut answer);
     let served = serve_one(alloc, office, &mut reader, &mut writer);
     drop(writer);
-    (served, answer)
+    (served, answer.taken())
 }
 
 /// The word for how an exchange ended, and the status of what was answered.

@@ -12,9 +12,6 @@ mod versions;
 use anyhow::Result;
 use std::{env, fs};
 
-#[cfg(test)]
-mod tests;
-
 // A name picks what is tried: `version_..` and `relations..` are files of rows, and each other is a text of control data,
 // `NAME.txt`, with its answer in `NAME.json`.
 fn main(rt: HostRuntime) -> Result<()> {

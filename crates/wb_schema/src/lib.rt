@@ -11,6 +11,3 @@ pub mod texts;
 
 pub use making::{make_tables, prepare};
 pub use recognition::{has_office_tables, is_empty};
-
-#[cfg(test)]
-mod tests;

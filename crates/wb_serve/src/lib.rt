@@ -9,6 +9,3 @@ mod status;
 
 pub use serve::{Served, serve_one};
 pub use status::status_of;
-
-#[cfg(test)]
-mod tests;

@@ -1,5 +1,5 @@
-//! Tests of what lies below the office: versions, control data, relations, names, moves, the queue, and the tables, in
-//! memory and in a database.
+//! Tests of calls on values, texts, versions, control data, relations, names, moves, the queue and the records in memory, and of
+//! exchanges over sockets.
 #![tactic(auto)]
 
 #[cfg(test)]

@@ -1,11 +1,10 @@
 mod control;
-mod database;
 mod moves;
 mod names;
 mod ranks;
 mod relations;
-mod rows;
-mod statements;
+mod sockets;
 mod stores;
 mod tables;
+mod texts;
 mod versions;

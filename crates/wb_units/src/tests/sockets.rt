@@ -1,9 +1,8 @@
 //! Exchanges over sockets of this machine, both ends of which the test has: a request is small enough to lie between
 //! them until it is read, and so is an answer.
 
-use super::{ASSIGNED, ASSIGNED_AGAIN, EXCHANGES, NEXT, NEXT_AFTER, waiting_office};
-use crate::{Served, serve_one};
-use std::alloc::Global;
+use deb_text::Text;
+use std::alloc::{AllocError, Global};
 use std::io::{self, Read, Write};
 use std::net::{Net, Shutdown, TcpListener, TcpStream};
 use std::process::Abort;
@@ -11,7 +10,87 @@ use std::test::Fail;
 use std::time::Duration;
 use wb_http::Status;
 use wb_office::Office;
+use wb_serve::{Served, serve_one};
+use wb_states::Command;
+use wb_states::command::{AddArch, AddBuilder, Enter};
 use wb_streams::{WatchedReader, WatchedWriter};
+
+fn text(alloc: Global, text: &str) -> Result<Text, AllocError> {
+    Text::copied(alloc, text)
+}
+
+/// An office with the architecture amd64, the builder b1, and hello 1.0, which waits.
+fn waiting_office(rt: &impl Abort, alloc: Global) -> Result<Office, Fail> {
+    let commands = [
+        Command::AddArch(AddArch {
+            name: text(alloc, "amd64")?,
+            os: text(alloc, "linux")?,
+            cpu: text(alloc, "amd64")?,
+        }),
+        Command::AddBuilder(AddBuilder {
+            name: text(alloc, "b1")?,
+            arch: text(alloc, "amd64")?,
+        }),
+        Command::Enter(Enter {
+            arch: text(alloc, "amd64")?,
+            source: text(alloc, "hello")?,
+            version: text(alloc, "1.0")?,
+            priority: text(alloc, "optional")?,
+            section: text(alloc, "devel")?,
+        }),
+    ];
+    let mut office = Office::new(alloc);
+    for command in &commands {
+        assert!(rt; office.apply(command).is_ok());
+    }
+    Ok(office)
+}
+
+const NEXT: &str =
+    "POST /v1/next HTTP/1.1\r\nHost: localhost\r\nContent-Length: 31\r\n\r\n{\"arch\":\"amd64\",\"builder\":\"b1\"}";
+
+const NEXT_AFTER: &str =
+    "POST /v1/next HTTP/1.1\r\nContent-Length: 41\r\n\r\n{\"arch\":\"amd64\",\"builder\":\"b1\",\"after\":0}";
+
+const ASSIGNED: &str =
+    "HTTP/1.1 200 OK\r\nContent-Type: application/json\r\nContent-Length: 121\r\nConnection: close\r\n\r\n{\"accepted\":4,\"arch\":\"amd64\",\"build\":\"1.0\",\"message\":\"\",\"number\":0,\"ok\":\"next\",\"source\":\"hello\",\"take\":1,\"version\":\"1.0\"}";
+
+const ASSIGNED_AGAIN: &str =
+    "HTTP/1.1 200 OK\r\nContent-Type: application/json\r\nContent-Length: 122\r\nConnection: close\r\n\r\n{\"accepted\":4,\"arch\":\"amd64\",\"build\":\"1.0\",\"message\":\"\",\"number\":0,\"ok\":\"again\",\"source\":\"hello\",\"take\":1,\"version\":\"1.0\"}";
+
+/// Requests to one office, one after another, and what is answered to each.
+static EXCHANGES: [(&str, &str); 9] = [
+    (
+        "GET /v1/item/amd64/libsigc%2B%2B-2.0 HTTP/1.1\r\n\r\n",
+        "HTTP/1.1 404 Not Found\r\nContent-Type: application/json\r\nContent-Length: 36\r\nConnection: close\r\n\r\n{\"code\":4,\"refused\":\"UnknownSource\"}",
+    ),
+    (NEXT, ASSIGNED),
+    (
+        NEXT,
+        "HTTP/1.1 409 Conflict\r\nContent-Type: application/json\r\nContent-Length: 33\r\nConnection: close\r\n\r\n{\"code\":7,\"refused\":\"QueueEmpty\"}",
+    ),
+    (NEXT_AFTER, ASSIGNED_AGAIN),
+    (
+        "GET /v1/mine/b1 HTTP/1.0\r\n\r\n",
+        "HTTP/1.1 200 OK\r\nContent-Type: application/json\r\nContent-Length: 254\r\nConnection: close\r\n\r\n{\"builder\":\"b1\",\"records\":[{\"arch\":\"amd64\",\"build\":\"1.0\",\"build_priority\":0,\"earlier\":false,\"holder\":\"b1\",\"message\":\"\",\"note\":\"\",\"number\":0,\"priority\":\"optional\",\"section\":\"devel\",\"source\":\"hello\",\"state\":\"Building\",\"take\":1,\"version\":\"1.0\",\"waits\":\"\"}]}",
+    ),
+    (
+        "POST /v1/built HTTP/1.1\r\nContent-Length: 10\r\n\r\n{\"take\":1}",
+        "HTTP/1.1 200 OK\r\nContent-Type: application/json\r\nContent-Length: 27\r\nConnection: close\r\n\r\n{\"accepted\":5,\"ok\":\"built\"}",
+    ),
+    (
+        "POST /v1/built HTTP/1.1\r\nContent-Length: 10\r\n\r\n{\"take\":1}",
+        "HTTP/1.1 409 Conflict\r\nContent-Type: application/json\r\nContent-Length: 49\r\nConnection: close\r\n\r\n{\"code\":6,\"refused\":\"WrongState\",\"state\":\"Built\"}",
+    ),
+    (
+        "GET /v1/mine/b%09 HTTP/1.1\r\n\r\n",
+        "HTTP/1.1 422 Unprocessable Entity\r\nContent-Type: application/json\r\nContent-Length: 31\r\nConnection: close\r\n\r\n{\"code\":11,\"refused\":\"BadName\"}",
+    ),
+    (
+        "PUT /v1/next HTTP/1.1\r\n\r\n",
+        "HTTP/1.1 405 Method Not Allowed\r\nContent-Type: application/json\r\nContent-Length: 22\r\nConnection: close\r\n\r\n{\"http\":\"WrongMethod\"}",
+    ),
+];
 
 /// A connection: the end of the client, and that of the server.
 fn connected(

@@ -1,4 +1,5 @@
-use crate::{Items, Text, is_blank_line};
+//! Texts and lists, small and long.
+use deb_text::{Items, Text, is_blank_line};
 use std::test::Fail;
 
 #[test]
