@@ -60,6 +60,8 @@ MINE = '200 {"builder":"b1","records":[]}'
 
 # Sent after cases that are to change nothing: the first command that is accepted after those that the office begins with.
 LAST = (posted("next", '{"arch":"arm64","builder":"b2"}'), assigned(8, 1, "next", "zlib", "1:1.2"))
+# The same builder asks again, since it lost the answer.
+LAST_AGAIN = (posted("next", '{"arch":"arm64","builder":"b2","after":0}'), assigned(8, 1, "again", "zlib", "1:1.2"))
 
 # ---- heads, and bodies that play no part
 

@@ -7,6 +7,7 @@ mod store;
 use serve::MayClose;
 use std::alloc::{AllocError, Global};
 use std::io::{self, BufReader, Read};
+use std::net::TcpListener;
 use std::process::ExitCode;
 use std::rt::{Env, Files};
 use std::{env, fs};
@@ -17,7 +18,7 @@ use wb_streams::{WatchedReader, WatchedWriter};
 use wb_words::{HELP, Start, start_of};
 
 /// The program and the kit that it is proved with, for `wb --version`.
-const VERSION: &str = "wb 0.1.0, proved with rattle-kit-13f logic dac8208d650f15bf";
+const VERSION: &str = "wb 0.1.0, proved with rattle-kit-13b logic dac8208d650f15bf";
 
 /// The lists that stand in files, whose names are paths from the working directory. Messages go to standard
 /// error.
@@ -96,7 +97,10 @@ fn start(rt: &HostRuntime, arguments: &[String]) -> u8 {
                 port,
                 requests,
             },
-        ) => open_for(rt, store, Work::Serve { port, requests }),
+        ) => match serve::listen(rt, port) {
+            Some(listener) => open_for(rt, store, Work::Serve { listener, requests }),
+            None => status::STOPPED,
+        },
         Ok(Start::Help) => said(rt.print(HELP), status::ACCEPTED),
         Err(error) => {
             let _ = rt.eprintln(error);
@@ -105,13 +109,16 @@ fn start(rt: &HostRuntime, arguments: &[String]) -> u8 {
     }
 }
 
-/// What an office is opened for.
-#[derive(Clone, Copy)]
+/// What an office is opened for. A port is taken before the office is opened, so that a port that cannot be had makes no file.
+#[derive(Drop)]
 pub(crate) enum Work {
     /// To answer the lines of standard input.
     Run,
-    /// To answer this many connections on this port.
-    Serve { port: u16, requests: u32 },
+    /// To answer this many connections.
+    Serve {
+        listener: TcpListener,
+        requests: u32,
+    },
 }
 
 /// Has an office do its work, over the records in the file if one is named, and else over records in memory.
@@ -126,7 +133,7 @@ fn open_for(rt: &HostRuntime, store: Option<&str>, work: Work) -> u8 {
 pub(crate) fn act<O: CarryOut + MayClose>(rt: &HostRuntime, office: &mut O, work: Work) -> u8 {
     match work {
         Work::Run => run(rt, office),
-        Work::Serve { port, requests } => serve::serve(rt, office, port, requests),
+        Work::Serve { listener, requests } => serve::serve(rt, office, &listener, requests),
     }
 }
 

@@ -38,22 +38,26 @@ impl<S: Alter + Drop> MayClose for wb_durable::Office<S> {
     }
 }
 
-/// Serves this many connections on the port of 127.0.0.1, one after another, and ends before if the office is closed then.
-/// A connection that cannot be accepted counts too.
+/// Takes the port of 127.0.0.1, or says on standard error why it cannot be had.
+pub(crate) fn listen(rt: &HostRuntime, port: u16) -> Option<TcpListener> {
+    let address = SocketAddr::from((Ipv4Addr::LOCALHOST, port));
+    match TcpListener::bind(rt, address) {
+        Ok(listener) => Some(listener),
+        Err(error) => {
+            let _ = eprintln!(rt; "wb: nothing can be served on port {port} of 127.0.0.1: {error}");
+            None
+        }
+    }
+}
+
+/// Serves this many connections, one after another, and ends before if the office is closed then. A connection that cannot be
+/// accepted counts too.
 pub(crate) fn serve<O: CarryOut + MayClose>(
     rt: &HostRuntime,
     office: &mut O,
-    port: u16,
+    listener: &TcpListener,
     requests: u32,
 ) -> u8 {
-    let address = SocketAddr::from((Ipv4Addr::LOCALHOST, port));
-    let listener = match TcpListener::bind(rt, address) {
-        Ok(listener) => listener,
-        Err(error) => {
-            let _ = eprintln!(rt; "wb: nothing can be served on port {port} of 127.0.0.1: {error}");
-            return status::STOPPED;
-        }
-    };
     for _ in 0..requests {
         if let Ok((stream, _)) = listener.accept() {
             serve_stream(rt.alloc(), office, &stream);

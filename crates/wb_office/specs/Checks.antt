@@ -232,16 +232,16 @@ take_named command = (arguments_of command).take_number
 abbrev pub is_not_held : Machine → Command → Bool
 is_not_held machine command = has_value (λ take_number. is_none (taken_as machine take_number)) (take_named command)
 
--- the source package that the command moves, by name
+-- the record that the command moves or gives a build priority, by its architecture and source package
 abbrev pub source_named : Command → Option (List ℕ × List ℕ)
 source_named command =
     option_and_then (λ arch. option_map (λ source. (arch, source)) (arguments_of command).source) (arguments_of command).arch
 
--- the source package that it moves has no record
+-- there is no record that the command could move or give a build priority
 abbrev pub lacks_source : Machine → Command → Bool
 lacks_source machine command = has_value (is_unknown_source machine) (source_named command)
 
--- the record of the source package that it moves is of another version
+-- the record that the command names is of another version
 abbrev pub other_version : Machine → Command → Option Refusal
 other_version machine command =
     option_and_then (λ version. option_and_then (λ key. other_version_at machine key version) (source_named command))

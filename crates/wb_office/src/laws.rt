@@ -112,7 +112,7 @@ pub fn ended_takes_stay_ended()
         → (step (replay machine commands) (Built take_number)).0 ≡ Err NotHeld }
 {}
 
-/// A command changes no record but the one that it enters or moves, and a merge none of another
+/// A command changes no record but the one that it enters, moves or gives a build priority, and a merge none of another
 /// architecture than those of its parts.
 pub fn commands_leave_other_records()
     ensures others { (machine : Machine) (command : Command) (key : List ℕ × List ℕ)

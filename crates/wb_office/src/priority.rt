@@ -14,7 +14,7 @@ use std::alloc::Global;
 use wb_states::{Refusal, Reply, command};
 use wb_store::{KeyedRecord, Store};
 
-/// Gives it another build priority.
+/// Gives the record of a source package the build priority that the command names.
 pub(crate) fn build_priority(
     alloc: Global,
     store: &mut Store,
