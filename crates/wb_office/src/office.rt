@@ -1,7 +1,6 @@
 //! The office over its store.
-ghost use Rattle.std.specs.Prelude.{◌≡◌, ◌≤◌, false, true, Ok, Err, IsOk, IfOk, IfErr, OnOk, OnErr};
+ghost use Rattle.std.specs.Prelude.{◌≡◌, false, true, Ok, Err, IfOk, IfErr, OnOk, OnErr};
 ghost use Rattle.wb_states.specs.declared.refusal.Refusal.TheVariants.{Memory};
-ghost use Rattle.wb_states.specs.Limits.{count_limit};
 ghost use Rattle.wb_states.specs.Machine.{IsConsistent, empty_office};
 ghost use Rattle.wb_states.specs.Names.{is_builder_name};
 ghost use Rattle.wb_states.specs.Refusals.{IsOfMachine};
@@ -14,7 +13,7 @@ ghost use Rattle.wb_office.specs.Utf8.{HasUtf8Texts};
 use crate::{Answer, builder, holder, merging, named, operator, priority, query};
 use std::alloc::Global;
 use std::marker::Model;
-use wb_states::{Command, Counts, Move, Refusal, Reply, StoreFault};
+use wb_states::{Command, Move, Refusal, Reply};
 use wb_store::Store;
 
 /// The office with all that it keeps. Clauses see it as its state: the records, the architectures, the
@@ -50,23 +49,6 @@ impl Office {
             alloc,
             store: Store::new(alloc),
         }
-    }
-
-    /// The empty office that already counts so many take numbers and accepted commands, each at most
-    /// [`COUNT_LIMIT`](wb_states::COUNT_LIMIT). Takes no memory, and cannot fail of tables in memory; the
-    /// allocator is kept for the calls that follow (this project's own).
-    pub fn with_counts(alloc: Global, counts: Counts) -> Result<Office, StoreFault>
-        requires handed { counts.handed ≤ count_limit }
-        requires accepted { counts.accepted ≤ count_limit }
-        ensures ok { IsOk result }
-        ensures value { IfOk result (λ office. office ≡ record empty_office {
-          handed = counts.handed;
-          accepted = counts.accepted;
-        }) }
-    {
-        let mut store = Store::new(alloc);
-        store.set_counts(counts)?;
-        Ok(Office { alloc, store })
     }
 
     /// The tables of the office, to look up what no reply shows. Takes no memory (this project's own).
