@@ -36,4 +36,4 @@ message_of_store_fault NotOffice = codes "it is not the database of an office"
 message_of_store_fault NewerSchema = codes "its format is newer than this program"
 message_of_store_fault (Damaged table row) = name_of_table table ++ (codes " is damaged in row " ++ decimal row)
 message_of_store_fault Memory = codes "out of memory"
-message_of_store_fault Device = codes "the disk failed or is full"
+message_of_store_fault Device = codes "the disk failed or is full, or another program has the file open"

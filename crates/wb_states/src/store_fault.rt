@@ -99,7 +99,9 @@ impl fmt::Display for StoreFault {
                 write!(f, "{name} is damaged in row {row}")
             }
             StoreFault::Memory => f.write_str("out of memory"),
-            StoreFault::Device => f.write_str("the disk failed or is full"),
+            StoreFault::Device => f.write_str(
+                "the disk failed or is full, or another program has the file open",
+            ),
         }
     }
 }
