@@ -1,4 +1,3 @@
-mod control;
 mod moves;
 mod names;
 mod ranks;

@@ -1,5 +1,5 @@
-//! Versions: what is kept of them, their order in the office's terms, and what their faults print.
-use deb_version::{ByOrder, Version, VersionFault, compare};
+//! Versions: what is kept of them, and their order in the office's terms.
+use deb_version::{ByOrder, Version, compare};
 use std::cmp;
 use std::cmp::Ordering;
 use std::test::Fail;
@@ -57,42 +57,5 @@ fn a_version_of_1000_bytes_is_kept(rt: HostRuntime) -> Result<(), Fail> {
     );
     let short = Version::parse(rt.alloc(), "1:2.0-1")?;
     assert_eq!(rt; compare(&version, &short), Ordering::Equal);
-    Ok(())
-}
-
-#[test]
-fn each_fault_is_printed(rt: HostRuntime) -> Result<(), Fail> {
-    let cases = [
-        (VersionFault::Empty, "the version is empty"),
-        (
-            VersionFault::EpochEmpty,
-            "the epoch before the colon is empty",
-        ),
-        (VersionFault::EpochNotNumber, "the epoch is no number"),
-        (VersionFault::EpochTooLarge, "the epoch is above 2147483647"),
-        (VersionFault::UpstreamEmpty, "the upstream version is empty"),
-        (
-            VersionFault::UpstreamBad(3),
-            "byte 3 may not stand in an upstream version",
-        ),
-        (
-            VersionFault::RevisionEmpty,
-            "the revision after the hyphen is empty",
-        ),
-        (
-            VersionFault::RevisionBad(999),
-            "byte 999 may not stand in a revision",
-        ),
-        (
-            VersionFault::TooLong,
-            "the version has more than 1000 bytes",
-        ),
-        (VersionFault::Memory, "out of memory"),
-    ];
-    for (fault, want) in cases {
-        let text = format!(in rt.alloc(); "{fault}")?;
-        assert_eq!(rt; text.as_str(), want);
-    }
-    assert_eq!(rt; VersionFault::UpstreamBad(3).name(), "UpstreamBad");
     Ok(())
 }
