@@ -47,7 +47,7 @@ pub loop-key-preserved : goal.loop-key-preserved
 loop-key-preserved c =
     let item = deref_pair (c.in-Some.key, c.in-Some.current) in
     let drops = scan-drops entry_cmp (is_waiting c.args.arch.now) (option_map deref_pair c.loop-key.best) item c.loop-key.key-iterator c.next.new.self _
-        c.in-Some.ensures.steps c.loop-key.invariant in
+    c.in-Some.ensures.steps c.loop-key.invariant in
     elim c.else-eq.branch [
       | else-eq-via-then-eq+else-eq-2 w ↦ drops (waits-not-state c.args.arch.now item (sym w.eq-then-eq.ensures ∙ w.if-eq-2.false))
       | else-eq-via-else-eq w ↦ drops (waits-not-arch c.args.arch.now item (sym c.eq.ensures ∙ w.if-eq.false))
