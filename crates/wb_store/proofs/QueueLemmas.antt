@@ -1,13 +1,17 @@
 -- The head of a queue, as a scan finds it, and what is true of it.
-use Rattle.std.proofs.Common.{◌≡◌, ℕ, true, false, List, [], ◌∷◌, refl, sym, ap, subst, ◌∙◌, Option, Some, None, IfSome, T, if◌then◌else◌, filter}
+use Rattle.std.proofs.Common.{◌≡◌, ℕ, Bool, true, false, List, [], ◌∷◌, refl, sym, ap, subst, ◌∙◌, Option, Some, None, IfSome, T, if◌then◌else◌, filter, bytes_eq, ◌&&◌}
+use denote.Enum.Bare.{sameb}
 use Rattle.std.specs.declared.cmp.Ordering.{Ordering}
 use Rattle.std.specs.declared.cmp.Ordering.TheVariants.{Less, Equal, Greater}
 use Rattle.std.specs.Ordering.{is_lt, ordering_reverse}
 use Rattle.std.specs.Cmp.{IsTotalOrder}
 use Rattle.std.specs.FinMap as finite
-use Rattle.wb_states.specs.declared.state.State.TheVariants.{NeedsBuild}
+use Rattle.wb_states.specs.declared.state.State.{State}
+use Rattle.wb_states.specs.declared.state.State.TheVariants.{NeedsBuild, Building, Built, Uploaded, Installed, DepWait, BdUninstallable, Failed, NotForUs, BuildAttempted}
+use Rattle.wb_states.specs.contracts.state.State.{the_type}
+use Rattle.wb_states.specs.State.{is_needs_build}
 use Rattle.wb_states.specs.Machine.{Machine}
-use Rattle.wb_states.specs.Queue.{Entry, entry_cmp, is_waiting, queue_of, head_of}
+use Rattle.wb_states.specs.Queue.{Entry, Place, place_of, place_cmp, entry_cmp, is_waiting, queue_of, head_of}
 use Rattle.deb_text.specs.Lists.{first_of, sorted_by, with_item}
 use Rattle.wb_states.proofs.QueueLemmas.{entry_cmp_total, head_of-waits}
 use Rattle.std.specs.Option.{option_map}
@@ -75,6 +79,69 @@ module _ {X : Type 0} {R : X → X → Ordering} (o : IsTotalOrder R) where
   pub scan-all : (xs : List X) → scan R None xs ≡ first_of (sorted_by R xs)
   scan-all [] = refl
   scan-all (x ∷ xs) = scan-some x xs ∙ sym (first_of-with_item x (sorted_by R xs))
+
+-- one step of a scan of the items that a test keeps
+module _ {X : Type 0} (R : X → X → Ordering) (keeps : X → Bool) (best : Option X) (x : X) (items rest : List X) (all : Option X) (at : items ≡ x ∷ rest)
+    (scanned : scan R best (filter keeps items) ≡ all) where
+  -- an item that the test drops
+  pub scan-drops : keeps x ≡ false → scan R best (filter keeps rest) ≡ all
+  scan-drops h =
+      sym (ap (λ xs. scan R best (filter keeps xs)) at ∙ ap (λ b. scan R best (if b then x ∷ filter keeps rest else filter keeps rest)) h) ∙ scanned
+
+  kept : keeps x ≡ true → scan R best (x ∷ filter keeps rest) ≡ all
+  kept h =
+      sym (ap (λ xs. scan R best (filter keeps xs)) at ∙ ap (λ b. scan R best (if b then x ∷ filter keeps rest else filter keeps rest)) h) ∙ scanned
+
+  -- the first item that the test keeps
+  pub scan-starts : keeps x ≡ true → best ≡ None → scan R (Some x) (filter keeps rest) ≡ all
+  scan-starts h none = sym (ap (λ found. scan R found (x ∷ filter keeps rest)) none) ∙ kept h
+
+  against : (b : X) (is_less : Bool) → keeps x ≡ true → best ≡ Some b → is_lt (R x b) ≡ is_less → scan R (Some (if is_less then x else b)) (filter keeps rest) ≡ all
+  against b is_less h some less =
+      sym (ap (λ found. scan R found (x ∷ filter keeps rest)) some ∙ ap (λ t. scan R (Some (if t then x else b)) (filter keeps rest)) less) ∙ kept h
+
+  -- an item that is sooner than the one found before
+  pub scan-takes : (b : X) → keeps x ≡ true → best ≡ Some b → is_lt (R x b) ≡ true → scan R (Some x) (filter keeps rest) ≡ all
+  scan-takes b = against b true
+
+  -- an item that is not
+  pub scan-stays : (b : X) → keeps x ≡ true → best ≡ Some b → is_lt (R x b) ≡ false → scan R best (filter keeps rest) ≡ all
+  scan-stays b h some less = ap (λ found. scan R found (filter keeps rest)) some ∙ against b false h some less
+
+same-is_needs_build : (state : State) → sameb the_type state NeedsBuild ≡ is_needs_build state
+same-is_needs_build NeedsBuild = refl
+same-is_needs_build Building = refl
+same-is_needs_build Built = refl
+same-is_needs_build Uploaded = refl
+same-is_needs_build Installed = refl
+same-is_needs_build DepWait = refl
+same-is_needs_build BdUninstallable = refl
+same-is_needs_build Failed = refl
+same-is_needs_build NotForUs = refl
+same-is_needs_build BuildAttempted = refl
+
+and-false : (b : Bool) → (b && false) ≡ false
+and-false true = refl
+and-false false = refl
+
+-- what the two tests of a record say of whether it waits
+module _ (arch : List ℕ) (entry : Entry) where
+  pub waits-both : true ≡ bytes_eq entry.0.0 arch → true ≡ sameb the_type entry.1.state NeedsBuild → is_waiting arch entry ≡ true
+  waits-both p q = ap (λ b. b && is_needs_build entry.1.state) (sym p) ∙ sym (same-is_needs_build entry.1.state) ∙ sym q
+
+  pub waits-not-arch : bytes_eq entry.0.0 arch ≡ false → is_waiting arch entry ≡ false
+  waits-not-arch p = ap (λ b. b && is_needs_build entry.1.state) p
+
+  pub waits-not-state : sameb the_type entry.1.state NeedsBuild ≡ false → is_waiting arch entry ≡ false
+  waits-not-state q = ap (λ b. bytes_eq entry.0.0 arch && b) (sym (same-is_needs_build entry.1.state) ∙ q) ∙ and-false (bytes_eq entry.0.0 arch)
+
+-- the comparison of the places of two entries
+pub entry_cmp-by_places : (a b : Entry) (p q : Place) (s t : List ℕ) (result : Bool) → p ≡ place_of a.1 s → s ≡ a.0.1 → q ≡ place_of b.1 t → t ≡ b.0.1
+    → result ≡ is_lt (place_cmp p q) → is_lt (entry_cmp a b) ≡ result
+entry_cmp-by_places a b p q s t result e f g h l =
+    let first : p ≡ place_of a.1 a.0.1 = e ∙ ap (place_of a.1) f in
+    let second : q ≡ place_of b.1 b.0.1 = g ∙ ap (place_of b.1) h in
+    sym (l ∙ (λ i. is_lt (place_cmp (first i) (second i))))
 
 -- the scan of an architecture's waiting records finds the head of its queue
 pub scan-head : (machine : Machine) (arch : List ℕ) → scan entry_cmp None (filter (is_waiting arch) (finite.entries machine.records)) ≡ head_of machine arch

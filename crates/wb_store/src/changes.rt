@@ -4,6 +4,7 @@ ghost use Rattle.std.specs.FinMap as map;
 ghost use Rattle.std.specs.FinSet as set;
 ghost use Rattle.wb_states.specs.declared.store_fault.StoreFault.TheVariants.{Memory};
 
+use crate::keyed::key_of;
 use crate::{Records, Store};
 use deb_text::Text;
 use std::alloc::AllocError;
@@ -32,7 +33,7 @@ impl Store {
         ensures err { OnErr result (self.new ≡ self.old) }
         ensures fault { IfErr result (λ fault. fault ≡ Memory) }
     {
-        let key = (arch.clone()?, source.clone()?);
+        let key = key_of(arch, source)?;
         self.records.remove(&key);
         Ok(())
     }

@@ -19,6 +19,13 @@ pub struct KeyedRecord {
     pub current: Record,
 }
 
+/// The key of two texts: a copy of each. The only error is that memory ran out.
+pub(crate) fn key_of(first: &Text, second: &Text) -> Result<(Text, Text), AllocError>
+    ensures value { IfOk result (λ key. key ≡ (first.now, second.now)) }
+{
+    Ok((first.clone()?, second.clone()?))
+}
+
 /// A copy of a record with its key. The only error is that memory ran out.
 pub(crate) fn keyed(key: &(Text, Text), current: &Record) -> Result<KeyedRecord, AllocError>
     ensures value { IfOk result (λ made. entry_of made ≡ (key.now, current.now)) }

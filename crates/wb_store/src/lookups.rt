@@ -10,7 +10,7 @@ ghost use Rattle.wb_states.specs.Machine.{archs_of};
 ghost use Rattle.wb_store.specs.Lookups.{entry_of, rows_of};
 
 use crate::Store;
-use crate::keyed::{KeyedRecord, keyed_list};
+use crate::keyed::{KeyedRecord, key_of, keyed_list};
 use deb_text::Text;
 use std::alloc::AllocError;
 use wb_states::{OsCpu, Record, StoreFault};
@@ -79,7 +79,7 @@ impl Store {
             is_there ≡ set.contains self.now.builders (builder.now, arch.now)) }
         ensures fault { IfErr result (λ fault. fault ≡ Memory) }
     {
-        let pair = (builder.clone()?, arch.clone()?);
+        let pair = key_of(builder, arch)?;
         Ok(self.builders.contains(&pair))
     }
 
@@ -100,7 +100,7 @@ impl Store {
         ensures value { IfOk result (λ found.
             option_copied found ≡ map.get self.now.records (arch.now, source.now)) }
     {
-        let key = (arch.clone()?, source.clone()?);
+        let key = key_of(arch, source)?;
         Ok(self.records.get(&key))
     }
 

@@ -3,6 +3,7 @@ ghost use Rattle.std.specs.Prelude.{◌≡◌, IfOk, OnOk, OnErr, bytes_eq, filt
 ghost use Rattle.std.specs.Option.{option_copied};
 ghost use Rattle.std.specs.FinMap as map;
 
+use crate::keyed::key_of;
 use deb_text::Text;
 use std::alloc::{AllocError, Global};
 use std::collections::BTreeMap;
@@ -38,7 +39,7 @@ impl Records {
         ensures value { IfOk result (λ found.
             option_copied found ≡ map.get self.now (arch.now, source.now)) }
     {
-        let key = (arch.clone()?, source.clone()?);
+        let key = key_of(arch, source)?;
         Ok(self.rows.get(&key))
     }
 
@@ -50,7 +51,7 @@ impl Records {
             ≡ map.insert self.old (arch.now, source.now) current) }
         ensures err { OnErr result (self.new ≡ self.old) }
     {
-        let key = (arch.clone()?, source.clone()?);
+        let key = key_of(arch, source)?;
         self.rows.insert(key, current)?;
         Ok(())
     }
@@ -62,7 +63,7 @@ impl Records {
         ensures ok { OnOk result (self.new ≡ map.remove self.old (arch.now, source.now)) }
         ensures err { OnErr result (self.new ≡ self.old) }
     {
-        let key = (arch.clone()?, source.clone()?);
+        let key = key_of(arch, source)?;
         self.rows.remove(&key);
         Ok(())
     }

@@ -9,7 +9,7 @@ use Rattle.wb_store.proofs.records.Records.get.Goals as goal
 pub returns : goal.returns
 returns c = record {
   value = c.get.ensures.value
-      ∙ sym (get-lookup pair_cmp_total c.self.inside.rows.entries (c.in_ok-clone.field-0, c.in_ok-clone-2.field-0))
-      ∙ ap (λ (records : map.FinMap pair_cmp Record). map.get records (c.in_ok-clone.field-0, c.in_ok-clone-2.field-0)) c.self.view_is
-      ∙ (λ i. map.get c.args.self.now (c.in_ok-clone.ensures.cases i, c.in_ok-clone-2.ensures.cases i));
+      ∙ sym (get-lookup pair_cmp_total c.self.inside.rows.entries c.in_ok-key.key)
+      ∙ ap (λ (records : map.FinMap pair_cmp Record). map.get records c.in_ok-key.key) c.self.view_is
+      ∙ (λ i. map.get c.args.self.now (c.in_ok-key.ensures.value i));
 }

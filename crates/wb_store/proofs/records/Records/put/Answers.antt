@@ -8,6 +8,6 @@ use Rattle.wb_store.proofs.records.Records.put.Goals as goal
 
 pub returns-clause-ok : goal.returns-clause-ok
 returns-clause-ok c =
-    one-inserted pair_cmp_total pair_cmp-same c.self.inside.rows.entries c.insert.new.self.entries (c.in_ok-clone.field-0, c.in_ok-clone-2.field-0) c.args.current c.in_ok-insert.ensures.updates.0
-    ∙ ap (λ (records : map.FinMap pair_cmp Record). map.insert records (c.in_ok-clone.field-0, c.in_ok-clone-2.field-0) c.args.current) c.self.view_is
-    ∙ (λ i. map.insert c.args.self.now (c.in_ok-clone.ensures.cases i, c.in_ok-clone-2.ensures.cases i) c.args.current)
+    one-inserted pair_cmp_total pair_cmp-same c.self.inside.rows.entries c.insert.new.self.entries c.in_ok-key.key c.args.current c.in_ok-insert.ensures.updates.0
+    ∙ ap (λ (records : map.FinMap pair_cmp Record). map.insert records c.in_ok-key.key c.args.current) c.self.view_is
+    ∙ (λ i. map.insert c.args.self.now (c.in_ok-key.ensures.value i) c.args.current)

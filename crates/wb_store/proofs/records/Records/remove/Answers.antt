@@ -8,6 +8,6 @@ use Rattle.wb_store.proofs.records.Records.remove.Goals as goal
 
 pub returns-clause-ok : goal.returns-clause-ok
 returns-clause-ok c =
-    one-removed pair_cmp_total pair_cmp-same c.self.inside.rows.entries c.remove.new.self.entries (c.in_ok-clone.field-0, c.in_ok-clone-2.field-0) c.remove.ensures.updates.0
-    ∙ ap (λ (records : map.FinMap pair_cmp Record). map.remove records (c.in_ok-clone.field-0, c.in_ok-clone-2.field-0)) c.self.view_is
-    ∙ (λ i. map.remove c.args.self.now (c.in_ok-clone.ensures.cases i, c.in_ok-clone-2.ensures.cases i))
+    one-removed pair_cmp_total pair_cmp-same c.self.inside.rows.entries c.remove.new.self.entries c.in_ok-key.key c.remove.ensures.updates.0
+    ∙ ap (λ (records : map.FinMap pair_cmp Record). map.remove records c.in_ok-key.key) c.self.view_is
+    ∙ (λ i. map.remove c.args.self.now (c.in_ok-key.ensures.value i))

@@ -6,6 +6,6 @@ use Rattle.wb_store.proofs.store.Store.has_builder.Goals as goal
 pub returns-clause-value : goal.returns-clause-value
 returns-clause-value c =
     c.contains.ensures
-    ∙ sym (set.contains-from_list pair_cmp_total c.self.inside.builders.keys (c.in_ok-clone.field-0, c.in_ok-clone-2.field-0))
-    ∙ ap (λ machine. set.contains machine.builders (c.in_ok-clone.field-0, c.in_ok-clone-2.field-0)) c.self.view_is
-    ∙ (λ i. set.contains c.args.self.now.builders (c.in_ok-clone.ensures.cases i, c.in_ok-clone-2.ensures.cases i))
+    ∙ sym (set.contains-from_list pair_cmp_total c.self.inside.builders.keys c.in_ok-pair.pair)
+    ∙ ap (λ machine. set.contains machine.builders c.in_ok-pair.pair) c.self.view_is
+    ∙ (λ i. set.contains c.args.self.now.builders (c.in_ok-pair.ensures.value i))

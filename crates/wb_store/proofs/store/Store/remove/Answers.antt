@@ -9,6 +9,6 @@ use Rattle.wb_store.proofs.store.Store.remove.Goals as goal
 pub returns-clause-ok : goal.returns-clause-ok
 returns-clause-ok c =
     ap (with_records (the_view c.self.inside))
-    (one-removed pair_cmp_total pair_cmp-same c.self.inside.records.entries c.remove.new.self.entries (c.in_ok-clone.field-0, c.in_ok-clone-2.field-0) c.remove.ensures.updates.0)
-    ∙ ap (λ machine. with_records machine (map.remove machine.records (c.in_ok-clone.field-0, c.in_ok-clone-2.field-0))) c.self.view_is
-    ∙ (λ i. with_records c.args.self.now (map.remove c.args.self.now.records (c.in_ok-clone.ensures.cases i, c.in_ok-clone-2.ensures.cases i)))
+    (one-removed pair_cmp_total pair_cmp-same c.self.inside.records.entries c.remove.new.self.entries c.in_ok-key.key c.remove.ensures.updates.0)
+    ∙ ap (λ machine. with_records machine (map.remove machine.records c.in_ok-key.key)) c.self.view_is
+    ∙ (λ i. with_records c.args.self.now (map.remove c.args.self.now.records (c.in_ok-key.ensures.value i)))
