@@ -11,8 +11,7 @@ use std::io::Write;
 use std::rt::Files as FileHandle;
 use std::{fs, str};
 use wb_api::{refusal_json, reply_json};
-use wb_recovery::{LivesEnd, Outcome, lives};
-use wb_sql::Crashes;
+use wb_recovery::{Crashes, LivesEnd, Outcome, lives};
 use wb_states::Command;
 use wb_words::{Invocation, invocation_of};
 
@@ -40,7 +39,10 @@ fn lived(alloc: Global, commands: &[Items<Command>]) -> Result<LivesEnd<Memory>>
         log: Memory::new(alloc),
         db: Memory::new(alloc),
     };
-    match lives(alloc, files, Options::new(1), &mut Crashes, commands) {
+    let mut power = Crashes {
+        left: commands.len() as u64,
+    };
+    match lives(alloc, files, Options::new(1), &mut power, commands) {
         Ok(end) => Ok(end),
         Err(fault) => Err(anyhow!("an opening failed: {fault}")),
     }

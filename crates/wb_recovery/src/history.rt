@@ -1,5 +1,5 @@
 //! The lives of an office over files, one after another.
-ghost use Rattle.std.specs.Prelude.{IfOk, IfErr, IsTrue};
+ghost use Rattle.std.specs.Prelude.{◌≡◌, ◌+◌, ◌≤◌, length, IfOk, IfErr, IsTrue, OnOk};
 ghost use Rattle.sqlite_wal.specs.Reads.{AreClean};
 ghost use Rattle.wb_states.specs.Machine.{Machine};
 ghost use Rattle.wb_durable.specs.Offices.{HasCleanFiles, IsAt, IsOpenOffice};
@@ -7,12 +7,12 @@ ghost use Rattle.wb_recovery.specs.Files.{FindsAfter, HoldOne, IsFaultOfLives};
 
 use crate::commands::Outcome;
 use crate::life::{SessionEnd, session};
+use crate::power::{Power, cut_power};
 use deb_text::Items;
 use sqlite::{FileStore, Files, Options};
 use sqlite_disk::Disk;
 use std::alloc::Global;
 use wb_durable::Office;
-use wb_sql::{Power, cut_power};
 use wb_states::{Command, StoreFault};
 
 /// An office that was opened after lives of it.
@@ -25,8 +25,8 @@ pub struct LivesEnd<D: Disk + Drop> {
 }
 
 /// Has an office live once for each list of commands, and opens it once more. After each life the power is cut, so the next
-/// one begins with files that a crash may leave. The faults are those of [`session`], and `Memory` if there is no memory for
-/// the files or the outcomes (this project's own).
+/// one begins with files that a crash may leave: there have to be as many cuts [left](Power::left) as there are lives. The
+/// faults are those of [`session`], and `Memory` if there is no memory for the files or the outcomes (this project's own).
 pub fn lives<D: Disk + Drop, P: Power<D>>(
     alloc: Global,
     files: Files<D>,
@@ -36,6 +36,8 @@ pub fn lives<D: Disk + Drop, P: Power<D>>(
 ) -> Result<LivesEnd<D>, StoreFault>
     requires log { IsTrue (D.Disk.is_usable files.log) }
     requires db { IsTrue (D.Disk.is_usable files.db) }
+    requires cuts { length lives.now ≤ P.cuts_left power.old }
+    ensures cut { OnOk result (P.cuts_left power.old ≡ P.cuts_left power.new + length lives.now) }
     ensures opened { IfOk result (λ end. IsOpenOffice end.office) }
     ensures clean { IfOk result (λ end. HasCleanFiles end.office → AreClean D.Disk files.log files.db) }
     ensures found { IfOk result (λ end. HasCleanFiles end.office → (one other : Machine) → HoldOne D.Disk files one other

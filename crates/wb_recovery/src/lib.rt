@@ -4,7 +4,9 @@
 mod commands;
 mod history;
 mod life;
+mod power;
 
 pub use commands::Outcome;
 pub use history::{LivesEnd, lives};
 pub use life::{SessionEnd, session};
+pub use power::{Crashes, Power, cut_power};

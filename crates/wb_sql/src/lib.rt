@@ -4,11 +4,9 @@
 mod changes;
 mod definitions;
 mod files;
-mod power;
 mod reading;
 mod writing;
 
 pub use files::{close, open, surrender};
-pub use power::{Crashes, Power, cut_power};
 pub use reading::read;
 pub use writing::{CommitError, Writing, begin, is_usable};

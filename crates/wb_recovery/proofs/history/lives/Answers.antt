@@ -1,4 +1,4 @@
-use Rattle.std.proofs.Common.{inr, ◌+◌, ◌++◌, [], ◌∷◌, List, sym, ap, subst, ◌∙◌, drop}
+use Rattle.std.proofs.Common.{◌≡◌, ℕ, inr, arith, ◌+◌, ◌++◌, [], ◌∷◌, List, sym, ap, subst, ◌∙◌, drop}
 use Rattle.std.proofs.lemmas.List.{append_assoc, append-nil, drop_all}
 use Rattle.sqlite_wal.specs.Reads.{AreClean}
 use Rattle.wb_states.specs.declared.command.Command.{Command}
@@ -11,10 +11,15 @@ use Rattle.wb_recovery.specs.Lives.{Outcome}
 use Rattle.wb_recovery.proofs.SessionLemmas.{handed_fault, LeadTo, leads_nowhere, leads_on, opened_at_one}
 use Rattle.wb_recovery.proofs.history.lives.Goals as goal
 
+-- one cut more for one life more
+counted_on : (start before after lived : ℕ) → start ≡ before + lived → before ≡ after + 1 → start ≡ after + (lived + 1)
+counted_on start before after lived so_far once = omega arith
+
 pub loop-commands-preserved : goal.loop-commands-preserved
 loop-commands-preserved g c = record {
   log = c.in_ok-current.ensures.usable.0;
   db = c.in_ok-current.ensures.usable.1;
+  cuts = counted_on _ _ _ _ c.loop-commands.invariant.cuts c.in_ok-current.ensures.counted;
   rest = λ more office later.
       let D = g.D.Disk in
       let own = c.in_ok-answers.field-0 in
