@@ -1,5 +1,6 @@
 -- The fields that the lines of a paragraph are, and the first fault of lines that are none, after Debian Policy 5.1.
-use Rattle.std.specs.Prelude.{◌≡◌, ℕ, Bool, true, false, not, ◌&&◌, ◌||◌, ◌==◌, ◌<◌, ◌≤◌, nat_lt, ⊤, IsUtf8, if◌then◌else◌, List, [], ◌∷◌, ◌++◌, map, length, drop, Option, None, Some, Result, Ok, Err, filter, find, is_none}
+use Rattle.std.specs.Prelude.{◌≡◌, ℕ, Bool, true, false, not, ◌&&◌, ◌||◌, ◌==◌, ◌<◌, ◌≤◌, nat_lt, ⊤, IsUtf8, if◌then◌else◌, List, [], ◌∷◌, ◌++◌, map, length, drop, Option, None, Some, Result, Ok, Err, filter, find, is_none, codes}
+use Prim.Native.Char.{code}
 use Rattle.std.specs.List.{before_first, after_first, take_while, position_or_len, list_all, list_any, concat, join_with_byte, slice_get}
 use Rattle.std.specs.Char.{is_ascii_graphic}
 use Rattle.std.specs.Str.{is_utf8, bytes_eq, str_to_ascii_lowercase, str_eq_ignore_ascii_case}
@@ -9,7 +10,7 @@ use Rattle.deb_control.specs.declared.fault.ControlFaultKind.TheVariants.{TooLar
 use Rattle.deb_control.specs.Lines.{is_continuation, body_of, lines_in, trim_end, trim, is_nonempty}
 use Rattle.deb_control.specs.declared.paragraph.TheConstants.{PARAGRAPH_LIMIT}
 
--- a field with its name, what stands behind the colon, and its continuation lines (Policy 5.1)
+-- a field with its name, what stands after the colon, and its continuation lines (Policy 5.1)
 pub record FieldText : Type 0 where
   pub name : List ℕ
   pub first : List ℕ
@@ -17,9 +18,9 @@ pub record FieldText : Type 0 where
 
 -- a colon, which ends a field's name (Policy 5.1)
 abbrev pub is_colon : ℕ → Bool
-is_colon c = c == 58
+is_colon c = c == code ":"
 
--- what a continuation line adds: all but its first character and the spaces and tabs at its end (this project's own)
+-- what a continuation line adds: all but its first character and the spaces and tabs at its end
 unfoldable pub continued : List ℕ → List ℕ
 continued line = trim_end (drop 1 line)
 
@@ -31,7 +32,7 @@ has_colon line = nat_lt (position_or_len is_colon line) (length line)
 unfoldable pub name_of : List ℕ → List ℕ
 name_of line = before_first is_colon line
 
--- the first value of a field, which stands behind the first colon, trimmed (Policy 5.1)
+-- the first value of a field, which stands after the first colon, trimmed (Policy 5.1)
 unfoldable pub first_of : List ℕ → List ℕ
 first_of line = trim (after_first is_colon line)
 
@@ -39,15 +40,15 @@ first_of line = trim (after_first is_colon line)
 unfoldable pub is_name_char : ℕ → Bool
 is_name_char c = is_ascii_graphic c && not (is_colon c)
 
--- whether a text begins with a character that may begin a name, so neither `#` nor `-` (Policy 5.1)
+-- whether a text begins with a character that may begin a name, so neither `#` nor `-` (Policy 5.1; that `#` begins no comment is this project's own)
 unfoldable pub begins_name : List ℕ → Bool
-begins_name text = option_map_or (λ c. not (c == 35 || c == 45)) (slice_get text 0) false
+begins_name text = option_map_or (λ c. not (c == code "#" || c == code "-")) (slice_get text 0) false
 
 -- whether a text is the name of a field (Policy 5.1)
 unfoldable pub is_name : List ℕ → Bool
 is_name name = begins_name name && list_all is_name_char name
 
--- the field of a line that is no continuation and of the lines behind it (Policy 5.1)
+-- the field of a line that is no continuation and of the lines after it (Policy 5.1)
 unfoldable pub field_of : List ℕ → List (List ℕ) → FieldText
 field_of line lines = record { name = name_of line; first = first_of line; lines = map continued (take_while is_continuation lines) }
 
@@ -56,7 +57,7 @@ abbrev pub fields_of : List (List ℕ) → List FieldText
 fields_of [] = []
 fields_of (line ∷ lines) = if is_continuation line then fields_of lines else field_of line lines ∷ fields_of lines
 
--- what is wrong with a line that is no continuation, by itself (Policy 5.1)
+-- what is wrong with a line that is no continuation, by itself (Policy 5.1; that a comment is a fault is this project's own)
 unfoldable pub form_fault : List ℕ → Option ControlFaultKind
 form_fault line = if has_colon line then (if is_name (name_of line) then None else Some BadName) else Some NoColon
 
@@ -68,7 +69,7 @@ is_among name names = list_any (λ other. bytes_eq other name) names
 abbrev pub names_in : List FieldText → List (List ℕ)
 names_in fields = map (λ field. str_to_ascii_lowercase field.name) fields
 
--- what is wrong with a line behind lines that gave these names (Policy 5.1)
+-- what is wrong with a line after lines that gave these names (Policy 5.1)
 unfoldable pub line_fault : List (List ℕ) → List ℕ → Option ControlFaultKind
 line_fault names line =
     if is_continuation line then (if length names == 0 then Some Orphan else None)
@@ -78,15 +79,15 @@ line_fault names line =
 unfoldable pub names_after : List (List ℕ) → List ℕ → List (List ℕ)
 names_after names line = if is_continuation line then names else names ++ str_to_ascii_lowercase (name_of line) ∷ []
 
--- whether a test tells which names in lower case are among these (this project's own)
+-- whether a test holds of exactly the names in lower case that are among these
 abbrev pub IsNameSet : (List ℕ → Bool) → List (List ℕ) → Type 0
 IsNameSet test names = (name : List ℕ) → test name ≡ is_among name names
 
--- the field that begins at a line, if one does, where this text stands behind the line (Policy 5.1)
+-- the field that begins at a line after which this text stands, if one does (Policy 5.1)
 unfoldable pub fields_at : List ℕ → List ℕ → List FieldText
 fields_at line rest = if is_continuation line then [] else field_of line (lines_in rest) ∷ []
 
--- what is wrong with the first bad line, behind lines that gave these names (this project's own order)
+-- what is wrong with the first bad line, after lines that gave these names
 abbrev pub first_fault : List (List ℕ) → List (List ℕ) → Option ControlFaultKind
 first_fault names [] = None
 first_fault names (line ∷ lines) = option_or (line_fault names line) (first_fault (names_after names line) lines)
@@ -95,13 +96,13 @@ first_fault names (line ∷ lines) = option_or (line_fault names line) (first_fa
 abbrev pub paragraph_limit : ℕ
 paragraph_limit = PARAGRAPH_LIMIT
 
--- what is wrong with a paragraph: its size, its encoding, or its first bad line (this project's own order)
+-- what is wrong with a paragraph: its size, its encoding, or its first bad line
 unfoldable pub fault_of : List (List ℕ) → Option ControlFaultKind
 fault_of lines =
     if nat_lt paragraph_limit (length (concat lines)) then Some TooLarge
     else if is_utf8 (concat lines) then first_fault [] (map body_of lines) else Some NotUtf8
 
--- the fault where there is one, or else the fields (this project's own)
+-- the fault if there is one, or else the fields
 abbrev pub outcome : Option ControlFaultKind → List FieldText → Result (List FieldText) ControlFaultKind
 outcome None fields = Ok fields
 outcome (Some kind) fields = Err kind
@@ -114,7 +115,7 @@ reading_of lines = outcome (fault_of lines) (fields_of (map body_of lines))
 unfoldable pub begin_with_field : List (List ℕ) → Bool
 begin_with_field lines = option_map_or (λ line. is_none (line_fault [] line)) (slice_get lines 0) false
 
--- whether memory is taken for a paragraph: it is small enough, is UTF-8, and begins with a field (this project's own)
+-- whether memory is taken for a paragraph: it is small enough, is UTF-8, and begins with a field
 unfoldable pub takes_memory : List (List ℕ) → Bool
 takes_memory lines =
     not (nat_lt paragraph_limit (length (concat lines))) && (is_utf8 (concat lines) && begin_with_field (map body_of lines))
@@ -131,30 +132,30 @@ field_named name fields = find (has_name name) fields
 unfoldable pub continuations : List ℕ → List (List ℕ)
 continuations text = map continued (take_while is_continuation (lines_in text))
 
--- the field of a name and a first value, behind whose line this text stands (Policy 5.1)
+-- the field of a name and a first value, after whose line this text stands (Policy 5.1)
 abbrev pub entry : List ℕ → List ℕ → List ℕ → FieldText
 entry name first rest = record { name = name; first = first; lines = continuations rest }
 
--- a folded text with one more line behind it, parted by a space where both have a character (Policy 5.1)
+-- a folded text with one more line after it, with a space between them if both have a character (Policy 5.1)
 abbrev pub folded_onto : List ℕ → List ℕ → List ℕ
 folded_onto text [] = text
 folded_onto [] line = line
-folded_onto text line = text ++ (32 ∷ line)
+folded_onto text line = text ++ (codes " " ++ line)
 
 -- the folded value: the lines that are not blank, trimmed and joined by one space (Policy 5.1)
 unfoldable pub folded_of : FieldText → List ℕ
-folded_of field = join_with_byte 32 (filter is_nonempty (map trim (field.first ∷ field.lines)))
+folded_of field = join_with_byte (code " ") (filter is_nonempty (map trim (field.first ∷ field.lines)))
 
 -- a line and continuation lines that are a field: a name, a colon and a value, and what the others add (Policy 5.1)
 pub record IsField (field : FieldText) (line : List ℕ) (more : List (List ℕ)) : Type 0 where
   pub value : List ℕ
-  pub begins : line ≡ field.name ++ (58 ∷ value)
+  pub begins : line ≡ field.name ++ (codes ":" ++ value)
   pub form : is_name field.name ≡ true
   pub trimmed : field.first ≡ trim value
   pub continues : list_all is_continuation more ≡ true
   pub added : field.lines ≡ map continued more
 
--- lines that are these fields, one behind the other (Policy 5.1)
+-- lines that are these fields, one after the other (Policy 5.1)
 abbrev pub Reads : List (List ℕ) → List FieldText → Type 0
 Reads lines [] = lines ≡ []
 Reads lines (field ∷ fields) =
@@ -172,7 +173,7 @@ pub record IsReading (lines : List (List ℕ)) (fields : List FieldText) : Type 
   pub is : Reads (map body_of lines) fields
   pub names : HaveDistinctNames fields
 
--- what is wrong with a line behind lines that are these fields (Policy 5.1)
+-- what is wrong with a line after lines that are these fields (Policy 5.1)
 abbrev pub IsLineFault : ControlFaultKind → List FieldText → List ℕ → Type 0
 IsLineFault Orphan fields line = (is_continuation line ≡ true) × (fields ≡ [])
 IsLineFault NoColon fields line = (is_continuation line ≡ false) × (has_colon line ≡ false)
@@ -181,7 +182,7 @@ IsLineFault Duplicate fields line =
     (is_continuation line ≡ false) × (has_colon line ≡ true) × (is_name (name_of line) ≡ true) × (list_any (has_name (name_of line)) fields ≡ true)
 IsLineFault _ fields line = ⊥
 
--- lines of which a bad one with this fault stands behind lines that are fields (Policy 5.1)
+-- lines of which a bad one with this fault stands after lines that are fields (Policy 5.1)
 pub record HasBadLine (kind : ControlFaultKind) (lines : List (List ℕ)) : Type 0 where
   pub good : List (List ℕ)
   pub bad : List ℕ
@@ -192,7 +193,7 @@ pub record HasBadLine (kind : ControlFaultKind) (lines : List (List ℕ)) : Type
   pub names : HaveDistinctNames fields
   pub fault : IsLineFault kind fields bad
 
--- a paragraph of these lines has this fault: it is too large, or else no UTF-8, or else has a bad line (this project's own order)
+-- a paragraph of these lines has this fault: it is too large, or else no UTF-8, or else has a bad line
 abbrev pub IsFault : ControlFaultKind → List (List ℕ) → Type 0
 IsFault TooLarge lines = paragraph_limit < length (concat lines)
 IsFault NotUtf8 lines = (length (concat lines) ≤ paragraph_limit) × ¬ (IsUtf8 (concat lines))

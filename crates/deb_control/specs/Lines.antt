@@ -1,15 +1,16 @@
 -- The lines of control data and the runs of lines that are its paragraphs, after Debian Policy 5.1.
-use Rattle.std.specs.Prelude.{◌≡◌, ℕ, ◌+◌, Bool, true, false, not, ◌||◌, ◌==◌, if◌then◌else◌, List, [], ◌∷◌, ◌++◌, map, filter, reverse, take, drop, length, ◌<◌, ◌⊎◌}
+use Rattle.std.specs.Prelude.{◌≡◌, ℕ, ◌+◌, Bool, true, false, not, ◌||◌, ◌==◌, if◌then◌else◌, List, [], ◌∷◌, ◌++◌, map, filter, reverse, take, drop, length, ◌<◌, ◌⊎◌, codes}
+use Prim.Native.Char.{code}
 use Rattle.std.specs.List.{before_first, position_or_len, prefix_len, slice_split, onto_first, list_all, list_any, slice_get}
 use Rattle.std.specs.Option.{option_map_or}
 
 -- a line feed (Policy 5.1)
 abbrev pub is_line_feed : ℕ → Bool
-is_line_feed c = c == 10
+is_line_feed c = c == code "\n"
 
--- a space or a tab (Policy 5.1)
+-- a space or a tab (Policy 5.1; that a carriage return is none is this project's own)
 abbrev pub is_blank : ℕ → Bool
-is_blank c = c == 32 || c == 9
+is_blank c = c == code " " || c == code "\t"
 
 -- whether a line begins with a space or a tab, and so continues the field before it (Policy 5.1)
 abbrev pub is_continuation : List ℕ → Bool
@@ -20,13 +21,13 @@ abbrev pub lines_of : List ℕ → List (List ℕ)
 lines_of [] = []
 lines_of (c ∷ cs) = if is_line_feed c then (c ∷ []) ∷ lines_of cs else onto_first c (lines_of cs)
 
--- a line, behind which this text stands: no line feed but one at its end, which a line that is not empty may lack where nothing stands behind it (Policy 5.1)
+-- a line, after which this text stands: no line feed but one at its end, which a line that is not empty may lack if nothing stands after it (Policy 5.1)
 pub record IsLine (line rest : List ℕ) : Type 0 where
   pub body : List ℕ
   pub free : list_any is_line_feed body ≡ false
-  pub ended : (line ≡ body ++ 10 ∷ []) ⊎ ((line ≡ body) × (0 < length body) × (rest ≡ []))
+  pub ended : (line ≡ body ++ codes "\n") ⊎ ((line ≡ body) × (0 < length body) × (rest ≡ []))
 
--- a text that is these lines, one behind the other (Policy 5.1)
+-- a text that is these lines, one after the other (Policy 5.1)
 abbrev pub HaveLines : List ℕ → List (List ℕ) → Type 0
 HaveLines text [] = text ≡ []
 HaveLines text (line ∷ lines) = (rest : List ℕ) × (text ≡ line ++ rest) × IsLine line rest × HaveLines rest lines
@@ -43,11 +44,11 @@ lines_in text = map body_of (lines_of text)
 unfoldable pub front_line : List ℕ → List ℕ
 front_line text = take (position_or_len is_line_feed text + 1) text
 
--- whether a line parts paragraphs, being empty or of spaces and tabs alone (Policy 5.1)
+-- whether a line separates paragraphs, being empty or of spaces and tabs alone (Policy 5.1; that a carriage return is no blank is this project's own)
 unfoldable pub is_separator : List ℕ → Bool
 is_separator line = list_all is_blank (body_of line)
 
--- whether a list has an item, or a text a character (this project's own)
+-- whether a list has an item, or a text a character
 abbrev pub is_nonempty : {X : Type 0} → List X → Bool
 is_nonempty [] = false
 is_nonempty (_ ∷ _) = true
@@ -66,7 +67,7 @@ unfoldable pub begins_paragraph : List ℕ → Bool
 begins_paragraph [] = false
 begins_paragraph (c ∷ cs) = not (is_separator (front_line (c ∷ cs)))
 
--- the first paragraph of a text, and what stands behind it (Policy 5.1)
+-- the first paragraph of a text, and what stands after it (Policy 5.1)
 abbrev pub IsFirstParagraph : List ℕ → List ℕ → List ℕ → Type 0
 IsFirstParagraph text first rest = paragraphs_in (lines_of text) ≡ lines_of first ∷ paragraphs_in (lines_of rest)
 

@@ -5,56 +5,56 @@ use Rattle.deb_control.specs.declared.fault.ControlFaultKind.{ControlFaultKind}
 use Rattle.deb_control.specs.declared.fault.ControlFaultKind.TheVariants.{Ended}
 use Rattle.deb_control.specs.Fields.{FieldText, reading_of, takes_memory}
 
--- where a reader stands: how many paragraphs it went through, and those ahead, or none once it has refused (this project's own)
+-- where a reader stands: how many paragraphs it went through, and those ahead, or none once it has refused
 pub record ReaderState : Type 0 where
   pub passed : ℕ
   pub ahead : Option (List (List (List ℕ)))
 
--- what one call answers: the fields of a paragraph, none at the end, or a fault (this project's own)
+-- what one call answers: the fields of a paragraph, none at the end, or a fault
 abbrev pub Answer : Type 0
 Answer = Result (Option (List FieldText)) ControlFault
 
--- the place before the first of these paragraphs (this project's own)
+-- the place before the first of these paragraphs
 abbrev pub begun : List (List (List ℕ)) → ReaderState
 begun paragraphs = record { passed = 0; ahead = Some paragraphs }
 
--- the place of a reader that ended at the paragraph of this number (this project's own)
+-- the place of a reader that ended at the paragraph of this number
 abbrev pub ended_at : ℕ → ReaderState
 ended_at number = record { passed = number; ahead = None }
 
--- the answer for the paragraph of this number, by its reading, and the place behind it (Policy 5.1)
+-- the answer for the paragraph of this number, by its reading, and the place after it (Policy 5.1)
 abbrev pub answered : ℕ → List (List (List ℕ)) → Result (List FieldText) ControlFaultKind → Answer × ReaderState
 answered number later (Ok fields) = (Ok (Some fields), record { passed = number; ahead = Some later })
 answered number later (Err kind) = (Err (record { paragraph = number; kind = kind }), ended_at number)
 
--- the answer behind so many paragraphs where these are ahead, and the place then (this project's own)
+-- the answer after so many paragraphs if these are ahead, and the place then
 abbrev pub step_over : ℕ → Option (List (List (List ℕ))) → Answer × ReaderState
 step_over passed None = (Err (record { paragraph = passed; kind = Ended }), ended_at passed)
 step_over passed (Some []) = (Ok None, record { passed = passed; ahead = Some [] })
 step_over passed (Some (lines ∷ later)) = answered (passed + 1) later (reading_of lines)
 
--- what one call answers at a place, and the place then, memory aside (this project's own)
+-- what one call answers at a place, and the place then, memory aside
 abbrev pub step : ReaderState → Answer × ReaderState
 step place = step_over place.passed place.ahead
 
--- whether a paragraph is ahead for which memory is taken (this project's own)
+-- whether a paragraph is ahead for which memory is taken
 abbrev pub wants_memory : Option (List (List (List ℕ))) → Bool
 wants_memory None = false
 wants_memory (Some []) = false
 wants_memory (Some (lines ∷ _)) = takes_memory lines
 
--- a call that wanted memory ends the reader at the paragraph that was next, and for which memory is taken (this project's own)
+-- a call that wanted memory ends the reader at the paragraph that was next, and for which memory is taken
 pub record MemoryEnds (old : ReaderState) (fault : ControlFault) (new : ReaderState) : Type 0 where
   pub next : IsTrue (wants_memory old.ahead)
   pub paragraph : fault.paragraph ≡ old.passed + 1
   pub ended : new ≡ ended_at (old.passed + 1)
 
--- the place after so many calls, memory aside (this project's own)
+-- the place after so many calls, memory aside
 abbrev pub after_calls : ℕ → ReaderState → ReaderState
 after_calls zero place = place
 after_calls (suc n) place = after_calls n (step place).1
 
--- what the next call answers after so many calls, memory aside (this project's own)
+-- what the next call answers after so many calls, memory aside
 abbrev pub answer_after : ℕ → ReaderState → Answer
 answer_after n place = (step (after_calls n place)).0
 

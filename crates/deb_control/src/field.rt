@@ -41,7 +41,7 @@ pub(crate) fn is_name(name: &str) -> bool
     }
 }
 
-/// The first line of a text as a field has it, where it is a continuation
+/// The first line of a text as a field has it, if it is a continuation
 /// line, and what stands after it.
 fn next_continuation(text: &str) -> Option<(&str, &str)>
     ensures none { IfNone result (continuations text.now ≡ []) }

@@ -25,7 +25,7 @@ pub fn paragraphs_are_runs()
 {}
 
 /// A paragraph has the reading of the fields that its lines are, and has one
-/// where its lines are fields (Debian Policy 5.1).
+/// if its lines are fields (Debian Policy 5.1).
 pub fn paragraph_is_fields()
     ensures is { (lines : List (List ℕ)) (fields : List FieldText) →
         reading_of lines ≡ Ok fields → IsReading lines fields }
@@ -91,7 +91,7 @@ pub fn examples_of_paragraphs()
         × (reading_of (codes "Package" ∷ []) ≡ Err NoColon)
         × (reading_of (codes "-Package: libc6" ∷ []) ≡ Err BadName)
         × (reading_of (codes "Package: libc6" ∷ codes "package: libc6" ∷ []) ≡ Err Duplicate) }
-    // of two paragraphs, parted by a blank line
+    // of two paragraphs, with a blank line between them
     ensures paragraphs { paragraphs_in (codes "Package: a" ∷ [] ∷ codes "Package: b" ∷ [])
         ≡ (codes "Package: a" ∷ []) ∷ (codes "Package: b" ∷ []) ∷ [] }
 {}

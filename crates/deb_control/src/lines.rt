@@ -35,14 +35,14 @@ pub(crate) fn split_text(text: &str) -> (&str, &str)
 }
 
 /// Whether each byte of a line, its line feed not counted, is a space or a tab: such a line, an empty one
-/// too, parts paragraphs (Debian Policy 5.1).
+/// too, separates paragraphs (Debian Policy 5.1).
 fn is_blank_line(line: &[u8]) -> bool
     ensures { result ≡ list_all is_blank line.now }
 {
     line.iter().all(|b| *b == b' ' || *b == b'\t')
 }
 
-/// What stands after a separator, where the bytes begin with one.
+/// What stands after a separator, if the bytes begin with one.
 fn after_separator(bytes: &[u8]) -> Option<&[u8]>
     ensures none { IfNone result (begins_separator bytes.now ≡ false) }
     ensures some { OnSome result (begins_separator bytes.now ≡ true) }
@@ -58,7 +58,7 @@ fn after_separator(bytes: &[u8]) -> Option<&[u8]>
     None
 }
 
-/// What stands after a line of a paragraph, where the bytes begin with one.
+/// What stands after a line of a paragraph, if the bytes begin with one.
 fn after_line(bytes: &[u8]) -> Option<&[u8]>
     ensures none { IfNone result (begins_paragraph bytes.now ≡ false) }
     ensures some { OnSome result (begins_paragraph bytes.now ≡ true) }
@@ -100,7 +100,7 @@ fn cut_paragraph(bytes: &[u8]) -> (&[u8], &[u8])
     (&bytes[..bytes.len() - left.len()], left)
 }
 
-/// The first paragraph, and what stands after it, where there is one.
+/// The first paragraph, and what stands after it, if there is one.
 pub(crate) fn next_paragraph(bytes: &[u8]) -> Option<(&[u8], &[u8])>
     ensures none { IfNone result (paragraphs_in (lines_of bytes.now) ≡ []) }
     ensures some { IfSome result (λ cut. IsFirstParagraph bytes.now cut.0.now cut.1.now) }
@@ -120,7 +120,7 @@ pub(crate) fn is_continuation_line(line: &str) -> bool
     matches!(line.as_bytes(), [b' ' | b'\t', ..])
 }
 
-/// A text without the space or tab at its start, where it has one.
+/// A text without the space or tab at its start, if it has one.
 pub(crate) fn after_blank(text: &str) -> Option<&str>
     ensures none { IfNone result (is_continuation text.now ≡ false) }
     ensures some { OnSome result (is_continuation text.now ≡ true) }
@@ -132,7 +132,7 @@ pub(crate) fn after_blank(text: &str) -> Option<&str>
     }
 }
 
-/// A text without the space or tab at its end, where it has one.
+/// A text without the space or tab at its end, if it has one.
 fn without_last_blank(text: &str) -> Option<&str>
     ensures none { IfNone result (trim_end text.now ≡ text.now) }
     ensures same { IfSome result (λ rest. trim_end rest.now ≡ trim_end text.now) }

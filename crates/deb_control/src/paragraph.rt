@@ -183,7 +183,7 @@ impl<'a> Paragraph<'a> {
             .find(|field| is_same_name(field.name(), name))
     }
 
-    /// The field of this name, without regard to case, where the paragraph
+    /// The field of this name, without regard to case, if the paragraph
     /// has it (Debian Policy 5.1).
     pub fn get(&self, name: &str) -> Option<Field<'a>>
         ensures { result ≡ field_named name.now self.now }

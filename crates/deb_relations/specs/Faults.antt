@@ -1,4 +1,4 @@
--- The faults of relations: their names, and what they say of the text (this project's own).
+-- The faults of relations: their names, and what they say of the text.
 use Rattle.std.specs.Prelude.{ℕ, List, ◌++◌, codes, decimal}
 use Rattle.deb_version.specs.Faults.{fault_text as version_fault_text}
 use Rattle.deb_version.specs.declared.fault.VersionFault.{VersionFault}
@@ -6,7 +6,7 @@ use Rattle.deb_version.specs.declared.fault.VersionFault.TheVariants as version
 use Rattle.deb_relations.specs.declared.fault.RelationFault.{RelationFault}
 use Rattle.deb_relations.specs.declared.fault.RelationFault.TheVariants.{BadName, BadOperator, BadVersion, Mixed, Unclosed, EmptyAlternative, Stray, TooLong, Memory}
 
--- the name of a fault, without what it carries (this project's own)
+-- the name of a fault, without what it carries
 abbrev pub fault_name : RelationFault → List ℕ
 fault_name BadName = codes "BadName"
 fault_name BadOperator = codes "BadOperator"
@@ -18,12 +18,12 @@ fault_name (Stray place) = codes "Stray"
 fault_name TooLong = codes "TooLong"
 fault_name Memory = codes "Memory"
 
--- the fault of a version as a fault of relations, where want of memory is want of memory (this project's own)
+-- the fault of a version as a fault of relations; out of memory stays out of memory
 abbrev pub fault_from_version : VersionFault → RelationFault
 fault_from_version version.Memory = Memory
 fault_from_version fault = BadVersion fault
 
--- what is printed of a fault, for a person to read (this project's own)
+-- what is printed of a fault, for a person to read
 abbrev pub fault_text : RelationFault → List ℕ
 fault_text BadName = codes "a name is missing or bad"
 fault_text BadOperator = codes "an operator is missing or bad"

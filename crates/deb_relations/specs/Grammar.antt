@@ -1,6 +1,7 @@
 -- The grammar of relations between packages (Debian Policy 7.1; of qualifiers and build profiles dpkg's deb-src-control(5)).
 use Rattle.std.specs.Prelude.{◌≡◌, ℕ, ◌≤◌, ◌==◌, Bool, true, not, ◌&&◌, ◌||◌, List, [], ◌∷◌, ◌++◌, map, filter, length, if◌then◌else◌, bytes_eq, codes}
 use Rattle.std.specs.Prelude.{Option, None, Some}
+use Prim.Native.Char.{code}
 use Rattle.std.specs.Char.{is_ascii_alphanumeric}
 use Rattle.std.specs.List.{AllZip, list_all, slice_split}
 use Rattle.deb_version.specs.declared.operator.Op.{Op}
@@ -18,31 +19,31 @@ use Rattle.deb_relations.specs.declared.relations.TheConstants.{RELATIONS_LIMIT}
 
 -- a space, a tab, a line feed or a carriage return (Policy 7.1)
 unfoldable pub is_white : ℕ → Bool
-is_white c = c == 32 || (c == 9 || (c == 10 || c == 13))
+is_white c = c == code " " || (c == code "\t" || (c == code "\n" || c == code "\r"))
 
--- whether a text has white space alone (this project's own)
+-- whether a text has white space alone
 abbrev pub is_blank_text : List ℕ → Bool
 is_blank_text text = list_all is_white text
 
 -- the comma between groups (Policy 7.1)
 abbrev pub is_comma : ℕ → Bool
-is_comma c = c == 44
+is_comma c = c == code ","
 
 -- the bar between alternatives (Policy 7.1)
 abbrev pub is_bar : ℕ → Bool
-is_bar c = c == 124
+is_bar c = c == code "|"
 
 -- the angle bracket that closes a list of build profiles (deb-src-control(5))
 abbrev pub is_right_angle : ℕ → Bool
-is_right_angle c = c == 62
+is_right_angle c = c == code ">"
 
 -- of which the name of a build profile is made (this project's own)
 unfoldable pub is_profile_char : ℕ → Bool
-is_profile_char c = is_ascii_alphanumeric c || (c == 46 || (c == 43 || (c == 45 || c == 95)))
+is_profile_char c = is_ascii_alphanumeric c || (c == code "." || (c == code "+" || (c == code "-" || c == code "_")))
 
 -- of which an operator is made (Policy 7.1)
 unfoldable pub is_op_char : ℕ → Bool
-is_op_char c = c == 60 || (c == 61 || c == 62)
+is_op_char c = c == code "<" || (c == code "=" || c == code ">")
 
 -- a qualifier (deb-src-control(5))
 unfoldable pub is_qualifier : List ℕ → Bool
@@ -74,7 +75,7 @@ pub record TakesName (text name rest : List ℕ) : Type 0 where
 -- nothing, or directly a colon and a qualifier, and what is left (deb-src-control(5))
 abbrev pub TakesQualifier : List ℕ → Option (List ℕ) → List ℕ → Type 0
 TakesQualifier text None rest = text ≡ rest
-TakesQualifier text (Some word) rest = (text ≡ 58 ∷ (word ++ rest)) × (is_qualifier word ≡ true)
+TakesQualifier text (Some word) rest = (text ≡ codes ":" ++ (word ++ rest)) × (is_qualifier word ≡ true)
 
 -- white space, a bracket, the text inside, its closing bracket, and what is left (Policy 7.1)
 pub record InBrackets (left right : ℕ) (text inside rest : List ℕ) : Type 0 where
@@ -102,9 +103,9 @@ pub record IsRestriction (inside : List ℕ) (asked : Restriction) : Type 0 wher
 -- nothing, or an operator and a version in parentheses, and what is left (Policy 7.1)
 abbrev pub TakesRestriction : List ℕ → Option Restriction → List ℕ → Type 0
 TakesRestriction text None rest = text ≡ rest
-TakesRestriction text (Some asked) rest = (inside : List ℕ) × (InBrackets 40 41 text inside rest × IsRestriction inside asked)
+TakesRestriction text (Some asked) rest = (inside : List ℕ) × (InBrackets (code "(") (code ")") text inside rest × IsRestriction inside asked)
 
--- the words of a text, which white space parts (Policy 7.1)
+-- the words of a text, which white space separates (Policy 7.1)
 unfoldable pub words : List ℕ → List (List ℕ)
 words text = filter is_nonempty (slice_split is_white text)
 
@@ -114,7 +115,7 @@ pub record ReadsTerms (kind : Kind) (inside : List ℕ) (terms : List Term) : Ty
   pub filled : is_nonempty terms ≡ true
   pub forms : list_all (λ term. is_word kind term.word) terms ≡ true
 
--- whether all words of a list are negated, or none is (Policy 7.1)
+-- whether all words of a list are negated, or none is (Policy 7.1; that a list of both is refused is this project's own)
 abbrev pub are_alike : List Term → Bool
 are_alike [] = true
 are_alike (term ∷ terms) = list_all (λ other. if term.negated then other.negated else not other.negated) terms
@@ -123,15 +124,15 @@ are_alike (term ∷ terms) = list_all (λ other. if term.negated then other.nega
 abbrev pub TakesArchs : List ℕ → List Term → List ℕ → Type 0
 TakesArchs text [] rest = text ≡ rest
 TakesArchs text (term ∷ terms) rest =
-    (inside : List ℕ) × (InBrackets 91 93 text inside rest × (ReadsTerms Arch inside (term ∷ terms) × (are_alike (term ∷ terms) ≡ true)))
+    (inside : List ℕ) × (InBrackets (code "[") (code "]") text inside rest × (ReadsTerms Arch inside (term ∷ terms) × (are_alike (term ∷ terms) ≡ true)))
 
 -- each list of build profiles in angle brackets, and at the end white space alone (deb-src-control(5))
 abbrev pub ReadsProfiles : List ℕ → List (List Term) → Type 0
 ReadsProfiles text [] = is_blank_text text ≡ true
 ReadsProfiles text (terms ∷ more) =
-    (inside : List ℕ) × ((rest : List ℕ) × (InBrackets 60 62 text inside rest × (ReadsTerms Profile inside terms × ReadsProfiles rest more)))
+    (inside : List ℕ) × ((rest : List ℕ) × (InBrackets (code "<") (code ">") text inside rest × (ReadsTerms Profile inside terms × ReadsProfiles rest more)))
 
--- the parts of an alternative, one behind the other (Policy 7.1)
+-- the parts of an alternative, one after the other (Policy 7.1)
 pub record ReadsAlternative (text : List ℕ) (a : Alternative) : Type 0 where
   pub after_name : List ℕ
   pub after_qualifier : List ℕ
@@ -147,11 +148,11 @@ pub record ReadsAlternative (text : List ℕ) (a : Alternative) : Type 0 where
 abbrev pub ReadsGroup : List ℕ → List Alternative → Type 0
 ReadsGroup text group = AllZip ReadsAlternative (slice_split is_bar text) group
 
--- whether a text has more than white space (this project's own)
+-- whether a text has more than white space
 unfoldable pub is_not_blank : List ℕ → Bool
 is_not_blank text = not (is_blank_text text)
 
--- the most bytes of relations (this project's own)
+-- the most bytes of relations
 abbrev pub relations_limit : ℕ
 relations_limit = RELATIONS_LIMIT
 

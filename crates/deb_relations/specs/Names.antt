@@ -1,5 +1,6 @@
 -- The forms of the words of relations: the names of packages (Debian Policy 5.6.1), and what architectures are made of (11.1.1).
 use Rattle.std.specs.Prelude.{ℕ, ◌==◌, Bool, ◌&&◌, ◌||◌, List, length, nat_lt}
+use Prim.Native.Char.{code}
 use Rattle.std.specs.Char.{is_ascii_lowercase, is_ascii_digit}
 use Rattle.std.specs.List.{list_all}
 use Rattle.deb_text.specs.Lists.{begins}
@@ -10,11 +11,11 @@ is_lower_or_digit c = is_ascii_lowercase c || is_ascii_digit c
 
 -- of which the name of a package is made (Policy 5.6.1)
 unfoldable pub is_package_char : ℕ → Bool
-is_package_char c = is_lower_or_digit c || (c == 43 || (c == 45 || c == 46))
+is_package_char c = is_lower_or_digit c || (c == code "+" || (c == code "-" || c == code "."))
 
 -- of which a qualifier and an architecture word are made (Policy 11.1.1)
 unfoldable pub is_arch_char : ℕ → Bool
-is_arch_char c = is_lower_or_digit c || c == 45
+is_arch_char c = is_lower_or_digit c || c == code "-"
 
 -- whether a text begins with a lower-case letter or a digit (Policy 5.6.1)
 abbrev pub begins_with_lower_or_digit : List ℕ → Bool

@@ -7,9 +7,9 @@ use Rattle.deb_relations.specs.declared.relations.Term.{Term}
 use Rattle.deb_relations.specs.declared.relations.Restriction.{Restriction}
 use Rattle.deb_relations.specs.declared.relations.Alternative.{Alternative}
 
--- a word, after `!` where it is negated (Policy 7.1)
+-- a word, after `!` if it is negated (Policy 7.1)
 abbrev pub term_text : Term → List ℕ
-term_text term = if term.negated then 33 ∷ term.word else term.word
+term_text term = if term.negated then codes "!" ++ term.word else term.word
 
 -- an operator as it is written (Policy 7.1)
 abbrev pub op_text : Op → List ℕ
@@ -19,21 +19,21 @@ op_text Equal = codes "="
 op_text LaterOrEqual = codes ">="
 op_text Later = codes ">>"
 
--- a qualifier after its colon, directly behind the name (deb-src-control(5))
+-- a qualifier after its colon, directly after the name (deb-src-control(5))
 abbrev pub qualifier_text : Option (List ℕ) → List ℕ
 qualifier_text None = []
-qualifier_text (Some word) = 58 ∷ word
+qualifier_text (Some word) = codes ":" ++ word
 
 -- an operator and a version in parentheses (Policy 7.1)
 abbrev pub restriction_text : Option Restriction → List ℕ
 restriction_text None = []
-restriction_text (Some asked) = codes " (" ++ (op_text asked.op ++ (32 ∷ (asked.version ++ codes ")")))
+restriction_text (Some asked) = codes " (" ++ (op_text asked.op ++ (codes " " ++ (asked.version ++ codes ")")))
 
 -- the words of a list, with a space between each two (Policy 7.1)
 unfoldable pub terms_text : List Term → List ℕ
 terms_text = join_by term_text (codes " ")
 
--- the architectures in brackets, where there are any (Policy 7.1)
+-- the architectures in brackets, if there are any (Policy 7.1)
 abbrev pub archs_text : List Term → List ℕ
 archs_text [] = []
 archs_text (term ∷ terms) = codes " [" ++ (terms_text (term ∷ terms) ++ codes "]")

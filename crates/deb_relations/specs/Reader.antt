@@ -1,6 +1,7 @@
 -- The reading of relations as a function, part by part; the grammar says what it is to give (Debian Policy 7.1).
 use Rattle.std.specs.Prelude.{ℕ, drop, ◌==◌, Bool, true, false, not, ◌&&◌, List, [], ◌∷◌, ◌++◌, filter, if◌then◌else◌}
 use Rattle.std.specs.Prelude.{Option, None, Some}
+use Prim.Native.Char.{code}
 use Rattle.std.specs.List.{slice_split, take_while, prefix_len}
 use Rattle.std.specs.Option.{option_map, option_and_then}
 use Rattle.deb_version.specs.declared.operator.Op.{Op}
@@ -15,7 +16,7 @@ use Rattle.deb_relations.specs.Grammar.{is_white, is_blank_text, is_comma, is_ba
 use Rattle.deb_relations.specs.Names.{is_package_char, is_arch_char, is_package_name}
 use Rattle.deb_text.specs.Options.{both, all_some}
 
--- what stands behind the longest front of a text whose characters all pass a test (this project's own)
+-- what stands after the longest front of a text whose characters all pass a test
 abbrev pub skip : (ℕ → Bool) → List ℕ → List ℕ
 skip test text = drop (prefix_len test text) text
 
@@ -23,34 +24,34 @@ skip test text = drop (prefix_len test text) text
 unfoldable pub is_solid : ℕ → Bool
 is_solid c = not (is_white c)
 
--- what stands behind a first character, where that is c (this project's own)
+-- what stands after a first character, if that is c
 abbrev pub strip : ℕ → List ℕ → Option (List ℕ)
 strip c [] = None
 strip c (x ∷ xs) = if x == c then Some xs else None
 
--- two halves of a text with one character more before the first, where there are two (this project's own)
+-- two halves of a text with one character more before the first, if there are two
 abbrev pub onto_front : ℕ → Option (List ℕ × List ℕ) → Option (List ℕ × List ℕ)
 onto_front c = option_map (λ halves. (c ∷ halves.0, halves.1))
 
--- what stands before the first c, and behind it, where the text has one (this project's own)
+-- what stands before the first c, and after it, if the text has one
 abbrev pub cut : ℕ → List ℕ → Option (List ℕ × List ℕ)
 cut c [] = None
 cut c (x ∷ xs) = if x == c then Some ([], xs) else onto_front x (cut c xs)
 
--- what was read and what is left, where something was (this project's own)
+-- what was read and what is left, if something was
 abbrev pub with_rest : {X : Type 0} → List ℕ → Option X → Option (X × List ℕ)
 with_rest rest = option_map (λ x. (x, rest))
 
--- what stands between two brackets and behind them, of the text behind the first of them, where that stands (this project's own)
+-- what stands between two brackets and after them, of the text after the first of them, if that stands
 abbrev pub between_opened : ℕ → Option (List ℕ) → Option (Option (List ℕ × List ℕ))
 between_opened right None = Some None
 between_opened right (Some behind) = option_map Some (cut right behind)
 
--- what stands between two brackets and behind them, where the first of them stands; none at all where it is not closed (this project's own)
+-- what stands between two brackets and after them, if the first of them stands; none at all if it is not closed
 unfoldable pub between : ℕ → ℕ → List ℕ → Option (Option (List ℕ × List ℕ))
 between left right text = between_opened right (strip left (skip is_white text))
 
--- nothing where no bracket stands, else the part between brackets, read (this project's own)
+-- nothing if no bracket stands, else the part between brackets, read
 abbrev pub read_between : {X : Type 0} → (List ℕ → Option X) → X → List ℕ → Option (Option (List ℕ × List ℕ)) → Option (X × List ℕ)
 read_between f none text None = None
 read_between f none text (Some None) = Some (none, text)
@@ -62,23 +63,23 @@ read_name text =
     let front = skip is_white text in
     if is_package_name (take_while is_package_char front) then Some (take_while is_package_char front, skip is_package_char front) else None
 
--- a qualifier and what is left, of the text behind a colon, where one stands first (deb-src-control(5))
+-- a qualifier and what is left, of the text after a colon, if one stands first (deb-src-control(5))
 abbrev pub read_behind_colon : List ℕ → Option (List ℕ) → Option (Option (List ℕ) × List ℕ)
 read_behind_colon text None = Some (None, text)
 read_behind_colon text (Some behind) =
     if is_nonempty (take_while is_arch_char behind) then Some (Some (take_while is_arch_char behind), skip is_arch_char behind) else None
 
--- a qualifier, where a colon stands first, and what is left (deb-src-control(5))
+-- a qualifier, if a colon stands first, and what is left (deb-src-control(5))
 unfoldable pub read_qualifier : List ℕ → Option (Option (List ℕ) × List ℕ)
-read_qualifier text = read_behind_colon text (strip 58 text)
+read_qualifier text = read_behind_colon text (strip (code ":") text)
 
--- the restriction of an operator and a version, where both are there and white space alone follows (Policy 7.1)
+-- the restriction of an operator and a version, if both are there and white space alone follows (Policy 7.1)
 abbrev pub asked_of : Option Op → List ℕ → List ℕ → Option Restriction
 asked_of None version after = None
 asked_of (Some op) version after =
     if is_version_text version && is_blank_text after then Some (record { op = op; version = version }) else None
 
--- the restriction of an operator and of the text behind it, which is a version up to white space (Policy 7.1)
+-- the restriction of an operator and of the text after it, which is a version up to white space (Policy 7.1)
 abbrev pub asked_behind : Option Op → List ℕ → Option Restriction
 asked_behind op text = asked_of op (take_while is_solid text) (skip is_solid text)
 
@@ -94,24 +95,24 @@ restriction_of inside = asked_from (skip is_white inside)
 abbrev pub asked_inside : List ℕ → Option (Option Restriction)
 asked_inside inside = option_map Some (restriction_of inside)
 
--- an operator and a version in parentheses, where these stand first, and what is left (Policy 7.1)
+-- an operator and a version in parentheses, if these stand first, and what is left (Policy 7.1)
 unfoldable pub read_restriction : List ℕ → Option (Option Restriction × List ℕ)
-read_restriction text = read_between asked_inside None text (between 40 41 text)
+read_restriction text = read_between asked_inside None text (between (code "(") (code ")") text)
 
--- a word that is negated or plain, where it has the form of its kind (Policy 7.1)
+-- a word that is negated or plain, if it has the form of its kind (Policy 7.1)
 abbrev pub signed : Kind → Bool → List ℕ → Option Term
 signed kind negated word = if is_word kind word then Some (record { negated = negated; word = word }) else None
 
--- a word of a list: what stands behind `!`, negated, or the plain word where there is no `!` (Policy 7.1)
+-- a word of a list: what stands after `!`, negated, or the plain word if there is no `!` (Policy 7.1)
 abbrev pub term_behind : Kind → List ℕ → Option (List ℕ) → Option Term
 term_behind kind word None = signed kind false word
 term_behind kind word (Some behind) = signed kind true behind
 
 -- a word of a list, perhaps after `!` (Policy 7.1)
 unfoldable pub term_of : Kind → List ℕ → Option Term
-term_of kind word = term_behind kind word (strip 33 word)
+term_of kind word = term_behind kind word (strip (code "!") word)
 
--- the items that were read, where there is at least one (this project's own)
+-- the items that were read, if there is at least one
 abbrev pub filled_only : {X : Type 0} → Option (List X) → Option (List X)
 filled_only None = None
 filled_only (Some []) = None
@@ -121,7 +122,7 @@ filled_only (Some (x ∷ xs)) = Some (x ∷ xs)
 unfoldable pub terms_of : Kind → List ℕ → Option (List Term)
 terms_of kind inside = filled_only (all_some (term_of kind) (words inside))
 
--- the words that were read, where all are negated or none is (Policy 7.1)
+-- the words that were read, if all are negated or none is (Policy 7.1)
 abbrev pub alike_only : Option (List Term) → Option (List Term)
 alike_only = option_and_then (λ terms. if are_alike terms then Some terms else None)
 
@@ -129,17 +130,17 @@ alike_only = option_and_then (λ terms. if are_alike terms then Some terms else 
 unfoldable pub archs_of : List ℕ → Option (List Term)
 archs_of inside = alike_only (terms_of Arch inside)
 
--- architecture words in brackets, where these stand first, and what is left (Policy 7.1)
+-- architecture words in brackets, if these stand first, and what is left (Policy 7.1)
 unfoldable pub read_archs : List ℕ → Option (List Term × List ℕ)
-read_archs text = read_between archs_of [] text (between 91 93 text)
+read_archs text = read_between archs_of [] text (between (code "[") (code "]") text)
 
--- a list of build profiles, of the text behind its opening bracket, where that stands (deb-src-control(5))
+-- a list of build profiles, of the text after its opening bracket, if that stands (deb-src-control(5))
 abbrev pub profile_behind : Option (List ℕ) → Option (List Term)
 profile_behind = option_and_then (terms_of Profile)
 
 -- a list of build profiles, before its closing bracket (deb-src-control(5))
 unfoldable pub profile_of : List ℕ → Option (List Term)
-profile_of piece = profile_behind (strip 60 (skip is_white piece))
+profile_of piece = profile_behind (strip (code "<") (skip is_white piece))
 
 -- the lists of build profiles, each before a closing bracket, and white space at the end (deb-src-control(5))
 abbrev pub lists_of : List (List ℕ) → Option (List (List Term))
@@ -151,24 +152,24 @@ lists_of (piece ∷ (next ∷ more)) = both (profile_of piece) (lists_of (next �
 unfoldable pub read_profiles : List ℕ → Option (List (List Term))
 read_profiles text = lists_of (slice_split is_right_angle text)
 
--- an alternative of these parts and of its build profiles, where they were read (Policy 7.1)
+-- an alternative of these parts and of its build profiles, if they were read (Policy 7.1)
 abbrev pub with_profiles : List ℕ → Option (List ℕ) → Option Restriction → List Term → Option (List (List Term)) → Option Alternative
 with_profiles name qualifier asked archs =
     option_map (λ profiles. record { name = name; qualifier = qualifier; restriction = asked; archs = archs; profiles = profiles })
 
--- an alternative of these parts, of its architectures, where they were read, and of what is left (Policy 7.1)
+-- an alternative of these parts, of its architectures, if they were read, and of what is left (Policy 7.1)
 abbrev pub with_archs : List ℕ → Option (List ℕ) → Option Restriction → Option (List Term × List ℕ) → Option Alternative
 with_archs name qualifier asked = option_and_then (λ found. with_profiles name qualifier asked found.0 (read_profiles found.1))
 
--- an alternative of a name and a qualifier, of the version that it asks for, where it was read, and of what is left (Policy 7.1)
+-- an alternative of a name and a qualifier, of the version that it asks for, if it was read, and of what is left (Policy 7.1)
 abbrev pub with_asked : List ℕ → Option (List ℕ) → Option (Option Restriction × List ℕ) → Option Alternative
 with_asked name qualifier = option_and_then (λ found. with_archs name qualifier found.0 (read_archs found.1))
 
--- an alternative of a name, of its qualifier, where it was read, and of what is left (Policy 7.1)
+-- an alternative of a name, of its qualifier, if it was read, and of what is left (Policy 7.1)
 abbrev pub with_qualifier : List ℕ → Option (Option (List ℕ) × List ℕ) → Option Alternative
 with_qualifier name = option_and_then (λ found. with_asked name found.0 (read_restriction found.1))
 
--- an alternative of its name, where it was read, and of what is left (Policy 7.1)
+-- an alternative of its name, if it was read, and of what is left (Policy 7.1)
 abbrev pub with_name : Option (List ℕ × List ℕ) → Option Alternative
 with_name = option_and_then (λ found. with_qualifier found.0 (read_qualifier found.1))
 
@@ -184,10 +185,10 @@ read_group text = all_some read_alternative (slice_split is_bar text)
 unfoldable pub read_groups : List ℕ → Option (List (List Alternative))
 read_groups text = all_some read_group (filter is_not_blank (slice_split is_comma text))
 
--- groups, and one more behind them, where it was read (Policy 7.1)
+-- groups, and one more after them, if it was read (Policy 7.1)
 abbrev pub push_group : List (List Alternative) → Option (List Alternative) → Option (List (List Alternative))
 push_group made = option_map (λ group. made ++ group ∷ [])
 
--- groups, and behind them that of a piece, where the piece is not blank (Policy 7.1)
+-- groups, and after them that of a piece, if the piece is not blank (Policy 7.1)
 unfoldable pub with_group : List (List Alternative) → List ℕ → Option (List (List Alternative))
 with_group made piece = if is_not_blank piece then push_group made (read_group piece) else Some made

@@ -8,23 +8,23 @@ use Rattle.deb_text.specs.Text.{text_cmp}
 use Rattle.deb_relations.specs.declared.relations.Restriction.{Restriction}
 use Rattle.deb_relations.specs.declared.relations.Alternative.{Alternative}
 
--- what is available: to each name the versions of its packages (this project's own)
+-- what is available: to each name the versions of its packages
 abbrev pub Pairs : Type 0
 Pairs = map.FinMap text_cmp (List (List ℕ))
 
--- the code of what is available (this project's own)
+-- the code of what is available
 abbrev pub coded_pairs : Coded Pairs
 coded_pairs = map.code (coded_list coded_ℕ) (coded_list (coded_list coded_ℕ))
 
--- nothing is available (this project's own)
+-- nothing is available
 abbrev pub no_pairs : Pairs
 no_pairs = map.empty
 
--- the versions in which a package of a name is available (this project's own)
+-- the versions in which a package of a name is available
 unfoldable pub versions_of : Pairs → List ℕ → List (List ℕ)
 versions_of pairs name = unwrap_or (map.get pairs name) []
 
--- what is available, with a version of a name more (this project's own)
+-- what is available, with a version of a name more
 unfoldable pub with_pair : Pairs → List ℕ → List ℕ → Pairs
 with_pair pairs name version = map.insert pairs name (versions_of pairs name ++ version ∷ [])
 
@@ -33,7 +33,7 @@ abbrev pub meets_restriction : Option Restriction → List ℕ → Bool
 meets_restriction None version = true
 meets_restriction (Some asked) version = meets asked.op version asked.version
 
--- whether a package of the alternative's name is available in a version that it asks for (Policy 7.1)
+-- whether a package of the alternative's name is available in a version that it asks for (Policy 7.1; that a qualifier plays no part is this project's own)
 unfoldable pub is_alternative_met : Pairs → Alternative → Bool
 is_alternative_met pairs a = list_any (meets_restriction a.restriction) (versions_of pairs a.name)
 

@@ -35,7 +35,7 @@ pub fn printed_reads()
         → a ≡ b }
 {}
 
-/// A text is read as the groups that the grammar gives it, and has a fault where it gives none:
+/// A text is read as the groups that the grammar gives it, and has a fault if it gives none:
 /// too long is exactly above 65536 bytes, none is out of memory, and that of a version is the
 /// fault of a text that stands after an operator in parentheses.
 /// Source: Debian Policy 7.1; the limit is this project's own.

@@ -84,7 +84,7 @@ fn read_qualifier(alloc: Global, text: &str) -> Result<(Option<Text>, &str), Rel
     Ok((Some(Text::copied(alloc, word)?), rest))
 }
 
-// What stands between two brackets and after them, or none where the first does not stand.
+// What stands between two brackets and after them, or none if the first is not there.
 #[tactic(auto, unfolding(crate::specs::Reader::between))]
 fn between(left: char, right: char, text: &str) -> Result<Option<(&str, &str)>, RelationFault>
     requires left { left < 128 }
@@ -380,7 +380,7 @@ fn read_group(alloc: Global, text: &str, end: usize) -> Result<Items<Alternative
     Ok(made)
 }
 
-// A group more, where the piece has more than white space.
+// A group more, if the piece has more than white space.
 #[tactic(auto, unfolding(crate::specs::Reader::with_group, crate::specs::Grammar::is_not_blank))]
 fn add_group(
     alloc: Global,
@@ -422,7 +422,7 @@ impl Relations {
     /// are skipped; alternatives stand between bars. An alternative is a package name, directly
     /// after it perhaps `:` and a qualifier, then perhaps an operator and a version in parentheses,
     /// architecture words in brackets, all negated by `!` or none, and any number of lists of build
-    /// profiles in angle brackets. White space parts them and says nothing else; none stands inside
+    /// profiles in angle brackets. White space separates them and means nothing else; none stands inside
     /// a word or after `!`. The old operators `<` and `>` are read as `<=` and `>=`.
     ///
     /// Errors: `TooLong` above 65536 bytes, and before all else; `Memory` if the growth of a text or of

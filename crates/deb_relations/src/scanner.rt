@@ -98,7 +98,7 @@ pub(crate) fn skip_white(text: &str) -> &str
     split_leading(Class::White, text).1
 }
 
-// What follows the first character, where it is this one.
+// What follows the first character, if it is this one.
 pub(crate) fn strip(mark: char, text: &str) -> Option<&str>
     requires { mark < 128 }
     ensures { option_map text_of result ≡ strip mark text.now }

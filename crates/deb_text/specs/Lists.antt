@@ -1,4 +1,4 @@
--- Small tests of lists, and lists in order (this project's own).
+-- Small tests of lists, and lists in order.
 use Rattle.std.specs.Prelude.{◌≡◌, ◌⊎◌, Bool, true, false, List, [], ◌∷◌, if◌then◌else◌, Option}
 use Rattle.std.specs.declared.cmp.Ordering.{Ordering}
 use Rattle.std.specs.Ordering.{is_lt}

@@ -1,4 +1,4 @@
--- Values that may be missing, and the faults of checks (this project's own).
+-- Values that may be missing, and the faults of checks.
 use Rattle.std.specs.Prelude.{Bool, false, List, [], ◌∷◌, Option, None, Some, Result, Ok, Err}
 use Rattle.std.specs.Option.{option_or, option_map_or}
 
@@ -22,7 +22,7 @@ both None more = None
 both (Some x) None = None
 both (Some x) (Some xs) = Some (x ∷ xs)
 
--- the readings of all items, where each has one
+-- the readings of all items, if each has one
 abbrev pub all_some : {X Y : Type 0} → (X → Option Y) → List X → Option (List Y)
 all_some f [] = Some []
 all_some f (x ∷ xs) = both (f x) (all_some f xs)

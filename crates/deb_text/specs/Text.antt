@@ -1,4 +1,4 @@
--- Texts as the lists of their bytes, and their order, which is that of their bytes (this project's own).
+-- Texts as the lists of their bytes, and their order, which is that of their bytes.
 use Rattle.std.specs.Prelude.{ℕ, ◌≤◌, Bool, not, List, length}
 use Rattle.std.specs.Coded.{Coded, coded_ℕ, coded_list}
 use Rattle.std.specs.Str.{IsUtf8}
@@ -7,7 +7,7 @@ use Rattle.std.specs.Ordering.{nat_cmp, on, then_cmp}
 use Rattle.std.specs.Cmp.Lexicographic.{slice_cmp}
 use Rattle.deb_text.specs.Lists.{is_nonempty}
 
--- the order of two texts by their bytes (this project's own)
+-- the order of two texts by their bytes
 abbrev pub text_cmp : List ℕ → List ℕ → Ordering
 text_cmp = slice_cmp nat_cmp
 
@@ -15,7 +15,7 @@ text_cmp = slice_cmp nat_cmp
 abbrev pub pair_cmp : List ℕ × List ℕ → List ℕ × List ℕ → Ordering
 pair_cmp = then_cmp (on (λ p. p.0) text_cmp) (on (λ p. p.1) text_cmp)
 
--- the code of a text, by which a prover tells it from others (this project's own)
+-- the code of a text, by which a prover distinguishes it from others
 abbrev pub coded_text : Coded (List ℕ)
 coded_text = coded_list coded_ℕ
 

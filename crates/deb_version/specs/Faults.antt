@@ -1,9 +1,9 @@
--- The names of the faults of versions, and what is printed of them for a person to read (this project's own).
+-- The names of the faults of versions, and what is printed of them for a person to read.
 use Rattle.std.specs.Prelude.{ℕ, List, ◌++◌, codes, decimal}
 use Rattle.deb_version.specs.declared.fault.VersionFault.{VersionFault}
 use Rattle.deb_version.specs.declared.fault.VersionFault.TheVariants.{Empty, EpochEmpty, EpochNotNumber, EpochTooLarge, UpstreamEmpty, UpstreamBad, RevisionEmpty, RevisionBad, TooLong, Memory}
 
--- the name of a fault, without its place (this project's own)
+-- the name of a fault, without its place
 abbrev pub fault_name : VersionFault → List ℕ
 fault_name Empty = codes "Empty"
 fault_name EpochEmpty = codes "EpochEmpty"
@@ -16,7 +16,7 @@ fault_name (RevisionBad place) = codes "RevisionBad"
 fault_name TooLong = codes "TooLong"
 fault_name Memory = codes "Memory"
 
--- what is printed of a fault (this project's own)
+-- what is printed of a fault
 abbrev pub fault_text : VersionFault → List ℕ
 fault_text Empty = codes "the version is empty"
 fault_text EpochEmpty = codes "the epoch before the colon is empty"

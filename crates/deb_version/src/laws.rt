@@ -14,7 +14,7 @@ pub fn text_is_its_parts()
     ensures { TextIsItsParts }
 {}
 
-/// A text has the reading of the parts of which it is a version, and has a reading where it is one.
+/// A text has the reading of the parts of which it is a version, and has a reading if it is one.
 /// Source: Debian Policy 5.6.12.
 pub fn versions_are_read()
     ensures is { (text : List ℕ) (parts : Parts)

@@ -75,7 +75,7 @@ fn are_digits(text: &[u8]) -> bool
     text.iter().all(|byte| byte.is_ascii_digit())
 }
 
-// The number that the digits write, where it is at most the limit of an epoch.
+// The number that the digits write, if it is at most the limit of an epoch.
 fn number_of(digits: &[u8]) -> Option<u32>
     requires { all_digits digits.now ≡ true }
     ensures none { IfNone result (epoch_limit < value_of digits.now) }

@@ -12,7 +12,7 @@ use std::marker::Model;
 
 /// A version of a package. Contracts see it as its text, a list of bytes, and each
 /// value has a text that is a version: `[epoch:]upstream[-revision]`.
-/// Two versions are `==` where their texts are; the order of versions is `compare`'s.
+/// Two versions are `==` if their texts are; the order of versions is `compare`'s.
 /// Source: Debian Policy 5.6.12.
 #[derive(Debug, Drop)]
 pub struct Version {
@@ -71,7 +71,7 @@ impl Version {
         self.text.as_str()
     }
 
-    /// The epoch, 0 to 2147483647, and 0 where none is written.
+    /// The epoch, 0 to 2147483647, and 0 if none is written.
     /// Source: Debian Policy 5.6.12.
     pub fn epoch(&self) -> u32
         ensures { result ≡ (parts_of self.now).epoch }
@@ -87,7 +87,7 @@ impl Version {
         &self.text.as_str()[self.upstream_start..self.upstream_end]
     }
 
-    /// The revision, never empty, or `None` where none is written.
+    /// The revision, never empty, or `None` if none is written.
     /// Source: Debian Policy 5.6.12.
     pub fn revision(&self) -> Option<&str>
         ensures { option_copied result ≡ (parts_of self.now).revision }

@@ -4,8 +4,8 @@ use anyhow::{Context, Result};
 use std::alloc::Global;
 use std::io::BufRead;
 
-/// The bytes of a frame, and how a reader gives them: at most `step` a read, and a failure after so many reads. After so many
-/// writes, each of at most `step` bytes too, one of the answer fails.
+/// The bytes of a frame, and how a reader gives them: at most `step` a read, and a failure after so many reads. A write of
+/// the answer takes at most `step` bytes too, and one fails after so many writes.
 #[derive(Drop)]
 pub(crate) struct Frame {
     pub(crate) bytes: Vec<u8>,

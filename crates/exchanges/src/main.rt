@@ -1,9 +1,9 @@
 //! Answers requests by an office in memory, with neither sockets nor files. Standard input has frames: a decimal length, a line feed and so
 //! many bytes. The first three are the Sources list and the Packages lists of amd64 and arm64 that the office begins with, and each other
-//! is all that a client sends on a connection. After the length may stand up to three numbers, each after a blank: how many bytes a read
-//! gives and a write takes at most, how many reads give bytes before one fails, and how many writes take bytes before one fails. Without
-//! them all that fit are read and written, and none fails. For each request a line goes to standard output, and after it what is answered:
-//! how the exchange ended, the status or 0 for none, and how many bytes were answered, as in `answered 200 145`.
+//! is all that a client sends on a connection. Up to three numbers may follow the length, each after a blank: how many bytes a read gives
+//! and a write takes at most, how many reads give bytes before one fails, and how many writes take bytes before one fails. Without them all
+//! bytes that fit are read and written, and no read or write fails. For each request a line goes to standard output, and after it what is
+//! answered: how the exchange ended, the status or 0 for none, and how many bytes were answered, as in `answered 200 145`.
 #![tactic(auto)]
 
 mod frames;

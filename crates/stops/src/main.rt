@@ -11,8 +11,8 @@
 //! ```
 //!
 //! LOG and DB are how many calls the log and the database take before each later call fails and changes nothing. LOG-LEFT and DB-LEFT are
-//! `kept` where the file then holds all that was written, as after a kill, and `lost` where it holds what was synced, as a power cut may
-//! leave it. To standard output go the answers; `fault NAME` where an opening or a closing fails; and, unless the files are kept, each row
+//! `kept` if the file then holds all that was written, as after a kill, and `lost` if it holds what was synced, as a power cut may
+//! leave it. To standard output go the answers; `fault NAME` if an opening or a closing fails; and, unless the files are kept, each row
 //! of the office that is found in them at the end. The last line of a trial is `end`. A run whose office is not opened ends the program.
 //! What is not synced at the end of a life is lost.
 #![tactic(auto)]

@@ -32,7 +32,7 @@ pub(crate) struct Stage<'a> {
     pub(crate) db: Stop,
 }
 
-/// The stages that a line names, and whether the files are kept that they leave.
+/// The stages that a line names, and whether the files that they leave are kept.
 pub(crate) fn stages_of<'a>(alloc: Global, line: &'a str) -> Result<(Vec<Stage<'a>>, bool)> {
     let mut stages = Vec::new(alloc);
     let mut words = line.split_whitespace();

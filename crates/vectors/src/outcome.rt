@@ -22,7 +22,7 @@ impl Outcome {
         }
     }
 
-    /// Adds the case at this place of a text, which differs where what came out is not what was wanted.
+    /// Adds the case at this place of a text, which differs if what came out is not what was wanted.
     /// The only error is that there is no memory for its line; the counts then stay as they were.
     pub(crate) fn add(
         &mut self,

@@ -2,12 +2,12 @@
 
 use std::alloc::{AllocError, Global};
 
-/// The cell of this number, counted from 0; the empty text where the row has fewer.
+/// The cell of this number, counted from 0; the empty text if the row has fewer.
 pub(crate) fn cell(row: &str, number: usize) -> &str {
     row.split('\t').nth(number).unwrap_or("")
 }
 
-/// The row without its first cell; the empty text where it has only that.
+/// The row without its first cell; the empty text if it has only that.
 pub(crate) fn without_first(row: &str) -> &str {
     match row.split_once('\t') {
         Some((_, rest)) => rest,
@@ -15,7 +15,7 @@ pub(crate) fn without_first(row: &str) -> &str {
     }
 }
 
-/// The row without its last cell; the empty text where it has only that.
+/// The row without its last cell; the empty text if it has only that.
 pub(crate) fn without_last(row: &str) -> &str {
     match row.rsplit_once('\t') {
         Some((rest, _)) => rest,

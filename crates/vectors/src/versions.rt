@@ -74,7 +74,7 @@ fn answer_in(alloc: Global, row: &str) -> Result<String, AllocError> {
     }
 }
 
-/// The parts of the version in the first cell with tabs between, or its fault; the text that it has, if that is another.
+/// The parts of the version in the first cell with tabs between, or its fault; its own text, if that differs.
 fn parts_in(alloc: Global, row: &str) -> Result<String, AllocError> {
     let text = unescaped(alloc, cell(row, 0))?;
     match Version::parse(alloc, text.as_str()) {

@@ -64,9 +64,9 @@ fn say(rt: &impl Eprint, message: Message<'_>) {
 
 /// Answers the lines of the input or the requests on a port, or says how the program is used or which it is.
 ///
-/// Ends with 0 where all was accepted, where all connections were served, or where help or the version was asked for, with
-/// 1 after a refusal, with 2 where a line or the program's own words are no command, and with 3 where a list cannot be
-/// read, where the store cannot be opened or failed, where the port cannot be had, or where reading, writing or memory
+/// Ends with 0 if all was accepted, if all connections were served, or if help or the version was asked for, with
+/// 1 after a refusal, with 2 if a line or the program's own words are no command, and with 3 if a list cannot be
+/// read, if the store cannot be opened or failed, if the port cannot be taken, or if reading, writing or memory
 /// failed before the end of the input.
 fn main(rt: HostRuntime) -> ExitCode {
     let status = match words_of(&rt) {
@@ -76,7 +76,7 @@ fn main(rt: HostRuntime) -> ExitCode {
     ExitCode::from(status)
 }
 
-/// The words after the program's name, or none where there is no memory for them.
+/// The words after the program's name, or none if there is no memory for them.
 fn words_of(rt: &(impl Env + AllocGlobal)) -> Option<Vec<String>> {
     env::args(rt).ok()?.skip(1).collect(rt.alloc()).ok()
 }
@@ -109,7 +109,7 @@ fn start(rt: &HostRuntime, arguments: &[String]) -> u8 {
     }
 }
 
-/// What an office is opened for. A port is taken before the office is opened, so that a port that cannot be had makes no file.
+/// What an office is opened for. A port is taken before that, so that no file is made if the port cannot be taken.
 #[derive(Drop)]
 pub(crate) enum Work {
     /// To answer the lines of standard input.
@@ -121,7 +121,7 @@ pub(crate) enum Work {
     },
 }
 
-/// Has an office do its work, over the records in the file if one is named, and else over records in memory.
+/// Has an office do its work, over the records in the file if one is named, and otherwise over records in memory.
 fn open_for(rt: &HostRuntime, store: Option<&str>, work: Work) -> u8 {
     match store {
         Some(file) => store::open_for(rt, file, work),

@@ -38,7 +38,7 @@ impl<S: Alter + Drop> MayClose for wb_durable::Office<S> {
     }
 }
 
-/// Takes the port of 127.0.0.1, or says on standard error why it cannot be had.
+/// Takes the port of 127.0.0.1, or says on standard error why it cannot be taken.
 pub(crate) fn listen(rt: &HostRuntime, port: u16) -> Option<TcpListener> {
     let address = SocketAddr::from((Ipv4Addr::LOCALHOST, port));
     match TcpListener::bind(rt, address) {
@@ -50,7 +50,7 @@ pub(crate) fn listen(rt: &HostRuntime, port: u16) -> Option<TcpListener> {
     }
 }
 
-/// Serves this many connections, one after another, and ends before if the office is closed then. A connection that cannot be
+/// Serves this many connections, one after another, and ends early if the office is closed then. A connection that cannot be
 /// accepted counts too.
 pub(crate) fn serve<O: CarryOut + MayClose>(
     rt: &HostRuntime,

@@ -12,17 +12,17 @@ use wb_states::StoreFault;
 /// How many bytes the log of a file has if it holds no commit: those of its header.
 const EMPTY_LOG: u64 = 41;
 
-/// Why the lock on the file of an office is not got.
+/// Why the lock on the file of an office is not taken.
 enum LockRefusal {
     /// Another program holds it.
     InUse,
-    /// It cannot be had for this fault: `Device` where the file of the lock cannot be opened or locked.
+    /// It cannot be taken for this fault: `Device` if the file of the lock cannot be opened or locked.
     Fault(StoreFault),
 }
 
 /// Has the office over the records in the file do its work. The file is made if it is not there, with a sum of each page,
 /// unless its log holds commits, which would then be written over. One program at a time has the file: it holds a lock
-/// on the file with this name and `.lock` behind it. Standard error is told of a new office, since its name may be a slip.
+/// on the file with this name and `.lock` after it. A new office is reported on standard error: its name may be a slip.
 pub(crate) fn open_for(rt: &HostRuntime, file: &str, work: Work) -> u8 {
     let _lock = match lock_of(rt, file) {
         Ok(lock) => lock,

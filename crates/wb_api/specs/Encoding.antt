@@ -1,7 +1,8 @@
--- The JSON texts of what the office answers (RFC 8259), with their keys in byte order and no space; the keys are this project's own.
+-- The JSON texts of what the office answers (RFC 8259), with their keys in byte order and no space.
 -- A text is written here piece by piece, as it stands in the output: `decimal` gives a number's digits, `quoted` a text between
 -- quotation marks with JSON's shortest escapes, and `concat` the pieces one after the other.
 use Rattle.std.specs.Prelude.{◌≡◌, ℕ, Bool, true, false, List, [], ◌∷◌, ◌++◌, map, Option, None, Some, codes, decimal}
+use Prim.Native.Char.{code}
 use Rattle.std.specs.List.{concat, join_with_byte}
 use Rattle.std.specs.Cow.{cow_str_bytes, IsBorrowedStr}
 use Rattle.std.specs.declared.alloc.Global.{Global}
@@ -27,7 +28,7 @@ use Rattle.wb_states.specs.declared.reply.PartReply.{PartReply}
 use Rattle.wb_states.specs.declared.reply.Reply.{Reply}
 use Rattle.wb_states.specs.declared.reply.Reply.TheVariants.{Done, Job, Again, Merged}
 
--- the text of an assignment, with this value of `ok` (this project's own)
+-- the text of an assignment, with this value of `ok`
 unfoldable pub assignment_text : List ℕ → ℕ → Assignment → List ℕ
 assignment_text ok accepted assignment = concat
     (codes "{\"accepted\":" ∷ decimal accepted ∷
@@ -40,12 +41,12 @@ assignment_text ok accepted assignment = concat
     codes ",\"take\":" ∷ decimal assignment.take ∷
     codes ",\"version\":" ∷ quoted assignment.version ∷ codes "}" ∷ [])
 
--- the name of what is wrong with relations, of which nothing may be left (this project's own)
+-- the name of what is wrong with relations, of which nothing may be left
 abbrev pub name_of_relations_fault : Option RelationFault → List ℕ
 name_of_relations_fault None = codes "Nothing"
 name_of_relations_fault (Some fault) = name_of_relation_fault fault
 
--- the text of the refusal of a list after its opening brace, for this fault of a field in a paragraph (this project's own)
+-- the text of the refusal of a list after its opening brace, for this fault of a field in a paragraph
 abbrev pub field_fault_members : ListKind → ℕ → List ℕ → ListField → List ℕ
 field_fault_members which paragraph fault field = concat
     (codes "\"code\":15,\"fault\":" ∷ quoted fault ∷
@@ -53,7 +54,7 @@ field_fault_members which paragraph fault field = concat
     codes ",\"paragraph\":" ∷ decimal paragraph ∷
     codes ",\"refused\":\"BadListing\",\"which\":" ∷ quoted (name_of_list which) ∷ codes "}" ∷ [])
 
--- the text of the refusal of a list after its opening brace, for this fault in a paragraph (this project's own)
+-- the text of the refusal of a list after its opening brace, for this fault in a paragraph
 abbrev pub listing_fault_members : ListKind → ℕ → ListingFault → List ℕ
 listing_fault_members which paragraph (Control kind) = concat
     (codes "\"code\":15,\"fault\":" ∷ quoted (fault_name kind) ∷
@@ -62,7 +63,7 @@ listing_fault_members which paragraph (Control kind) = concat
 listing_fault_members which paragraph (Missing field) = field_fault_members which paragraph (codes "Missing") field
 listing_fault_members which paragraph (BadValue field) = field_fault_members which paragraph (codes "BadValue") field
 
--- the text of a refusal after its opening brace: its number and its name, and what some tell further (this project's own)
+-- the text of a refusal after its opening brace: its number and its name, and what some have further
 unfoldable pub refusal_members : Refusal → List ℕ
 refusal_members (OtherVersion have) = concat (codes "\"code\":5,\"have\":" ∷ quoted have ∷ codes ",\"refused\":\"OtherVersion\"}" ∷ [])
 refusal_members (WrongState state) = concat (codes "\"code\":6,\"refused\":\"WrongState\",\"state\":" ∷ quoted (name_of state) ∷ codes "}" ∷ [])
@@ -76,11 +77,11 @@ refusal_members refusal = concat
     (codes "\"code\":" ∷ decimal (code_of_refusal refusal) ∷
     codes ",\"refused\":" ∷ quoted (name_of_refusal refusal) ∷ codes "}" ∷ [])
 
--- the text of a refusal (this project's own)
+-- the text of a refusal
 unfoldable pub refusal_text : Refusal → List ℕ
 refusal_text refusal = codes "{" ++ refusal_members refusal
 
--- the text of the end of a part on this architecture: what the merge did to its records, or its refusal (this project's own)
+-- the text of the end of a part on this architecture: what the merge did to its records, or its refusal
 unfoldable pub end_text : List ℕ → PartEnd → List ℕ
 end_text arch (part_Merged counts) = concat
     (codes "{\"added\":" ∷ decimal counts.added ∷
@@ -90,15 +91,15 @@ end_text arch (part_Merged counts) = concat
     codes ",\"removed\":" ∷ decimal counts.removed ∷ codes "}" ∷ [])
 end_text arch (Refused refusal) = codes "{\"arch\":" ++ (quoted arch ++ (codes "," ++ refusal_members refusal))
 
--- the text of a part of a merge (this project's own)
+-- the text of a part of a merge
 abbrev pub part_text : PartReply → List ℕ
 part_text part = end_text part.arch part.end
 
--- the texts of the parts of a merge, with a comma between each two (this project's own)
+-- the texts of the parts of a merge, with a comma between each two
 abbrev pub parts_text : List PartReply → List ℕ
-parts_text parts = join_with_byte 44 (map part_text parts)
+parts_text parts = join_with_byte (code ",") (map part_text parts)
 
--- the text of a reply to the command of this name, which is the value of `ok`, save where the builder is told again of what it has (this project's own)
+-- the text of a reply to the command of this name, which is the value of `ok`, save if it repeats what the builder has
 unfoldable pub reply_text : List ℕ → Reply → List ℕ
 reply_text name (Done accepted) = concat
     (codes "{\"accepted\":" ∷ decimal accepted ∷
@@ -109,11 +110,11 @@ reply_text name (Merged accepted parts) = concat
     (codes "{\"accepted\":" ∷ decimal accepted ∷
     codes ",\"ok\":\"merge\",\"parts\":[" ∷ parts_text parts ∷ codes "]}" ∷ [])
 
--- the text of the refusal for want of memory (this project's own)
+-- the text of the refusal that memory ran out
 abbrev pub memory_text : List ℕ
 memory_text = codes "{\"code\":20,\"refused\":\"Memory\"}"
 
--- whether a refusal tells no more than its number and its name, so that its text is a constant (this project's own)
+-- whether a refusal has no more than its number and its name, so that its text is a constant
 abbrev pub is_plain : Refusal → Bool
 is_plain (OtherVersion have) = false
 is_plain (WrongState state) = false
@@ -124,14 +125,14 @@ is_plain (BadListing which paragraph fault) = false
 is_plain (Store fault) = false
 is_plain refusal = true
 
--- the text for want of memory as a borrowed constant, which takes none (this project's own)
+-- the text that memory ran out, as a borrowed constant, which takes none
 abbrev pub IsMemoryText : CowStr Global → Type 0
 IsMemoryText text = IsBorrowedStr text × (cow_str_bytes text ≡ memory_text)
 
--- the text in answer to a line that holds no command (this project's own)
+-- the text in answer to a line that holds no command
 abbrev pub line_fault_text : List ℕ
 line_fault_text = codes "{\"fault\":\"line\"}"
 
--- the text in answer to a line that names a file which cannot be read (this project's own)
+-- the text in answer to a line that names a file which cannot be read
 abbrev pub file_fault_text : List ℕ
 file_fault_text = codes "{\"fault\":\"file\"}"

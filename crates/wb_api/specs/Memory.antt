@@ -1,4 +1,4 @@
--- Which commands may be answered by a refusal for want of memory, though it was not the machine that refused them (this project's own).
+-- Which commands may be answered by `Memory`, though it was not the machine that refused them.
 use Rattle.std.specs.Prelude.{◌≡◌, ◌⊎◌, false, IsOk, Err}
 use Rattle.wb_states.specs.Machine.{Machine}
 use Rattle.wb_states.specs.declared.command.Command.{Command}
@@ -6,7 +6,7 @@ use Rattle.wb_states.specs.declared.refusal.Refusal.{Refusal}
 use Rattle.wb_office.specs.Step.{step}
 use Rattle.wb_api.specs.Encoding.{is_plain}
 
--- why a command may be answered by want of memory: it may want some, or its refusal tells more than a number and a name, or its reply repeats an assignment
+-- why a command may be answered that memory ran out: it may need some, or its refusal has more than a number and a name, or its reply repeats an assignment
 abbrev pub MayLackMemory : (Command → Type 0) → Machine → Command → Type 0
 MayLackMemory may_want machine command =
     (may_want command

@@ -1,5 +1,6 @@
--- The JSON texts of what the office answers to queries (RFC 8259), with their keys in byte order and no space; the keys are this project's own.
+-- The JSON texts of what the office answers to queries (RFC 8259), with their keys in byte order and no space.
 use Rattle.std.specs.Prelude.{ℕ, Bool, true, false, List, ◌∷◌, [], map, Option, None, Some, codes, decimal}
+use Prim.Native.Char.{code}
 use Rattle.std.specs.Fmt.{signed_decimal}
 use Rattle.std.specs.List.{concat, join_with_byte}
 use Rattle.json.specs.Print.{quoted}
@@ -25,7 +26,7 @@ abbrev pub decimal_or_null : Option ℕ → List ℕ
 decimal_or_null None = codes "null"
 decimal_or_null (Some n) = decimal n
 
--- the text of the record of a source package on an architecture (this project's own)
+-- the text of the record of a source package on an architecture
 unfoldable pub fields_text : List ℕ → List ℕ → Record → List ℕ
 fields_text arch source current = concat
     (codes "{\"arch\":" ∷ quoted arch ∷
@@ -44,15 +45,15 @@ fields_text arch source current = concat
     codes ",\"version\":" ∷ quoted current.version ∷
     codes ",\"waits\":" ∷ quoted current.waits ∷ codes "}" ∷ [])
 
--- the text of a record with its key (this project's own)
+-- the text of a record with its key
 abbrev pub record_text : KeyedRecord → List ℕ
 record_text row = fields_text row.arch row.source row.current
 
--- the texts of records, with a comma between each two (this project's own)
+-- the texts of records, with a comma between each two
 abbrev pub records_text : List KeyedRecord → List ℕ
-records_text rows = join_with_byte 44 (map record_text rows)
+records_text rows = join_with_byte (code ",") (map record_text rows)
 
--- the text of the answer to a query: a record, or the records that a builder holds (this project's own)
+-- the text of the answer to a query: a record, or the records that a builder holds
 unfoldable pub query_text : Answer → List ℕ
 query_text (Item row) = record_text row
 query_text (Mine builder rows) = concat

@@ -1,4 +1,4 @@
--- The JSON values whose text the office answers to queries (RFC 8259), before they are printed; the keys are this project's own.
+-- The JSON values whose text the office answers to queries (RFC 8259), before they are printed.
 use Rattle.std.specs.Prelude.{ℕ, List, map, Option, None, Some, codes}
 use Rattle.serde_json.specs.Data.{Data, Items, null, boolean, number, unsigned, string, array, object, Members, member, no_members, put}
 use Rattle.serde_json.specs.Find.{of_integer}
@@ -20,21 +20,21 @@ abbrev pub number_or_null : Option ℕ → Data
 number_or_null None = null
 number_or_null (Some n) = number (unsigned n)
 
--- members with what is built of a record, and before what else (this project's own)
+-- members with what is built of a record, and before what else
 abbrev pub with_version : Record → Members → Members
 with_version current members = put (codes "build_priority") (number (of_integer current.build_priority))
     (put (codes "build") (string (build_text_of current))
     (put (codes "number") (number (unsigned current.number))
     (put (codes "version") (string current.version) members)))
 
--- members with where a record stands, and who holds it (this project's own)
+-- members with where a record stands, and who holds it
 abbrev pub with_standing : Record → Members → Members
 with_standing current members = put (codes "take") (number_or_null current.take)
     (put (codes "holder") (string_or_null current.holder)
     (put (codes "earlier") (boolean current.earlier)
     (put (codes "state") (string (name_of current.state)) members)))
 
--- members with what is said of a record (this project's own)
+-- members with what is said of a record
 abbrev pub with_texts : Record → Members → Members
 with_texts current members = put (codes "message") (string current.message)
     (put (codes "note") (string current.note)
@@ -42,7 +42,7 @@ with_texts current members = put (codes "message") (string current.message)
     (put (codes "section") (string current.section)
     (put (codes "priority") (string current.priority) members))))
 
--- the object of the record of a source package on an architecture (this project's own)
+-- the object of the record of a source package on an architecture
 abbrev pub value_of_fields : List ℕ → List ℕ → Record → Data
 value_of_fields arch source current = object
     (member (codes "arch") (string arch)
@@ -61,21 +61,21 @@ value_of_fields arch source current = object
     (member (codes "version") (string current.version)
     (member (codes "waits") (string current.waits) no_members)))))))))))))))
 
--- the object of a record with its key (this project's own)
+-- the object of a record with its key
 abbrev pub value_of_record : KeyedRecord → Data
 value_of_record row = value_of_fields row.arch row.source row.current
 
--- the objects of records, in their order (this project's own)
+-- the objects of records, in their order
 abbrev pub values_of_records : List KeyedRecord → Items
 values_of_records rows = items_of (map value_of_record rows)
 
--- the object of the records that a builder holds (this project's own)
+-- the object of the records that a builder holds
 abbrev pub value_of_mine : List ℕ → List KeyedRecord → Data
 value_of_mine builder rows = object
     (member (codes "builder") (string builder)
     (member (codes "records") (array (values_of_records rows)) no_members))
 
--- the object of the answer to a query (this project's own)
+-- the object of the answer to a query
 abbrev pub value_of_answer : Answer → Data
 value_of_answer (Item row) = value_of_record row
 value_of_answer (Mine builder rows) = value_of_mine builder rows

@@ -1,4 +1,4 @@
--- The JSON values whose text the office answers (RFC 8259), before they are printed; the keys are this project's own.
+-- The JSON values whose text the office answers (RFC 8259), before they are printed.
 use Rattle.std.specs.Prelude.{ℕ, List, map, codes}
 use Rattle.serde_json.specs.Data.{Data, Items, null, boolean, number, unsigned, string, array, object, member, no_members, put}
 use Rattle.serde_json.specs.View.{items_of}
@@ -21,7 +21,7 @@ use Rattle.wb_states.specs.declared.reply.Reply.{Reply}
 use Rattle.wb_states.specs.declared.reply.Reply.TheVariants.{Done, Job, Again, Merged}
 use Rattle.wb_api.specs.Encoding.{name_of_relations_fault}
 
--- the object of an assignment, with this value of `ok` (this project's own)
+-- the object of an assignment, with this value of `ok`
 abbrev pub value_of_assignment : List ℕ → ℕ → Assignment → Data
 value_of_assignment ok accepted assignment = object
     (member (codes "accepted") (number (unsigned accepted))
@@ -34,7 +34,7 @@ value_of_assignment ok accepted assignment = object
     (member (codes "take") (number (unsigned assignment.take))
     (member (codes "version") (string assignment.version) no_members)))))))))
 
--- the object of the refusal of a list, for this fault of a field in a paragraph (this project's own)
+-- the object of the refusal of a list, for this fault of a field in a paragraph
 abbrev pub value_of_field_fault : ListKind → ℕ → List ℕ → ListField → Data
 value_of_field_fault which paragraph fault field = object
     (member (codes "code") (number (unsigned 15))
@@ -44,7 +44,7 @@ value_of_field_fault which paragraph fault field = object
     (member (codes "refused") (string (codes "BadListing"))
     (member (codes "which") (string (name_of_list which)) no_members))))))
 
--- the object of the refusal of a list, for this fault in a paragraph (this project's own)
+-- the object of the refusal of a list, for this fault in a paragraph
 abbrev pub value_of_listing_fault : ListKind → ℕ → ListingFault → Data
 value_of_listing_fault which paragraph (Control kind) = object
     (member (codes "code") (number (unsigned 15))
@@ -55,14 +55,14 @@ value_of_listing_fault which paragraph (Control kind) = object
 value_of_listing_fault which paragraph (Missing field) = value_of_field_fault which paragraph (codes "Missing") field
 value_of_listing_fault which paragraph (BadValue field) = value_of_field_fault which paragraph (codes "BadValue") field
 
--- the object of a refusal that tells this further, under a key between `code` and `refused` (this project's own)
+-- the object of a refusal that has this further, under a key between `code` and `refused`
 abbrev pub value_with_member : Refusal → List ℕ → Data → Data
 value_with_member refusal key told = object
     (member (codes "code") (number (unsigned (code_of_refusal refusal)))
     (member key told
     (member (codes "refused") (string (name_of_refusal refusal)) no_members)))
 
--- the object of a refusal (this project's own)
+-- the object of a refusal
 abbrev pub value_of_refusal : Refusal → Data
 value_of_refusal (OtherVersion have) = value_with_member (OtherVersion have) (codes "have") (string have)
 value_of_refusal (WrongState state) = object
@@ -81,7 +81,7 @@ value_of_refusal refusal = object
     (member (codes "code") (number (unsigned (code_of_refusal refusal)))
     (member (codes "refused") (string (name_of_refusal refusal)) no_members))
 
--- an object with this architecture among its members; a value of another kind is left as it is (this project's own)
+-- an object with this architecture among its members; a value of another kind is left as it is
 abbrev pub with_arch : List ℕ → Data → Data
 with_arch arch (object members) = object (put (codes "arch") (string arch) members)
 with_arch arch (array items) = array items
@@ -90,7 +90,7 @@ with_arch arch (number of) = number of
 with_arch arch (boolean of) = boolean of
 with_arch arch null = null
 
--- the object of what a merge did to the records of an architecture (this project's own)
+-- the object of what a merge did to the records of an architecture
 abbrev pub value_of_counts : List ℕ → MergeCounts → Data
 value_of_counts arch counts = object
     (member (codes "added") (number (unsigned counts.added))
@@ -99,20 +99,20 @@ value_of_counts arch counts = object
     (member (codes "kept") (number (unsigned counts.kept))
     (member (codes "removed") (number (unsigned counts.removed)) no_members)))))
 
--- the object of the end of a part on this architecture (this project's own)
+-- the object of the end of a part on this architecture
 abbrev pub value_of_end : List ℕ → PartEnd → Data
 value_of_end arch (part_Merged counts) = value_of_counts arch counts
 value_of_end arch (Refused refusal) = with_arch arch (value_of_refusal refusal)
 
--- the object of a part of a merge (this project's own)
+-- the object of a part of a merge
 abbrev pub value_of_part : PartReply → Data
 value_of_part part = value_of_end part.arch part.end
 
--- the objects of the parts of a merge, in their order (this project's own)
+-- the objects of the parts of a merge, in their order
 abbrev pub values_of_parts : List PartReply → Items
 values_of_parts parts = items_of (map value_of_part parts)
 
--- the object of a reply to the command of this name (this project's own)
+-- the object of a reply to the command of this name
 abbrev pub value_of_reply : List ℕ → Reply → Data
 value_of_reply name (Done accepted) = object
     (member (codes "accepted") (number (unsigned accepted))

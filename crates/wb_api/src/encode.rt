@@ -13,10 +13,10 @@ use wb_states::{Assignment, MergeCounts, PartEnd, PartReply, Reply};
 
 /// The reply to an accepted command as one JSON object (RFC 8259), with no space and no line feed.
 ///
-/// `name` is the command's name and stands under `ok`, save that `again` stands there where the builder is
-/// told again of what it builds. A count and a take number stand in all their digits. The parts of a merge
+/// `name` is the command's name and stands under `ok`, save that `again` stands there if the reply
+/// repeats what a builder builds. A count and a take number stand in all their digits. The parts of a merge
 /// stand in their order, a refused one as its refusal with its architecture. In a text `"`, `\` and the
-/// control bytes are escaped, the short escapes where JSON has one and `\u00` with two lower-case digits
+/// control bytes are escaped, by the short escape if JSON has one and `\u00` with two lower-case digits
 /// elsewhere; all other bytes stand as they are. The only error is that there is no memory for the text.
 /// The keys are this project's own.
 #[tactic(auto, using(crate::proofs::EncodingLemmas::printing))]

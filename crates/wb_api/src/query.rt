@@ -20,10 +20,10 @@ use wb_store::KeyedRecord;
 /// The answer to a query as one JSON object (RFC 8259), with no space and no line feed.
 ///
 /// The answer to `item` is the record. That to `mine` has the builder and its records, in the order of their
-/// take numbers. A record tells under `build` the version of the binaries: the source version, followed by
+/// take numbers. A record has under `build` the version of the binaries: the source version, followed by
 /// `+bN` for a binary-only rebuild N. A missing holder or take number is `null`. Texts and numbers stand as
 /// in `reply_json`, and a build priority below 0 after a minus sign. What a source package needs to be built
-/// is not told. The only error is that there is no memory for the text. The keys are this project's own.
+/// is left out. The only error is that there is no memory for the text. The keys are this project's own.
 #[tactic(auto, using(crate::proofs::QueryLemmas::printing_of_queries))]
 pub fn query_json(alloc: Global, answer: &Answer) -> Result<String, AllocError>
     ensures value { IfOk result (λ text. string_bytes text ≡ query_text answer.now) }

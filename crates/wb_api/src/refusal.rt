@@ -16,10 +16,10 @@ use std::alloc::{AllocError, Global};
 use std::borrow::CowStr;
 use wb_states::{ListKind, ListingFault, Refusal};
 
-/// The refusal for want of memory, whose text must not need any.
+/// The refusal `Memory`, whose text must not need any.
 const MEMORY: &str = r#"{"code":20,"refused":"Memory"}"#;
 
-/// The text of a refusal that tells no more than its number and its name, which is a constant.
+/// The text of a refusal that has no more than its number and its name, which is a constant.
 fn constant_text(refusal: &Refusal) -> Option<&'static str>
     ensures value { IfSome result (λ text. text.now ≡ refusal_text refusal.now) }
     ensures some { is_some result ≡ is_plain refusal.now }
@@ -50,9 +50,9 @@ fn constant_text(refusal: &Refusal) -> Option<&'static str>
 }
 
 /// A refusal as one JSON object (RFC 8259), with no space and no line feed: its number, its name and what
-/// it tells further, in all as the keys of this project have it.
+/// it has further, in all as the keys of this project have it.
 ///
-/// The only error is that there is no memory for the text. That of a refusal that tells nothing further is a constant,
+/// The only error is that there is no memory for the text. That of a refusal that has nothing further is a constant,
 /// which takes no memory.
 pub fn try_refusal_json(alloc: Global, refusal: &Refusal) -> Result<CowStr<'static>, AllocError>
     ensures value { IfOk result (λ text. cow_str_bytes text ≡ refusal_text refusal.now) }
@@ -65,7 +65,7 @@ pub fn try_refusal_json(alloc: Global, refusal: &Refusal) -> Result<CowStr<'stat
     Ok(CowStr::Owned(text_of_refusal(alloc, refusal)?))
 }
 
-/// The same, with no error: where there is no memory for the text, that of the refusal for want of memory stands in its
+/// The same, with no error: if there is no memory for the text, that of `Memory` stands in its
 /// place.
 pub fn refusal_json(alloc: Global, refusal: &Refusal) -> CowStr<'static>
     ensures value { (cow_str_bytes result ≡ refusal_text refusal.now) ⊎ IsMemoryText result }
@@ -87,7 +87,7 @@ fn text_of_refusal(alloc: Global, refusal: &Refusal) -> Result<String, AllocErro
     value.to_string(alloc)
 }
 
-/// The name of what is wrong with relations: `Nothing` where there is no fault, but nothing of them is left.
+/// The name of what is wrong with relations: `Nothing` if there is no fault, but nothing of them is left.
 fn name_of_relations_fault(fault: &Option<RelationFault>) -> &'static str
     ensures { result.now ≡ name_of_relations_fault fault.now }
 {
@@ -134,7 +134,7 @@ pub(crate) fn value_of_refusal(alloc: Global, refusal: &Refusal) -> Result<Value
     }
 }
 
-/// The object of a fault in a paragraph of a list. It tells the field where one lacks or has not its form.
+/// The object of a fault in a paragraph of a list. It names the field if one is missing or malformed.
 fn value_of_listing_fault(
     alloc: Global,
     which: ListKind,

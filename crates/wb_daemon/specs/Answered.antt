@@ -1,10 +1,10 @@
--- Which lines of an input are answered, and how many lines an output has (this project's own).
+-- Which lines of an input are answered, and how many lines an output has.
 use Rattle.std.specs.Prelude.{◌≡◌, ℕ, Bool, not, ◌||◌, List, length}
 use Rattle.std.specs.List.{AllByRecursion}
 use Rattle.deb_text.specs.Lines.{IsOneLine, is_blank_line}
 use Rattle.wb_daemon.specs.Line.{is_long, with_line_feeds}
 
--- a line that is answered: each but those of spaces and tabs alone, of which one that is too long is none
+-- a line that is answered: it is too long, or it has more than spaces and tabs
 abbrev pub is_answered : List ℕ → Bool
 is_answered line = is_long line || not (is_blank_line line)
 

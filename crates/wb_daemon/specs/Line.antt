@@ -1,5 +1,5 @@
--- The lines that a run reads (this project's own).
-use Rattle.std.specs.Prelude.{◌≡◌, ◌⊎◌, ℕ, ◌-◌, ◌≤◌, Bool, true, false, nat_lt, if◌then◌else◌, List, [], ◌∷◌, ◌++◌, length, take, Option}
+-- The lines that a run reads.
+use Rattle.std.specs.Prelude.{◌≡◌, ◌⊎◌, ℕ, ◌-◌, ◌≤◌, Bool, true, false, nat_lt, if◌then◌else◌, List, [], ◌∷◌, ◌++◌, length, take, Option, codes}
 use Rattle.std.specs.List.{flat_map, slice_split}
 use Rattle.std.specs.Io.KnownBytes.{Consumes, IsAtEnd}
 use Rattle.deb_text.specs.Lines.{is_line_feed, IsOneLine}
@@ -20,7 +20,7 @@ lines_limit = LINES_LIMIT
 
 -- a text and the line feed after it
 abbrev pub with_line_feed : List ℕ → List ℕ
-with_line_feed text = text ++ 10 ∷ []
+with_line_feed text = text ++ codes "\n"
 
 -- texts, each with the line feed after it
 abbrev pub with_line_feeds : List (List ℕ) → List ℕ
@@ -35,7 +35,7 @@ abbrev pub through_long : List (List ℕ) → List (List ℕ)
 through_long [] = []
 through_long (line ∷ lines) = line ∷ (if is_long line then [] else through_long lines)
 
--- the lines of an input: they are parted by line feeds, and one that is too long is the last
+-- the lines of an input: line feeds separate them, and one that is too long is the last
 unfoldable pub input_lines : List ℕ → List (List ℕ)
 input_lines input = through_long (slice_split is_line_feed input)
 
@@ -43,7 +43,7 @@ input_lines input = through_long (slice_split is_line_feed input)
 unfoldable pub ended_in : List ℕ → List (List ℕ)
 ended_in text = take (length (slice_split is_line_feed text) - 1) (slice_split is_line_feed text)
 
--- at most the greatest number of lines, or one more that is empty, behind the last line feed
+-- at most the greatest number of lines, or one more that is empty, after the last line feed
 abbrev pub AreWithinLimit : List (List ℕ) → Type 0
 AreWithinLimit lines =
     (length lines ≤ lines_limit)

@@ -1,4 +1,4 @@
--- The lists that a merge names, and the bytes that they are read as (this project's own).
+-- The lists that a merge names, and the bytes that they are read as.
 use Rattle.std.specs.Prelude.{◌≡◌, ◌⊎◌, ℕ, ◌<◌, ◌≤◌, ⊤, List, ◌∷◌, ◌++◌, length, Option, IfSome}
 use Rattle.std.specs.List.{AllZip}
 use Rattle.wb_states.specs.declared.command.Command.{Command}
@@ -22,7 +22,7 @@ any_lists = record { reads = λ _ _. ⊤; fails = λ _. ⊤ }
 abbrev pub list_limit : ℕ
 list_limit = LIST_LIMIT
 
--- these are all the bytes that a reader has left, where those are known
+-- these are all the bytes that a reader has left, if those are known
 abbrev pub IsAllOf : Option (List ℕ) → List ℕ → Type 0
 IsAllOf known bytes = IfSome known (λ left. bytes ≡ left)
 
@@ -36,7 +36,7 @@ ReadsList breaks known (Failed error) = breaks
 abbrev pub OpensList : MayRead → List ℕ → Option (List ℕ) → Type 0
 OpensList may_read name known = (bytes : List ℕ) → IsAllOf known bytes → may_read.reads name bytes
 
--- what a list may be read as later it might be read as before, and a list that may fail later might fail before
+-- whatever a list may be read as later, it might be read as before, and a list that may fail later might fail before
 abbrev pub MayReadLess : MayRead → MayRead → Type 0
 MayReadLess old new =
     ((name bytes : List ℕ) → new.reads name bytes → old.reads name bytes)
@@ -74,7 +74,7 @@ pub record LacksPart (may_read : MayRead) (names : List PartNames) : Type 0 wher
   pub given : MayReadParts may_read before parts
   pub lacks : LacksList may_read name.packages
 
--- the first list that is at fault of those that a line names for a merge: its Sources list, or after that was read the list of a part
+-- the first list that is at fault of those that a line names for a merge: its Sources list, or, after that was read, the list of a part
 abbrev pub LacksMerge : MayRead → List ℕ → List PartNames → Type 0
 LacksMerge may_read sources names =
     LacksList may_read sources ⊎ ((bytes : List ℕ) × MayReadList may_read sources bytes × LacksPart may_read names)

@@ -1,4 +1,4 @@
--- Which commands a run carries out, and that it leaves what these leave one after another (this project's own).
+-- Which commands a run carries out, and that it leaves what these leave one after another.
 use Rattle.std.specs.Prelude.{◌≡◌, ℕ, ◌⊎◌, List, [], ◌∷◌, ◌++◌, Option}
 use Rattle.wb_states.specs.Machine.{Machine}
 use Rattle.wb_states.specs.declared.command.Command.{Command}
@@ -7,7 +7,7 @@ use Rattle.wb_daemon.specs.Lists.{MayRead}
 use Rattle.wb_office.specs.Offices.{Standing, Open}
 use Rattle.wb_daemon.specs.Run.{LineResponse, LineInvokes, IsRefusedByStore, WereActedOn, command_response, line_fault_response, file_fault_response, followed, memory_response, no_response}
 
--- nothing is carried out for a line: it is blank, or at fault, or a list of it cannot be read, or it finds no memory
+-- nothing is carried out for a line: it is blank, or at fault, or a list of it cannot be read, or there is no memory for it
 abbrev pub IsResponseWithoutReply : Machine → LineResponse → Type 0
 IsResponseWithoutReply machine response =
     ((response ≡ no_response machine) ⊎ (response ≡ line_fault_response machine))

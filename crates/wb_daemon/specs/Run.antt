@@ -1,4 +1,4 @@
--- What a run over the lines of an input writes, and what it leaves of the office (this project's own).
+-- What a run over the lines of an input writes, and what it leaves of the office.
 use Rattle.std.specs.Prelude.{◌≡◌, ℕ, ◌<◌, max, Bool, true, not, ◌&&◌, ◌⊎◌, if◌then◌else◌, List, [], ◌∷◌, ◌++◌, length, take, Option, None, Some, IsTrue, IsOk, Result, Ok, Err}
 use Rattle.std.specs.List.{list_any}
 use Rattle.std.specs.Str.{is_utf8}
@@ -142,13 +142,13 @@ Runs may_read machine [] whole = whole ≡ no_response machine
 Runs may_read machine (line ∷ lines) whole =
     (response later : LineResponse) × IsLineResponse may_read machine line response × Runs may_read response.machine lines later × (whole ≡ followed response later)
 
--- a run that ended with its input: to each line, in order, was written what is said to it, the office is as it is after them, and the status is the greatest
+-- a run that ended with its input: what is said to each line was written, in order; the office is as it is after the lines, and the status is the greatest
 abbrev pub RunEnds : MayRead → List ℕ → Option (List ℕ) → Option (List ℕ) → Machine → Machine → ℕ → Type 0
 RunEnds may_read input old_text new_text before after status =
     (text : List ℕ) × Runs may_read before (input_lines input) (record { text = text; machine = after; status = status })
     × Appends old_text new_text text
 
--- a run that ended with its input: some input, which is what the reader had left where that is known
+-- a run that ended with its input: some input, which is what the reader had left if that is known
 abbrev pub EndsInput : MayRead → Option (List ℕ) → Option (List ℕ) → Option (List ℕ) → Machine → Machine → ℕ → Type 0
 EndsInput may_read known old_text new_text before after status =
     (input : List ℕ) × IsAllOf known input × AreWithinLimit (input_lines input)
@@ -169,13 +169,13 @@ StopsAtLimit may_read seen before text after =
 abbrev pub NeverBegins : List ℕ → Machine → List ℕ → Machine → Type 0
 NeverBegins seen before text after = (seen ≡ []) × (text ≡ []) × (after ≡ before)
 
--- the lines that were acted on, of the bytes that were read: those that a line feed had ended, or all where nothing follows or one is too long
+-- the lines that were acted on, of the bytes that were read: those that a line feed had ended, or all if nothing follows or one is too long
 abbrev pub WereActedOn : List ℕ → Option (List ℕ) → List (List ℕ) → Type 0
 WereActedOn seen left lines =
     (lines ≡ ended_in seen)
     ⊎ ((lines ≡ input_lines seen) × (IsAtEnd left ⊎ IsTrue (list_any is_long lines)))
 
--- a run that stopped within an answer: that to the last of these lines, of which a front alone was written; the office is as it is after that line
+-- a run that stopped within the answer to the last of these lines: only a front of it was written, and the office is as it is after that line
 pub record StopsWithin (may_read : MayRead) (lines : List (List ℕ)) (before : Machine) (text : List ℕ) (after : Machine) (standing : Standing) : Type 0 where
   pub earlier : List (List ℕ)
   pub last : List ℕ
@@ -189,7 +189,7 @@ pub record StopsWithin (may_read : MayRead) (lines : List (List ℕ)) (before : 
   pub front : text ≡ answered.text ++ take written response.text
   pub office : after ≡ response.machine
 
--- a run that stopped for want of memory for the reply to the last of these lines: the command was accepted, and nothing of the reply was written
+-- a run that stopped since there was no memory for the reply to the last of these lines: the command was accepted, and nothing of the reply was written
 pub record StopsBeforeReply (may_read : MayRead) (lines : List (List ℕ)) (before : Machine) (text : List ℕ) (after : Machine) : Type 0 where
   pub earlier : List (List ℕ)
   pub last : List ℕ
@@ -239,7 +239,7 @@ RunStopsFor may_read cause old_input new_input old_text new_text before after st
     (seen text : List ℕ) × Consumes old_input new_input seen × Appends old_text new_text text
     × StopsFor may_read cause seen new_input before text after standing
 
--- the flags of the reader and the writer of a run, before and after: that of the reader is set where the run stopped for a failed read, that of the writer where for a failed write, and else they stay
+-- the flags of the reader and the writer of a run, before and after: that of the reader is set if the run stopped for a failed read, that of the writer if it stopped for a failed write, and else they stay
 abbrev pub FailsFor : Option Cause → Stream → Stream → Stream → Stream → Type 0
 FailsFor (Some why.Read) input left old new = (left.failed ≡ true) × (new.failed ≡ old.failed)
 FailsFor (Some why.Write) input left old new = (left.failed ≡ input.failed) × (new.failed ≡ true)
@@ -254,7 +254,7 @@ abbrev pub RunEndsWell : MayRead → Stream → Stream → Stream → Stream →
 RunEndsWell may_read input left old new before after status =
     EndsInput may_read input.bytes old.bytes new.bytes before after status × FailsFor None input left old new
 
--- a run stopped before its input ended: what it had read, what it wrote and why, and the read or the write that is why did fail
+-- a run stopped before its input ended: what it had read, what it wrote, why it stopped, and that a read or a write did fail if that is why
 abbrev pub RunStops : MayRead → Stream → Stream → Stream → Stream → Machine → Machine → Standing → Type 0
 RunStops may_read input left old new before after standing =
     (cause : Cause) × RunStopsFor may_read cause input.bytes left.bytes old.bytes new.bytes before after standing

@@ -1,4 +1,4 @@
--- What one turn of a run does: it reads a line and answers it (this project's own).
+-- What one turn of a run does: it reads a line and answers it.
 use Rattle.std.specs.Prelude.{◌≡◌, ℕ, Bool, ◌<◌, ◌≤◌, false, true, ◌⊎◌, List, length, take, ⊤, IsOk, Option, None, Some, Result, Ok, Err}
 use Rattle.std.specs.Cow.{cow_str_bytes}
 use Rattle.std.specs.Io.KnownBytes.{Appends, Consumes, IsAtEnd}
@@ -31,7 +31,7 @@ abbrev pub IsCommandResponseOrMemory : (Command → Type 0) → Machine → Comm
 IsCommandResponseOrMemory may_want machine command response =
     (response ≡ command_response machine command) ⊎ (MayLackMemory may_want machine command × (response ≡ memory_response machine))
 
--- why what a line asks for may be answered by want of memory: a command as above, and the lists of a merge are read into memory
+-- why the answer to what a line asks for may be that memory ran out: a command as above, and the lists of a merge are read into memory
 abbrev pub MayLackMemoryFor : (Command → Type 0) → Machine → Invocation → Type 0
 MayLackMemoryFor may_want machine (invocation_Command command) = MayLackMemory may_want machine command
 MayLackMemoryFor may_want machine (invocation_Merge sources parts) = ⊤
@@ -133,13 +133,13 @@ fails_to_write (Err Store) = false
 fails_to_write (Err Lines) = false
 fails_to_write (Err Room) = false
 
--- why a turn stopped, where it did
+-- why a turn stopped, if it did
 abbrev pub cause_of_turn : Turn → Option Cause
 cause_of_turn (More status) = None
 cause_of_turn (End status) = None
 cause_of_turn (Stop cause) = Some cause
 
--- why a run stopped, where it did
+-- why a run stopped, if it did
 abbrev pub cause_of_end : RunEnd → Option Cause
 cause_of_end (Ended status) = None
 cause_of_end (Stopped cause) = Some cause

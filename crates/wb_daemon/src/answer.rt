@@ -39,7 +39,7 @@ fn ends_run(refusal: &Refusal) -> bool
     matches!(refusal, Refusal::Closed | Refusal::Store { .. })
 }
 
-/// What the words of a line ask for. The errors are `NoCommand` where the line is not UTF-8 or its words
+/// What the words of a line ask for. The errors are `NoCommand` if the line is not UTF-8 or its words
 /// ask for nothing that there is, and `Memory`, which may come at any line that is UTF-8.
 #[tactic(auto, unfolding(crate::specs::Run::invocation_of_line))]
 fn invocation_of_line(alloc: Global, line: &[u8]) -> Result<Invocation, WordsFault>
@@ -56,8 +56,8 @@ fn invocation_of_line(alloc: Global, line: &[u8]) -> Result<Invocation, WordsFau
     invocation_of(alloc, &words)
 }
 
-/// The reply or the refusal of the office to a command, with its status. It is `None` where the command
-/// was accepted and there is no memory for the reply; a reply that repeats an assignment accepts nothing.
+/// The reply or the refusal of the office to a command, with its status. It is `None` if the command was
+/// accepted and there is no memory for the reply; a reply that repeats an assignment accepts nothing.
 fn answer_to<O: CarryOut>(alloc: Global, office: &mut O, command: &Command) -> Option<Answer>
     ensures clean { O.is_clean office.new → O.is_clean office.old }
     ensures status { IfSome result (λ answer. answer.status ≤ 3) }
@@ -90,7 +90,7 @@ fn answer_to<O: CarryOut>(alloc: Global, office: &mut O, command: &Command) -> O
     }
 }
 
-/// The answer for want of memory, which takes none.
+/// The answer if memory ran out, which takes none.
 fn memory_answer(alloc: Global) -> Answer
     ensures value { (machine : Machine) → response_of_answer result machine ≡ memory_response machine }
     ensures status { result.status ≤ 3 }
@@ -103,7 +103,7 @@ fn memory_answer(alloc: Global) -> Answer
     }
 }
 
-/// The answer where a list cannot be read.
+/// The answer if a list cannot be read.
 fn file_answer() -> Answer
     ensures value { (machine : Machine) → response_of_answer result machine ≡ file_fault_response machine }
     ensures status { result.status ≤ 3 }
@@ -117,7 +117,7 @@ fn file_answer() -> Answer
 }
 
 /// The answer to what a line asks for. The lists of a merge are read first, and nothing is asked of the
-/// office where one of them is at fault. It is `None` where the command was accepted and there is no memory
+/// office if one of them is at fault. It is `None` if the command was accepted and there is no memory
 /// for the reply.
 fn answer_invocation<O: CarryOut, L: Lists>(
     alloc: Global,
@@ -153,7 +153,7 @@ fn answer_invocation<O: CarryOut, L: Lists>(
     }
 }
 
-/// The answer to a line that is neither blank nor too long, with its status. It is `None` where the
+/// The answer to a line that is neither blank nor too long, with its status. It is `None` if the
 /// command of the line was accepted and there is no memory for the reply.
 pub(crate) fn answer_of<O: CarryOut, L: Lists>(
     alloc: Global,
@@ -190,7 +190,7 @@ pub(crate) fn answer_of<O: CarryOut, L: Lists>(
     }
 }
 
-/// Reports why the line of this number is a line fault; nothing where there is no memory for that.
+/// Reports why the line of this number is a line fault; nothing if there is no memory for that.
 pub(crate) fn report_fault<L: Lists>(alloc: Global, lists: &mut L, number: u64, line: &[u8])
     ensures kept { MayReadLess (L.may_read lists.old) (L.may_read lists.new) }
 {

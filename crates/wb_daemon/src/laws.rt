@@ -8,7 +8,7 @@ ghost use Rattle.wb_daemon.specs.Run.{Runs, LineResponse, StopsInLine};
 
 use crate::lists::Lists;
 
-/// What a run leaves is what the commands that its lines ask for leave, one after another, also where it
+/// What a run leaves is what the commands that its lines ask for leave, one after another, also if it
 /// was cut off within or before the answer to a line. So what holds of every list of commands holds of
 /// every run.
 pub fn runs_are_replays<L: Lists>(lists: &L)

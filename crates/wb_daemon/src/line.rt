@@ -81,7 +81,7 @@ pub(crate) fn words_in<'a>(alloc: Global, text: &'a str) -> Result<Vec<&'a str>,
         .collect(alloc)
 }
 
-/// The line as text, where it is UTF-8.
+/// The line as text, if it is UTF-8.
 pub(crate) fn text_of(line: &[u8]) -> Option<&str>
     ensures value { IfSome result (λ text. (text.now ≡ line.now) × (is_utf8 line.now ≡ true)) }
     ensures refused { result ≡ None → is_utf8 line.now ≡ false }

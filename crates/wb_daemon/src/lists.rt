@@ -15,18 +15,18 @@ use wb_words::PartNames;
 /// The greatest length of a list.
 const LIST_LIMIT: usize = 2147483648;
 
-/// Where the lists are that a merge names, and who is told what no answer says (this project's own).
+/// Where the lists are that a merge names, and who gets what no answer says (this project's own).
 pub trait Lists {
     /// What reads the bytes of a list.
     type List: Read + Drop;
 
-    // What is known of the lists: nothing, where an implementation does not say.
+    // What is known of the lists: nothing, if an implementation does not say.
     ghost may_read: { Self → MayRead } = { λ _. any_lists };
 
-    // Whether a read of this opened list may fail: any may, where an implementation does not say.
+    // Whether a read of this opened list may fail: any may, if an implementation does not say.
     ghost breaks: { Self.List → Type 0 } = { λ _. ⊤ };
 
-    /// A reader over the list of this name, none where it cannot be opened. The error is that there is no
+    /// A reader over the list of this name, none if it cannot be opened. The error is that there is no
     /// memory for it.
     fn open(&mut self, alloc: Global, name: &str) -> Result<Option<Self::List>, AllocError>
         ensures value { IfOk result (λ found. IfSome found (λ list.
@@ -43,7 +43,7 @@ pub trait Lists {
         ensures err { OnErr result (breaks list.old) }
         ensures kept { breaks list.new → breaks list.old };
 
-    /// Takes a message for a person, which no answer says. It is dropped where an implementation does not
+    /// Takes a message for a person, which no answer says. It is dropped if an implementation does not
     /// say what becomes of it.
     fn report(&mut self, _message: Message<'_>)
         ensures kept { MayReadLess (may_read self.old) (may_read self.new) }
@@ -77,7 +77,7 @@ fn read_list<L: Lists>(alloc: Global, list: &mut L::List) -> Result<ListRead, Al
     Ok(ListRead::TooLong)
 }
 
-/// The bytes of the list of this name; none where it cannot be opened or read, or is too long.
+/// The bytes of the list of this name; none if it cannot be opened or read, or is too long.
 fn list_of<L: Lists>(
     alloc: Global,
     lists: &mut L,
@@ -104,7 +104,7 @@ fn list_of<L: Lists>(
     Ok(None)
 }
 
-/// The part of a merge with the list that stands for it; none where that is at fault.
+/// The part of a merge with the list that stands for it; none if that is at fault.
 fn part_of<L: Lists>(
     alloc: Global,
     lists: &mut L,
@@ -146,7 +146,7 @@ fn parts_of<L: Lists>(
 }
 
 /// The merge of the lists of these names, which are read in their order, the Sources list first; none
-/// where one of them cannot be opened or read, or is too long. The error is that there is no memory for
+/// if one of them cannot be opened or read, or is too long. The error is that there is no memory for
 /// them.
 pub(crate) fn merge_of<L: Lists>(
     alloc: Global,

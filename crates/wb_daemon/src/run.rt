@@ -198,15 +198,15 @@ fn run_in_room<O: CarryOut, R: Read + Drop, W: Write + Drop, L: Lists>(
 
 /// Acts on each line of the input in turn and answers it with one line of JSON. Answers the status of the run.
 ///
-/// A line ends at a line feed, which the last may lack; its words are parted by spaces and tabs, without
+/// A line ends at a line feed, which the last may lack; its words are separated by spaces and tabs, without
 /// quoting. A line without words is not answered. A line that is not UTF-8, whose words ask for nothing that
 /// there is, or that is longer than 65536 bytes is a line fault; one that is too long is the last. The lists
 /// that a merge names are read whole, in the order of the words, before the office is asked: one that cannot
 /// be opened, whose reading fails, or that is longer than 2147483648 bytes is a file fault, which changes
-/// nothing, and the run goes on. A line for which there is no memory is answered as a refusal for want of
+/// nothing, and the run goes on. A line for which there is no memory is answered as a refusal: out of
 /// memory. The status is the greatest of the lines': 0 accepted, 1 refused, 2 a line fault, 3 a file fault.
 ///
-/// Status 3 tells as well that the run stopped: a read of the input failed, and the line that it cut off was
+/// Status 3 says as well that the run stopped: a read of the input failed, and the line that it cut off was
 /// not acted on; or a write failed or took no byte, also an interrupted one, and the output ends within the
 /// answer to the last line that was acted on; or there was no memory for the reply to an accepted command,
 /// and nothing of it was written; or the store failed or the office is closed, and the answer to the last line

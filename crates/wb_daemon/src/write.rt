@@ -40,8 +40,8 @@ fn line_of(alloc: Global, text: &str) -> Result<String, AllocError>
     Ok(line)
 }
 
-/// Writes the text and a line feed, in one write where there is memory for both. Says whether all was
-/// written; where not, a front of it was.
+/// Writes the text and a line feed, in one write if there is memory for both. Says whether all was
+/// written; if not, a front of it was.
 pub(crate) fn write_line<W: Write + Drop>(
     alloc: Global,
     writer: &mut WatchedWriter<W>,

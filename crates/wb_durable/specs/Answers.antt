@@ -1,4 +1,4 @@
--- What the office answers to a command that is carried out over its tables, and where it then stands (this project's own).
+-- What the office answers to a command that is carried out over its tables, and where it then stands.
 use Rattle.std.specs.Prelude.{◌≡◌, ◌⊎◌, ℕ, Bool, true, false, List, Option, Result, Ok, Err, IfOk, IfErr, OnOk}
 use Rattle.sqlite_trees.specs.declared.store.Store.{Ghosts}
 use Rattle.sqlite.specs.Held.{Held, state}
@@ -26,7 +26,7 @@ use Rattle.wb_durable.specs.Keys.{key_put}
 use Rattle.wb_durable.specs.MergeCarried.{MergeEndsFor}
 use Rattle.wb_durable.specs.MergeWritten.{IsMergeIn}
 
--- how many commands are accepted, as a reply tells it
+-- how many commands are accepted, as a reply says
 abbrev pub accepted_of : Reply → ℕ
 accepted_of (is.Done accepted) = accepted
 accepted_of (is.Job accepted given) = accepted
@@ -54,7 +54,7 @@ IsUncommitted {S} g machine command old new (Uncommitted e) =
     ⊎ ((at : Held S) × (after : Machine) × MergeEndsFor g after (step machine command).1 at new e))
 
 -- why a command is not carried out, and where the office is left: it is refused, or a look-up failed, and nothing is changed; or what it changed
--- was not committed, and the office is as it was, or, where the commit is in doubt, as it was or as the command makes it
+-- was not committed, and the office is as it was, or, if the commit is in doubt, as it was or as the command makes it
 abbrev pub IsLeft : {S : Type 0} → Ghosts S → Machine → Command → Held S → Held S → Failure → Type 0
 IsLeft g machine command old new (Refused refusal) =
     (IsOfMachine refusal → (step machine command).0 ≡ Err refusal) × ((refusal ≡ Memory → MayWantMemory command) × IsSettled machine (state g new))
@@ -69,7 +69,7 @@ pub record KeepsStep {S A : Type 0} (g : Ghosts S) (command : Command) (key : Op
   pub err : HasCleanDisk (state g new) → (machine : Machine) → IsSettled machine (state g old) → IsStepOf machine command key after
       → IfErr result (IsUncommitted g machine command old new)
 
--- these are twice the part of the office that a merge looks at
+-- both of these are the part of the office that a merge looks at
 abbrev pub AreParts : List Part → Machine → Machine → Machine → Type 0
 AreParts parts before part machine = (before ≡ part_for_merge machine parts) × (part ≡ part_for_merge machine parts)
 
@@ -81,7 +81,7 @@ pub record KeepsMerge {S A : Type 0} (g : Ghosts S) (sources : List ℕ) (parts 
   pub err : HasCleanDisk (state g new) → (machine : Machine) → IsSettled machine (state g old) → IsMergeIn machine sources parts before after
       → IfErr result (IsUncommitted g machine (Merge sources parts) old new)
 
--- a command carried out over the tables of a consistent office of which this is given: the reply is that of the step, after which the tables are
+-- a command carried out over the tables of a consistent office of which this is true: the reply is that of the step, after which the tables are
 -- settled at its state; or a failure leaves the office as above
 pub record Answers {S : Type 0} (g : Ghosts S) (Given : Machine → Type 0) (command : Command) (old new : Held S) (result : Result Reply Failure) : Type 0 where
   pub was_clean : HasCleanDisk (state g new) → HasCleanDisk (state g old)

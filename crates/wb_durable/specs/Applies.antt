@@ -1,4 +1,4 @@
--- What an office over tables answers to a command, and how it stands then (this project's own).
+-- What an office over tables answers to a command, and how it stands then.
 use Rattle.std.specs.Prelude.{◌≡◌, ◌≢◌, ℕ, Bool, true, false, Result, Ok, Err, IfOk, IfErr, IsTrue}
 use Rattle.sqlite_trees.specs.declared.store.Store.{Ghosts}
 use Rattle.sqlite.specs.Held.{Held, state}
@@ -26,7 +26,7 @@ abbrev pub refusal_for : StoreFault → Refusal
 refusal_for fault.Memory = Memory
 refusal_for fault = Store fault
 
--- the refusal for a commit in doubt, which is no want of memory: the device failed
+-- the refusal for a commit in doubt: out of memory counts as a failure of the device
 abbrev pub doubt_for : StoreFault → Refusal
 doubt_for fault.Memory = Store fault.Device
 doubt_for fault = Store fault
@@ -55,9 +55,9 @@ pub record Ends {S : Type 0} (g : Ghosts S) (failure : Failure) (old new : Held 
       → IsRefusedIn g machine command is_closed new refusal
   pub told : refusal ≡ refusal_of failure
 
--- an office over tables carries out a command: the reply is that of the step, after which it stands at its state; a refusal of the state changes
--- nothing; out of memory, it stands as before, but may be closed; after a fault of the store it is closed, and the command stands whole or not at
--- all; and a closed office, and no other, answers that it is closed
+-- an office over tables carries out a command: the reply is that of the step, and the office stands at the state after it; a refusal of the state
+-- changes nothing; out of memory, it stands as before, but may be closed; after a fault of the store it is closed, and the command stands whole or
+-- not at all; and a closed office, and no other, answers that it is closed
 pub record Applies {S : Type 0} (g : Ghosts S) (command : Command) (was_closed : Bool) (counted : ℕ) (old : Held S) (is_closed : Bool) (counts : ℕ) (new : Held S) (result : Result Reply Refusal) : Type 0 where
   pub was_clean : HasCleanDisk (state g new) → HasCleanDisk (state g old)
   pub shut : was_closed ≡ true → (result ≡ Err Closed) × (is_closed ≡ true) × (counts ≡ counted) × (new ≡ old)

@@ -1,4 +1,4 @@
--- What an office over tables answers to a query, and how it stands then (this project's own).
+-- What an office over tables answers to a query, and how it stands then.
 use Rattle.std.specs.Prelude.{◌≡◌, ◌⊎◌, ℕ, Bool, true, false, Result, Err, IsTrue}
 use Rattle.sqlite_trees.specs.declared.store.Store.{Ghosts}
 use Rattle.sqlite.specs.declared.error.Error.{Error}
@@ -43,7 +43,7 @@ IsAskedAt g answer_of machine old is_closed new result =
     ⊎ ((refusal : Refusal) × (result ≡ Err refusal)
     × (IsUnread g machine old new is_closed refusal ⊎ ((refusal ≡ Memory) × (new ≡ old) × (is_closed ≡ false))))
 
--- an office over tables is asked what has this answer of its state, by names of which one may be malformed: a closed office, and no other,
+-- an office over tables is asked a query with this answer of its state, by names of which one may be malformed: a closed office, and no other,
 -- answers that it is closed; and memory runs out for no malformed name
 pub record Asks {S : Type 0} (g : Ghosts S) (answer_of : Machine → Result Answer Refusal) (is_bad : Bool) (was_closed : Bool) (counted : ℕ) (old : Held S)
     (is_closed : Bool) (counts : ℕ) (new : Held S) (result : Result Answer Refusal) : Type 0 where

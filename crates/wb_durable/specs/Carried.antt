@@ -1,4 +1,4 @@
--- The transaction of an accepted command: how it ends, and why it was not committed (this project's own).
+-- The transaction of an accepted command: how it ends, and why it was not committed.
 use Rattle.std.specs.Prelude.{◌≡◌, ◌⊎◌, Bool, true, false, if◌then◌else◌, [], Option, Result, Ok, Err, IfErr, OnOk}
 use Rattle.sqlite_trees.specs.declared.store.Store.{Ghosts}
 use Rattle.sqlite.specs.declared.error.Error.{Error}
@@ -75,7 +75,7 @@ HoldsStep g command key after old db =
     (whole : Machine) → StandsFor whole (state g old).now → IsStepOf whole command key after → StandsFor (step whole command).1 (record { schema = office_schema; trees = db })
 
 -- the change of an accepted command in a transaction of its own, over a connection that is settled at the whole office: if it succeeds, the
--- connection is settled at the office after the command; if it fails, the office is as before, but where the commit is in doubt a crash leaves
+-- connection is settled at the office after the command; if it fails, the office is as before, but if the commit is in doubt a crash leaves
 -- the one or the other; and a crash after it leaves no third
 pub record CarriesOut {S A : Type 0} (g : Ghosts S) (command : Command) (key : Option Key) (after : Machine) (old new : Held S) (result : Result A CarryError) : Type 0 where
   pub ok : HasCleanDisk (state g new) → (whole : Machine) → IsSettled whole (state g old) → IsStepOf whole command key after

@@ -1,4 +1,4 @@
--- What an accepted command changed in a part of the office, written to the tables of the whole office (this project's own).
+-- What an accepted command changed in a part of the office, written to the tables of the whole office.
 use Rattle.std.specs.Prelude.{◌≡◌, ◌≢◌, ◌⊎◌, ℕ, ◌≤◌, Option, Result, Ok, IsTrue, IfErr, IfSome, OnOk, OnErr, option_and_then}
 use Rattle.std.specs.FinMap as map
 use Rattle.std.specs.Option.{option_map}
@@ -25,11 +25,11 @@ use Rattle.wb_durable.specs.Keys.{key_put}
 
 -- ---- a step
 
--- the reply is not that a builder is told again of what it builds
+-- the reply does not repeat to a builder what it builds
 abbrev pub IsFresh : Reply → Type 0
 IsFresh reply = (accepted : ℕ) (given : Assignment) → reply ≢ Again accepted given
 
--- a command was accepted in a part of the office, which is `after` then: the part looks to the command like the whole office, and in the whole
+-- a command was accepted in a part of the office, which is `after` then: for the command the part is like the whole office, and in the whole
 -- one the command puts the record at this key
 pub record IsStepOf (whole : Machine) (command : Command) (key : Option Key) (after : Machine) : Type 0 where
   pub part : Machine
@@ -74,7 +74,7 @@ abbrev pub FailsAtOnce : {S : Type 0} → Ghosts S → Type 0 → Held S → Hel
 FailsAtOnce g Fits old new e = FailsToWrite (state g old) (state g new) e ⊎ (IsReadFault Fits e × (old ≡ new))
 
 -- one write in a transaction, or none: if it succeeds, a database that stood for a state that allows it stands for the state after it; if it
--- fails, it fails as its statement does, or for memory, or because what it writes does not fit; and it leaves a crash no more than before
+-- fails, it fails as its statement does, or because memory ran out or what it writes does not fit; and a crash leaves no more than before
 pub record Writes {S A : Type 0} (g : Ghosts S) (Fits : Type 0) (Allows : Machine → Type 0) (after : Machine → Machine) (old new : Held S) (result : Result A Error) : Type 0 where
   pub ok : HasCleanDisk (state g new) → OnOk result ((machine : Machine) → StandsFor machine (state g old).now → Allows machine → Reaches g (after machine) old new)
   pub err : HasCleanDisk (state g new) → IsTrue old.in_transaction → IfErr result (FailsAtOnce g Fits old new)
@@ -96,7 +96,7 @@ abbrev pub IsLeftOrBack : {S : Type 0} → Ghosts S → Machine → Held S → T
 IsLeftOrBack g before new = ((now : Machine) × IsUnderWay before now (state g new)) ⊎ IsBackAt before (state g new)
 
 -- the change of an accepted command, written in a transaction: if it succeeds, a database that stood for the whole office stands for it after
--- the command; if it fails, one of its writes failed, and the transaction is under way, or taken back; and it leaves a crash no more than before
+-- the command; if it fails, one of its writes failed, and the transaction is under way, or taken back; and a crash leaves no more than before
 pub record ChangesBy {S A : Type 0} (g : Ghosts S) (command : Command) (key : Option Key) (after : Machine) (old new : Held S) (result : Result A Error) : Type 0 where
   pub ok : HasCleanDisk (state g new)
       → OnOk result ((whole : Machine) → StandsFor whole (state g old).now → IsStepOf whole command key after → Becomes (step whole command).1 (state g old) (state g new))

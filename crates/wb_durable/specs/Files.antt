@@ -1,4 +1,4 @@
--- An office over two files, the database and its log: what is found in them, and why they are not opened or closed (this project's own).
+-- An office over two files, the database and its log: what is found in them, and why they are not opened or closed.
 use Rattle.std.specs.Prelude.{◌≡◌, ◌⊎◌, ℕ, Bool, []}
 use Rattle.sqlite_disk.specs.declared.Disk.{Ghosts}
 use Rattle.sqlite_disk.specs.declared.Files.{Files}
@@ -23,7 +23,7 @@ use Rattle.wb_durable.specs.Opening.{IsRefusedFrom}
 use Rattle.wb_durable.specs.Preparing.{HoldOffice, IsFoundAt}
 use Rattle.wb_durable.specs.Standing.{StandsAt}
 
--- the fault of the store where files are not opened for this error
+-- the fault of the store if files are not opened because of this error
 abbrev pub opening_fault : Error → StoreFault
 opening_fault (SqliteFailure OutOfMemory) = Memory
 opening_fault (SqliteFailure CannotOpen) = Device
@@ -42,7 +42,7 @@ AreFoundAt g files machine = (db : Trees) × HoldOffice machine db × AreSettled
 abbrev pub LeaveOffice : {D : Type 0} → Ghosts D → Files D → Machine → Machine → Type 0
 LeaveOffice g files one other = LeaveOnly g files (λ db. HoldOffice one db ⊎ HoldOffice other db)
 
--- no database was made in the files yet: that of the database is empty
+-- no database was made in the files yet: the file of the database is empty
 abbrev pub AreNew : {D : Type 0} → Ghosts D → Files D → Type 0
 AreNew g files = g.seen files.db ≡ []
 
@@ -50,7 +50,7 @@ AreNew g files = g.seen files.db ≡ []
 abbrev pub StandsAtOne : Machine → Machine → Bool → ℕ → State → Type 0
 StandsAtOne one other is_closed accepted s = ∥ (StandsAt one is_closed accepted s ⊎ StandsAt other is_closed accepted s) ∥₁
 
--- the files were not opened as a database, for the error of which this is the fault, and what they hold was left
+-- the files were not opened as a database, because of the error that has this fault, and what they hold was left
 pub record FailsToOpen {D : Type 0} (g : Ghosts D) (files : Files D) (fault : StoreFault) : Type 0 where
   pub error : Error
   pub rest : Leftover D g
@@ -68,7 +68,7 @@ pub record IsRefusedOver {D : Type 0} (g : Ghosts D) (files : Files D) (fault : 
   pub opened : IsOver g files conn
   pub refused : IsRefusedFrom over_files conn fault
 
--- the files were not closed, for the error of which this is the fault: a crash leaves no more of them than before
+-- the files were not closed, because of the error that has this fault: a crash leaves no more of them than before
 pub record IsFaultOfClosing {D : Type 0} {g : Ghosts D} (conn : Held (FileStore D g)) (fault : StoreFault) : Type 0 where
   pub error : Error
   pub last : FileStore D g

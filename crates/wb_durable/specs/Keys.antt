@@ -1,4 +1,4 @@
--- Which record a command puts, so that it can be read and written by its key (this project's own).
+-- Which record a command puts, so that it can be read and written by its key.
 use Rattle.std.specs.Prelude.{Option, Some, None}
 use Rattle.std.specs.Option.{option_map}
 use Rattle.wb_states.specs.declared.command.Command.{Command}
@@ -11,7 +11,7 @@ use Rattle.wb_states.specs.Queue.{Entry, head_of}
 abbrev pub key_of : Option Entry → Option Key
 key_of = option_map (λ entry. entry.0)
 
--- the key of the record that a command puts if it is accepted, and is no merge: it names the key, or the record is at the head of a queue, or
+-- the key of the record that a command other than a merge puts if it is accepted: it names the key, or the record is at the head of a queue, or
 -- held under a take number
 abbrev pub key_put : Machine → Command → Option Key
 key_put machine (of.AddArch fields) = None

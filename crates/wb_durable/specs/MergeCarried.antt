@@ -1,4 +1,4 @@
--- The transaction of a merge: how it ends, and why it was not committed (this project's own).
+-- The transaction of a merge: how it ends, and why it was not committed.
 use Rattle.std.specs.Prelude.{◌⊎◌, ℕ, List, Result, IfErr, OnOk}
 use Rattle.sqlite_trees.specs.declared.store.Store.{Ghosts}
 use Rattle.sqlite.specs.declared.error.Error.{Error}
@@ -35,7 +35,7 @@ HoldsMerge g sources parts before after old db =
     → StandsFor (step whole (Merge sources parts)).1 (record { schema = office_schema; trees = db })
 
 -- what a merge changed, in a transaction of its own, over a connection that is settled at the whole office: if it succeeds, the connection is
--- settled at the office after the merge; if it fails, the office is as before, but where the commit is in doubt a crash leaves the one or the
+-- settled at the office after the merge; if it fails, the office is as before, but if the commit is in doubt a crash leaves the one or the
 -- other; and a crash after it leaves no third
 pub record CarriesMerge {S A : Type 0} (g : Ghosts S) (sources : List ℕ) (parts : List Part) (before after : Machine) (old new : Held S)
     (result : Result A CarryError) : Type 0 where

@@ -1,4 +1,4 @@
--- The records of a merge's architectures as they are looked up, part by part (this project's own).
+-- The records of a merge's architectures as they are looked up, part by part.
 use Rattle.std.specs.Prelude.{◌≡◌, List, [], ◌∷◌, ◌++◌, None, map as each}
 use Rattle.std.specs.FinMap as map
 use Rattle.wb_states.specs.declared.command.Part.{Part}

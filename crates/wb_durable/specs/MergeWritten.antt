@@ -1,4 +1,4 @@
--- What a merge changed of the records of its architectures, and that it is written to the tables (this project's own).
+-- What a merge changed of the records of its architectures, and that it is written to the tables.
 use Rattle.std.specs.Prelude.{◌≡◌, ℕ, Bool, not, List, [], ◌∷◌, filter, Some, Result, IsTrue, IfErr, OnOk, OnErr}
 use Rattle.std.specs.FinMap as map
 use Rattle.sqlite_trees.specs.declared.store.Store.{Ghosts}
@@ -30,11 +30,11 @@ use Rattle.wb_durable.specs.Turns.{IsNoOffice, StopsWith}
 abbrev pub entries_gone : Machine → Machine → List ℕ → List Entry
 entries_gone before after arch = filter (λ entry. not (map.contains_key after.records entry.0)) (rows_of before arch)
 
--- whether the record at its key is another than before, or there was none
+-- whether the record at its key differs from the one before, or there was none
 abbrev pub is_different : Machine → Entry → Bool
 is_different before entry = not (is_kept (change_of (map.get before.records entry.0) (Some entry.1)))
 
--- the records of the architecture that are new or other than before, by the names of their source packages
+-- the records of the architecture that are new or differ from those before, by the names of their source packages
 abbrev pub entries_changed : Machine → Machine → List ℕ → List Entry
 entries_changed before after arch = filter (is_different before) (rows_of after arch)
 
@@ -69,7 +69,7 @@ HaveFittingTakes entries = (entry : Entry) → IsIn entry entries → HasFitting
 abbrev pub HasTakeOverLimit : List Entry → Error → Type 0
 HasTakeOverLimit entries e = (e ≡ SqliteFailure DatabaseCorrupt) × ¬ HaveFittingTakes entries
 
--- the counts of an office fit, and the take number of each of its records
+-- the counts of an office fit, and so does the take number of each of its records
 pub record IsWithinLimits (machine : Machine) : Type 0 where
   pub counts : HasFittingCounts machine
   pub takes : (key : Key) (current : Record) → map.get machine.records key ≡ Some current → HasFittingTake current
@@ -86,7 +86,7 @@ pub record IsMergeIn (whole : Machine) (sources : List ℕ) (parts : List Part) 
   pub after_is : after ≡ (step before (Merge sources parts)).1
 
 -- what a merge changed, written in a transaction: if it succeeds, a database that stood for the whole office stands for it after the merge; if it
--- fails, one of its changes failed or cannot be written, and the transaction is under way or taken back; and it leaves a crash no more than before
+-- fails, one of its changes failed or cannot be written, and the transaction is under way or taken back; and a crash leaves no more than before
 pub record WritesMerge {S A : Type 0} (g : Ghosts S) (parts : List Part) (before after : Machine) (old new : Held S)
     (result : Result A Error) : Type 0 where
   pub ok : HasCleanDisk (state g new)

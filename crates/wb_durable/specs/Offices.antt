@@ -1,4 +1,4 @@
--- An office over files: at which state it stands, and whether its disk is clean (this project's own).
+-- An office over files: at which state it stands, and whether its disk is clean.
 use Rattle.std.specs.Prelude.{◌≡◌, false}
 use Rattle.sqlite_disk.specs.declared.Disk.{Ghosts}
 use Rattle.sqlite_store.specs.declared.store.FileStore.{FileStore}

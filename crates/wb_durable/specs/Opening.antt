@@ -1,4 +1,4 @@
--- What an opening tests of the tables of an office, in one call, and how it finds an office or makes one (this project's own).
+-- What an opening tests of the tables of an office, in one call, and how it finds an office or makes one.
 use Rattle.std.specs.Prelude.{◌≡◌, ◌≢◌, ◌⊎◌, ⊤, IsTrue, List, ℕ, [], Result, Err, IfOk, IfErr, OnOk, OnErr}
 use Rattle.sqlite_trees.specs.declared.store.Store.{Ghosts}
 use Rattle.sqlite.specs.declared.error.Error.{Error}
@@ -32,11 +32,11 @@ AreCountsOf machine counts = (counts.handed ≡ machine.handed) × (counts.accep
 abbrev pub ShowsCounts : Database → Counts → Type 0
 ShowsCounts db counts = ShowsGood sql.office_counts db (λ rows. HoldsCounts rows counts)
 
--- the rows of a database are good of its architectures, which are these
+-- the rows of the architectures in a database are good, and the architectures are these
 abbrev pub ShowsArchs : Database → List (List ℕ × OsCpu) → Type 0
 ShowsArchs db archs = ShowsGood sql.all_archs db (λ rows. HoldsArchs rows archs)
 
--- the rows of a database are good of its builders, which are these, beside these architectures
+-- the rows of the builders in a database are good beside these architectures, and the builders are these
 abbrev pub ShowsBuilders : Database → List (List ℕ × OsCpu) → List Key → Type 0
 ShowsBuilders db archs builders = ShowsGood sql.all_builders db (λ rows. HoldsBuilders archs rows builders)
 
@@ -96,8 +96,8 @@ abbrev pub LacksMemoryOrQuery : {S : Type 0} → Ghosts S → Held S → Held S 
 LacksMemoryOrQuery g old new fault = (fault ≡ Memory) ⊎ ComesLater g IsQueryFaultOfOne old new fault
 
 -- tests, one after another, of a database with the office's tables: if they succeed, it is good, and stays as it is; if they fail, one of them did,
--- after others that changed nothing; given what is so of the state, the tables of a consistent office pass them, with this outcome, unless memory
--- ran out or a query failed; and they leave a crash no more than before
+-- after others that changed nothing; if this is true of the state, the tables of a consistent office pass them, with this outcome, unless memory
+-- ran out or a query failed; and a crash leaves no more than before
 pub record ChecksWith {S A : Type 0} (g : Ghosts S) (Given : Machine → Type 0) (Good : Database → A → Type 0)
     (Outcome : Machine → A → Type 0) (Why : State → State → StoreFault → Type 0) (old new : Held S) (result : Result A StoreFault) : Type 0 where
   pub good : HasCleanDisk (state g new) → old.schema ≡ office_schema → IfOk result (Good (state g old).now)
@@ -118,7 +118,7 @@ abbrev pub ChecksScratch : {S A : Type 0} → Ghosts S → Held S → Held S →
 ChecksScratch g = ChecksWith g (λ _. ⊤) (λ db _. HasNoScratchRows db) (λ _ _. ⊤) FailsOnScratch
 
 -- the tests of a whole office: if they succeed, its rows are good, no merge left a row, and nothing is changed; a settled connection passes them, and
--- stays settled, or goes back to its state where memory ran out or a query failed; and no fault is given but that of a test
+-- stays settled, or goes back to its state if memory ran out or a query failed; and no fault is given but that of a test
 pub record Checks {S : Type 0} (g : Ghosts S) (old new : Held S) (result : Result Counts StoreFault) : Type 0 where
   pub was_clean : HasCleanDisk (state g new) → HasCleanDisk (state g old)
   pub good : HasCleanDisk (state g new) → old.schema ≡ office_schema
@@ -134,12 +134,12 @@ pub record Checks {S : Type 0} (g : Ghosts S) (old new : Held S) (result : Resul
 abbrev pub IsFaultOfMaking : {S : Type 0} → Ghosts S → Held S → StoreFault → Type 0
 IsFaultOfMaking g new fault = (e : Error) × FailsToMake g new e × (fault ≡ fault_of e Office)
 
--- the tests of the office that was there, or of the one that was made, fail where memory ran out or a query failed
+-- the tests of the office that was there, or of the one that was made, fail because memory ran out or a query failed
 abbrev pub LacksAfter : {S : Type 0} → Ghosts S → Held S → Held S → StoreFault → Type 0
 LacksAfter {S} g old new fault = (at : Held S) × ((old ≡ at) ⊎ IsSettled empty_office (state g at)) × LacksMemoryOrQuery g at new fault
 
 -- an office is found, or made in a database without a table: if that succeeds, it is settled at its state, with its counts; whatever it answers, a
--- crash leaves that state; it fails only where it could not be made, or where memory ran out or a query failed; an office that is found has good
+-- crash leaves that state; it fails only if it could not be made, or if memory ran out or a query failed; an office that is found has good
 -- rows, or is refused by one of its tests; and a database with other tables is never taken for an office, and is left as it is
 pub record FindsOffice {S : Type 0} (g : Ghosts S) (old new : Held S) (result : Result Counts StoreFault) : Type 0 where
   pub was_clean : HasCleanDisk (state g new) → HasCleanDisk (state g old)
@@ -154,6 +154,6 @@ pub record FindsOffice {S : Type 0} (g : Ghosts S) (old new : Held S) (result : 
   pub known : IfOk result (λ counts. (old.schema ≡ empty_schema) ⊎ (old.schema ≡ office_schema))
   pub other : old.schema ≢ empty_schema → old.schema ≢ office_schema → (result ≡ Err NotOffice) × (new ≡ old)
 
--- an opening was refused, and its connection given up, at a state that finding the office left
+-- an opening was refused, and its connection given up, in the state in which the search for the office left it
 abbrev pub IsRefusedFrom : {S : Type 0} → Ghosts S → Held S → StoreFault → Type 0
 IsRefusedFrom {S} g old fault = (at : Held S) × FindsOffice g old at (Err fault)

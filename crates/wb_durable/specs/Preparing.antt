@@ -1,4 +1,4 @@
--- A database without a table, which becomes that of an empty office (this project's own).
+-- A database without a table, which becomes that of an empty office.
 use Rattle.std.specs.Prelude.{◌≡◌, ◌⊎◌, false, Result, IfErr, OnOk, IsTrue}
 use Rattle.sqlite_trees.specs.declared.store.Store.{Ghosts}
 use Rattle.sqlite_catalog.specs.Listing.{IsSound}
@@ -12,7 +12,7 @@ use Rattle.wb_schema.specs.Making.{FailsAt}
 use Rattle.wb_states.specs.Machine.{Machine, empty_office}
 use Rattle.wb_tables.specs.Settled.{StandsForTrees, IsSettled}
 
--- a connection without a transaction, whose database has no table, and of which a crash leaves that alone
+-- a connection without a transaction, whose database has no table, and of which a crash leaves only that
 pub record IsBlank (s : State) : Type 0 where
   pub is_open : IsTrue s.is_open
   pub idle : s.in_transaction ≡ false

@@ -1,4 +1,4 @@
--- The records that a command names, by what they are looked up, and the office that they make (this project's own).
+-- The records that a command names, by what they are looked up, and the office that they make.
 use Rattle.std.specs.Prelude.{◌≡◌, ℕ, List, [], ◌∷◌, ◌++◌, Option, Some, None, map as each}
 use Rattle.std.specs.Option.{option_map}
 use Rattle.std.specs.FinMap as map
@@ -38,7 +38,7 @@ key_named (names.Source arch source) first = Some (arch.now, source.now)
 key_named (names.Taken take_number) first = key_of first
 key_named (names.Next next) first = key_of first
 
--- what was found is what a command names of this state, where the records that it names are these
+-- what was found is what a command names of this state, if the records that it names are these
 pub record HasFound (machine : Machine) (command : Command) (names : Names) (found : Found) : Type 0 where
   pub handed : found.counts.handed ≡ machine.handed
   pub accepted : found.counts.accepted ≡ machine.accepted

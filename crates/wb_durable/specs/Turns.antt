@@ -1,4 +1,4 @@
--- What several changes of the office's tables, one after another in a transaction, promise together (this project's own).
+-- What several changes of the office's tables, one after another in a transaction, promise together.
 use Rattle.std.specs.Prelude.{◌≡◌, ◌⊎◌, Result, IsTrue, IfErr, OnOk, OnErr}
 use Rattle.sqlite_trees.specs.declared.store.Store.{Ghosts}
 use Rattle.sqlite.specs.declared.error.Error.{Error}
@@ -23,7 +23,7 @@ abbrev pub IsNoOffice : {S : Type 0} → Ghosts S → Held S → Type 0
 IsNoOffice g held = (machine : Machine) → ¬ StandsFor machine (state g held).now
 
 -- changes in a transaction, one after another: if they succeed, a database that stood for a state stands for the state after them; if they fail,
--- one of them did after others, or was not run for one of these reasons, and the transaction is under way or taken back; and they leave a crash
+-- one of them did, after others, or was not run for one of these reasons, and the transaction is under way or taken back; and a crash leaves
 -- no more than before
 pub record ChangesInTurn {S A : Type 0} (g : Ghosts S) (Why : Error → Type 0) (after : Machine → Machine) (old new : Held S)
     (result : Result A Error) : Type 0 where

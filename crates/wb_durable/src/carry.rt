@@ -80,7 +80,7 @@ fn is_over(why: Error) -> bool
     }
 }
 
-/// Takes back what a transaction wrote that may still be under way after its commit.
+/// Takes back what was written by a transaction that may still be under way after its commit.
 pub(crate) fn take_back<S: Alter>(conn: &mut Connection<S>) -> Result<(), Error>
     ensures taken_back { TakesBack S.Store conn.old conn.new }
     ensures ok { HasCleanDisk (state S.Store conn.new)

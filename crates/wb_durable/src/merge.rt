@@ -19,7 +19,7 @@ use wb_states::StoreFault;
 use wb_states::command::{Merge, Part};
 use wb_store::{KeyedRecord, Store};
 
-/// Whether the record at its key is another than before, or there was none. The only error is `Memory`.
+/// Whether the record at its key differs from the one before, or there was none. The only error is `Memory`.
 fn is_different(before: &Store, row: &KeyedRecord) -> Result<bool, StoreFault>
     ensures value { IfOk result (λ differs. differs ≡ is_different before.now (entry_of row.now)) }
     ensures fault { IfErr result (λ fault. fault ≡ Memory) }
@@ -49,7 +49,7 @@ fn rows_gone(
     Ok(gone)
 }
 
-/// The records of the architecture that are new or other than before. The only error is `Memory`.
+/// The records of the architecture that are new or differ from those before. The only error is `Memory`.
 fn rows_changed(
     alloc: Global,
     arch: &Text,
@@ -100,7 +100,7 @@ fn put_all<S: Alter>(writing: &mut Writing<'_, S>, rows: &[KeyedRecord]) -> Resu
 }
 
 /// Writes what differs of the records of the architecture. The error is that of the statement that failed,
-/// `OutOfMemory` if what differs cannot be told for memory, or `DatabaseCorrupt` at a take number above the limit.
+/// `OutOfMemory` if memory runs out for what differs, or `DatabaseCorrupt` at a take number above the limit.
 fn write_arch<S: Alter>(
     alloc: Global,
     writing: &mut Writing<'_, S>,
@@ -125,8 +125,8 @@ fn write_arch<S: Alter>(
 
 /// Writes what a merge of these parts changed, in a transaction that is under way: `before` is the part of the office
 /// that the merge looks at, and `after` is the same after the merge. Each record that is gone is taken out, each that
-/// is new or other is put, and both counts are set; a record that did not change is not written. The error is that of
-/// the statement that failed, `OutOfMemory` if what differs cannot be told for memory, or `DatabaseCorrupt` if a count
+/// is new or differs is put, and both counts are set; a record that did not change is not written. The error is that
+/// of the statement that failed, `OutOfMemory` if memory runs out for what differs, or `DatabaseCorrupt` if a count
 /// or a take number is above the limit; the caller then takes the transaction back (this project's own).
 pub(crate) fn write_merge<S: Alter>(
     alloc: Global,

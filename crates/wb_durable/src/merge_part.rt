@@ -14,7 +14,7 @@ use std::alloc::{AllocError, Global};
 use wb_states::command::Part;
 use wb_store::{KeyedRecord, Store};
 
-/// Adds these records behind the others. The only error is that there is no memory for it.
+/// Adds these records after the others. The only error is that there is no memory for it.
 fn push_all(rows: &mut Vec<KeyedRecord>, found: Vec<KeyedRecord>) -> Result<(), AllocError>
     ensures ok { OnOk result (rows.new.items ≡ rows.old.items ++ found.items) }
 {

@@ -15,7 +15,7 @@ use wb_states::command::Merge;
 use wb_states::{Command, Reply};
 use wb_store::Store;
 
-/// Carries out a merge. The records of its architectures are read twice, to tell afterwards which of them differ.
+/// Carries out a merge. The records of its architectures are read twice, to find afterwards which of them differ.
 pub(crate) fn answer_merge<S: Alter>(
     alloc: Global,
     conn: &mut Connection<S>,

@@ -45,7 +45,7 @@ fn named_of(alloc: Global, names: &Names<'_>, found: Found) -> Result<Named, Sto
     })
 }
 
-/// What the command names of the office, read from its tables; of a merge that is the counts and the architectures
+/// What the command names of the office, read from its tables; for a merge that is the counts and the architectures
 /// alone. It fails if a query fails, with `OutOfMemory` if memory runs out, and with `DatabaseCorrupt` if a row is not
 /// what an office keeps. The database stays as it is; only a failed query may take a transaction back.
 /// Source: this project's own.

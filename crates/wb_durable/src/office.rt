@@ -310,7 +310,7 @@ fn end_uncommitted<S: Alter>(conn: &mut Connection<S>, error: CarryError) -> (Re
 }
 
 /// What is answered after this fault of a call that changed nothing: out of memory, the office goes on if its
-/// connection can still be used, and else it is closed.
+/// connection can still be used, and otherwise it is closed.
 fn end_with<S: Alter>(conn: &mut Connection<S>, fault: StoreFault) -> (Refusal, bool)
     ensures ends { EndsWith S.Store fault conn.old conn.new result.0 result.1 }
 {

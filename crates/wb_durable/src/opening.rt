@@ -14,8 +14,8 @@ use wb_tables::{
 /// database has no table. [`Office::adopt`](crate::Office::adopt) is this call, with the connection it was given. The
 /// faults are `NotOffice` if the database has tables and they are not exactly those of an office, which is then left as
 /// it is, and those of [`check`], and before them those of the table of the office if the tables cannot be made. An
-/// office that was there stays as it is, but for a transaction that a failure of a query takes back; of a database
-/// without a table a crash leaves that, or the empty office (this project's own).
+/// office that was there stays as it is, but for a transaction that a failure of a query takes back; a crash of a
+/// database without a table leaves that, or the empty office (this project's own).
 pub fn find_office<S: Alter>(conn: &mut Connection<S>) -> Result<Counts, StoreFault>
     requires idle { conn.old.in_transaction ≡ false }
     ensures finds { FindsOffice S.Store conn.old conn.new result }

@@ -6,8 +6,8 @@ use sqlite::{Alter, Connection, Error, ErrorCode};
 use wb_sql::{CommitError, begin};
 
 /// Makes the tables of an empty office in a database that has none, in one transaction. The error is that of the
-/// statement or of the commit that failed; the database is then as it was, or it is that of the empty office where the
-/// commit failed (this project's own).
+/// statement or of the commit that failed; the database is then as it was, or, if the commit failed, it may be that of
+/// the empty office (this project's own).
 pub(crate) fn make_office<S: Alter>(conn: &mut Connection<S>) -> Result<(), Error>
     requires idle { conn.old.in_transaction ≡ false }
     ensures makes { MakesEmptyOffice S.Store conn.old conn.new result }

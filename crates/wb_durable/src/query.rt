@@ -40,7 +40,7 @@ pub(crate) fn builder_of(alloc: Global, builder: &str) -> Result<Text, Refusal>
     Ok(Text::copied(alloc, builder)?)
 }
 
-/// What the office answers to the query for the record of the source package on the architecture, where both names have
+/// What the office answers to the query for the record of the source package on the architecture, if both names have
 /// their forms. The errors are those of the look-ups. The database stays as it is; only a failed query may take a
 /// transaction back.
 pub(crate) fn find_item<S: Alter>(
@@ -74,7 +74,7 @@ fn item_found(arch: Text, source: Text, found: Option<Record>) -> Result<Answer,
     }
 }
 
-/// What the office answers to the query for what the builder holds, where its name has its form. The errors are those of
+/// What the office answers to the query for what the builder holds, if its name has its form. The errors are those of
 /// the look-ups. The database stays as it is; only a failed query may take a transaction back.
 pub(crate) fn find_mine<S: Alter>(
     conn: &mut Connection<S>,

@@ -53,7 +53,7 @@ AppendsFront old new text = (count : ℕ) × (count < length text) × Appends ol
 
 -- ---- faults
 
--- the name of a fault (this project's own)
+-- the name of a fault
 abbrev pub name_of_fault : Fault → List ℕ
 name_of_fault HeadTooLarge = codes "HeadTooLarge"
 name_of_fault BadHead = codes "BadHead"

@@ -1,4 +1,4 @@
--- The commands that bodies give: JSON objects (RFC 8259), whose keys are this project's own. Further keys say nothing.
+-- The commands that bodies give: JSON objects (RFC 8259). Further keys say nothing.
 use Rattle.std.specs.Prelude.{ℕ, ℤ, List, Option, None, Some, option_and_then, option_map, is_some, codes, if◌then◌else◌, Result, Ok, Err}
 use Rattle.std.specs.Str.{is_utf8}
 use Rattle.serde_json.specs.Data.{Data}
@@ -41,7 +41,7 @@ abbrev pub if_there : Option Data → Option (Option ℕ)
 if_there None = Some None
 if_there (Some value) = as_whole_or_null value
 
--- the number under a key, or none where the key is missing or has null
+-- the number under a key, or none if the key is missing or has null
 abbrev pub number_or_none_in : List ℕ → Data → Option (Option ℕ)
 number_or_none_in key body = if_there (get key body)
 

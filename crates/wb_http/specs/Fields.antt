@@ -1,5 +1,6 @@
 -- The fields of a head (RFC 9112, section 5), and the length of the body that they state (RFC 9112, section 6).
 use Rattle.std.specs.Prelude.{ℕ, Bool, ◌&&◌, ◌||◌, not, codes, ◌==◌, nat_lt, List, [], ◌∷◌, length, map, filter, if◌then◌else◌, Result, Ok, Err}
+use Prim.Native.Char.{code}
 use Rattle.std.specs.Char.{is_ascii_digit, to_ascii_lowercase}
 use Rattle.std.specs.List.{list_all, list_any}
 use Rattle.std.specs.Str.{bytes_eq}
@@ -56,4 +57,4 @@ length_stated (value ∷ values) = if list_all (is_same_number value) (value ∷
 -- a number without the zeros that it begins with
 abbrev pub without_zeros : List ℕ → List ℕ
 without_zeros [] = []
-without_zeros (digit ∷ digits) = if digit == 48 then without_zeros digits else digit ∷ digits
+without_zeros (digit ∷ digits) = if digit == code "0" then without_zeros digits else digit ∷ digits

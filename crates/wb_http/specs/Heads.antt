@@ -1,4 +1,4 @@
--- The head of a request at the front of a stream (RFC 9112, sections 2 to 5). The limits are this project's own.
+-- The head of a request at the front of a stream (RFC 9112, sections 2 to 5). It has limits of length and of fields.
 use Rattle.std.specs.Prelude.{◌≡◌, ◌⊎◌, ℕ, ◌<◌, ◌≤◌, Bool, true, false, List, [], length, take, drop, Option, ⊤}
 use Rattle.std.specs.Io.KnownBytes.{Consumes, IsAtEnd}
 use Rattle.httparse.specs.Grammar.{HasNoRequest, MayBecomeRequest, NeverHasRequest, ReadsRequest, RequestHead, print_request}

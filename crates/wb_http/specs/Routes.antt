@@ -1,6 +1,7 @@
--- The targets of requests (RFC 9112, section 3.2). The paths are this project's own; a target is compared as it stands.
+-- The targets of requests (RFC 9112, section 3.2). A target is compared as it stands.
 use Rattle.std.specs.Prelude.{ℕ, Bool, ◌&&◌, not, ◌==◌, nat_lt, List, length, take, drop, codes, if◌then◌else◌}
 use Rattle.std.specs.Prelude.{Option, None, Some, option_and_then, Result, Ok, Err}
+use Prim.Native.Char.{code}
 use Rattle.std.specs.List.{after_first, before_first, list_all, position_or_len}
 use Rattle.std.specs.Str.{bytes_eq, is_utf8}
 use Rattle.percent_encoding.specs.Percent.{percent_decode}
@@ -33,7 +34,7 @@ after_prefix prefix text = if bytes_eq (take (length prefix) text) prefix then S
 
 -- a slash
 abbrev pub is_slash : ℕ → Bool
-is_slash byte = byte == 47
+is_slash byte = byte == code "/"
 
 -- a part of a path: one byte or more, and no slash (RFC 3986, section 3.3)
 abbrev pub is_part : List ℕ → Bool

@@ -17,7 +17,7 @@ ghost use Rattle.wb_http.specs.declared.request.Request.TheVariants.{Command};
 pub fn a_head_decides()
     ensures value { (input : List ℕ) (head : RequestHead) (rest : List ℕ) (received : AnyReceived)
         → IsHead input head rest → Means input received → Answers (asked head rest) received }
-    // memory runs out only where what the head asks for takes some
+    // memory runs out only if what the head asks for takes some
     ensures memory { (input : List ℕ) (head : RequestHead) (rest : List ℕ)
         → IsHead input head rest → Means input Memory → TakesMemory (wanted_of head) }
 {}

@@ -1,4 +1,4 @@
--- The listing as a value that a prover can tell from others (this project's own).
+-- The listing as a value that a prover can distinguish from others.
 use Rattle.std.specs.Prelude.{refl}
 use Rattle.std.specs.Coded.{Coded, code_by, coded×}
 use Rattle.std.specs.FinMap as map

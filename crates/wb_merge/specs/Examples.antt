@@ -1,4 +1,4 @@
--- What lists have of one source package, and what a merge of the architecture amd64 makes of it, for examples (this project's own).
+-- What lists have of one source package, and what a merge of the architecture amd64 makes of it, for examples.
 use Rattle.std.specs.Prelude.{◌≡◌, ℕ, false, List, [], codes, Option, Some, option_map}
 use Rattle.std.specs.FinMap as map
 use Rattle.deb_relations.specs.declared.arch.ArchWords.{ArchWords}
@@ -74,7 +74,7 @@ Becomes name listed built current new = (old : Records) (listing : ArchiveListin
     → map.get listing.listed name ≡ listed → map.get listing.built name ≡ built → map.get old (on_amd64 name) ≡ current
     → map.get (merged old (codes "amd64") listing) (on_amd64 name) ≡ new
 
--- the same where a package of this name is available in these versions
+-- the same if a package of this name is available in these versions
 abbrev pub BecomesBeside : List ℕ → List (List ℕ) → List ℕ → Option Listed → Option Built → Option Record → Option Record → Type 0
 BecomesBeside other versions name listed built current new = (old : Records) (listing : ArchiveListing)
     → versions_of listing.available other ≡ versions

@@ -1,4 +1,4 @@
--- For which lists memory is taken, and so which of them may run out of it (this project's own).
+-- For which lists memory is taken, and so which of them may run out of it.
 use Rattle.std.specs.Prelude.{ℕ, Bool, false, ◌&&◌, ◌||◌, List, [], ◌∷◌, Option, Some, None, Result, Ok, Err, is_ok}
 use Rattle.std.specs.List.{list_any}
 use Rattle.deb_control.specs.Fields.{reading_of, takes_memory}

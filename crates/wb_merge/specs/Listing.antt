@@ -1,4 +1,4 @@
--- What the archive lists for an architecture: each source package, what was built of it, and what is available (this project's own).
+-- What the archive lists for an architecture: each source package, what was built of it, and what is available.
 use Rattle.std.specs.Prelude.{◌≡◌, ◌≢◌, ℕ, Bool, true, not, ◌&&◌, ◌||◌, nat_lt, List, [], ◌∷◌, ◌++◌, length, filter, map, codes, bytes_eq, Option, Some, None, unwrap_or, Result, Ok, Err, if◌then◌else◌}
 use Rattle.std.specs.List.{list_any, filter_map, fold, AllByRecursion}
 use Rattle.std.specs.Option.{option_map}
@@ -23,7 +23,7 @@ use Rattle.wb_merge.specs.Rows.{SourceRow, BinaryRow, source_rows, binary_rows}
 
 -- ---- the greatest of some, the first of equals
 
--- an item of a list that is greater than all before it, and not less than any behind it
+-- an item of a list that is greater than all before it, and not less than any after it
 pub record IsFirstGreatest {X : Type 0} (R : X → X → Ordering) (items : List X) (item : X) : Type 0 where
   pub before : List X
   pub behind : List X
@@ -31,7 +31,7 @@ pub record IsFirstGreatest {X : Type 0} (R : X → X → Ordering) (items : List
   pub greater : AllByRecursion (λ other. R other item ≡ Less) before
   pub not_less : AllByRecursion (λ other. R other item ≢ Greater) behind
 
--- the first greatest of a list, none where the list has no item
+-- the first greatest of a list, or none if the list has no item
 abbrev pub IsGreatest : {X : Type 0} → (X → X → Ordering) → List X → Option X → Type 0
 IsGreatest R items None = items ≡ []
 IsGreatest R items (Some item) = IsFirstGreatest R items item
@@ -41,7 +41,7 @@ abbrev pub is_better : {X : Type 0} → (X → X → Ordering) → Option X → 
 is_better R None next = true
 is_better R (Some best) next = is_gt (R next best)
 
--- the better of the best so far and the next: the next only where it is greater
+-- the better of the best so far and the next: the next only if it is greater
 abbrev pub better : {X : Type 0} → (X → X → Ordering) → Option X → X → X
 better R best next = if is_better R best next then next else unwrap_or best next
 
@@ -51,7 +51,7 @@ best_from R = fold (λ best item. Some (better R best item))
 
 -- ---- source packages
 
--- a text of two, with a comma between them where neither is empty
+-- two texts in one, with a comma between them if neither is empty
 abbrev pub joined : List ℕ → List ℕ → List ℕ
 joined first second =
     if is_empty_text first then second else (if is_empty_text second then first else first ++ codes ", " ++ second)
@@ -61,25 +61,25 @@ abbrev printed_of : ArchWords → Result (List (List Alternative)) RelationFault
 printed_of arch (Err fault) = None
 printed_of arch (Ok relations) = Some (waits_for relations arch)
 
--- relations reduced for the architecture and printed, where the text has a reading
+-- relations reduced for the architecture and printed, if the text has a reading
 unfoldable pub printed_for : ArchWords → List ℕ → Option (List ℕ)
 printed_for arch text = printed_of arch (reading_of text)
 
--- a text within the limit of relations
+-- a text within the limit of relations (this project's own)
 abbrev pub within_limit : List ℕ → Option (List ℕ)
 within_limit text = if nat_lt relations_limit (length text) then None else Some text
 
--- two texts joined, where both are there and the whole is within the limit of relations
+-- two texts joined, if both are there and the whole is within the limit of relations
 abbrev pub both_joined : Option (List ℕ) → Option (List ℕ) → Option (List ℕ)
 both_joined None second = None
 both_joined (Some first) None = None
 both_joined (Some first) (Some second) = within_limit (joined first second)
 
--- what a source package needs to be built on the architecture: Build-Depends and Build-Depends-Arch (Debian Policy 7.7), or none where that cannot be read
+-- what a source package needs to be built on the architecture, or none if that cannot be read: Build-Depends and Build-Depends-Arch (Debian Policy 7.7; that only these two fields are read is this project's own)
 unfoldable pub depends_of : ArchWords → SourceRow → Option (List ℕ)
 depends_of arch row = both_joined (printed_for arch row.depends) (printed_for arch row.depends_arch)
 
--- what is listed of a source package by a row, where this is what it needs to be built
+-- what is listed of a source package by a row, if this is what it needs to be built
 abbrev pub listed_with : Option (List ℕ) → SourceRow → Listed
 listed_with depends row = record {
   version = row.version;
@@ -92,7 +92,7 @@ listed_with depends row = record {
 abbrev pub listed_as : ArchWords → SourceRow → Listed
 listed_as arch row = listed_with (depends_of arch row) row
 
--- whether a row lists its source package for the architecture (Debian Policy 5.6.8)
+-- whether a row lists its source package for the architecture (Debian Policy 5.6.8; that a source which is only kept for others is not listed is this project's own)
 unfoldable pub is_listed : ArchWords → SourceRow → Bool
 is_listed arch row = list_any (λ word. arch_matches word arch) row.archs && not row.is_extra
 
@@ -138,7 +138,7 @@ built_of arch rows name = best_from built_cmp None (builds arch rows name)
 unfoldable pub is_installable_on : ArchWords → BinaryRow → Bool
 is_installable_on arch row = bytes_eq row.arch arch.name || bytes_eq row.arch (codes "all")
 
--- every pair of a name and a version that can be installed on the architecture
+-- every pair of a name and a version that can be installed on the architecture (that `Provides` is not read is this project's own)
 unfoldable pub available_of : ArchWords → List BinaryRow → Pairs
 available_of arch rows =
     fold (λ pairs row. with_pair pairs row.name row.version) no_pairs (filter (is_installable_on arch) rows)
@@ -156,7 +156,7 @@ pub record ArchiveListing : Type 0 where
   pub built : finite.FinMap text_cmp Built
   pub available : Pairs
 
--- a key with the value that a function gives at it, where it gives one
+-- a key with the value that a function gives at it, if it gives one
 abbrev pub with_value : {K X : Type 0} → (K → Option X) → K → Option (K × X)
 with_value f key = option_map (λ value. (key, value)) (f key)
 
@@ -172,12 +172,12 @@ listing_of_rows arch sources packages = record {
   available = available_of arch packages;
 }
 
--- the listing of the rows of two lists, or the first refusal where a list was refused
+-- the listing of the rows of two lists, or the first refusal if a list was refused
 abbrev pub listing_in : ArchWords → Result (List SourceRow) Refusal → Result (List BinaryRow) Refusal → Result ArchiveListing Refusal
 listing_in arch (Err refusal) packages = Err refusal
 listing_in arch (Ok sources) (Err refusal) = Err refusal
 listing_in arch (Ok sources) (Ok packages) = Ok (listing_of_rows arch sources packages)
 
--- the listing of two lists, or the refusal for a fault of the Sources list, then of the Packages list
+-- the listing of two lists, or the refusal for a fault of the Sources list, then of the Packages list (that an architecture has one Packages list is this project's own)
 unfoldable pub listing_of : List ℕ → List ℕ → ArchWords → Result ArchiveListing Refusal
 listing_of sources packages arch = listing_in arch (source_rows sources) (binary_rows packages)

@@ -1,4 +1,4 @@
--- What a merge makes of the record of one source package, case by case (this project's own, in wanna-build's terms).
+-- What a merge makes of the record of one source package, case by case (in wanna-build's terms).
 use Rattle.std.specs.Prelude.{◌≡◌, ℕ, pos, Bool, true, false, ◌||◌, nat_le, List, [], Option, Some, None, Result, Ok, Err, is_some, if◌then◌else◌}
 use Rattle.std.specs.Ordering.{match_ordering}
 use Rattle.deb_version.specs.Order.{version_cmp}
@@ -19,7 +19,7 @@ abbrev pub covers : Option Built → List ℕ → ℕ → Bool
 covers None version number = false
 covers (Some built) version number = match_ordering (version_cmp built.version version) false (nat_le number built.number) true
 
--- the number of what was built, where it is of this version, else another
+-- the number of what was built, if it is of this version, else another
 abbrev pub built_number : Option Built → List ℕ → ℕ → ℕ
 built_number None version other = other
 built_number (Some built) version other = match_ordering (version_cmp built.version version) other built.number other
@@ -44,7 +44,7 @@ relisted state number listed built current = record (in_state state current) {
   note = note_after None state current;
 }
 
--- ---- a source package that has no record
+-- ---- a source package without a record
 
 -- a record of which nothing is known yet but its version
 abbrev pub blank_record : List ℕ → Record
@@ -64,11 +64,11 @@ blank_record version = record {
   build_priority = pos 0;
 }
 
--- the state of a new record: Installed where the version is built, else Needs-Build
+-- the state of a new record: Installed if the version is built, else Needs-Build
 abbrev pub new_state : Listed → Option Built → State
 new_state listed built = if covers built listed.version 0 then Installed else NeedsBuild
 
--- the number of a new record: that of the build of its version, and 0 where there is none
+-- the number of a new record: that of the build of its version, or 0 if there is none
 abbrev pub new_number : Listed → Option Built → ℕ
 new_number listed built = if covers built listed.version 0 then built_number built listed.version 0 else 0
 
@@ -87,7 +87,7 @@ newer_state listed built current = if is_not_for_us current.state then NotForUs 
 abbrev pub newer_number : Listed → Option Built → Record → ℕ
 newer_number listed built current = if is_not_for_us current.state then 0 else new_number listed built
 
--- the record at a later version, without its message, its holder and its take number; its build priority stays
+-- the record at a later version, without its message, its holder and its take number; its build priority stays (this project's own)
 unfoldable pub newer_record : Listed → Option Built → Record → Record
 newer_record listed built current =
     relisted (newer_state listed built current) (newer_number listed built current) listed built
@@ -124,7 +124,7 @@ listed_record listed built available current =
     match_ordering (version_cmp current.version listed.version) (newer_record listed built current)
     (same_record listed built available current) current
 
--- the record of a source package after a merge: none where it is not listed
+-- the record of a source package after a merge: none if it is not listed (this project's own)
 abbrev pub record_after : Option Record → Option Listed → Option Built → Pairs → Option Record
 record_after current None built available = None
 record_after None (Some listed) built available = Some (new_record listed built)

@@ -1,4 +1,4 @@
--- The records after a merge of one architecture, at each key, and what it counts (this project's own).
+-- The records after a merge of one architecture, at each key, and what it counts.
 use Rattle.std.specs.Prelude.{◌≡◌, ℕ, Bool, true, false, not, ◌&&◌, nat_eq, List, ◌++◌, length, filter, map, bytes_eq, Option, Some, None, if◌then◌else◌}
 use Rattle.std.specs.Bool.{beq}
 use Rattle.std.specs.Ordering.{int_eq}

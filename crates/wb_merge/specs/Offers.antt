@@ -1,4 +1,4 @@
--- What the rows of the archive's lists add to a listing, one after another (this project's own).
+-- What the rows of the archive's lists add to a listing, one after another.
 use Rattle.std.specs.Prelude.{◌≡◌, ℕ, ◌+◌, ◌<◌, ◌^◌, true, List, [], length, bytes_eq, Option, is_some, Result, Ok, Err, if◌then◌else◌}
 use Rattle.std.specs.List.{fold}
 use Rattle.std.specs.Option.{option_map_or}
@@ -18,7 +18,7 @@ use Rattle.wb_merge.specs.Listing.{is_better, is_listed, listed_cmp, listed_as, 
 
 -- ---- what a row adds
 
--- the values at names, to which one more is offered: it is kept where it is better than what is there
+-- the values at names, to which one more is offered: it is kept if it is better than what is there
 abbrev pub offered : {X : Type 0} → (X → X → Ordering) → finite.FinMap text_cmp X → List ℕ → X → finite.FinMap text_cmp X
 offered R best name next = if is_better R (finite.get best name) next then finite.insert best name next else best
 
@@ -42,7 +42,7 @@ Found = finite.FinMap text_cmp Built × Pairs
 abbrev pub with_binary : ArchWords → Found → BinaryRow → Found
 with_binary arch found row = (with_build arch found.0 row, with_package arch found.1 row)
 
--- what rows add one after another, where there are rows
+-- what rows add one after another, if there are rows
 abbrev pub after_rows : {S X : Type 0} → (S → X → S) → S → Result (List X) Refusal → Result S Refusal
 after_rows add start (Err refusal) = Err refusal
 after_rows add start (Ok rows) = Ok (fold add start rows)

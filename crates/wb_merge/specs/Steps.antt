@@ -1,4 +1,4 @@
--- One step of a merge: the record of one source package, what became of it, and the counts with it (this project's own).
+-- One step of a merge: the record of one source package, what became of it, and the counts with it.
 use Rattle.std.specs.Prelude.{◌≡◌, ℕ, ◌+◌, ◌≤◌, Option, if◌then◌else◌}
 use Rattle.std.specs.Ordering.{eq_by_cmp}
 use Rattle.std.specs.FinMap as finite
@@ -14,7 +14,7 @@ use Rattle.wb_merge.specs.Merged.{Records}
 abbrev pub record_at : Records → Key → Option Record
 record_at records key = finite.get records key
 
--- the second records have this one, or none, at the key, and at all others what the first have
+-- the second records have this record, or none, at the key, and at all other keys what the first records have
 unfoldable pub IsSetAt : Records → Key → Option Record → Records → Type 0
 IsSetAt old key value new =
     (other : Key) → record_at new other ≡ (if eq_by_cmp pair_cmp key other then value else record_at old other)

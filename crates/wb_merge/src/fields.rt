@@ -15,12 +15,12 @@ use deb_version::{Version, VersionFault};
 use std::alloc::Global;
 use wb_states::{ListField, ListingFault, is_label, is_source};
 
-/// Want of memory, told as control data tells it.
+/// Out of memory, as control data reports it.
 pub(crate) const MEMORY: ListingFault = ListingFault::Control {
     kind: ControlFaultKind::Memory,
 };
 
-/// The folded value of the field of this name, where the paragraph has it.
+/// The folded value of the field of this name, if the paragraph has it.
 #[tactic(auto, unfolding(crate::specs::Rows::value_named))]
 pub(crate) fn value(
     alloc: Global,
@@ -40,7 +40,7 @@ pub(crate) fn value(
     }
 }
 
-/// The folded value of the field of this name, empty where the paragraph lacks it.
+/// The folded value of the field of this name, empty if the paragraph lacks it.
 pub(crate) fn text(
     alloc: Global,
     paragraph: &Paragraph<'_>,
@@ -71,7 +71,7 @@ fn wanted(alloc: Global, paragraph: &Paragraph<'_>, field: ListField) -> Result<
     }
 }
 
-/// The text, where it has the form of its field. Takes no memory.
+/// The text, if it has the form of its field. Takes no memory.
 fn formed(text: Text, has_form: bool, field: ListField) -> Result<Text, ListingFault>
     ensures value { IfOk result (λ same. same ≡ text) }
     ensures ok { OnOk result (has_form ≡ true) }

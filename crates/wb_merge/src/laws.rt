@@ -27,7 +27,7 @@ ghost use Rattle.wb_merge.specs.Examples.{Becomes, BecomesBeside, binary_of, bui
 ghost use Rattle.wb_merge.specs.Merged.{Records, BecomesAt, record_after_at, all_kept, is_same_record, merge_counts, merged, recorded_names};
 ghost use Rattle.wb_merge.specs.Steps.{Key};
 
-/// A list is read as the rows of its paragraphs, one of each, or else refused for the first paragraph
+/// A list is read as the rows of its paragraphs, one for each, or refused for the first paragraph
 /// that has a fault, with its number from 1: that of its lines, or else the first of its fields (Debian
 /// Policy 5.1; the numbers are this project's own).
 pub fn the_first_faulty_paragraph_decides()
@@ -108,14 +108,14 @@ pub fn merge_counts_add_up()
         ≡ length (recorded_names (merged old arch listing) arch) }
 {}
 
-/// Records are found to be the same exactly where they are equal, so what is counted as kept is as it was.
+/// Records are found to be the same exactly if they are equal, so what is counted as kept is as it was.
 pub fn kept_records_are_equal()
     ensures same { (one other : Record) → is_same_record one other ≡ true ↔ (one ≡ other) }
 {}
 
-/// A merge never brings a record back: its version does not become an earlier one, nor, where it stays
-/// equal, its number a lower one; what was built earlier stays so, and what is Not-For-Us stays that. Of
-/// a source package that is listed a hold ends exactly where the listing has a later version, or the same
+/// A merge never brings a record back: its version does not become an earlier one, nor, if it stays
+/// equal, its number a lower one; what was built earlier stays so, and what is Not-For-Us stays that. For
+/// a source package that is listed a hold ends exactly if the listing has a later version, or the same
 /// one built with at least the record's number (this project's own).
 pub fn merges_never_go_back()
     // what a record has reached
@@ -155,7 +155,7 @@ pub fn merges_keep_build_priorities()
 {}
 
 /// The number of a binary-only rebuild is read back from the version that its binaries are given, and so
-/// is each number that one to three digits behind `+b` write at the end of a version (Debian Policy
+/// is each number that one to three digits after `+b` write at the end of a version (Debian Policy
 /// 5.6.12.2; that there are at most three is this project's own).
 pub fn rebuild_numbers_read_back()
     ensures built { (current : Record) → 1 ≤ current.number → current.number ≤ rebuild_limit
@@ -165,7 +165,7 @@ pub fn rebuild_numbers_read_back()
         → rebuild_number (front ++ codes "+b" ++ digits) ≡ value_of digits }
 {}
 
-/// A source package's name, alone or with a version in brackets behind it, is read as that name and that
+/// A source package's name, alone or with a version in brackets after it, is read as that name and that
 /// version, and no other text names a source package (Debian Policy 5.6.1).
 pub fn source_texts_read_back()
     ensures plain { (name : List ℕ) → IsTrue (is_package_name name) → NamesSource name name None }

@@ -30,12 +30,12 @@ use wb_states::Refusal;
 pub struct Listed {
     /// The source version.
     pub version: Version,
-    /// The priority, empty where the list gives none.
+    /// The priority, empty if the list gives none.
     pub priority: Text,
-    /// The section, empty where the list gives none.
+    /// The section, empty if the list gives none.
     pub section: Text,
     /// Build-Depends and Build-Depends-Arch (Debian Policy 7.7), reduced for the architecture and printed;
-    /// none where one of them cannot be read or the text has more than 65536 bytes.
+    /// none if one of them cannot be read or the text has more than 65536 bytes.
     pub depends: Option<Text>,
 }
 
@@ -75,7 +75,7 @@ impl Model for Listing {
     } };
 }
 
-/// What rows of Sources list for the architecture. Takes no memory where no row is listed.
+/// What rows of Sources list for the architecture. Takes no memory if no row is listed.
 fn list_sources(
     alloc: Global,
     rows: &[SourceRow],
@@ -122,7 +122,7 @@ fn read_packages(
 impl Listing {
     /// Reads a Sources list and the Packages list of the architecture, both uncompressed.
     ///
-    /// A source package is listed where its `Architecture` has a word that matches the architecture (Debian
+    /// A source package is listed if its `Architecture` has a word that matches the architecture (Debian
     /// Policy 5.6.8 and 11.1.1) and `Extra-Source-Only` is not `yes`. The error is `BadListing` for the
     /// first paragraph of Sources that is no control data, lacks a field or has one that is malformed,
     /// its fields taken in the order Package, Version, Architecture, Priority, Section; then for the first
@@ -146,7 +146,7 @@ impl Listing {
     }
 
     /// The listing of a Sources list that was read before and of the Packages list of the architecture,
-    /// uncompressed, as [`Listing::read`] has it. `Memory` comes neither for a fault of Sources nor where
+    /// uncompressed, as [`Listing::read`] has it. `Memory` comes neither for a fault of Sources nor if
     /// nothing is listed and Packages has no paragraph that begins with a field (this project's own).
     pub fn from_sources(
         alloc: Global,

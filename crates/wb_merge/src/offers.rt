@@ -16,7 +16,7 @@ use std::alloc::{AllocError, Global};
 use std::collections::BTreeMap;
 use wb_states::Refusal;
 
-/// Relations reduced for the architecture and printed, where the text can be read.
+/// Relations reduced for the architecture and printed, if the text can be read.
 #[tactic(auto, unfolding(crate::specs::Listing::printed_for))]
 fn printed_for(alloc: Global, text: &Text, arch: &ArchWords) -> Result<Option<Text>, Refusal>
     ensures value { IfOk result (λ printed. printed ≡ printed_for arch.now text.now) }
@@ -32,7 +32,7 @@ fn printed_for(alloc: Global, text: &Text, arch: &ArchWords) -> Result<Option<Te
     }
 }
 
-/// Two texts, with a comma between them where neither is empty.
+/// Two texts, with a comma between them if neither is empty.
 fn joined(alloc: Global, first: Text, second: Text) -> Result<Text, AllocError>
     ensures { IfOk result (λ text. text ≡ joined first second) }
 {
@@ -48,7 +48,7 @@ fn joined(alloc: Global, first: Text, second: Text) -> Result<Text, AllocError>
     Ok(Text::from(text))
 }
 
-/// What the source package needs to be built on the architecture, where that can be read.
+/// What the source package needs to be built on the architecture, if that can be read.
 #[tactic(auto, unfolding(crate::specs::Listing::depends_of))]
 fn depends_of(alloc: Global, row: &SourceRow, arch: &ArchWords) -> Result<Option<Text>, Refusal>
     ensures value { IfOk result (λ depends. depends ≡ depends_of arch.now row.now) }

@@ -30,7 +30,7 @@ fn covers(built: Option<&Built>, version: &Version, number: u16) -> bool
     }
 }
 
-/// The number of what was built, where it is of the version, else the other one.
+/// The number of what was built, if it is of the version, else the other one.
 fn built_number(built: Option<&Built>, version: &Version, other: u16) -> u16
     ensures { result ≡ built_number (option_copied built.entry) version.now other }
 {
@@ -53,7 +53,7 @@ fn are_waits_met(alloc: Global, available: &Available, waits: &Text) -> Result<b
     }
 }
 
-/// Empties the note where the state of the record is another one.
+/// Empties the note if the state of the record is another one.
 fn note_in_state(alloc: Global, current: &mut Record, state: State)
     ensures { current.new ≡ record current.old { note = note_after None state current.old } }
 {
@@ -153,7 +153,7 @@ fn new_record(alloc: Global, listed: &Listed, built: Option<&Built>) -> Result<R
     )
 }
 
-/// The record after a merge of a listing in an earlier version than the listed one.
+/// A record of an earlier version than the listed one, after a merge.
 #[tactic(auto, unfolding(crate::specs::Merge::newer_record))]
 fn newer_record(
     alloc: Global,
@@ -219,7 +219,7 @@ fn same_number(current: &Record, listed: &Listed, built: Option<&Built>) -> u16
     current.number
 }
 
-/// The record after a merge of one in the version that is listed.
+/// A record of the version that is listed, after a merge.
 #[tactic(auto, unfolding(crate::specs::Merge::same_record))]
 fn same_record(
     alloc: Global,
@@ -237,7 +237,7 @@ fn same_record(
     relist(alloc, copied(current)?, state, number, listed, built)
 }
 
-/// The record after a merge of one whose source package is listed.
+/// A record whose source package is listed, after a merge.
 #[tactic(auto, unfolding(crate::specs::Merge::listed_record))]
 fn listed_record(
     alloc: Global,
@@ -258,15 +258,14 @@ fn listed_record(
 }
 
 /// The record of the source package `name` after a merge of the listing, given the one that it had, if any;
-/// none where the archive lists the source package no more, which takes no memory. The only error is
-/// `Memory`.
+/// none if the archive lists the source package no more, which takes no memory. The only error is `Memory`.
 ///
-/// A new source package is Installed where the archive has it built, else Needs-Build; so is one of a later
+/// A new source package is Installed if the archive has it built, else Needs-Build; so is one of a later
 /// version than the record's, but Not-For-Us stays. A record of a later version than is listed stays as it
-/// is. Of one of an equal version Not-For-Us stays; it is Installed where it is built with at least its
-/// number, Needs-Build where it was Installed and is built no more or where all that it waits for is
-/// available, and else stays in its state. A record that there was keeps its build priority, and a new one has
-/// 0. The cases are this project's own, in wanna-build's terms.
+/// is. At an equal version Not-For-Us stays; any other is Installed if it is built with at least its number,
+/// Needs-Build if it was Installed and is built no more or if all that it waits for is available, and else
+/// stays in its state. A record that was there keeps its build priority, and a new one has 0. The cases are
+/// this project's own, in wanna-build's terms.
 pub fn after(
     alloc: Global,
     current: Option<&Record>,

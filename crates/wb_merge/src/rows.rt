@@ -126,7 +126,7 @@ impl Model for BinaryRow {
     } };
 }
 
-/// The row of a package that this text says the source of.
+/// The row of a package whose source this text names.
 #[tactic(auto, unfolding(crate::specs::Rows::is_source_text))]
 fn with_source(
     alloc: Global,

@@ -18,7 +18,7 @@ use deb_version::Version;
 use std::alloc::Global;
 use wb_states::{ListField, ListingFault, is_source};
 
-/// The name that stands before the first space, and what stands behind the space.
+/// The name that stands before the first space, and what stands after the space.
 #[tactic(auto, unfolding(crate::specs::Rows::source_name, crate::specs::Rows::has_source_version))]
 fn cut_source(text: &str) -> (&str, Option<&str>)
     ensures name { result.0.now ≡ source_name text.now }
@@ -31,7 +31,7 @@ fn cut_source(text: &str) -> (&str, Option<&str>)
     }
 }
 
-/// What stands in the brackets round a text, where it has both.
+/// What stands in the brackets around a text, if it has both.
 fn in_brackets(text: &str) -> Option<&str>
     ensures { option_copied result ≡ in_brackets text.now }
 {
@@ -55,7 +55,7 @@ fn bracketed_version(alloc: Global, text: &str) -> Result<Version, ListingFault>
     }
 }
 
-/// The source package that a text names, and its version where one is written (Debian Policy 5.6.1).
+/// The source package that a text names, and its version if one is written (Debian Policy 5.6.1).
 #[tactic(auto, unfolding(crate::specs::Rows::is_source_text, crate::specs::Rows::source_version))]
 pub(crate) fn parse_source(
     alloc: Global,
@@ -103,14 +103,14 @@ fn ends_in_plus_b(bytes: &[u8]) -> bool
     matches!(bytes, [.., b'+', b'b'])
 }
 
-/// A number that stands behind a text, where the text ends in `+b`, or else 0.
+/// A number that stands after a text, if the text ends in `+b`, or else 0.
 fn number_behind(front: &[u8], number: u16) -> u16
     ensures { result ≡ (if begins_plus_b (reverse front.now) then number else 0) }
 {
     if ends_in_plus_b(front) { number } else { 0 }
 }
 
-/// The number of the binary-only rebuild: one to three digits that stand behind `+b` at the end of a
+/// The number of the binary-only rebuild: one to three digits that stand after `+b` at the end of a
 /// version, or else 0 (Debian Policy 5.6.12.2).
 pub(crate) fn rebuild_number(version: &str) -> u16
     ensures { result ≡ rebuild_number version.now }

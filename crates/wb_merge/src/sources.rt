@@ -15,7 +15,7 @@ use std::alloc::Global;
 use std::marker::Model;
 use wb_states::{ListKind, Refusal};
 
-/// A Sources list that was read, whatever the architecture: a row of each of its paragraphs, or the fault of
+/// A Sources list that was read, whatever the architecture: a row for each paragraph, or the fault of
 /// the first that has one. Clauses see it as the text of the list.
 #[derive(Drop)]
 pub struct Sources<'a> {

@@ -1,4 +1,4 @@
--- What each command names, of which each is checked alike whatever the command is (this project's own).
+-- What each command names. Each of these is checked alike, whatever the command is.
 use Rattle.std.specs.Prelude.{ℕ, ℤ, List, Option, Some, None}
 use Rattle.wb_states.specs.declared.command.Command.{Command}
 use Rattle.wb_states.specs.declared.command.Command.TheVariants as of

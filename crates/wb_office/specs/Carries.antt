@@ -1,4 +1,4 @@
--- What the functions promise that carry out a command (this project's own).
+-- What the functions promise that carry out a command.
 use Rattle.std.specs.Prelude.{◌≡◌, Result, Ok, Err, IfOk, IfErr, OnErr}
 use Rattle.wb_states.specs.declared.command.Command.{Command}
 use Rattle.wb_states.specs.declared.refusal.Refusal.{Refusal}

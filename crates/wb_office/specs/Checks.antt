@@ -1,4 +1,4 @@
--- The checks of a command, in the one order in which they are answered (this project's own).
+-- The checks of a command, in the one order in which they are answered.
 use Rattle.std.specs.Prelude.{◌≡◌, ℕ, ℤ, Bool, true, false, not, ◌||◌, ◌&&◌, nat_le, nat_lt, nat_eq, List, [], ◌∷◌, length, bytes_eq, Option, Some, None, is_none, option_and_then, if◌then◌else◌}
 use Rattle.std.specs.Result.{result_err}
 use Rattle.std.specs.Option.{option_map, option_or}
@@ -31,7 +31,7 @@ use Rattle.wb_office.specs.Arguments.{arguments_of}
 use Rattle.wb_office.specs.Targets.{again_of, transition_of}
 use Rattle.wb_office.specs.Parts.{parts_refusal}
 
--- a refusal where a test holds
+-- a refusal if a test holds
 abbrev pub when : Bool → Refusal → Option Refusal
 when true refusal = Some refusal
 when false refusal = None
@@ -192,7 +192,7 @@ differing version current =
 abbrev pub other_version_at : Machine → List ℕ × List ℕ → List ℕ → Option Refusal
 other_version_at machine key version = option_and_then (differing version) (map.get machine.records key)
 
--- the refusal of a source package that has no record, or one of another version
+-- the refusal of a source package without a record, or with one of another version
 abbrev pub found_refusal : Machine → List ℕ → List ℕ → List ℕ → Option Refusal
 found_refusal machine arch source version =
     first_some (
@@ -228,7 +228,7 @@ is_ahead machine command = has_value (λ next. is_number_ahead machine next.afte
 abbrev pub take_named : Command → Option ℕ
 take_named command = (arguments_of command).take_number
 
--- no record is held under its take number
+-- no record is held under its take number (this project's own)
 abbrev pub is_not_held : Machine → Command → Bool
 is_not_held machine command = has_value (λ take_number. is_none (taken_as machine take_number)) (take_named command)
 
@@ -251,7 +251,7 @@ other_version machine command =
 abbrev pub refused_move : Machine → Command → Option Refusal
 refused_move machine command = option_and_then (λ asked. move_refusal asked.1 asked.0.1) (transition_of machine command)
 
--- it asks for the head of a queue that is empty, and is not told again of what its builder builds
+-- it asks for the head of a queue that is empty, and what its builder builds is not reported again
 abbrev pub has_empty_queue : Machine → Command → Bool
 has_empty_queue machine command =
     has_value (λ next. is_none (again_of machine command) && is_none (head_of machine next.arch)) (arguments_of command).next
@@ -336,7 +336,7 @@ state_checks machine command =
 unfoldable pub state_refusal : Machine → Command → Option Refusal
 state_refusal machine command = first_some (state_checks machine command)
 
--- the refusal of a command, the first in the one order, or none where it is accepted
+-- the refusal of a command, the first in the one order, or none if it is accepted
 unfoldable pub first_refusal : Machine → Command → Option Refusal
 first_refusal machine command = option_or (text_refusal command) (state_refusal machine command)
 
@@ -344,7 +344,7 @@ first_refusal machine command = option_or (text_refusal command) (state_refusal 
 abbrev pub has_long_relations : Command → Bool
 has_long_relations command = has_value (λ relations. nat_lt relations_limit (length relations)) (arguments_of command).relations
 
--- what is known of a command for which memory is wanted: its texts are refused in no way that is seen without memory
+-- what is known of a command that may need memory: no check without memory refuses its texts
 pub record MayWantMemory (command : Command) : Type 0 where
   pub names : has_bad_name command ≡ false
   pub version : version_fault command ≡ None
@@ -353,7 +353,7 @@ pub record MayWantMemory (command : Command) : Type 0 where
   pub short : has_long_text command ≡ false
   pub parts : repeats_arch command ≡ false
 
--- the refusal of a version's fault: want of memory is no fault of the version
+-- the refusal of a version's fault: out of memory is no fault of the version
 abbrev pub refusal_of_fault : VersionFault → Refusal
 refusal_of_fault NoMemory = Memory
 refusal_of_fault fault = BadVersion fault

@@ -1,4 +1,4 @@
--- Which refusals come of the store of an office, and not of its state (this project's own).
+-- Which refusals come from the store of an office, and not from its state.
 use Rattle.std.specs.Prelude.{Bool, true, false}
 use Rattle.wb_states.specs.declared.refusal.Refusal.{Refusal}
 use Rattle.wb_states.specs.declared.refusal.Refusal.TheVariants.{Closed, Store}

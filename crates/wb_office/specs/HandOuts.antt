@@ -1,4 +1,4 @@
--- What is handed out, and when a hold ends (this project's own).
+-- What is handed out, and when a hold ends.
 use Rattle.std.specs.Prelude.{◌≡◌, ℕ, ◌<◌, Bool, true, false, nat_eq, List, [], ◌∷◌, ◌⊎◌, Option, Some, None, Result, Ok, is_ok, is_some, IfSome, ⊤}
 use Rattle.std.specs.List.{cons_option}
 use Rattle.std.specs.FinMap as map
@@ -26,7 +26,7 @@ given_by builder (Ok (Job accepted assignment)) =
     Some (record { builder = builder; key = (assignment.arch, assignment.source); take = assignment.take })
 given_by builder _ = None
 
--- what a command hands out by its answer
+-- what a command hands out by its answer (this project's own)
 abbrev pub handed_by : Command → Result Reply Refusal → Option HandOut
 handed_by (of.Next fields) answer = given_by fields.builder answer
 handed_by (of.Take fields) answer = given_by fields.builder answer
@@ -75,7 +75,7 @@ is_held_as take_number current = has_value (λ one. has_value (nat_eq take_numbe
 unfoldable pub holds : Machine → HandOut → Bool
 holds machine given = is_held_as given.take (map.get machine.records given.key)
 
--- one of the commands was accepted and ended the hold: before it the record had the take number, and after it it has not, or is gone
+-- one of the commands was accepted and ended the hold: before it the record had the take number, and after it the record does not have it, or is gone
 abbrev pub Ends : Machine → List Command → HandOut → Type 0
 Ends machine [] given = ⊥
 Ends machine (command ∷ commands) given =

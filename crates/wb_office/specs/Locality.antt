@@ -1,4 +1,4 @@
--- What a command looks at, and what it changes (this project's own). Whatever else an office keeps makes no difference to it.
+-- What a command looks at, and what it changes. Whatever else an office keeps makes no difference to it.
 use Rattle.std.specs.Prelude.{◌≡◌, ℕ, ◌+◌, List, Option, Some, None, IsTrue, IfSome}
 use Rattle.std.specs.Option.{option_map}
 use Rattle.std.specs.FinMap as map

@@ -1,4 +1,4 @@
--- What a merge looks at of an office, as an office of its own (this project's own).
+-- What a merge looks at of an office, as an office of its own.
 use Rattle.std.specs.Prelude.{◌≡◌, ℕ, Bool, true, false, List, filter, bytes_eq}
 use Rattle.std.specs.FinMap as map
 use Rattle.std.specs.FinSet as set

@@ -1,4 +1,4 @@
--- What is known of an office before and after it was used, by the states at which it stands (this project's own).
+-- What is known of an office before and after it was used, by the states at which it stands.
 use Rattle.std.specs.Prelude.{◌≡◌, ◌<◌, IsOk}
 use Rattle.wb_states.specs.Machine.{Machine}
 use Rattle.wb_states.specs.declared.command.Command.{Command}
@@ -23,7 +23,7 @@ abbrev pub Reaches : {X : Type 0} → (X → Type 0) → (X → Machine → Type
 Reaches is_clean stands_at old new IsSo =
     (before : Machine) → is_clean new → stands_at old before → (after : Machine) × stands_at new after × IsSo before after
 
--- the same, where the office may be closed after it, also with a command in doubt
+-- the same, but the office may be closed after it, also with a command in doubt
 abbrev pub Leads : {X : Type 0} → (X → Type 0) → (X → Type 0) → (X → Machine → Type 0) → (X → Machine → Machine → Type 0) → X → X
     → (Machine → Machine → Standing → Type 0) → Type 0
 Leads is_clean is_closed stands_at leaves old new IsSo =

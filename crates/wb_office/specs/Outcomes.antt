@@ -1,4 +1,4 @@
--- What is answered and done once it is known which record a command moves (this project's own).
+-- What is answered and done once it is known which record a command moves.
 use Rattle.std.specs.Prelude.{ℕ, ℤ, ◌+◌, ◌||◌, nat_le, List, [], ◌∷◌, Option, Some, None, Ok, Err}
 use Rattle.std.specs.FinMap as map
 use Rattle.wb_states.specs.declared.moves.Move.{Move}
@@ -28,7 +28,7 @@ outcome_unless None machine accepted = accepted
 abbrev pub held_assignment : Entry → Assignment
 held_assignment entry = assignment_of entry (take_of entry)
 
--- a record is moved and the command is counted, where neither the move nor the count is refused
+-- a record is moved and the command is counted, if neither the move nor the count is refused
 unfoldable pub move_step : Machine → Entry → Move → Outcome
 move_step machine entry move =
     outcome_unless (first_some (
@@ -37,7 +37,7 @@ move_step machine entry move =
     ∷ [])) machine
     (Ok (Done (machine.accepted + 1)), counted machine (after_move machine (Some (entry, move))))
 
--- a record gets a build priority and the command is counted, where the count is not refused
+-- a record gets a build priority and the command is counted, if the count is not refused
 unfoldable pub priority_step : Machine → Entry → ℤ → Outcome
 priority_step machine entry value =
     outcome_unless (when (nat_le count_limit machine.accepted) Spent) machine
@@ -47,7 +47,7 @@ priority_step machine entry value =
 abbrev pub take_move : Machine → List ℕ → Move
 take_move machine builder = to.Take builder (machine.handed + 1)
 
--- a record is handed to a builder and the command is counted, where neither the move nor a count is refused
+-- a record is handed to a builder and the command is counted, if neither the move nor a count is refused
 unfoldable pub assignment_step : Machine → List ℕ → Entry → Outcome
 assignment_step machine builder entry =
     outcome_unless (first_some (

@@ -1,4 +1,4 @@
--- The parts of a merge, in their order (this project's own).
+-- The parts of a merge, in their order.
 use Rattle.std.specs.Prelude.{ℕ, Bool, true, false, List, [], ◌∷◌, Option, Some, None, Result, Ok, Err, is_ok, if◌then◌else◌}
 use Rattle.std.specs.Result.{result_err}
 use Rattle.std.specs.List.{fold, list_any, scan}

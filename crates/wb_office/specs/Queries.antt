@@ -1,4 +1,4 @@
--- What the office answers to a query: records of its state, or a refusal, the first in the one order (this project's own).
+-- What the office answers to a query: records of its state, or a refusal, the first in the one order.
 use Rattle.std.specs.Prelude.{ℕ, not, List, map as each, Option, Some, None, Result, Ok, Err, if◌then◌else◌}
 use Rattle.std.specs.FinMap as map
 use Rattle.wb_states.specs.declared.record.Record.{Record}
@@ -22,7 +22,7 @@ abbrev pub found_at : List ℕ → List ℕ → Option Record → Result Answer 
 found_at arch source None = Err UnknownSource
 found_at arch source (Some current) = Ok (Item (keyed ((arch, source), current)))
 
--- the record of a source package on an architecture, where both names have their forms
+-- the record of a source package on an architecture, if both names have their forms
 abbrev pub item_in : Machine → List ℕ → List ℕ → Result Answer Refusal
 item_in machine arch source =
     if is_unknown_arch machine arch then Err UnknownArch else found_at arch source (map.get machine.records (arch, source))
@@ -31,7 +31,7 @@ item_in machine arch source =
 unfoldable pub item_of : Machine → List ℕ → List ℕ → Result Answer Refusal
 item_of machine arch source = if has_bad_key arch source then Err BadName else item_in machine arch source
 
--- what a builder holds, by take number, where its name has its form
+-- what a builder holds, by take number, if its name has its form
 abbrev pub mine_in : Machine → List ℕ → Result Answer Refusal
 mine_in machine builder =
     if is_unknown_builder machine builder then Err UnknownBuilder else Ok (Mine builder (each keyed (held_of machine builder)))

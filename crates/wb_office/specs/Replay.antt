@@ -1,4 +1,4 @@
--- The state after a list of commands (this project's own).
+-- The state after a list of commands.
 use Rattle.std.specs.Prelude.{List}
 use Rattle.std.specs.List.{fold}
 use Rattle.wb_states.specs.declared.command.Command.{Command}

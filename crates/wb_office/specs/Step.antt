@@ -1,4 +1,4 @@
--- What a command does to the office: the reply or the refusal, and the state after it (this project's own).
+-- What a command does to the office: the reply or the refusal, and the state after it.
 use Rattle.std.specs.Prelude.{ℕ, ℤ, ◌+◌, List, [], Option, Some, None, Result, Ok, Err}
 use Rattle.std.specs.FinMap as map
 use Rattle.std.specs.FinSet as set
@@ -23,7 +23,7 @@ use Rattle.wb_office.specs.Parts.{part_replies, records_after}
 abbrev pub Outcome : Type 0
 Outcome = Result Reply Refusal × Machine
 
--- ---- the state after a command that is accepted, but for the count of these
+-- ---- the state after a command that is accepted, but for the count of accepted commands
 
 -- the record of a source package that is entered: it waits for its first build
 abbrev pub entered : List ℕ → List ℕ → List ℕ → Record
@@ -116,7 +116,7 @@ reply_to machine (of.BuildPriority fields) = Done (machine.accepted + 1)
 abbrev pub counted : Machine → Machine → Machine
 counted machine after = record after { accepted = machine.accepted + 1 }
 
--- what is answered and done: a refusal leaves the state as it was, and so does what a builder is told again
+-- what is answered and done: a refusal leaves the state as it was, and so does what is reported to a builder again
 abbrev pub outcome : Option Refusal → Option Entry → Machine → Command → Outcome
 outcome (Some refusal) again machine command = (Err refusal, machine)
 outcome None (Some entry) machine command = (Ok (Again machine.accepted (assignment_of entry (take_of entry))), machine)

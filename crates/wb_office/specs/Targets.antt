@@ -1,4 +1,4 @@
--- Which record a command moves, and by which move (this project's own).
+-- Which record a command moves, and by which move.
 use Rattle.std.specs.Prelude.{◌≡◌, ℕ, ◌+◌, IsTrue, bytes_eq, List, [], Option, Some, None, option_and_then}
 use Rattle.std.specs.Result.{result_unwrap_or}
 use Rattle.std.specs.List.{list_any}
@@ -19,7 +19,7 @@ use Rattle.wb_office.specs.Arguments.{arguments_of}
 unfoldable pub record_named : Machine → List ℕ → List ℕ → Option Entry
 record_named machine arch source = option_map (λ current. ((arch, source), current)) (map.get machine.records (arch, source))
 
--- the record that a command moves: the head of a queue, one that is named, or one that is held under a take number
+-- the record that a command moves: the head of a queue, one that is named, or one that is held under a take number (this project's own)
 abbrev pub target_of : Machine → Command → Option Entry
 target_of machine (of.Next fields) = head_of machine fields.arch
 target_of machine (of.Take fields) = record_named machine fields.arch fields.source
@@ -69,7 +69,7 @@ with_move machine command entry =
 unfoldable pub transition_of : Machine → Command → Option (Entry × Move)
 transition_of machine command = option_and_then (with_move machine command) (target_of machine command)
 
--- what a builder is told of again: what it builds on the architecture under the least take number after the one that it names
+-- what is reported to a builder again: what it builds on the architecture under the least take number after the one that it names (this project's own)
 abbrev pub again_of : Machine → Command → Option Entry
 again_of machine command =
     option_and_then (λ next. option_and_then (building_after machine next.arch next.builder) next.after) (arguments_of command).next

@@ -1,4 +1,4 @@
-//! What a builder is told again.
+//! What a builder gets again.
 ghost use Rattle.std.specs.Prelude.{◌≡◌, [], map as each, IfOk, IfErr, option_and_then};
 ghost use Rattle.std.specs.List.{find};
 ghost use Rattle.std.specs.Option.{option_map};

@@ -58,7 +58,7 @@ pub(crate) fn assignment(
     })
 }
 
-/// The take number after the last, where one can be given.
+/// The take number after the last, if one can be given.
 fn next_take(store: &Store) -> Result<u64, Refusal>
     ensures value { IfOk result (λ take_number. nat_le count_limit store.now.handed ≡ false
         → take_number ≡ store.now.handed + 1) }
@@ -92,7 +92,7 @@ fn take_checked(
     move_checked(alloc, current, &change)
 }
 
-/// The record after the builder took it, and the assignment that answers it, where both counts have room.
+/// The record after the builder took it, and the assignment that answers it, if both counts have room.
 /// Nothing is written.
 pub(crate) fn prepare_assignment(
     alloc: Global,

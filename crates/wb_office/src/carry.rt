@@ -17,8 +17,8 @@ use wb_states::{Command, Refusal, Reply};
 /// An office that carries out commands, in memory or over tables. Its clauses speak of a state of the office at which
 /// it stands, and say what is so of each such state (this project's own).
 pub trait CarryOut {
-    // What was read of the store is what was written to it: so it always is in memory, and of files if nobody else
-    // writes them and the disk gives back what it was given.
+    // What was read of the store is what was written to it. In memory this is always so, and for files if nobody
+    // else writes them and the disk gives back what it was given.
     ghost is_clean: { Self → Type 0 };
 
     // The office is in this state, which is consistent. If the office is closed, a crash leaves this state.
@@ -41,8 +41,8 @@ pub trait CarryOut {
     /// Carries out one command, whole or not at all, and answers it.
     ///
     /// The refusal is the first that is true of the command in the order of [`Refusal`], and the office is then as it
-    /// was. `Memory` comes where there is no memory for it; the office is then as it was, but may be closed. `Store`
-    /// comes where the store failed: the office is closed, and a crash leaves the state before the command or the state
+    /// was. `Memory` comes if there is no memory for it; the office is then as it was, but may be closed. `Store`
+    /// comes if the store failed: the office is closed, and a crash leaves the state before the command or the state
     /// after it, whole. A closed office answers `Closed` to each command (this project's own).
     fn carry_out(&mut self, command: &Command) -> Result<Reply, Refusal>
         ensures clean { is_clean self.new → is_clean self.old }
@@ -62,9 +62,9 @@ pub trait CarryOut {
     /// The record of the source package on the architecture.
     ///
     /// The refusals come in this order: `Closed`, `BadName` if a name is malformed, `UnknownArch` if the architecture
-    /// was never added, `UnknownSource` if the source package has no record there. `Memory` and `Store` come as they do
-    /// of [`carry_out`](CarryOut::carry_out), but for no malformed name. The office is as it was after each answer; after
-    /// `Store` it is closed, and a crash leaves the state that it had (this project's own).
+    /// was never added, `UnknownSource` if the source package has no record there. `Memory` and `Store` come as for
+    /// [`carry_out`](CarryOut::carry_out), but not for a malformed name. The office is as it was after each answer;
+    /// after `Store` it is closed, and a crash leaves the state that it had (this project's own).
     fn item(&mut self, arch: &str, source: &str) -> Result<Answer, Refusal>
         ensures clean { is_clean self.new → is_clean self.old }
         ensures answer { (machine : Machine) → is_clean self.new → stands_at self.old machine
@@ -86,7 +86,7 @@ pub trait CarryOut {
     /// What the builder holds, of all architectures, by take number.
     ///
     /// The refusals come in this order: `Closed`, `BadName` if the name is malformed, `UnknownBuilder` if the builder was
-    /// added for no architecture. `Memory` and `Store` come as they do of [`carry_out`](CarryOut::carry_out), but for no
+    /// added for no architecture. `Memory` and `Store` come as for [`carry_out`](CarryOut::carry_out), but not for a
     /// malformed name. The office is as it was after each answer; after `Store` it is closed, and a crash leaves the
     /// state that it had (this project's own).
     fn mine(&mut self, builder: &str) -> Result<Answer, Refusal>

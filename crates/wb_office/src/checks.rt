@@ -23,7 +23,7 @@ pub(crate) fn lacks_arch(store: &Store, arch: &Text) -> Result<bool, Refusal>
     Ok(!store.has_arch(arch)?)
 }
 
-/// Whether the architecture was added. Of tables in memory it cannot fail.
+/// Whether the architecture was added. On tables in memory it cannot fail.
 pub(crate) fn has_arch(store: &Store, arch: &Text) -> Result<bool, Refusal>
     ensures value { IfOk result (λ has. has ≡ map.contains_key store.now.archs arch.now) }
     ensures ok { IsOk result }

@@ -1,4 +1,4 @@
-//! The commands by which holders tell of what they hold.
+//! Commands by which holders report on what they hold.
 ghost use Rattle.std.specs.Prelude.{OnOk};
 ghost use Rattle.std.specs.Str.{IsUtf8};
 ghost use Rattle.wb_states.specs.declared.command.Command.TheVariants as of;

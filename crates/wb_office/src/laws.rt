@@ -46,7 +46,7 @@ pub fn takes_stand_by_state()
 {}
 
 /// The take numbers of what is handed out rise strictly from above the last one that was given, so that
-/// none is given twice. Where one source package is handed out twice on an architecture, a command
+/// none is given twice. If one source package is handed out twice on an architecture, a command
 /// between the two was accepted and ended the first hold: a report of its holder, such as `attempted`, a
 /// command that names it, or a merge.
 pub fn takes_rise()
@@ -72,7 +72,7 @@ pub fn counts_never_fall()
 {}
 
 /// What a reply hands out is held after it: the record of the source package is being built, by the
-/// builder that was told so and under the take number that it was told.
+/// builder to which it was handed, under the reply's take number.
 pub fn hand_outs_are_held()
     ensures held { (machine : Machine) (command : Command) (given : HandOut)
         → hand_out machine command ≡ Some given
@@ -80,8 +80,8 @@ pub fn hand_outs_are_held()
         × IsBeingBuilt given current) }
 {}
 
-/// A builder that asks again at once for the head of a queue, with the take number that it asked with, is
-/// told of the same assignment, and nothing changes. In a consistent office so it is where it lost the
+/// If a builder asks again at once for the head of a queue, with the take number that it asked with, it
+/// gets the same assignment, and nothing changes. In a consistent office this is so if it lost the
 /// answer and asks after the last number that was given before, whatever it asked with the first time.
 pub fn retries_are_idempotent()
     ensures again { (machine : Machine) (arch builder : List ℕ) (after accepted : ℕ)
@@ -96,7 +96,7 @@ pub fn retries_are_idempotent()
         ≡ (Ok (Again accepted given), (step machine (Next arch builder after)).1) }
 {}
 
-/// A take number is a fencing token: one that was given and under which nothing is held is held never
+/// A take number is a fencing token: one that was given and under which nothing is held is never held
 /// again, so that each later command under it is refused, however late it comes.
 pub fn ended_takes_stay_ended()
     ensures ended { (machine : Machine) (commands : List Command) (take_number : ℕ)
@@ -112,8 +112,8 @@ pub fn ended_takes_stay_ended()
         → (step (replay machine commands) (Built take_number)).0 ≡ Err NotHeld }
 {}
 
-/// A command changes no record but the one that it enters, moves or gives a build priority, and a merge none of another
-/// architecture than those of its parts.
+/// A command changes no record but the one that it enters, moves or gives a build priority, and a merge changes only
+/// records of its parts' architectures.
 pub fn commands_leave_other_records()
     ensures others { (machine : Machine) (command : Command) (key : List ℕ × List ℕ)
         → (MayChange machine command key → ⊥)
@@ -131,8 +131,8 @@ pub fn next_takes_the_head()
         ∷ queue_of (step machine (Next arch builder after)).1 arch) }
 {}
 
-/// The parts of an accepted merge stand apart: the records of a part's architecture are afterwards what that
-/// part alone makes of the records before the merge, and as they were where it is refused.
+/// The parts of an accepted merge are independent: the records of a part's architecture are afterwards what
+/// that part alone makes of the records before the merge, or as they were if it is refused.
 pub fn parts_are_merged_apart()
     ensures part { (machine : Machine) (sources : List ℕ) (before : List Part) (part : Part)
         (behind : List Part) (key : List ℕ × List ℕ)

@@ -33,7 +33,7 @@ struct Parts {
     is_any_good: bool,
 }
 
-/// Whether the name of a part's architecture has not its form.
+/// Whether the name of a part's architecture is malformed.
 fn has_bad_arch(parts: &[Part]) -> bool
     ensures { result ≡ list_any (λ part. not (is_arch_name part.arch)) parts.now }
 {
@@ -59,7 +59,7 @@ fn repeats_arch(parts: &[Part]) -> bool
     false
 }
 
-/// Whether one of the parts is for an architecture that was added. Of tables in memory it cannot fail.
+/// Whether one of the parts is for an architecture that was added. On tables in memory it cannot fail.
 fn is_any_known(store: &Store, parts: &[Part]) -> Result<bool, Refusal>
     ensures value { IfOk result (λ known. known ≡ list_any (is_known store.now) parts.now) }
     ensures ok { IsOk result }
@@ -95,7 +95,7 @@ fn listing_of(
     Listing::from_sources(alloc, sources, part.packages.as_slice(), &arch)
 }
 
-/// Merges a part into the records: a part that is refused leaves them. The error is `Memory`, after which
+/// Merges a part into the records: a refused part changes nothing. The error is `Memory`, after which
 /// the records are of no use.
 fn merge_part(
     alloc: Global,
@@ -160,8 +160,8 @@ fn merge_parts(
     })
 }
 
-/// Why a merge is refused of which no part was merged: as its first part is, and as of an unknown
-/// architecture where it has none.
+/// Why a merge is refused if no part was merged: as its first part is, or as for an unknown
+/// architecture if it has no part.
 fn first_part_refusal(replies: Vec<PartReply>) -> Refusal
     ensures { (machine : Machine) (sources : List ℕ) (parts : List Part)
         → replies.items ≡ part_replies machine sources parts machine.records
@@ -178,7 +178,7 @@ fn first_part_refusal(replies: Vec<PartReply>) -> Refusal
     }
 }
 
-/// The parts of a merge, merged into a copy of the records, where the merge is not refused.
+/// The parts of a merge, merged into a copy of the records, if the merge is not refused.
 fn prepare_merge(
     alloc: Global,
     store: &Store,

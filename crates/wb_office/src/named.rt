@@ -85,7 +85,7 @@ pub(crate) fn dep_wait(
     move_named(alloc, store, arch, source, &read, &change)
 }
 
-/// What a command reads that sets a source package aside: the version that it names, and its note.
+/// What a command that sets a source package aside reads: the version that it names, and its note.
 #[derive(Drop)]
 struct Aside {
     version: Version,

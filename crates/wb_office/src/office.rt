@@ -72,7 +72,7 @@ impl Office {
     /// Carries out one command, whole or not at all, and answers it.
     ///
     /// The refusal is the first that is true of the command in the order of [`Refusal`]; `Memory` comes
-    /// where there is no memory for it, at any point after its names, its version, its number and the
+    /// if there is no memory for it, at any point after its names, its version, its number and the
     /// lengths of its texts were looked at. After every refusal the office is as it was (this project's
     /// own).
     pub fn apply(&mut self, command: &Command) -> Result<Reply, Refusal>

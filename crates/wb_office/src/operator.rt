@@ -19,7 +19,7 @@ use wb_merge::blank_record;
 use wb_states::{Counts, OsCpu, Record, Refusal, Reply, command};
 use wb_store::Store;
 
-/// Counts one more accepted command. Of tables in memory it cannot fail.
+/// Counts one more accepted command. On tables in memory it cannot fail.
 pub(crate) fn accept_one(store: &mut Store) -> Result<Reply, Refusal>
     requires { nat_le count_limit store.old.accepted ≡ false }
     ensures reply { result ≡ Ok (Done (store.old.accepted + 1)) }
@@ -147,7 +147,7 @@ fn check_entry(alloc: Global, store: &Store, command: &command::Enter) -> Result
     Ok(read)
 }
 
-/// Puts a source package that has no record into the queue.
+/// Puts a source package without a record into the queue.
 #[tactic(auto, unfolding(crate::specs::Step::step))]
 pub(crate) fn enter(
     alloc: Global,

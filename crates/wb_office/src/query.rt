@@ -50,7 +50,7 @@ pub(crate) fn item(
     item_in(store, arch, source)
 }
 
-/// The record of the source package on the architecture, where both names have their forms.
+/// The record of the source package on the architecture, if both names have their forms.
 fn item_in(store: &Store, arch: Text, source: Text) -> Result<Answer, Refusal>
     ensures answer { IfOk result (λ answer. item_in store.now arch source ≡ Ok answer) }
     ensures refused { IfErr result (λ refusal. IsOfMachine refusal
@@ -87,7 +87,7 @@ pub(crate) fn mine(alloc: Global, store: &Store, builder: &str) -> Result<Answer
     mine_in(store, builder)
 }
 
-/// What the builder holds, by take number, where its name has its form.
+/// What the builder holds, by take number, if its name has its form.
 fn mine_in(store: &Store, builder: Text) -> Result<Answer, Refusal>
     ensures answer { IfOk result (λ answer. mine_in store.now builder ≡ Ok answer) }
     ensures refused { IfErr result (λ refusal. IsOfMachine refusal

@@ -68,7 +68,7 @@ fn relations_refused(fault: RelationFault) -> Refusal
     }
 }
 
-/// The version of a source package that a command names, where its names have their forms.
+/// The version of a source package that a command names, if its names have their forms.
 pub(crate) fn read_key(
     alloc: Global,
     arch: &Text,
@@ -111,7 +111,7 @@ pub(crate) fn is_long(text: &Text) -> bool
     NOTE_LIMIT < text.as_str().len()
 }
 
-/// The number of a rebuild as a record keeps it, or none where no rebuild has it.
+/// The number of a rebuild as a record keeps it, or none if no rebuild has it.
 pub(crate) fn rebuild_number(number: u64) -> Option<u16>
     ensures value { result
         ≡ (if is_bad_number number then None else Some number) }
@@ -122,7 +122,7 @@ pub(crate) fn rebuild_number(number: u64) -> Option<u16>
     Some(number as u16)
 }
 
-/// The build priority as a record keeps it, or none where the value is out of range.
+/// The build priority as a record keeps it, or none if the value is out of range.
 pub(crate) fn build_priority(value: i64) -> Option<i16>
     ensures value { result
         ≡ (if is_bad_priority value then None else Some value) }

@@ -1,4 +1,4 @@
--- What the files of an office hold before and after lives of it (this project's own).
+-- What the files of an office hold before and after lives of it.
 use Rattle.std.specs.Prelude.{◌≡◌, ◌⊎◌, List}
 use Rattle.sqlite_disk.specs.declared.Disk.{Ghosts}
 use Rattle.sqlite_disk.specs.declared.Files.{Files}
@@ -14,7 +14,7 @@ use Rattle.wb_recovery.specs.Lives.{Outcome, AllLeaveStanding, LeavesStanding}
 abbrev pub HoldOne : {D : Type 0} → Ghosts D → Files D → Machine → Machine → Type 0
 HoldOne g files one other = LeaveOffice g files one other ⊎ ((one ≡ empty_office) × AreNew g files)
 
--- a life began at one of two states, and a crash of its files leaves the office as commands leave it which stand after that life
+-- a life began at one of two states, and a crash of its files leaves the office as commands that stand after that life leave it
 pub record IsLeftByLife {D : Type 0} (g : Ghosts D) (one other : Machine) (commands : List Command) (outcomes : List Outcome) (files : Files D) : Type 0 where
   pub began : Machine
   pub which : (began ≡ one) ⊎ (began ≡ other)
@@ -24,7 +24,7 @@ pub record IsLeftByLife {D : Type 0} (g : Ghosts D) (one other : Machine) (comma
   pub second_stands : LeavesStanding began commands outcomes second
   pub left : LeaveOffice g files (replay began first) (replay began second)
 
--- lives began at one of two states, and an office stands at the state which the commands leave that stand after all of them
+-- lives began at one of two states, and an office stands at the state after the commands that stand after all of them
 pub record IsFoundAfter {X : Type 0} (stands_at : X → Machine → Type 0) (one other : Machine) (lives : List (List Command)) (all : List (List Outcome)) (office : X) : Type 0 where
   pub began : Machine
   pub which : (began ≡ one) ⊎ (began ≡ other)
@@ -32,11 +32,11 @@ pub record IsFoundAfter {X : Type 0} (stands_at : X → Machine → Type 0) (one
   pub stand : AllLeaveStanding began lives all standing
   pub found : stands_at office (replay began standing)
 
--- the same, said without which it is
+-- the same, without saying which states and commands they are
 abbrev pub LeavesLife : {D : Type 0} → Ghosts D → Machine → Machine → List Command → List Outcome → Files D → Type 0
 LeavesLife g one other commands outcomes files = ∥ IsLeftByLife g one other commands outcomes files ∥₁
 
--- the same of an office
+-- the same for an office
 abbrev pub FindsAfter : {X : Type 0} → (X → Machine → Type 0) → Machine → Machine → List (List Command) → List (List Outcome) → X → Type 0
 FindsAfter stands_at one other lives all office = ∥ IsFoundAfter stands_at one other lives all office ∥₁
 

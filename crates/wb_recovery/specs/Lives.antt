@@ -1,4 +1,4 @@
--- The lives of an office over files: each an opening, commands with their outcomes, and a stop; and which commands stand after them (this project's own).
+-- The lives of an office over files: each an opening, commands with their outcomes, and a stop; and which commands stand after them.
 use Rattle.std.specs.Prelude.{◌≡◌, ◌⊎◌, Bool, false, List, [], ◌∷◌, ◌++◌, Result, Ok, Err, if◌then◌else◌}
 use Rattle.wb_states.specs.declared.command.Command.{Command}
 use Rattle.wb_states.specs.declared.reply.Reply.{Reply}
@@ -23,9 +23,9 @@ is_last (Err refusal) = is_of_store refusal
 abbrev pub acknowledged : Command → Reply → List Command
 acknowledged command reply = if is_again reply then [] else command ∷ []
 
--- these commands stand after a life that began at this state, in their order: each that was acknowledged, and no other, but that the one at which the
--- store failed, which is the last, may stand or not. Each reply, and each refusal of the state, is that of the step after the commands before it; out of
--- memory, a failed store and a closed office are answered for causes that are not said here
+-- these commands stand after a life that began at this state, in their order: each that was acknowledged, and no other, except that the one at which the
+-- store failed, which is the last, may stand or not. Each reply, and each refusal of the state, is that of the step after the commands before it; why it
+-- is answered that memory ran out, that the store failed or that the office is closed is not said here
 abbrev pub LeavesStanding : Machine → List Command → List Outcome → List Command → Type 0
 LeavesStanding machine [] [] standing = standing ≡ []
 LeavesStanding machine [] (outcome ∷ outcomes) standing = ⊥
@@ -40,7 +40,7 @@ LeavesStanding machine (command ∷ commands) (Err Memory ∷ outcomes) standing
 LeavesStanding machine (command ∷ commands) (Err refusal ∷ outcomes) standing =
     ((step machine command).0 ≡ Err refusal) × LeavesStanding machine commands outcomes standing
 
--- these commands stand after lives: those that each left standing, from the state on that the lives before it left
+-- these commands stand after lives: those that each life left standing, from the state that the lives before it left
 abbrev pub AllLeaveStanding : Machine → List (List Command) → List (List Outcome) → List Command → Type 0
 AllLeaveStanding machine [] [] standing = standing ≡ []
 AllLeaveStanding machine [] (outcomes ∷ all) standing = ⊥
@@ -51,8 +51,8 @@ AllLeaveStanding machine (commands ∷ lives) (outcomes ∷ all) standing =
 
 -- ---- an office that carries out commands
 
--- an office that stood at this state stands at the one that the commands leave which stand after a life; or it is closed, and a crash leaves the one or
--- the other of two such states
+-- an office that stood at this state stands at the one after the commands that a life left standing; or it is closed, and a crash leaves the one or the
+-- other of two such states
 abbrev pub EndsLife : {X : Type 0} → (X → Machine → Type 0) → (X → Machine → Machine → Type 0) → Machine → List Command → List Outcome → X → Type 0
 EndsLife stands_at leaves machine commands outcomes new =
     ((standing : List Command) × LeavesStanding machine commands outcomes standing × stands_at new (replay machine standing))

@@ -17,8 +17,8 @@ fn is_last(outcome: &Outcome) -> bool
     matches!(outcome, Err(Refusal::Closed | Refusal::Store { .. }))
 }
 
-/// Has the office carry out the commands, one after another, up to the first that is answered that the store failed or
-/// that the office is closed, and adds what each was answered to the outcomes. The only error is that there is no memory
+/// Has the office carry out the commands, one after another, up to the first whose answer is that the store failed or
+/// that the office is closed, and adds each answer to the outcomes. The only error is that there is no memory
 /// for an outcome.
 pub(crate) fn carry_out_all<O: CarryOut>(
     office: &mut O,

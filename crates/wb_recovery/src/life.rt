@@ -16,7 +16,7 @@ use wb_states::{Command, StoreFault};
 /// What a life of an office leaves.
 #[derive(Drop)]
 pub struct SessionEnd<D: Disk + Drop> {
-    /// What each command was answered, up to the first that was answered that the store failed or that the office is
+    /// What each command was answered, up to the first whose answer was that the store failed or that the office is
     /// closed.
     pub outcomes: Items<Outcome>,
     /// The files, given up as they were.

@@ -1,4 +1,4 @@
--- What the rows of the office's tables hold, as SQL values (this project's own).
+-- What the rows of the office's tables hold, as SQL values.
 use Rattle.std.specs.Prelude.{ℕ, Bool, List, [], ◌∷◌, Option, pos, if◌then◌else◌}
 use Rattle.sqlite.specs.declared.types.Value.{Value}
 use Rattle.sqlite.specs.declared.types.Value.TheVariants.{Int, Text}
@@ -9,7 +9,7 @@ use Rattle.wb_states.specs.Machine.{Key}
 use Rattle.wb_states.specs.Queue.{Entry, rank_of}
 use Rattle.wb_states.specs.State.{code_of}
 
--- a text, or NULL where there is none
+-- a text, or NULL if there is none
 abbrev pub text_or_null : Option (List ℕ) → Value
 text_or_null = or_null Text
 
@@ -17,7 +17,7 @@ text_or_null = or_null Text
 abbrev pub number : ℕ → Value
 number n = Int (pos n)
 
--- a number from 0, or NULL where there is none
+-- a number from 0, or NULL if there is none
 abbrev pub number_or_null : Option ℕ → Value
 number_or_null = or_null number
 

@@ -1,4 +1,4 @@
--- The parts of a record's form: its labels, its numbers and its texts (this project's own).
+-- The parts of a record's form: its labels, its numbers and its texts.
 use Rattle.std.specs.Prelude.{◌≤◌, ◌||◌, IsTrue, IfSome}
 use Rattle.deb_text.specs.Text.{is_empty_text, IsTextWithin}
 use Rattle.wb_states.specs.declared.record.Record.{Record}

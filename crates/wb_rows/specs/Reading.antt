@@ -1,4 +1,4 @@
--- Which rows are read: those of records, architectures and builders whose texts are UTF-8 and whose numbers fit (this project's own).
+-- Which rows are read: those of records, architectures and builders whose texts are UTF-8 and whose numbers fit.
 use Rattle.std.specs.Prelude.{◌≡◌, ◌≢◌, ℕ, suc, ◌^◌, ◌<◌, ⊤, List, [], ◌∷◌, IsUtf8, IsOk, IfSome, FitsSigned}
 use Rattle.std.specs.Int.{w16}
 use Rattle.deb_version.specs.Syntax.{reading_of}
@@ -40,7 +40,7 @@ HoldsNone {X} cell Fits value = (x : X) → Fits x → value ≢ cell x
 abbrev pub IsVersion : List ℕ → Type 0
 IsVersion text = IsOk (reading_of text)
 
--- a record whose row can be read: its texts are UTF-8, its version is one, and its numbers fit their types
+-- a record whose row can be read: its texts are UTF-8, its version has its form, and its numbers fit their types
 pub record IsReadable (entry : Entry) : Type 0 where
   pub arch : IsUtf8 entry.0.0
   pub source : IsUtf8 entry.0.1

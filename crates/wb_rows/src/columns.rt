@@ -37,7 +37,7 @@ pub(crate) fn text_at(row: &Row, at: usize) -> Result<Text, RowFault>
     Ok(Text::from(text))
 }
 
-/// The text in a column, none at NULL.
+/// The text in a column, or none if it is NULL.
 pub(crate) fn optional_text_at(row: &Row, at: usize) -> Result<Option<Text>, RowFault>
     requires { at < length row.now }
     ensures value { IfOk result (λ read. column row.now at ≡ text_or_null read) }
@@ -73,7 +73,7 @@ pub(crate) fn number_at(row: &Row, at: usize) -> Result<u64, RowFault>
     read_at(row, at)
 }
 
-/// The number in a column, from 0, none at NULL.
+/// The number in a column, from 0, or none if it is NULL.
 pub(crate) fn optional_number_at(row: &Row, at: usize) -> Result<Option<u64>, RowFault>
     requires { at < length row.now }
     ensures value { IfOk result (λ read. column row.now at ≡ number_or_null read) }
@@ -111,7 +111,7 @@ pub(crate) fn build_priority_at(row: &Row, at: usize) -> Result<i16, RowFault>
     }
 }
 
-/// What is so in a column that has 1, and not so in one that has 0.
+/// True for a column that has 1, and false for one that has 0.
 pub(crate) fn flag_at(row: &Row, at: usize) -> Result<bool, RowFault>
     requires { at < length row.now }
     ensures value { IfOk result (λ read. column row.now at ≡ flag read) }

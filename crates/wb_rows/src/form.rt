@@ -18,7 +18,7 @@ use wb_states::{
 pub fn is_well_formed(current: &Record) -> bool
     ensures value { IsTrue result ↔ IsWellFormed current.now }
 {
-    // The text of a version is one, so it needs no test.
+    // The text of a version has its form, so it needs no test.
     let _version = current.version.text();
     has_labels(current) && has_numbers(current) && has_texts(current) && fits_state(current)
 }

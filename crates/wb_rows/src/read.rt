@@ -15,7 +15,7 @@ use wb_states::{OsCpu, rank};
 use wb_store::KeyedRecord;
 
 /// The record, with its key, whose row this is: one of exactly 16 columns, each of its type, with the number of a
-/// state, a version, 0 or 1 for what is or is not so, numbers that fit, and the rank of the record in the last
+/// state, a version, 1 or 0 for what is or is not so, numbers that fit, and the rank of the record in the last
 /// column. None if the row is not that of a record; nothing is repaired. The only error is that memory ran out
 /// (this project's own).
 pub fn record_of(row: &Row) -> Result<Option<KeyedRecord>, AllocError>

@@ -60,7 +60,7 @@ FailsAt {S} g new e =
     ⊎ ((at.in_transaction ≡ false) × (e ≡ SqliteFailure TransactionState) × (new ≡ at)))
 
 -- a call that, in a transaction over tables of this schema without a row, makes this if it succeeds; if it fails, it fails as one of its statements
--- does; and it leaves a crash no more than before
+-- does; and a crash leaves no more than before
 pub record Makes {S A : Type 0} (g : Ghosts S) (from : Schema) (Made : State → State → Type 0) (old new : Held S) (result : Result A Error) : Type 0 where
   pub made : HasCleanDisk (state g new) → HasEmptyTables from (state g old) → OnOk result (Made (state g old) (state g new))
   pub err : HasCleanDisk (state g new) → IfErr result (FailsAt g new)

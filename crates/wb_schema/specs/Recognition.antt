@@ -1,4 +1,4 @@
--- The parts of the office's schema, by which it is recognized (this project's own).
+-- The parts of the office's schema, by which it is recognized.
 use Rattle.std.specs.Prelude.{◌≡◌, ℕ, pos, true, false, Some, None, List, [], ◌∷◌, map, slice_get}
 use Rattle.sqlite.specs.Collation.TheVariants.{Binary}
 use Rattle.sqlite.specs.Table.{Table}

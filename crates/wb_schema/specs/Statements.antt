@@ -1,4 +1,4 @@
--- The statements on the office's tables (this project's own): which rows they write, take out and show.
+-- The statements on the office's tables: which rows they write, take out and show.
 use Rattle.std.specs.Prelude.{ℕ, List, [], ◌∷◌, pos, negsuc}
 use Rattle.sqlite.specs.Collation.TheVariants.{Binary}
 use Rattle.sqlite_value.specs.declared.keys.Key.{Key}
@@ -124,7 +124,7 @@ all_builders = pairs_where [] (rising 1 ∷ rising 2 ∷ [])
 abbrev pub office_row : List Term
 office_row = lit (Int (pos 1)) ∷ lit Null ∷ lit (Int (pos 2)) ∷ parameter 0 ∷ parameter 1 ∷ []
 
--- the same of an office that has handed out and accepted nothing
+-- the same for an office that has handed out and accepted nothing
 abbrev pub first_office_row : List Term
 first_office_row = lit (Int (pos 1)) ∷ lit Null ∷ lit (Int (pos 2)) ∷ lit (Int (pos 0)) ∷ lit (Int (pos 0)) ∷ []
 

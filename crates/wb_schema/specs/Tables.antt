@@ -1,4 +1,4 @@
--- The tables of the office (this project's own). Trees are numbered in the order in which they are made.
+-- The tables of the office. Trees are numbered in the order in which they are made.
 use Rattle.std.specs.Prelude.{true, false, [], ◌∷◌, ◌++◌, Bool, None, Some, codes, List, ℕ, pos}
 use Rattle.sqlite.specs.Collation.TheVariants.{Binary}
 use Rattle.sqlite.specs.declared.types.Value.TheVariants.{Null, Int}
@@ -20,11 +20,11 @@ use Rattle.sqlite_catalog.specs.Listing.{automatic}
 abbrev pub typed : Kind → Bool → List ℕ → Column
 typed kind not_null name = record { name = name; kind = kind; is_strict = true; not_null = not_null; default = Null; collation = Binary }
 
--- a column of texts that are there
+-- a column of texts, never NULL
 abbrev pub text : List ℕ → Column
 text = typed Text true
 
--- a column of whole numbers that are there
+-- a column of whole numbers, never NULL
 abbrev pub number : List ℕ → Column
 number = typed Integer true
 

@@ -24,7 +24,7 @@ pub(crate) struct IndexDefinition<'a> {
     pub(crate) is_unique: bool,
 }
 
-/// A column of texts that are there.
+/// A column of texts, never NULL.
 pub(crate) fn text(name: &str) -> ColumnDefinition<'_>
     ensures value { column_of result ≡ tables.text name.now }
 {
@@ -35,7 +35,7 @@ pub(crate) fn text(name: &str) -> ColumnDefinition<'_>
     }
 }
 
-/// A column of whole numbers that are there.
+/// A column of whole numbers, never NULL.
 pub(crate) fn number(name: &str) -> ColumnDefinition<'_>
     ensures value { column_of result ≡ tables.number name.now }
 {

@@ -101,7 +101,7 @@ pub fn arch_words() -> &'static str
     "SELECT name, os, cpu FROM arch WHERE name = ?1"
 }
 
-/// The pair of a builder and an architecture, where the builder was added for it.
+/// The pair of a builder and an architecture, if the builder was added for it.
 pub fn builder_pair() -> &'static str
     ensures { Asks office_schema result.now pair_of_builder }
 {
@@ -129,14 +129,14 @@ pub fn office_counts() -> &'static str
     "SELECT format, handed, accepted FROM office"
 }
 
-/// The place of one source package of a merge, where there is one.
+/// The place of one source package of a merge, if there is one.
 pub fn first_scratch_source() -> &'static str
     ensures { Asks office_schema result.now first_source }
 {
     "SELECT seq FROM scratch_source LIMIT 1"
 }
 
-/// The place of one binary package of a merge, where there is one.
+/// The place of one binary package of a merge, if there is one.
 pub fn first_scratch_binary() -> &'static str
     ensures { Asks office_schema result.now first_binary }
 {

@@ -1,4 +1,4 @@
--- What is answered to a request over HTTP, and what the request does to the office (this project's own).
+-- What is answered to a request over HTTP, and what the request does to the office.
 use Rattle.std.specs.Prelude.{◌≡◌, ◌⊎◌, ℕ, Bool, true, false, List, Option, IfSome, Result, Ok, Err}
 use Rattle.std.specs.Cow.{cow_str_bytes}
 use Rattle.std.specs.Io.KnownBytes.{Appends}
@@ -126,7 +126,7 @@ IsCommandAnswer may_want machine command response standing =
     ⊎ (MayLackMemory may_want machine command × (response ≡ memory_response machine))) × (standing ≡ Open))
     ⊎ IsRefusedByStore machine (InDoubt command) response standing
 
--- why a query may be answered by want of memory: the names that it asks of are well formed
+-- why a query may be answered that memory ran out: the names that it asks of are well formed
 abbrev pub MayLackMemoryFor : Query → Type 0
 MayLackMemoryFor (query.Item arch source) = has_bad_key arch source ≡ false
 MayLackMemoryFor (query.Mine builder) = is_builder_name builder ≡ true

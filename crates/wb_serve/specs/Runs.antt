@@ -1,4 +1,4 @@
--- What a run of exchanges leaves (this project's own).
+-- What a run of exchanges leaves.
 use Rattle.std.specs.Prelude.{◌≡◌, ◌⊎◌, ℕ, List, [], ◌∷◌, Option, IsOk}
 use Rattle.wb_states.specs.Machine.{Machine}
 use Rattle.wb_states.specs.declared.command.Command.{Command}

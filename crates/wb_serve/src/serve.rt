@@ -124,7 +124,7 @@ fn exchange<O: CarryOut, R: Read + Drop, W: Write + Drop>(
 /// The request is read whole before the office is asked, and nothing is written before the office has answered. A fault
 /// of the request is answered without asking the office. How the bytes are cut into reads plays no part, and neither does
 /// what follows the body. If there is no memory for the request, or for the text of a refusal, of a repeated reply or of
-/// what a query found, the refusal for want of memory is answered in its place, with status 503. The exchange ends without
+/// what a query found, `Memory` is answered in its place, with status 503. The exchange ends without
 /// an answer if no byte came, if the reader failed, and if there is no memory for the reply to an accepted command, which
 /// stands. After a failed write a front of the answer was written, and what was carried out stands too.
 /// Source: RFC 9112, section 9.3, for one exchange; the rest is this project's own.

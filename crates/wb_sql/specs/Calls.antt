@@ -18,7 +18,7 @@ abbrev pub RanInside : List ℕ → Row → State → State → Type 0
 RanInside sql params old new = IsTrue old.in_transaction × ((count : ℕ) × Executes sql params old new (Ok count))
 
 -- a statement of a transaction: it runs, or it fails as such a statement fails and has changed nothing or taken the transaction back; it is
--- refused if the transaction is over; and one that writes leaves a crash no more than before
+-- refused if the transaction is over; and after one that writes a crash leaves no more than before
 pub record RunsStatement {S A : Type 0} (g : Ghosts S) (sql : List ℕ) (params : Row) (old new : Held S) (result : Result A Error) : Type 0 where
   pub ok : HasCleanDisk (state g new) → OnOk result (RanInside sql params (state g old) (state g new))
   pub err : HasCleanDisk (state g new) → IsTrue old.in_transaction

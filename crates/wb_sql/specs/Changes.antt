@@ -21,7 +21,7 @@ abbrev pub is_no_action : Action → Bool
 is_no_action NoAction = true
 is_no_action _ = false
 
--- no foreign key of the schema does anything where its parent goes or changes: the change is refused instead
+-- no foreign key of the schema does anything if its parent is deleted or changed: the change is refused instead
 abbrev pub never_acts : Schema → Bool
 never_acts schema = list_all (λ table. list_all (λ ref. is_no_action ref.on_delete && is_no_action ref.on_update) table.references) schema.tables
 
@@ -69,8 +69,8 @@ pub record DeletesFrom (schema : Schema) (sql : List ℕ) (table : Table) (tests
   pub stored : nat_le (2 ^ 31) table.tree ≡ false
   pub means : Means schema sql (Delete at (record { lets = []; body = query_of (rowids_where table.tree tests) }))
 
--- an INSERT OR REPLACE of one row leaves this, for each table whose statement the text is: without rowids, the row that is given and
--- those that do not meet it
+-- an INSERT OR REPLACE of one row leaves this, for each table that the text is a statement on: the row that is given and those
+-- that do not meet it, all without rowids
 abbrev pub Replaces : List ℕ → Row → State → State → Type 0
 Replaces sql params old new =
     (table : Table) (terms : List Term) → ReplacesInto old.now.schema sql table terms → IsStored (old.now.trees table.tree) → IsTyped table (eval_all terms (params ∷ []))

@@ -32,7 +32,7 @@ pub record IsTyped (table : Table) (given : Row) : Type 0 where
   pub cast : cast_all table.columns (cells given) ≡ cells given
   pub present : mended_from table.key 0 table.columns (cells given) ≡ cells given
 
--- the row with its own rowid or, where that is NULL, with the one after the last
+-- the row with its own rowid or, if that is NULL, with the one after the last
 abbrev pub with_next_rowid : List Row → Row → Row
 with_next_rowid = with_rowid Chosen
 

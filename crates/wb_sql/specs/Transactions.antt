@@ -24,7 +24,7 @@ pub record Commits (old new : State) : Type 0 where
   pub shown : Shows old new old.now old.now false
   pub unmarked : new.marks ≡ []
 
--- the text that ends a transaction and makes what it wrote last
+-- the text that ends a transaction and makes what it wrote permanent
 abbrev pub commit_text : List ℕ
 commit_text = codes "COMMIT"
 
@@ -41,7 +41,7 @@ cause_of (InDoubt error) = error
 abbrev pub FailsToCommit : {S : Type 0} → Ghosts S → Held S → Error → Type 0
 FailsToCommit {S} g old error = (at : Held S) × Executes commit_text [] (state g old) (state g at) (Err error)
 
--- a crash leaves these rows alone
+-- a crash leaves only these rows
 abbrev pub LeavesAlone : State → Trees → Type 0
 LeavesAlone s rows = (db : Trees) → s.may_leave db → db ≡ rows
 

@@ -16,7 +16,7 @@ use sqlite_disk::Disk;
 use std::alloc::Global;
 
 /// Closes a connection, and gives back its files, which then hold the last commit, also after a crash. What is not
-/// committed is lost. It fails where the store is shut, a file fails or memory runs out.
+/// committed is lost. It fails if the store is shut, a file fails or memory runs out.
 pub fn close<D: Disk + Drop>(
     conn: Connection<FileStore<D>>,
 ) -> Result<Files<D>, (Error, FileStore<D>)>

@@ -6,7 +6,7 @@ use crate::writing::Writing;
 use sqlite::types::ValueRef;
 use sqlite::{Alter, Connection, Error, Row};
 
-/// Runs one query, and answers all its rows in the query's order. The database stays as it is, also where it fails
+/// Runs one query, and answers all its rows in the query's order. The database stays as it is, also if the call fails
 /// for a reason of the query. A failure of the store or of memory takes back a transaction that is under way.
 pub fn read<S: Alter>(
     conn: &mut Connection<S>,

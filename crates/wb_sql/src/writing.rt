@@ -25,8 +25,8 @@ pub enum CommitError {
     /// taken back, and a crash leaves no more than before.
     Memory,
     /// COMMIT failed with this error. The transaction is as it was before the call, or it is taken back, and a connection
-    /// that is still open keeps the commit that it had. But a crash may leave what the transaction wrote, as well as what
-    /// it could leave before.
+    /// that is still open keeps the commit that it had. But a crash may leave what the transaction wrote, or what it
+    /// could leave before.
     InDoubt(Error),
 }
 
@@ -52,8 +52,8 @@ pub fn begin<S: Alter>(conn: &mut Connection<S>) -> Writing<'_, S>
     Writing { conn }
 }
 
-/// Whether the connection can still be used: the empty text runs where its store is open and memory suffices. Nothing
-/// is written; only where it cannot be used may a transaction be taken back.
+/// Whether the connection can still be used: the empty text runs if its store is open and memory suffices. Nothing
+/// is written. A transaction may be taken back only if the connection cannot be used.
 pub fn is_usable<S: Alter>(conn: &mut Connection<S>) -> bool
     ensures open { HasCleanDisk (state S.Store conn.new) → IsTrue result
         → IsUnchanged (state S.Store conn.old) (state S.Store conn.new) }
@@ -113,7 +113,7 @@ impl<S: Alter> Writing<'_, S> {
         Ok(())
     }
 
-    /// Ends the transaction, and makes what it wrote last. [`CommitError`] says what holds if it fails.
+    /// Ends the transaction, and makes what it wrote permanent. [`CommitError`] says what holds if it fails.
     pub fn commit(self) -> Result<(), CommitError>
         ensures ok { HasCleanDisk (state S.Store self.exit.0.now)
             → OnOk result (Commits (state S.Store self.entry.conn.now) (state S.Store self.exit.0.now)) }

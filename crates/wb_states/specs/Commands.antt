@@ -1,4 +1,4 @@
--- The names of the commands, which are those of the subcommands that ask for them (this project's own).
+-- The names of the commands, which are those of the subcommands that ask for them.
 use Rattle.std.specs.Prelude.{ℕ, List, codes}
 use Rattle.wb_states.specs.declared.command.Command.{Command}
 use Rattle.wb_states.specs.declared.command.Command.TheVariants.{AddArch, AddBuilder, Enter, Next, Take, Built, Uploaded, Waits, PutBack, Attempted, GiveBack, DepWait, Fail, NotForUs, Rebuild, BuildPriority, Merge}

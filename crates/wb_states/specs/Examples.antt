@@ -1,4 +1,4 @@
--- Records by what the queue goes by (this project's own).
+-- Records by what the queue goes by.
 use Rattle.std.specs.Prelude.{ℕ, ℤ, Bool, List}
 use Rattle.wb_states.specs.declared.record.Record.{Record}
 

@@ -1,4 +1,4 @@
--- The commands by their fields, one after another (this project's own).
+-- The commands by their fields, one after another.
 use Rattle.std.specs.Prelude.{ℕ, ℤ, List, Option}
 use Rattle.wb_states.specs.declared.command.Command.{Command}
 use Rattle.wb_states.specs.declared.command.Command.TheVariants as of

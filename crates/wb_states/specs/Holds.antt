@@ -1,4 +1,4 @@
--- Which records builders hold, and under which take numbers (this project's own).
+-- Which records builders hold, and under which take numbers.
 use Rattle.std.specs.Prelude.{◌≡◌, ◌<◌, ℕ, Bool, ◌&&◌, List, filter, nat_eq, nat_lt, bytes_eq, Option, Some, find, unwrap_or}
 use Rattle.std.specs.declared.cmp.Ordering.{Ordering}
 use Rattle.std.specs.Ordering.{nat_cmp, on}
@@ -14,7 +14,7 @@ use Rattle.deb_text.specs.Options.{has_value}
 abbrev pub is_taken_as : ℕ → Entry → Bool
 is_taken_as take_number entry = has_value (nat_eq take_number) entry.1.take
 
--- the first record, by architecture and source package, that is held under the take number
+-- the first record, by architecture and source package, that is held under the take number (this project's own)
 unfoldable pub taken_as : Machine → ℕ → Option Entry
 taken_as machine take_number = first_of (filter (is_taken_as take_number) (finite.entries machine.records))
 
@@ -22,7 +22,7 @@ taken_as machine take_number = first_of (filter (is_taken_as take_number) (finit
 abbrev pub is_held_by : List ℕ → Entry → Bool
 is_held_by builder entry = has_value (bytes_eq builder) entry.1.holder
 
--- the take number of a record, 0 where it has none
+-- the take number of a record, or 0 if it has none
 abbrev pub take_of : Entry → ℕ
 take_of entry = unwrap_or entry.1.take 0
 

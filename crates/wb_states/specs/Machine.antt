@@ -1,4 +1,4 @@
--- The state of the office, and its invariant (this project's own).
+-- The state of the office, and its invariant.
 use Rattle.std.specs.Prelude.{◌≡◌, ℕ, ◌≤◌, ◌⊎◌, IsTrue, List, [], filter, IfSome, Some, unwrap_or, Ok}
 use Rattle.std.specs.FinMap as map
 use Rattle.std.specs.FinSet as set

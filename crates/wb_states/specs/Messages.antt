@@ -1,4 +1,4 @@
--- What is printed of a refusal, for a person to read (this project's own).
+-- What is printed of a refusal, for a person to read.
 use Rattle.std.specs.Prelude.{ℕ, List, ◌++◌, codes, decimal, Some, None}
 use Rattle.deb_relations.specs.Faults.{fault_text as relation_fault_text}
 use Rattle.deb_version.specs.Faults.{fault_text as version_fault_text}

@@ -1,4 +1,4 @@
--- The moves of a record from state to state, and what each sets (this project's own, in wanna-build's terms).
+-- The moves of a record from state to state, and what each sets (in wanna-build's terms).
 -- The table of moves is read here column by column: the states from which a move goes, the state in which it ends, and what it sets.
 use Rattle.std.specs.Prelude.{ℕ, Bool, true, not, nat_eq, nat_le, nat_lt, IsTrue, List, [], ◌∷◌, ◌++◌, length, codes, Option, Some, None, Result, if◌then◌else◌}
 use Rattle.std.specs.List.{list_any}
@@ -28,7 +28,7 @@ one_of states state = list_any (λ one. nat_eq (code_of one) (code_of state)) st
 abbrev pub all_but : List State → State → Bool
 all_but states state = not (one_of states state)
 
--- the states from which a move goes
+-- the states from which a move goes (this project's own)
 unfoldable pub may_go : Move → State → Bool
 may_go (Take holder take_number) = one_of (NeedsBuild ∷ [])
 may_go ToBuilt = one_of (Building ∷ [])
@@ -42,7 +42,7 @@ may_go (Fail note) = one_of (NeedsBuild ∷ Building ∷ Built ∷ DepWait ∷ B
 may_go (ToNotForUs note) = one_of (NeedsBuild ∷ Building ∷ DepWait ∷ BdUninstallable ∷ Failed ∷ BuildAttempted ∷ [])
 may_go (Rebuild number message) = one_of (Installed ∷ [])
 
--- the state in which a move ends
+-- the state in which a move ends (this project's own)
 abbrev pub goal_of : Move → State
 goal_of (Take holder take_number) = Building
 goal_of ToBuilt = Built
@@ -84,7 +84,7 @@ in_state state current = record current {
   waits = if is_dep_wait state then current.waits else [];
 }
 
--- the note in a state after a record: the one that is brought, else none where the state changes, else the record's
+-- the note of a record in its next state: the one that is brought, else none if the state changes, else the record's
 abbrev pub note_after : Option (List ℕ) → State → Record → List ℕ
 note_after (Some note) state current = note
 note_after None state current = if nat_eq (code_of state) (code_of current.state) then current.note else []
@@ -95,25 +95,25 @@ record_after_move move current = record (in_state (goal_of move) (set_by move cu
   note = note_after (note_of move) (goal_of move) current;
 }
 
--- what is wrong with waits: nothing is left of them, or their text is too long
+-- what is wrong with waits: nothing is left of them, or their text is too long (this project's own)
 abbrev pub waits_refusal : List ℕ → Option Refusal
 waits_refusal waits =
     if is_empty_text waits then Some (BadRelations None)
     else (if nat_lt relations_limit (length waits) then Some (BadRelations (Some TooLong)) else None)
 
--- what is wrong with a move's relations or its number, where the state is one from which it goes
+-- what is wrong with a move's relations or its number, if the state is one from which it goes (this project's own)
 abbrev pub value_refusal : Move → Record → Option Refusal
 value_refusal (Waits relations arch) current = waits_refusal (waits_for relations arch)
 value_refusal (ToDepWait relations arch) current = waits_refusal (waits_for relations arch)
 value_refusal (Rebuild number message) current = if nat_le number current.number then Some BadNumber else None
 value_refusal _ current = None
 
--- whether the number of a move, where it has one, is above the record's
+-- whether the number of a move, if it has one, is above the record's
 abbrev pub has_higher_number : Move → Record → Bool
 has_higher_number (Rebuild number message) current = nat_lt current.number number
 has_higher_number _ current = true
 
--- what is known before a move takes memory: it goes from the record's state, and its number, where it has one, is above the record's
+-- what is known before a move takes memory: it goes from the record's state, and its number, if it has one, is above the record's
 abbrev pub MayWantMemory : Move → Record → Type 0
 MayWantMemory move current = IsTrue (may_go move current.state) × IsTrue (has_higher_number move current)
 

@@ -1,5 +1,6 @@
--- The forms of names: priorities and sections (Debian Policy 2.5 and 2.4), and, this project's own, architectures and builders.
+-- The forms of names: architectures and their words, builders, priorities and sections.
 use Rattle.std.specs.Prelude.{ℕ, Bool, not, ◌&&◌, ◌||◌, List, length, nat_le, nat_eq, codes, bytes_eq}
+use Prim.Native.Char.{code}
 use Rattle.std.specs.Char.{is_ascii_alphanumeric, is_ascii_graphic}
 use Rattle.std.specs.List.{list_all}
 use Rattle.deb_relations.specs.Names.{is_lower_or_digit, is_arch_word}
@@ -24,9 +25,9 @@ is_os_cpu_word text = has_length 1 20 text && (list_all is_lower_or_digit text &
 
 -- a byte of a builder's name: a letter, a digit, `.`, `_` or `-`
 abbrev pub is_builder_char : ℕ → Bool
-is_builder_char c = is_ascii_alphanumeric c || (nat_eq c 46 || (nat_eq c 95 || nat_eq c 45))
+is_builder_char c = is_ascii_alphanumeric c || (nat_eq c (code ".") || (nat_eq c (code "_") || nat_eq c (code "-")))
 
--- the name of a builder: 1 to 64 of these bytes, the first a letter or a digit (this project's own)
+-- the name of a builder: 1 to 64 of these bytes, the first a letter or a digit
 unfoldable pub is_builder_name : List ℕ → Bool
 is_builder_name text = has_length 1 64 text && (begins is_ascii_alphanumeric text && list_all is_builder_char text)
 

@@ -1,4 +1,4 @@
--- The order in which the waiting source packages of an architecture are built (wanna-build's states page; the order of sections is this project's own).
+-- The order in which the waiting source packages of an architecture are built (wanna-build's states page).
 use Rattle.std.specs.Prelude.{◌≡◌, ℕ, ◌+◌, ◌*◌, ℤ, ◌-ℤ◌, nat_abs, Bool, not, nat_lt, nat_eq, List, [], ◌∷◌, length, codes, bytes_eq, if◌then◌else◌, ◌&&◌, filter, Option, Some}
 use Rattle.std.specs.List.{position_or_len, after_first}
 use Rattle.std.specs.declared.cmp.Ordering.{Ordering}
@@ -43,7 +43,7 @@ pub record Place : Type 0 where
   pub section : ℕ
   pub name : List ℕ
 
--- the place of a record, and the name of its source package
+-- the place of a record, and the name of its source package (that the time waited does not count is this project's own)
 abbrev pub place_of : Record → List ℕ → Place
 place_of current source = record {
   build_priority = current.build_priority;
@@ -53,7 +53,7 @@ place_of current source = record {
   name = source;
 }
 
--- by build priority, the greatest first, then what was built earlier before what is new, by priority, by section, and by the bytes of the name
+-- by build priority, the greatest first, then what was built earlier before what is new, by priority, by section, and by the bytes of the name (that the build priority comes first is this project's own)
 abbrev pub place_cmp : Place → Place → Ordering
 place_cmp =
     then_cmp (on (λ p. p.build_priority) (flip_args int_cmp))
@@ -97,7 +97,7 @@ is_waiting arch entry = bytes_eq entry.0.0 arch && is_needs_build entry.1.state
 unfoldable pub queue_of : Machine → List ℕ → List Entry
 queue_of machine arch = sorted_by entry_cmp (filter (is_waiting arch) (map.entries machine.records))
 
--- the head of the queue of an architecture
+-- the head of the queue of an architecture (this project's own)
 unfoldable pub head_of : Machine → List ℕ → Option Entry
 head_of machine arch = first_of (queue_of machine arch)
 

@@ -1,4 +1,4 @@
--- The record of a source package on an architecture: when its fields have their forms and limits (this project's own).
+-- The record of a source package on an architecture: when its fields have their forms and limits.
 use Rattle.std.specs.Prelude.{◌≡◌, ◌≤◌, ◌||◌, IsTrue, is_some, IfSome, IsOk, not}
 use Rattle.deb_version.specs.Syntax.{reading_of}
 use Rattle.wb_states.specs.declared.record.Record.{Record}

@@ -1,4 +1,4 @@
--- The numbers and the names of the refusals (this project's own).
+-- The numbers and the names of the refusals.
 use Rattle.std.specs.Prelude.{◌≡◌, ◌≢◌, ℕ, List, codes}
 use Rattle.deb_control.specs.Faults.{fault_name}
 use Rattle.wb_states.specs.declared.refusal.Refusal.{Refusal}
@@ -60,11 +60,11 @@ name_of_refusal Closed = codes "Closed"
 name_of_refusal Memory = codes "Memory"
 name_of_refusal (Store fault) = codes "Store"
 
--- the machine gives this refusal: it is not that memory ran out, the one fault of a store that is kept in memory
+-- the machine gives this refusal: it is not out of memory, which is the one fault of a store that is kept in memory
 abbrev pub IsOfMachine : Refusal → Type 0
 IsOfMachine refusal = refusal ≢ Memory
 
--- the refusal of a command whose store has a fault: out of memory is the same of both
+-- the refusal of a command whose store has a fault: out of memory is the same for both
 abbrev pub IsOfStore : StoreFault → Refusal → Type 0
 IsOfStore fault refusal = (fault ≡ NoMemory → refusal ≡ Memory) × (fault ≢ NoMemory → refusal ≡ Store fault)
 

@@ -1,9 +1,9 @@
--- The states of a source package on an architecture: wanna-build's names, and this project's own numbers.
+-- The states of a source package on an architecture: wanna-build's names, and a number for each.
 use Rattle.std.specs.Prelude.{ℕ, Bool, true, false, List, codes}
 use Rattle.wb_states.specs.declared.state.State.{State}
 use Rattle.wb_states.specs.declared.state.State.TheVariants.{NeedsBuild, Building, Built, Uploaded, Installed, DepWait, BdUninstallable, Failed, NotForUs, BuildAttempted}
 
--- the number of a state (this project's own)
+-- the number of a state
 abbrev pub code_of : State → ℕ
 code_of NeedsBuild = 0
 code_of Building = 1

@@ -1,4 +1,4 @@
--- The numbers, the names and the messages of the store's faults (this project's own).
+-- The numbers, the names and the messages of the store's faults.
 use Rattle.std.specs.Prelude.{ℕ, List, ◌++◌, codes, decimal}
 use Rattle.wb_states.specs.declared.store_fault.StoreFault.{StoreFault}
 use Rattle.wb_states.specs.declared.store_fault.StoreFault.TheVariants.{NotOffice, NewerSchema, Damaged, Memory, Device}

@@ -1,4 +1,4 @@
--- The table of moves, row by row: what each makes of a record, of which all else stays (this project's own, in wanna-build's terms).
+-- The table of moves, row by row: what each makes of a record, and that all else stays (in wanna-build's terms).
 use Rattle.std.specs.Prelude.{ℕ, ◌≤◌, ⊤, IsTrue, true, List, [], Some, None}
 use Rattle.deb_relations.specs.Grammar.{Reads}
 use Rattle.wb_states.specs.declared.record.Record.{Record}

@@ -1,4 +1,4 @@
-//! What operators and builders ask of the office: one struct a command, with its texts as they came.
+//! What operators and builders ask of the office: one struct per command, with texts as they came.
 ghost use Rattle.std.specs.Prelude.{◌≡◌};
 ghost use Rattle.wb_states.specs.Commands.{name_of_command};
 
@@ -24,7 +24,7 @@ pub struct AddBuilder {
     pub arch: Text,
 }
 
-/// Puts a source package that has no record into the queue of an architecture.
+/// Puts a source package without a record into the queue of an architecture.
 #[derive(Debug, Drop)]
 pub struct Enter {
     /// The architecture.
@@ -180,7 +180,7 @@ pub enum Command {
     AddArch(AddArch),
     /// Lets a builder build for an architecture.
     AddBuilder(AddBuilder),
-    /// Puts a source package that has no record into the queue.
+    /// Puts a source package without a record into the queue.
     Enter(Enter),
     /// Gives a builder the head of a queue.
     Next(Next),

@@ -31,7 +31,7 @@ pub fn queue_has_each_waiting_record_once()
 {}
 
 /// The head of a queue is a record that waits for a builder, and no other that waits on the architecture is
-/// to be built before it; where there is no head, none waits.
+/// to be built before it; if there is no head, none waits.
 pub fn the_head_is_built_first()
     ensures waits { (machine : Machine) (arch : List ℕ) (entry : Entry)
         → head_of machine arch ≡ Some entry → IsWaitingAt machine arch entry }
@@ -50,8 +50,8 @@ pub fn places_differ()
 {}
 
 /// The order of the queue is the order of ranks and, among equal ranks, that of the bytes of the names, so that
-/// a table which is ordered by both has the queue; a record in its form has a rank of at most 696347 (this
-/// project's own).
+/// a table ordered by both gives the queue; a record in its form has a rank of at most 696347 (this project's
+/// own).
 pub fn ranks_order_the_queue()
     ensures order { (one other : Record) (name another : List ℕ) → IsWellFormed one → IsWellFormed other
         → place_cmp (place_of one name) (place_of other another)
@@ -69,8 +69,8 @@ pub fn kept_waits_are_read()
 {}
 
 /// A move that is not refused goes from a state that its row of the table names, and makes of a record
-/// whose fields have their forms what the row says; all that the row does not name stays as it was. Where
-/// what the move brings has its form, so have the fields afterwards (this project's own, in wanna-build's
+/// whose fields have their forms what the row says; all that the row does not name stays as it was. If
+/// what the move brings has its form, the fields keep theirs (this project's own, in wanna-build's
 /// terms).
 pub fn moves_follow_the_table()
     ensures from { (move : Move) (old new : Record)
@@ -81,8 +81,8 @@ pub fn moves_follow_the_table()
         → move_outcome move old ≡ Ok new → IsWellFormed new }
 {}
 
-/// A take number finds the record that is held under it: where no take number is held twice, that record
-/// and no other, and where it finds none, there is none.
+/// A take number finds the record that is held under it: if no take number is held twice, that record
+/// and no other; if it finds none, there is none.
 pub fn a_take_number_finds_its_record()
     ensures found { (machine : Machine) (take_number : ℕ) (entry : Entry) → HasDistinctTakes machine
         → (taken_as machine take_number ≡ Some entry)
@@ -93,8 +93,8 @@ pub fn a_take_number_finds_its_record()
 {}
 
 /// What a builder holds are the records that name it, and in a consistent office they ascend strictly by
-/// take number, so that each stands once. What it is told of again is the one with the least later take
-/// number among those that it builds on the architecture, and nothing where there is none.
+/// take number, so that each stands once. What is reported to it again is the one with the least later
+/// take number among those that it builds on the architecture, or nothing if there is none.
 pub fn holds_are_by_take_number()
     ensures members { (machine : Machine) (builder : List ℕ) (entry : Entry)
         → IsIn entry (held_of machine builder)
@@ -112,8 +112,8 @@ pub fn holds_are_by_take_number()
         → ¬ (IsBuildingAfter machine arch builder after entry) }
 {}
 
-/// No two states have one number or one name, and two refusals have one number exactly where they have
-/// one name (the numbers and the names of refusals are this project's own).
+/// No two states share a number or a name, and two refusals share a number exactly if they share a
+/// name (the numbers and the names of refusals are this project's own).
 pub fn codes_differ()
     ensures states { (one other : State) → code_of one ≡ code_of other → one ≡ other }
     ensures names { (one other : State) → name_of one ≡ name_of other → one ≡ other }
@@ -121,8 +121,8 @@ pub fn codes_differ()
         ↔ (name_of_refusal one ≡ name_of_refusal other) }
 {}
 
-/// Examples of ranks, and of two waiting source packages the one that is built first: by build priority, then what was
-/// built earlier, then by priority, by section, and by name; an archive area plays no part, and a section that is not
+/// Examples of ranks, and of which of two waiting source packages is built first: by build priority, then what was
+/// built earlier, then by priority, by section, and by name; an archive area does not count, and a section that is not
 /// among the known ones comes last.
 /// Source: this project's own.
 pub fn examples_of_the_queue()

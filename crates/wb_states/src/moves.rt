@@ -137,7 +137,7 @@ impl Move {
         Ok(())
     }
 
-    /// Why the move is refused, where its state is not, for its relations or its number.
+    /// Why the move is refused for its relations or its number, if not for its state.
     fn refuse_value(&self, alloc: Global, current: &Record) -> Result<(), Refusal>
         ensures ok { OnOk result (value_refusal self.now current.now ≡ None) }
         ensures above { OnOk result (IsTrue (has_higher_number self.now current.now)) }
@@ -195,7 +195,7 @@ fn refuse_waits(waits: &Text) -> Result<(), Refusal>
 
 impl Record {
     /// Brings the record into a state, and clears what that state does not have: the holder and the
-    /// take number where nobody holds it, and the waits where it does not wait. Takes no memory. The
+    /// take number if nobody holds it, and the waits if it does not wait. Takes no memory. The
     /// states are wanna-build's.
     pub fn enter_state(&mut self, alloc: Global, state: State)
         ensures value { self.new ≡ in_state state self.old }
@@ -211,11 +211,11 @@ impl Record {
     }
 }
 
-/// The record after the move. It is refused with `WrongState` where the record is in a state from which
-/// this move does not go; then with `BadRelations` where nothing is left of its relations for the
-/// architecture, or more than 65536 bytes, and with `BadNumber` where its number is not above the
-/// record's; and with `Memory`, which comes only behind `WrongState` and `BadNumber`, since neither takes
-/// any. The forms of notes and numbers are not looked at. The table of moves is this project's own, in
+/// The record after the move. The move is refused with `WrongState` if the record is in a state from
+/// which it does not go; then with `BadRelations` if nothing is left of its relations for the
+/// architecture, or more than 65536 bytes, and with `BadNumber` if its number is not above the record's;
+/// and with `Memory`, which comes only after `WrongState` and `BadNumber`, since neither takes memory.
+/// The forms of notes and numbers are not looked at. The table of moves is this project's own, in
 /// wanna-build's terms.
 #[tactic(auto, unfolding(crate::specs::Moves::move_refusal, crate::specs::Moves::move_outcome))]
 pub fn move_record(alloc: Global, current: &Record, change: &Move) -> Result<Record, Refusal>
@@ -248,8 +248,8 @@ fn moved_record(alloc: Global, current: &Record, change: &Move) -> Result<Record
 }
 
 /// The version of the binaries that are built from the record's source: its version, followed by `+bN`
-/// where the number N of the binary-only rebuild is above 0 (Debian Policy 5.6.12.2). The
-/// only error is that there is no memory for it.
+/// if the number N of the binary-only rebuild is above 0 (Debian Policy 5.6.12.2). The only error is
+/// that there is no memory for it.
 pub fn build_text(alloc: Global, current: &Record) -> Result<Text, AllocError>
     ensures { IfOk result (λ text. text ≡ build_text_of current.now) }
 {

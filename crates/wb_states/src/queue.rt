@@ -98,7 +98,7 @@ impl<'a> PartialOrd for QueueKey<'a> {
 }
 
 /// The number by which a table orders the records that wait on an architecture, those of one number by the
-/// bytes of their names, so that they stand as by [`QueueKey`]: the least is built first. Of a record in its
+/// bytes of their names, which is the order of [`QueueKey`]: the least is built first. For a record in its
 /// form it lies between 0 and 696347. Takes no memory (this project's own).
 pub fn rank(current: &Record) -> u32
     ensures value { result ≡ rank_of current.now }

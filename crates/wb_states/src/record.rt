@@ -15,7 +15,7 @@ pub struct Record {
     pub state: State,
     /// The source version that is to be built, or was.
     pub version: Version,
-    /// The priority (Debian Policy 2.5): 1 to 64 bytes from `!` to `~`, or empty where a list gave none.
+    /// The priority (Debian Policy 2.5): 1 to 64 bytes from `!` to `~`, or empty if a list gave none.
     pub priority: Text,
     /// The section (Debian Policy 2.4), in the form of the priority.
     pub section: Text,
@@ -29,13 +29,13 @@ pub struct Record {
     pub take: Option<u64>,
     /// The relations that it waits for, reduced for the architecture and printed.
     pub waits: Text,
-    /// What it needs to be built, reduced and printed, or none where that could not be read.
+    /// What it needs to be built, reduced and printed, or none if that could not be read.
     pub depends: Option<Text>,
     /// What an operator, its holder or a report said of its state, at most 1000 bytes.
     pub note: Text,
     /// Why it is rebuilt, at most 1000 bytes.
     pub message: Text,
-    /// The build priority that an operator gave it, from -1000 to 1000 and 0 at first: of two packages that wait,
-    /// that of the greater one is built first.
+    /// The build priority that an operator gave it, from -1000 to 1000 and 0 at first: of two waiting packages,
+    /// the one with the greater is built first.
     pub build_priority: i16,
 }

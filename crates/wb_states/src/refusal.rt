@@ -143,7 +143,7 @@ pub enum Refusal {
     BadVersion {
         fault: VersionFault,
     },
-    /// The relations have this fault, or, where there is none, nothing of them is left for the architecture.
+    /// The relations have this fault, or, if there is none, nothing of them is left for the architecture.
     BadRelations {
         fault: Option<RelationFault>,
     },
@@ -164,7 +164,7 @@ pub enum Refusal {
     RepeatedArch,
     /// The store failed before, and the office answers nothing until it is opened again.
     Closed,
-    /// The store has this fault, which is not that it is out of memory.
+    /// The store has this fault, other than being out of memory.
     Store {
         fault: StoreFault,
     },

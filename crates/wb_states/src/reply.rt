@@ -24,7 +24,7 @@ pub struct Assignment {
 /// What a merge did to the records of an architecture (this project's own).
 #[derive(Clone, Copy, Debug, PartialEq, Eq)]
 pub struct MergeCounts {
-    /// How many source packages have a record that had none.
+    /// How many source packages have a record and had none.
     pub added: u64,
     /// How many records differ in some field from what they were.
     pub changed: u64,

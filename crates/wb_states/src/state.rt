@@ -47,7 +47,7 @@ impl State {
         }
     }
 
-    /// The state with this number, or none where no state has it.
+    /// The state with this number, or none if no state has it.
     pub fn of_code(code: u8) -> Option<State>
         ensures value { IfSome result (λ state. code_of state ≡ code) }
         ensures refused { IfNone result (9 < code) }
@@ -85,7 +85,7 @@ impl State {
         }
     }
 
-    /// The state with this name, its letters in just this case, or none where no state has it.
+    /// The state with this name, its letters in just this case, or none if no state has it.
     pub fn of_name(name: &str) -> Option<State>
         ensures value { IfSome result (λ state. name_of state ≡ name.now) }
         ensures refused { IfNone result ((state : State) → name_of state ≢ name.now) }

@@ -1,4 +1,4 @@
--- The state of the office as a value that a prover can tell from others (this project's own).
+-- The state of the office as a value that a prover can distinguish from others.
 use Rattle.std.specs.Prelude.{ℕ, List, refl}
 use Rattle.std.specs.Coded.{Coded, code_by, coded×, coded_ℕ}
 use Rattle.std.specs.FinMap as map

@@ -1,4 +1,4 @@
--- What is looked up in the tables of the office (this project's own).
+-- What is looked up in the tables of the office.
 use Rattle.std.specs.Prelude.{ℕ, Bool, List, filter, nat_eq, bytes_eq, ◌&&◌, length}
 use Rattle.std.specs.FinMap as finite
 use Rattle.wb_states.specs.declared.state.State.{State}

@@ -24,7 +24,7 @@ impl Store {
         Ok(())
     }
 
-    /// Takes the record of the source package `source` on the architecture `arch` out, where it has
+    /// Takes the record of the source package `source` on the architecture `arch` out, if it has
     /// one. All else stays. The only error is that there is no memory for it; the tables are then
     /// as they were (this project's own).
     pub fn remove(&mut self, arch: &Text, source: &Text) -> Result<(), StoreFault>
@@ -38,9 +38,9 @@ impl Store {
         Ok(())
     }
 
-    /// Adds the architecture `name` with its words, or gives an architecture that is there these
-    /// words. All else stays. The only error is that there is no memory for it; the tables are then
-    /// as they were (this project's own).
+    /// Adds the architecture `name` with its words, or gives these words to one that is there. All
+    /// else stays. The only error is that there is no memory for it; the tables are then as they
+    /// were (this project's own).
     pub fn add_arch(&mut self, name: Text, words: OsCpu) -> Result<(), StoreFault>
         ensures ok { OnOk result (self.new
             ≡ record self.old { archs = map.insert self.old.archs name words }) }

@@ -21,18 +21,18 @@ pub struct StateCounts {
     pub installed: u64,
     /// Those that wait until the archive has what they need to be built.
     pub dep_wait: u64,
-    /// Those of which what they need to be built cannot be installed.
+    /// Those whose build needs what cannot be installed.
     pub bd_uninstallable: u64,
-    /// Those of which the build failed and a person has to look.
+    /// Those whose failed build a person has to look at.
     pub failed: u64,
     /// Those that are not to be built on the architecture.
     pub not_for_us: u64,
-    /// Those of which the holder reported a failed build and nobody has looked yet.
+    /// Those whose holder reported a failed build that nobody has looked at yet.
     pub build_attempted: u64,
 }
 
 impl Store {
-    /// How many records of the architecture are in each state. Takes no memory, and cannot fail of tables in
+    /// How many records of the architecture are in each state. Takes no memory, and cannot fail on tables in
     /// memory (this project's own).
     #[tactic(auto, unfolding(crate::specs::Lookups::counts_of))]
     pub fn counts(&self, arch: &Text) -> Result<StateCounts, StoreFault>

@@ -8,7 +8,7 @@ use deb_text::Text;
 use std::alloc::{AllocError, Global};
 use wb_states::Record;
 
-/// A record with the architecture and the source package that it is of (this project's own).
+/// A record with its architecture and its source package (this project's own).
 #[derive(Debug, Drop)]
 pub struct KeyedRecord {
     /// The architecture.

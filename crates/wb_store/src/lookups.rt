@@ -34,7 +34,7 @@ impl Store {
         self.archs.get(name)
     }
 
-    /// Whether the architecture was added. Takes no memory, and cannot fail of tables in memory (this
+    /// Whether the architecture was added. Takes no memory, and cannot fail on tables in memory (this
     /// project's own).
     pub fn has_arch(&self, name: &Text) -> Result<bool, StoreFault>
         ensures value { IfOk result (λ is_there. is_there ≡ map.contains_key self.now.archs name.now) }

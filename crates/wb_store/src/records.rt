@@ -56,7 +56,7 @@ impl Records {
         Ok(())
     }
 
-    /// Takes the record of the source package `source` on the architecture `arch` out, where it has one. All
+    /// Takes the record of the source package `source` on the architecture `arch` out, if it has one. All
     /// others stay. The only error is that there is no memory for the key by which it is sought; the records
     /// are then as they were (this project's own).
     pub fn remove(&mut self, arch: &Text, source: &Text) -> Result<(), AllocError>

@@ -57,7 +57,7 @@ impl Store {
         }
     }
 
-    /// The two counts of the office. Takes no memory, and cannot fail of tables in memory (this project's
+    /// The two counts of the office. Takes no memory, and cannot fail on tables in memory (this project's
     /// own).
     pub fn office_row(&self) -> Result<Counts, StoreFault>
         ensures value { result
@@ -66,7 +66,7 @@ impl Store {
         Ok(self.counts)
     }
 
-    /// Sets both counts of the office; all else stays. Takes no memory, and cannot fail of tables in memory
+    /// Sets both counts of the office; all else stays. Takes no memory, and cannot fail on tables in memory
     /// (this project's own).
     pub fn set_counts(&mut self, counts: Counts) -> Result<(), StoreFault>
         ensures value { IsOk result }

@@ -1,12 +1,12 @@
--- Readers and writers that report whether they failed (this project's own).
+-- Readers and writers that report whether they failed.
 use Rattle.std.specs.Prelude.{◌≡◌, ℕ, Bool, true, false, List, Option}
 
--- what a clause sees of a reader or a writer: the bytes that it has left or holds, where these are known, and whether a call of it failed
+-- what a clause sees of a reader or a writer: the bytes that it has left or holds, if these are known, and whether a call of it failed
 pub record Stream : Type 0 where
   pub bytes : Option (List ℕ)
   pub failed : Bool
 
--- the flag of a stream, before and after: it is set where the stream failed, and else stays as it was
+-- the flag of a stream, before and after: it is set if the stream failed, and else stays as it was
 abbrev pub Flags : Bool → Stream → Stream → Type 0
 Flags true old new = new.failed ≡ true
 Flags false old new = new.failed ≡ old.failed

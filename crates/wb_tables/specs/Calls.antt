@@ -23,7 +23,7 @@ abbrev pub FailsToWrite : State → State → Error → Type 0
 FailsToWrite old new e = ((sql : List ℕ) × (params : Row) × Executes sql params old new (Err e)) × IsKeptOrUndone old new
 
 -- a change in a transaction: if it succeeds, a database that stood for a state that allows the change stands for the state after it; if it
--- fails, it fails as a statement does; if the transaction is over, it is refused; and it leaves a crash no more than before
+-- fails, it fails as a statement does; if the transaction is over, it is refused; and a crash leaves no more than before
 pub record Changes {S A : Type 0} (g : Ghosts S) (Allows : Machine → Type 0) (after : Machine → Machine) (old new : Held S) (result : Result A Error) : Type 0 where
   pub ok : HasCleanDisk (state g new) → OnOk result ((machine : Machine) → StandsFor machine (state g old).now → Allows machine → Becomes (after machine) (state g old) (state g new))
   pub err : HasCleanDisk (state g new) → IsTrue old.in_transaction → IfErr result (FailsToWrite (state g old) (state g new))
@@ -34,7 +34,7 @@ pub record Changes {S A : Type 0} (g : Ghosts S) (Allows : Machine → Type 0) (
 abbrev pub FailsToRead : State → State → Error → Type 0
 FailsToRead old new e = ((sql : List ℕ) × (params : Row) × FailsToQuery sql params old new e) × IsKeptOrUndone old new
 
--- why a look-up fails: its query failed; or it is out of memory for its answer; or a row is not what an office keeps
+-- why a look-up fails: its query failed; or memory ran out for its answer; or a row is not what an office keeps
 abbrev pub FailsToLookUp : State → State → Error → Type 0
 FailsToLookUp old new e =
     FailsToRead old new e
@@ -42,7 +42,7 @@ FailsToLookUp old new e =
     ⊎ ((e ≡ SqliteFailure DatabaseCorrupt) × IsUnchanged old new × ((machine : Machine) → IsConsistent machine → ¬ StandsFor machine old.now)))
 
 -- a look-up: if it succeeds, its answer is that of the state for which the database stands, and the database stays as it is; if it fails, it
--- fails for one of the reasons above; and it leaves a crash no more than before
+-- fails for one of the reasons above; and a crash leaves no more than before
 pub record LooksUp {S A : Type 0} (g : Ghosts S) (Answer : Machine → A → Type 0) (old new : Held S) (result : Result A Error) : Type 0 where
   pub value : HasCleanDisk (state g new) → IfOk result (λ answer. (machine : Machine) → StandsFor machine (state g old).now → Answer machine answer)
   pub same : HasCleanDisk (state g new) → old.schema ≡ office_schema → OnOk result (IsUnchanged (state g old) (state g new))

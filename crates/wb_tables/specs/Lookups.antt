@@ -1,4 +1,4 @@
--- What a query on the table of records answers, and when what it answers is not read (this project's own).
+-- What a query on the table of records answers, and when what it answers is not read.
 use Rattle.std.specs.Prelude.{◌≡◌, ◌⊎◌, ℕ, ◌<◌, pos, List, [], ◌∷◌, length, map, Option, Result, Vec, IfOk, IfErr, OnOk, IsUtf8}
 use Rattle.std.specs.List.{AllByRecursion}
 use Rattle.std.specs.Option.{option_map}
@@ -82,14 +82,14 @@ IsReadFault Fits e = (e ≡ SqliteFailure OutOfMemory) ⊎ ((e ≡ SqliteFailure
 abbrev pub MayAnswer : List ℕ → Row → State → List Row → Type 0
 MayAnswer sql params s rows = (q : TableQuery) → Asks s.now.schema sql q → Answers q params (s.now.trees q.tree) rows
 
--- why the records of a query are not had: it failed; or memory ran out for them; or a row that it answers is no record
+-- why the records of a query are not read: it failed; or memory ran out for them; or a row that it answers is no record
 abbrev pub FailsToReadRecords : List ℕ → Row → State → State → Error → Type 0
 FailsToReadRecords sql params old new e =
     FailsToRead old new e
     ⊎ (IsUnchanged old new × ((rows : List Row) × MayAnswer sql params old rows × IsReadFault (AreRecords rows) e))
 
 -- the records of a query: if it succeeds, their columns are its rows, and the database stays as it is; if it fails, it fails for one of the
--- reasons above; and it leaves a crash no more than before
+-- reasons above; and a crash leaves no more than before
 pub record ReadsRecords {S X : Type 0} (g : Ghosts S) (sql : List ℕ) (params : Row) (old new : Held S) (result : Result (Vec KeyedRecord X) Error) : Type 0 where
   pub value : HasCleanDisk (state g new) → IfOk result (λ rows. MayAnswer sql params (state g old) (map keyed_cells rows.items))
   pub same : HasCleanDisk (state g new) → IsPlain (understood old.schema sql) → OnOk result (IsUnchanged (state g old) (state g new))
@@ -100,11 +100,11 @@ pub record ReadsRecords {S X : Type 0} (g : Ghosts S) (sql : List ℕ) (params :
 abbrev pub counts_row : ℕ → ℕ → Row
 counts_row handed accepted = Int (pos 2) ∷ number handed ∷ number accepted ∷ []
 
--- the rows are the one of these counts
+-- there is one row, that of these counts
 abbrev pub AreCounts : List Row → ℕ → ℕ → Type 0
 AreCounts rows handed accepted = rows ≡ counts_row handed accepted ∷ []
 
--- the rows are the one of some counts
+-- there is one row, that of some counts
 abbrev pub HaveCounts : List Row → Type 0
 HaveCounts rows = (handed : ℕ) × (accepted : ℕ) × AreCounts rows handed accepted
 

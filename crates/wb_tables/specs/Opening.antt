@@ -1,4 +1,4 @@
--- What an opening tests of the office's tables, row by row (this project's own).
+-- What an opening tests of the office's tables, row by row.
 use Rattle.std.specs.Prelude.{◌≡◌, ◌≢◌, ◌⊎◌, ◌++◌, ℕ, suc, ◌<◌, ◌≤◌, ⊤, Bool, false, ◌&&◌, ◌||◌, nat_eq, bytes_eq, IsTrue, List, [], ◌∷◌, length, map, find, Option, IfSome, Result, Vec, IfOk, IfErr, OnOk}
 use Rattle.std.specs.Option.{option_map, IsSomeAnd}
 use Rattle.std.specs.List.{AllByRecursion, list_any}
@@ -39,7 +39,7 @@ use Rattle.wb_tables.specs.Lookups.{AreRowsOf, MayAnswer, counts_row}
 abbrev pub IsRowOf : {X : Type 0} → (X → Row) → (X → Type 0) → Row → Type 0
 IsRowOf {X} columns Fits row = (x : X) × Fits x × (row ≡ columns x)
 
--- the row at this place, counted from 1, is the first that has not the columns of one that fits
+-- the row at this place, counted from 1, is the first without the columns of one that fits
 pub record IsFirstBad {X : Type 0} (columns : X → Row) (Fits : X → Type 0) (rows : List Row) (place : ℕ) : Type 0 where
   pub before : List Row
   pub row : Row
@@ -54,7 +54,7 @@ pub record Holds {X : Type 0} (columns : X → Row) (Fits : X → Type 0) (rows 
   pub same : rows ≡ map columns xs
   pub fit : AllByRecursion Fits xs
 
--- memory ran out, or the row of this number is damaged, for it is not what fits
+-- memory ran out, or the row of this number is damaged, because it does not fit
 abbrev pub IsBadRow : Table → ℕ → Type 0 → StoreFault → Type 0
 IsBadRow table place Fits fault = (fault ≡ Memory) ⊎ ((fault ≡ Damaged table place) × ¬ Fits)
 
@@ -67,7 +67,7 @@ abbrev pub IsQueryFault : Table → State → State → StoreFault → Type 0
 IsQueryFault table old new fault = (e : Error) × FailsToRead old new e × (fault ≡ fault_of e table)
 
 -- the rows of a query on a table: if it succeeds, they are its answer, and the database stays as it is; if it fails, it fails as the query does;
--- and it leaves a crash no more than before
+-- and a crash leaves no more than before
 pub record ReadsTable {S X : Type 0} (g : Ghosts S) (sql : List ℕ) (table : Table) (old new : Held S) (result : Result (Vec Row X) StoreFault) : Type 0 where
   pub value : HasCleanDisk (state g new) → IfOk result (λ rows. MayAnswer sql [] (state g old) rows.items)
   pub same : HasCleanDisk (state g new) → IsPlain (understood old.schema sql) → OnOk result (IsUnchanged (state g old) (state g new))
@@ -80,14 +80,14 @@ FailsToTest q table Bad old new fault =
     IsQueryFault table old new fault ⊎ (IsUnchanged old new × ((rows : List Row) × Answers q [] (old.now.trees q.tree) rows × Bad rows fault))
 
 -- a test of the rows of a table, which a query answers: if it succeeds, they are good, and the database stays as it is; if it fails, it fails
--- for one of the reasons above; and it leaves a crash no more than before
+-- for one of the reasons above; and a crash leaves no more than before
 pub record Tests {S A : Type 0} (g : Ghosts S) (q : TableQuery) (table : Table) (Good : List Row → A → Type 0) (Bad : List Row → StoreFault → Type 0) (old new : Held S) (result : Result A StoreFault) : Type 0 where
   pub value : HasCleanDisk (state g new) → old.schema ≡ office_schema → IfOk result (λ x. (rows : List Row) × Answers q [] ((state g old).now.trees q.tree) rows × Good rows x)
   pub same : HasCleanDisk (state g new) → old.schema ≡ office_schema → OnOk result (IsUnchanged (state g old) (state g new))
   pub err : HasCleanDisk (state g new) → old.schema ≡ office_schema → IfErr result (FailsToTest q table Bad (state g old) (state g new))
   pub survives : Survives (state g old) (state g new) (λ _. old.schema ≢ office_schema)
 
--- given what is so of the state, the tables of a consistent office pass the test, with this outcome: it fails only if memory ran out or its query
+-- if this is true of the state, the tables of a consistent office pass the test, with this outcome: it fails only if memory ran out or its query
 -- failed
 pub record PassesWith {S A : Type 0} (g : Ghosts S) (table : Table) (Given : Machine → Type 0) (Outcome : Machine → A → Type 0) (old new : Held S) (result : Result A StoreFault) : Type 0 where
   pub value : HasCleanDisk (state g new) → IfOk result (λ x. (machine : Machine) → StandsFor machine (state g old).now → Outcome machine x)
@@ -131,19 +131,19 @@ pub record IsOfficeRow (row : Row) (counts : Counts) : Type 0 where
   pub handed : counts.handed ≤ count_limit
   pub accepted : counts.accepted ≤ count_limit
 
--- the rows are one, that of an office of this format
+-- there is one row, that of an office of this format
 abbrev pub AreOfFormat : ℕ → List Row → Type 0
 AreOfFormat format rows = (row : Row) × HasFormat format row × (rows ≡ row ∷ [])
 
--- the rows are one, that of an office with these counts
+-- there is one row, that of an office with these counts
 abbrev pub HoldsCounts : List Row → Counts → Type 0
 HoldsCounts rows counts = (row : Row) × IsOfficeRow row counts × (rows ≡ row ∷ [])
 
--- the row of the office is damaged, for its counts are not within their limits
+-- the row of the office is damaged, because its counts are not within their limits
 abbrev pub IsDamagedOffice : Row → StoreFault → Type 0
 IsDamagedOffice row fault = (fault ≡ Damaged Office 1) × ((counts : Counts) → ¬ IsOfficeRow row counts)
 
--- why rows are not the one of an office: they have no format from 2 on, or a newer one, or counts beyond their limits
+-- why rows are not the one row of an office: they have no format from 2 on, or a newer one, or counts beyond their limits
 abbrev pub AreBadCounts : List Row → StoreFault → Type 0
 AreBadCounts rows fault =
     ((fault ≡ NotOffice) × ((format : ℕ) → AreOfFormat format rows → format < 2))
@@ -190,7 +190,7 @@ pub record FitsBeside (archs : List (List ℕ × OsCpu)) (builders : List Key) (
   pub formed : IsFormedRecord archs builders handed entry
   pub own_take : IfSome entry.1.take (λ take_number. has_take take_number ≡ false)
 
--- the row is that of a record that fits beside some take numbers, which are those after it with its own
+-- the row is that of a record that fits beside the take numbers before it; those after it are these and its own
 pub record IsTestedRow (archs : List (List ℕ × OsCpu)) (builders : List Key) (handed : ℕ) (before after : ℕ → Bool) (row : Row) : Type 0 where
   pub entry : Entry
   pub same : row ≡ record_cells entry
@@ -206,7 +206,7 @@ AllAfter Fits before (x ∷ xs) = Fits before x × AllAfter Fits (before ++ x �
 abbrev pub HoldsEach : {X : Type 0} → (X → Row) → (List X → X → Type 0) → List Row → Type 0
 HoldsEach {X} columns Fits rows = (xs : List X) × (rows ≡ map columns xs) × AllAfter Fits [] xs
 
--- the row at this place, counted from 1, is the first that has not the columns of one that fits the ones before it
+-- the row at this place, counted from 1, is the first without the columns of one that fits the ones before it
 pub record IsFirstBadAfter {X : Type 0} (columns : X → Row) (Fits : List X → X → Type 0) (rows : List Row) (place : ℕ) : Type 0 where
   pub before : List X
   pub row : Row
@@ -224,7 +224,7 @@ AreBadAfter table columns Fits rows fault = (fault ≡ Memory) ⊎ ((place : ℕ
 abbrev pub HoldsRecords : List (List ℕ × OsCpu) → List Key → ℕ → List Row → Type 0
 HoldsRecords archs builders handed = HoldsEach record_cells (FitsRecords archs builders handed)
 
--- memory ran out, or the first row is damaged that is that of no record with its form, or has the take number of a row before it
+-- memory ran out, or the first row that is no record with its form, or that has the take number of a row before it, is damaged
 abbrev pub AreBadRecords : List (List ℕ × OsCpu) → List Key → ℕ → List Row → StoreFault → Type 0
 AreBadRecords archs builders handed = AreBadAfter SourceRecord record_cells (FitsRecords archs builders handed)
 

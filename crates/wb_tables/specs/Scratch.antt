@@ -1,4 +1,4 @@
--- Whether the scratch tables of a merge have rows, and what a call that asks this promises (this project's own).
+-- Whether the scratch tables of a merge have rows, and what a call that asks this promises.
 use Rattle.std.specs.Prelude.{◌≡◌, ◌≢◌, ◌⊎◌, Bool, true, false, ◌||◌, List, [], ◌∷◌, Result, IfOk, IfErr, OnOk}
 use Rattle.sqlite_trees.specs.declared.store.Store.{Ghosts}
 use Rattle.sqlite.specs.declared.error.Error.{Error}
@@ -32,7 +32,7 @@ FailsToTest {S} g old new e =
     ⊎ ((mid : Held S) × IsUnchanged (state g old) (state g mid) × FailsToRead (state g mid) (state g new) e)
 
 -- a test of a database with the office's tables: if it succeeds, its answer is that of the database, which stays as it is; if it fails, one of
--- its queries did; and it leaves a crash no more than before
+-- its queries did; and a crash leaves no more than before
 pub record FindsWhether {S : Type 0} (g : Ghosts S) (test : Database → Bool) (old new : Held S) (result : Result Bool Error) : Type 0 where
   pub value : HasCleanDisk (state g new) → old.schema ≡ office_schema → IfOk result (λ found. found ≡ test (state g old).now)
   pub same : HasCleanDisk (state g new) → old.schema ≡ office_schema → OnOk result (IsUnchanged (state g old) (state g new))

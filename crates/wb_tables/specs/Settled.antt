@@ -1,4 +1,4 @@
--- Transactions of the office: what stands between them, what while one is under way, and what after each way to end one (this project's own).
+-- Transactions of the office: what stands between them, what while one is under way, and what after each way to end one.
 use Rattle.std.specs.Prelude.{◌≡◌, ◌⊎◌, false, Result, Err, IsTrue, OnOk}
 use Rattle.sqlite_trees.specs.declared.store.Store.{Ghosts}
 use Rattle.sqlite_catalog.specs.Listing.{IsSound}
@@ -21,12 +21,12 @@ pub record StandsForTrees (machine : Machine) (trees : Trees) : Type 0 where
   pub sound : IsSound office_schema trees
   pub stands : StandsFor machine (record { schema = office_schema; trees = trees })
 
--- the database is that of an office in this state, and its trees alone tell so
+-- the database is that of an office in this state, and its trees alone say so
 pub record IsOffice (machine : Machine) (db : Database) : Type 0 where
   pub schema_is : db.schema ≡ office_schema
   pub trees_are : StandsForTrees machine db.trees
 
--- a connection without a transaction, whose database stands for this state, and of which a crash leaves that alone
+-- a connection without a transaction, whose database stands for this state, and of which a crash leaves only that
 pub record IsSettled (machine : Machine) (s : State) : Type 0 where
   pub is_open : IsTrue s.is_open
   pub idle : s.in_transaction ≡ false
@@ -34,7 +34,7 @@ pub record IsSettled (machine : Machine) (s : State) : Type 0 where
   pub holds : IsOffice machine s.now
   pub alone : LeavesAlone s s.now.trees
 
--- a transaction under way: it began from the state `before`, which is committed and which a crash leaves alone, and its database stands for `now`
+-- a transaction under way: it began from the state `before`, which is committed and is all that a crash leaves, and its database stands for `now`
 pub record IsUnderWay (before now : Machine) (s : State) : Type 0 where
   pub is_open : IsTrue s.is_open
   pub inside : IsTrue s.in_transaction
@@ -50,14 +50,14 @@ LeavesOnly machine s = (db : Trees) → s.may_leave db → StandsForTrees machin
 abbrev pub LeavesEither : Machine → Machine → State → Type 0
 LeavesEither before now s = (db : Trees) → s.may_leave db → StandsForTrees before db ⊎ StandsForTrees now db
 
--- what a transaction wrote is taken back, to this state: a crash leaves that alone, and where no fault shut the connection, it is settled
+-- what a transaction wrote is taken back, to this state: a crash leaves only that, and if no fault shut the connection, it is settled
 pub record IsBackAt (before : Machine) (s : State) : Type 0 where
   pub idle : s.in_transaction ≡ false
   pub left : LeavesOnly before s
   pub settled : IsTrue s.is_open → IsSettled before s
 
--- a commit settles what the transaction sees; out of memory, nothing is committed, and the transaction stays or is taken back; and whatever it
--- answers, a crash leaves the state before it or the state that it saw
+-- a commit settles what the transaction sees; if memory runs out, nothing is committed, and the transaction stays or is taken back; and whatever
+-- it answers, a crash leaves the state before it or the state that it saw
 pub record SettlesBy {S A : Type 0} (g : Ghosts S) (old new : Held S) (result : Result A CommitError) : Type 0 where
   pub ok : HasCleanDisk (state g new) → (before now : Machine) → IsUnderWay before now (state g old) → OnOk result (IsSettled now (state g new))
   pub memory : HasCleanDisk (state g new) → (before now : Machine) → IsUnderWay before now (state g old) → result ≡ Err Memory

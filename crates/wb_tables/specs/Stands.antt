@@ -1,4 +1,4 @@
--- When a database stands for a state of the office: its tables are the office's alone, and hold the rows of that state (this project's own).
+-- When a database stands for a state of the office: its tables are the office's alone, and hold the rows of that state.
 use Rattle.std.specs.Prelude.{◌≡◌, List, [], ◌∷◌, map, pos, IsPermutation}
 use Rattle.std.specs.FinMap as finite
 use Rattle.std.specs.FinSet as set

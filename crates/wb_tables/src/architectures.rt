@@ -36,7 +36,7 @@ pub fn arch<S: Alter>(conn: &mut Connection<S>, name: &Text) -> Result<Option<Os
     words_in(read(conn, texts::arch_words(), params![name.as_str()])?)
 }
 
-/// The words of the first of the architectures in these rows. A row that is none is `DatabaseCorrupt`.
+/// The words of the first of the architectures in these rows. A row that is no architecture is `DatabaseCorrupt`.
 fn words_in(rows: Vec<Row>) -> Result<Option<OsCpu>, Error>
     ensures value { IfOk result (λ found. FirstWords rows.items found) }
     ensures err { IfErr result (IsReadFault (AreArchs rows.items)) }

@@ -31,7 +31,7 @@ pub fn has_builder<S: Alter>(
 }
 
 /// The architectures for which the builder was added, by name. The errors are those of the query, `OutOfMemory`, and
-/// `DatabaseCorrupt` where a row is no builder. The database stays as it is, but for a transaction that a failure of
+/// `DatabaseCorrupt` if a row is no builder. The database stays as it is, but for a transaction that a failure of
 /// the query takes back (this project's own).
 pub fn archs_of<S: Alter>(conn: &mut Connection<S>, builder: &Text) -> Result<Vec<Text>, Error>
     ensures looks_up { LooksUp S.Store (λ machine archs. IsConsistent machine
@@ -40,7 +40,7 @@ pub fn archs_of<S: Alter>(conn: &mut Connection<S>, builder: &Text) -> Result<Ve
     archs_in(read(conn, texts::builder_pairs(), params![builder.as_str()])?)
 }
 
-/// The architectures in these rows of builders. A row that is none is `DatabaseCorrupt`.
+/// The architectures in these rows of builders. A row that is no builder is `DatabaseCorrupt`.
 fn archs_in(rows: Vec<Row>) -> Result<Vec<Text>, Error>
     ensures value { IfOk result (λ made. HaveArchs rows.items made.items) }
     ensures err { IfErr result (IsReadFault (ArePairs rows.items)) }
@@ -53,7 +53,7 @@ fn archs_in(rows: Vec<Row>) -> Result<Vec<Text>, Error>
     Ok(made)
 }
 
-/// The builder and the architecture in a row. A row that is none is `DatabaseCorrupt`.
+/// The builder and the architecture in a row. A row that is no builder is `DatabaseCorrupt`.
 fn pair_in(row: &Row) -> Result<(Text, Text), Error>
     ensures value { IfOk result (λ made. row.now ≡ builder_cells made) }
     ensures err { IfErr result (IsReadFault (HasPair row.now)) }

@@ -9,9 +9,9 @@ ghost use Rattle.wb_tables.specs.Settled.{SettlesBy, TakesBack};
 use sqlite::{Alter, Error};
 use wb_sql::{CommitError, Writing};
 
-/// Ends a transaction of the office, and makes its state last. It fails as `Writing::commit` does: with `Memory` where
-/// memory ran out before anything was committed, so that a crash leaves the state from which the transaction began;
-/// with `InDoubt` where the store failed or the transaction was over, so that a crash leaves either state, whole (this
+/// Ends a transaction of the office, and makes its state permanent. It fails as `Writing::commit` does: with `Memory`
+/// if memory ran out before anything was committed, so that a crash leaves the state from which the transaction began;
+/// with `InDoubt` if the store failed or the transaction was over, so that a crash leaves either state, whole (this
 /// project's own).
 pub fn commit<S: Alter>(writing: Writing<'_, S>) -> Result<(), CommitError>
     ensures settles { SettlesBy S.Store writing.entry.conn.now writing.exit.0.now result }
@@ -26,7 +26,7 @@ pub fn commit<S: Alter>(writing: Writing<'_, S>) -> Result<(), CommitError>
 }
 
 /// Ends a transaction of the office, and takes back what it wrote, so that the state from which it began stands again.
-/// It fails as `Writing::roll_back` does, where the store failed or the transaction was over; what it wrote is then
+/// It fails as `Writing::roll_back` does, if the store failed or the transaction was over; what it wrote is then
 /// taken back too, and a crash leaves the state from which it began (this project's own).
 pub fn roll_back<S: Alter>(writing: Writing<'_, S>) -> Result<(), Error>
     ensures taken_back { TakesBack S.Store writing.entry.conn.now writing.exit.0.now }

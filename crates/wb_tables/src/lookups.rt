@@ -47,7 +47,7 @@ pub fn get<S: Alter>(
     Ok(current_in(rows))
 }
 
-/// The record that is held under the take number, or none if no record is, as of a number that was never given.
+/// The record that is held under the take number, or none if no record is, as for a number that was never given.
 /// It fails if the query fails, with `OutOfMemory` if memory runs out for the answer, and with `DatabaseCorrupt` if a
 /// row is not that of a record. The database stays as it is; only a failed query may take a transaction back.
 /// Source: this project's own.

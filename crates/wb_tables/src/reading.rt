@@ -104,7 +104,7 @@ pub(crate) fn first_in(records: Vec<KeyedRecord>) -> Option<KeyedRecord>
     records.into_iter().next()
 }
 
-/// The record of the first of some.
+/// The first of some records, without its key.
 pub(crate) fn current_in(records: Vec<KeyedRecord>) -> Option<Record>
     ensures { result ≡ option_map (λ row. row.current) (first_of records.items) }
 {

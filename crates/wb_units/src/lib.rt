@@ -1,5 +1,4 @@
-//! Tests of calls on values, texts, versions, control data, relations, names, moves, the queue and the records in memory, and of
-//! exchanges over sockets.
+//! Tests of each state and move, of what the records in memory count, and of exchanges over sockets.
 #![tactic(auto)]
 
 #[cfg(test)]

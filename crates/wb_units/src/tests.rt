@@ -1,9 +1,4 @@
 mod moves;
-mod names;
-mod ranks;
-mod relations;
 mod sockets;
 mod stores;
 mod tables;
-mod texts;
-mod versions;

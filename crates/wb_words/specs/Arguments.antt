@@ -1,4 +1,4 @@
--- What the arguments of a subcommand are, by the rows that `clap` found (this project's own).
+-- What the arguments of a subcommand are, by the rows that `clap` found.
 use Rattle.std.specs.Prelude.{ℕ, ◌==◌, ℤ, pos, neg_ℤ, Bool, List, [], Option, Some, None, codes}
 use Rattle.std.specs.Prelude.{if◌then◌else◌, length, nat_lt, option_and_then, option_map, unwrap_or}
 use Rattle.std.specs.List.{after_first, before_first, join_by, position_or_len}

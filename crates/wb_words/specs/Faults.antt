@@ -1,9 +1,9 @@
--- Why words are not read, and what is printed of it for a person (this project's own).
+-- Why words are not read, and what is printed of it for a person.
 use Rattle.std.specs.Prelude.{◌≡◌, ◌≢◌, ℕ, List, MatchResult, None, Option, Result, Some, codes}
 use Rattle.wb_words.specs.declared.fault.WordsFault.{WordsFault}
 use Rattle.wb_words.specs.declared.fault.WordsFault.TheVariants.{NoCommand, Memory}
 
--- what is printed of a fault (this project's own)
+-- what is printed of a fault
 abbrev pub fault_text : WordsFault → List ℕ
 fault_text NoCommand = codes "the words are no command"
 fault_text Memory = codes "there is no memory for it now"

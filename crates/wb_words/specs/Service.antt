@@ -1,4 +1,4 @@
--- The subcommand `serve` of the program's command line, as `clap` knows it, and what its arguments are (this project's own).
+-- The subcommand `serve` of the program's command line, as `clap` knows it, and what its arguments are.
 use Rattle.std.specs.Prelude.{ℕ, ◌||◌, true, List, Option, Some, None, codes, nat_eq, nat_lt}
 use Rattle.std.specs.Prelude.{if◌then◌else◌, option_and_then, option_map}
 use Rattle.std.specs.Str.{bytes_eq}

@@ -1,4 +1,4 @@
--- The subcommands of the office with their arguments, as `clap` knows them (this project's own).
+-- The subcommands of the office with their arguments, as `clap` knows them.
 use Rattle.std.specs.Prelude.{List, [], ◌∷◌, ◌++◌, Option, Some, true, codes, find, map, option_map}
 use Rattle.std.specs.Borrow.{Bor}
 use Rattle.std.specs.Str.{bytes_eq}

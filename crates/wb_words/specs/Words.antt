@@ -1,6 +1,7 @@
--- What the words of a line ask of the office, as `clap` reads them (this project's own).
+-- What the words of a line ask of the office, as `clap` reads them.
 use Rattle.std.specs.Prelude.{◌==◌, List, [], ◌∷◌, Option, Some, None, codes, if◌then◌else◌}
 use Rattle.std.specs.Prelude.{option_and_then, option_map}
+use Prim.Native.Char.{code}
 use Rattle.std.specs.List.{slice_split}
 use Rattle.std.specs.Option.{option_or}
 use Rattle.std.specs.Str.{bytes_eq}
@@ -161,6 +162,6 @@ unfoldable pub invocation_in : List Text → Option Invocation
 invocation_in words = unless_faulty (fault_of wb_app words)
     (option_and_then invocation_named (subcommand_of wb_app words))
 
--- what a text asks for in which single spaces separate the words
+-- what a text asks for, its words separated by single spaces
 abbrev pub invocation_by : Text → Option Invocation
-invocation_by text = invocation_in (slice_split (λ c. c == 32) text)
+invocation_by text = invocation_in (slice_split (λ c. c == code " ") text)

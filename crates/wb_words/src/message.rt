@@ -50,7 +50,7 @@ fn formed_of<'a>(name: &str, arguments: &ArgMatches<'a>) -> Option<Formed<'a>> {
     Some(Formed { name, word, form })
 }
 
-/// Which argument is malformed of words that `clap` has read and that are no command, and what it has to be.
+/// Of words that `clap` read and that are no command: which argument is malformed, and what it has to be.
 pub(crate) fn malformed_text(
     alloc: Global,
     matches: &ArgMatches<'_>,

@@ -52,7 +52,7 @@ pub(crate) fn names_of(command: &Command) -> Names<'_>
     }
 }
 
-/// The key of the record that is put, where the first record that is named is this one. The only error is that there is
+/// The key of the record that is put, if the first record that is named is this one. The only error is that there is
 /// no memory for it.
 pub(crate) fn key_of(
     names: &Names<'_>,

@@ -15,7 +15,7 @@ use wb_schema::texts;
 use wb_states::{OsCpu, StoreFault, Table, is_arch, is_os_cpu};
 
 /// The architectures of the office with their words, by name, if each row is that of an architecture whose name and
-/// words have their forms. The faults are `Damaged` with the number of the first row that is not, counted from 1 in
+/// words have their forms. The faults are `Damaged` with the number of the first bad row, counted from 1 in
 /// the order of the names, `Memory`, and those of the query. The database stays as it is, but for a transaction that a
 /// failure of the query takes back (this project's own).
 pub fn check_archs<S: Alter>(conn: &mut Connection<S>) -> Result<Vec<(Text, OsCpu)>, StoreFault>
@@ -27,7 +27,7 @@ pub fn check_archs<S: Alter>(conn: &mut Connection<S>) -> Result<Vec<(Text, OsCp
     archs_in(rows_of(conn, texts::all_archs(), Table::Arch)?)
 }
 
-/// The architectures in these rows, or the first that is none with its forms.
+/// The architectures in these rows, or the first that is no architecture with its forms.
 fn archs_in(rows: Vec<Row>) -> Result<Vec<(Text, OsCpu)>, StoreFault>
     ensures value { IfOk result (λ made. HoldsArchs rows.items made.items) }
     ensures err { IfErr result (AreBadRows Arch arch_cells IsFormedArch rows.items) }

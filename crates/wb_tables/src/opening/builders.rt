@@ -16,7 +16,7 @@ use wb_states::{OsCpu, StoreFault, Table, is_arch, is_builder};
 
 /// The builders of the office, each with an architecture for which it was added, if each row is that of a builder
 /// whose name has its form and of one of these architectures. The faults are `Damaged` with the number of the first
-/// row that is not, counted from 1 in the order of the builders and then of the architectures, `Memory`, and those of
+/// bad row, counted from 1 in the order of the builders and then of the architectures, `Memory`, and those of
 /// the query. The database stays as it is, but for a transaction that a failure of the query takes back (this
 /// project's own).
 pub fn check_builders<S: Alter>(
@@ -32,7 +32,7 @@ pub fn check_builders<S: Alter>(
     builders_in(rows, archs)
 }
 
-/// The builders in these rows, or the first that is none with its form for one of these architectures.
+/// The builders in these rows, or the first that is no builder with its form for one of these architectures.
 fn builders_in(rows: Vec<Row>, archs: &[(Text, OsCpu)]) -> Result<Vec<(Text, Text)>, StoreFault>
     ensures value { IfOk result (λ made. HoldsBuilders archs.now rows.items made.items) }
     ensures err { IfErr result (AreBadRows Builder builder_cells (IsFormedBuilder archs.now) rows.items) }

@@ -106,7 +106,7 @@ fn are_waits(alloc: Global, name: &Text, words: &OsCpu, waits: &Text) -> Result<
     }
 }
 
-/// The relations as which the waits are read, if they are read. The only error is that memory ran out.
+/// The relations that the waits are read as, if they are read. The only error is that memory ran out.
 fn relations_in(alloc: Global, waits: &Text) -> Result<Option<Relations>, AllocError>
     ensures value { IfOk result (λ read. IfSome read (λ relations. Reads waits.now relations)) }
     ensures none { IfOk result (λ read. IfNone read ((relations : List (List Alternative))

@@ -27,10 +27,10 @@ use wb_store::KeyedRecord;
 /// and its fields have their forms, its rank is that of the record, its architecture is one of these, its holder is one
 /// of the builders, for this architecture, its waits can be read and are reduced for the architecture, its take number
 /// is from 1 to `handed`, and no row before it has this take number. Of the rows before it only their take numbers are
-/// kept. The faults are `Damaged` with the number of the first row that is not, counted from 1 in the order of the
-/// architectures and then of the source packages, `Memory`, also if there are 2^64 - 1 rows or more, and those of the
-/// query. The database stays as it is, but for a transaction that a failure of the query takes back (this project's
-/// own).
+/// kept. The faults are `Damaged` with the number of the first row that is not good, counted from 1 in the order of
+/// the architectures and then of the source packages, `Memory`, also if there are 2^64 - 1 rows or more, and those of
+/// the query. The database stays as it is, but for a transaction that a failure of the query takes back (this
+/// project's own).
 pub fn check_records<S: Alter>(
     alloc: Global,
     conn: &mut Connection<S>,
@@ -76,7 +76,7 @@ fn test_rows<S: Alter>(conn: &mut Connection<S>, kept: &Kept<'_>) -> Result<(), 
     Err(StoreFault::Memory)
 }
 
-/// Tests the row of this number beside the take numbers of the rows before it, among which its own is from then on.
+/// Tests the row of this number beside the take numbers of the rows before it, and adds its own to them.
 fn test_row(
     row: &Row,
     number: u64,
@@ -114,7 +114,7 @@ fn record_in(row: &Row, number: u64, kept: &Kept<'_>) -> Result<KeyedRecord, Sto
     }
 }
 
-/// Whether the take number, if there is one, is not among these; it is among them from then on.
+/// Whether the take number, if there is one, is not among these; it is then added to them.
 fn is_own(takes: &mut BTreeSet<u64>, take: Option<u64>) -> Result<bool, AllocFailed<u64>>
     ensures value { IfOk result (λ own. IsTrue own
         ↔ IfSome take (λ take_number. contains nat_cmp takes.old take_number ≡ false)) }

@@ -203,7 +203,7 @@ fn a_read_that_takes_too_long_fails(rt: HostRuntime) -> Result<(), Fail> {
     Ok(())
 }
 
-/// A client that closes its end while a byte lies there that it has not read resets the connection. So the read after the
+/// A client that closes its end while a byte that it has not read lies there resets the connection. So the read after the
 /// first half of the request fails.
 #[test]
 fn a_read_of_a_connection_that_was_reset_fails(rt: HostRuntime) -> Result<(), Fail> {
@@ -217,7 +217,7 @@ fn a_read_of_a_connection_that_was_reset_fails(rt: HostRuntime) -> Result<(), Fa
     Ok(())
 }
 
-/// Closes the client's end while a byte lies there that it has not read.
+/// Closes the client's end while a byte that it has not read lies there.
 fn reset(client: TcpStream, server: &TcpStream) -> io::Result<()> {
     let mut writer = server;
     writer.write_all(b"x")?;
@@ -226,7 +226,7 @@ fn reset(client: TcpStream, server: &TcpStream) -> io::Result<()> {
     Ok(())
 }
 
-/// What was carried out stands though its answer cannot be written, and is repeated over the next connection.
+/// What was carried out stands though its answer cannot be written. The next connection gets the assignment again.
 fn assert_again(
     rt: &(impl Abort + Net<Listener = TcpListener, Stream = TcpStream>),
     alloc: Global,
@@ -239,7 +239,7 @@ fn assert_again(
     Ok(())
 }
 
-/// The writes fail of a server whose end takes no more.
+/// The writes of a server fail if its end takes no more.
 #[test]
 fn a_write_to_a_connection_that_was_shut_down_fails(rt: HostRuntime) -> Result<(), Fail> {
     let mut office = waiting_office(&rt, rt.alloc())?;

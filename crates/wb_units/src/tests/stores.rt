@@ -3,7 +3,7 @@ use deb_text::Text;
 use deb_version::Version;
 use std::alloc::Global;
 use std::test::Fail;
-use wb_states::{OsCpu, Record, State};
+use wb_states::{Record, State};
 use wb_store::Store;
 
 /// The record of a source package that waits to be built.
@@ -32,17 +32,6 @@ pub(super) fn held(alloc: Global, take_number: u64) -> Result<Record, Fail> {
     record.holder = Some(Text::copied(alloc, "b1")?);
     record.take = Some(take_number);
     Ok(record)
-}
-
-/// Adds the architecture, and `b1` as its builder.
-pub(super) fn add(alloc: Global, store: &mut Store, arch: &str) -> Result<(), Fail> {
-    let words = OsCpu {
-        os: Text::copied(alloc, "linux")?,
-        cpu: Text::copied(alloc, arch)?,
-    };
-    store.add_arch(Text::copied(alloc, arch)?, words)?;
-    store.add_builder(Text::copied(alloc, "b1")?, Text::copied(alloc, arch)?)?;
-    Ok(())
 }
 
 /// Puts the record of a source package on an architecture.

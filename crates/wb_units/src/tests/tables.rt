@@ -1,28 +1,10 @@
-//! The calls of the store, each once.
-use super::stores::{add, held, put, waiting};
+//! What the records in memory count.
+use super::stores::{held, put, waiting};
 use deb_text::Text;
 use std::alloc::Global;
 use std::test::Fail;
 use wb_states::{Record, State};
 use wb_store::{StateCounts, Store};
-
-/// Take numbers, and whether a record has them where `b1` holds `hello` on two architectures.
-static TAKES: [(u64, bool); 3] = [(7, true), (5, true), (6, false)];
-
-#[test]
-fn builders(rt: HostRuntime) -> Result<(), Fail> {
-    let alloc = rt.alloc();
-    let mut store = Store::new(alloc);
-    add(alloc, &mut store, "arm64")?;
-    add(alloc, &mut store, "amd64")?;
-    let builder = Text::copied(alloc, "b1")?;
-    let archs = store.archs_of(&builder)?;
-    assert_eq!(rt; archs.len(), 2);
-    assert_eq!(rt; archs[0].as_str(), "amd64");
-    assert!(rt; store.has_builder(&builder, &archs[1])?);
-    assert!(rt; !store.has_builder(&archs[1], &builder)?);
-    Ok(())
-}
 
 /// A store in which `b1` holds `hello` on two architectures.
 fn holding(alloc: Global) -> Result<Store, Fail> {
@@ -30,31 +12,6 @@ fn holding(alloc: Global) -> Result<Store, Fail> {
     put(alloc, &mut store, "amd64", "hello", held(alloc, 7)?)?;
     put(alloc, &mut store, "arm64", "hello", held(alloc, 5)?)?;
     Ok(store)
-}
-
-/// Whether a record has the take number.
-fn is_taken(store: &Store, take_number: u64) -> Result<bool, Fail> {
-    Ok(store.by_take(take_number)?.is_some())
-}
-
-/// How many records `b1` holds, if the one of the least take number is of the architecture.
-fn held_from(alloc: Global, store: &Store, arch: &str) -> Result<Option<usize>, Fail> {
-    let builder = Text::copied(alloc, "b1")?;
-    let rows = store.held_by(&builder)?;
-    match rows.first() {
-        Some(row) if row.arch.as_str() == arch => Ok(Some(rows.len())),
-        _ => Ok(None),
-    }
-}
-
-#[test]
-fn holds(rt: HostRuntime) -> Result<(), Fail> {
-    let store = holding(rt.alloc())?;
-    assert_eq!(rt; held_from(rt.alloc(), &store, "arm64")?, Some(2));
-    for (take_number, want) in TAKES.iter() {
-        assert_eq!(rt; is_taken(&store, *take_number)?, *want, "{take_number}");
-    }
-    Ok(())
 }
 
 /// How many records of the architecture are in each state.
