@@ -79,7 +79,7 @@ line_fault names line =
 unfoldable pub names_after : List (List ℕ) → List ℕ → List (List ℕ)
 names_after names line = if is_continuation line then names else names ++ str_to_ascii_lowercase (name_of line) ∷ []
 
--- whether a test holds of exactly the names in lower case that are among these
+-- exactly these names, in lower case, pass a test
 abbrev pub IsNameSet : (List ℕ → Bool) → List (List ℕ) → Type 0
 IsNameSet test names = (name : List ℕ) → test name ≡ is_among name names
 
@@ -136,7 +136,7 @@ continuations text = map continued (take_while is_continuation (lines_in text))
 abbrev pub entry : List ℕ → List ℕ → List ℕ → FieldText
 entry name first rest = record { name = name; first = first; lines = continuations rest }
 
--- a folded text with one more line after it, with a space between them if both have a character (Policy 5.1)
+-- a folded text with one more line after it, with a space between them if neither is empty (Policy 5.1)
 abbrev pub folded_onto : List ℕ → List ℕ → List ℕ
 folded_onto text [] = text
 folded_onto [] line = line
@@ -182,7 +182,7 @@ IsLineFault Duplicate fields line =
     (is_continuation line ≡ false) × (has_colon line ≡ true) × (is_name (name_of line) ≡ true) × (list_any (has_name (name_of line)) fields ≡ true)
 IsLineFault _ fields line = ⊥
 
--- lines of which a bad one with this fault stands after lines that are fields (Policy 5.1)
+-- lines that begin with fields and then a bad line with this fault (Policy 5.1)
 pub record HasBadLine (kind : ControlFaultKind) (lines : List (List ℕ)) : Type 0 where
   pub good : List (List ℕ)
   pub bad : List ℕ
@@ -193,7 +193,7 @@ pub record HasBadLine (kind : ControlFaultKind) (lines : List (List ℕ)) : Type
   pub names : HaveDistinctNames fields
   pub fault : IsLineFault kind fields bad
 
--- a paragraph of these lines has this fault: it is too large, or else no UTF-8, or else has a bad line
+-- a paragraph of these lines has this fault: it is too large, or else is not UTF-8, or else has a bad line
 abbrev pub IsFault : ControlFaultKind → List (List ℕ) → Type 0
 IsFault TooLarge lines = paragraph_limit < length (concat lines)
 IsFault NotUtf8 lines = (length (concat lines) ≤ paragraph_limit) × ¬ (IsUtf8 (concat lines))

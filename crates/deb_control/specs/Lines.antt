@@ -71,7 +71,7 @@ begins_paragraph (c ∷ cs) = not (is_separator (front_line (c ∷ cs)))
 abbrev pub IsFirstParagraph : List ℕ → List ℕ → List ℕ → Type 0
 IsFirstParagraph text first rest = paragraphs_in (lines_of text) ≡ lines_of first ∷ paragraphs_in (lines_of rest)
 
--- whether lines begin with no line of a paragraph, but with a separator or not at all (Policy 5.1)
+-- whether the first of some lines is a separator, or there are no lines (Policy 5.1)
 abbrev pub begin_no_paragraph : List (List ℕ) → Bool
 begin_no_paragraph [] = true
 begin_no_paragraph (line ∷ _) = is_separator line

@@ -33,7 +33,7 @@ step_over passed None = (Err (record { paragraph = passed; kind = Ended }), ende
 step_over passed (Some []) = (Ok None, record { passed = passed; ahead = Some [] })
 step_over passed (Some (lines ∷ later)) = answered (passed + 1) later (reading_of lines)
 
--- what one call answers at a place, and the place then, memory aside
+-- what one call answers at a place, and the place then, unless memory runs out
 abbrev pub step : ReaderState → Answer × ReaderState
 step place = step_over place.passed place.ahead
 
@@ -43,18 +43,18 @@ wants_memory None = false
 wants_memory (Some []) = false
 wants_memory (Some (lines ∷ _)) = takes_memory lines
 
--- a call that wanted memory ends the reader at the paragraph that was next, and for which memory is taken
+-- a call that ran out of memory ends the reader at the paragraph that was next, for which memory is taken
 pub record MemoryEnds (old : ReaderState) (fault : ControlFault) (new : ReaderState) : Type 0 where
   pub next : IsTrue (wants_memory old.ahead)
   pub paragraph : fault.paragraph ≡ old.passed + 1
   pub ended : new ≡ ended_at (old.passed + 1)
 
--- the place after so many calls, memory aside
+-- the place after so many calls, unless memory runs out
 abbrev pub after_calls : ℕ → ReaderState → ReaderState
 after_calls zero place = place
 after_calls (suc n) place = after_calls n (step place).1
 
--- what the next call answers after so many calls, memory aside
+-- what the next call answers after so many calls, unless memory runs out
 abbrev pub answer_after : ℕ → ReaderState → Answer
 answer_after n place = (step (after_calls n place)).0
 

@@ -24,8 +24,8 @@ pub fn paragraphs_are_runs()
         HaveParagraphs lines paragraphs → paragraphs_in lines ≡ paragraphs }
 {}
 
-/// A paragraph has the reading of the fields that its lines are, and has one
-/// if its lines are fields (Debian Policy 5.1).
+/// A paragraph is read as these fields if its lines are the fields, and only
+/// then (Debian Policy 5.1).
 pub fn paragraph_is_fields()
     ensures is { (lines : List (List ℕ)) (fields : List FieldText) →
         reading_of lines ≡ Ok fields → IsReading lines fields }
@@ -52,7 +52,7 @@ pub fn fields_are_found()
 {}
 
 /// Call by call a reader answers the paragraphs in their order, each by its
-/// reading, up to and with the first that has none; after the last it
+/// reading, up to and including the first without one; after the last it
 /// answers none, after a refusal `Ended` (this project's own).
 pub fn calls_give_paragraphs()
     ensures value { (before : List (List (List ℕ))) (lines : List (List ℕ))
@@ -81,7 +81,7 @@ pub fn faults_are_of_text()
 pub fn examples_of_paragraphs()
     ensures field { reading_of (codes "Package: libc6" ∷ [])
         ≡ Ok (record { name = codes "Package"; first = codes "libc6"; lines = [] } ∷ []) }
-    // blanks at the ends of a value play no part, and a line that begins with a blank goes on with the field before it
+    // blanks at the ends of a value play no part, and a line that begins with a blank continues the field before it
     ensures fields { reading_of (codes "Package:libc6 " ∷ codes "Depends: libgcc-s1," ∷ codes "  tzdata " ∷ [])
         ≡ Ok (record { name = codes "Package"; first = codes "libc6"; lines = [] }
         ∷ record { name = codes "Depends"; first = codes "libgcc-s1,"; lines = codes " tzdata" ∷ [] } ∷ []) }

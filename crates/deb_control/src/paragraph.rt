@@ -18,7 +18,7 @@ use std::marker::Model;
 /// The greatest number of bytes of a paragraph, line feeds included.
 const PARAGRAPH_LIMIT: usize = 4194304;
 
-/// So many names are compared one by one; those of later fields stand in a set.
+/// This many names are compared one by one; the names of later fields stand in a set.
 const COMPARED_NAMES: usize = 32;
 
 /// Whether two names are the same but for case.
@@ -111,7 +111,7 @@ fn read_line<'a>(
     Ok(())
 }
 
-/// Reads the fields of a text that has no separator.
+/// Reads the fields of a text without a separator.
 fn read_fields<'a>(alloc: Global, text: &'a str) -> Result<Vec<Field<'a>>, ControlFaultKind>
     ensures refused { IfErr result (λ kind. kind ≢ Memory →
         first_fault [] (lines_in text.now) ≡ Some kind) }

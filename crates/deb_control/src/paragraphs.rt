@@ -46,8 +46,8 @@ impl<'a> Paragraphs<'a> {
 
     /// The next paragraph, or none at the end, and again none after it.
     /// Refuses a paragraph that is not one of Debian Policy 5.1, as
-    /// `ControlFaultKind` says, or if memory runs out, which comes after
-    /// a good first line at the earliest; from then on each call answers `Ended`.
+    /// `ControlFaultKind` says, or one for which memory runs out, which comes
+    /// after a good first line at the earliest; from then on each call answers `Ended`.
     pub fn next(&mut self, alloc: Global) -> Result<Option<Paragraph<'a>>, ControlFault>
         ensures ok { IfOk result (λ found. step self.old ≡ (Ok found, self.new)) }
         ensures refused { IfErr result (λ fault. fault.kind ≢ Memory →

@@ -37,11 +37,11 @@ is_bar c = c == code "|"
 abbrev pub is_right_angle : ℕ → Bool
 is_right_angle c = c == code ">"
 
--- of which the name of a build profile is made (this project's own)
+-- a character of which the name of a build profile is made (this project's own)
 unfoldable pub is_profile_char : ℕ → Bool
 is_profile_char c = is_ascii_alphanumeric c || (c == code "." || (c == code "+" || (c == code "-" || c == code "_")))
 
--- of which an operator is made (Policy 7.1)
+-- a character of which an operator is made (Policy 7.1)
 unfoldable pub is_op_char : ℕ → Bool
 is_op_char c = c == code "<" || (c == code "=" || c == code ">")
 

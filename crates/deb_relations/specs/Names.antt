@@ -9,11 +9,11 @@ use Rattle.deb_text.specs.Lists.{begins}
 unfoldable pub is_lower_or_digit : ℕ → Bool
 is_lower_or_digit c = is_ascii_lowercase c || is_ascii_digit c
 
--- of which the name of a package is made (Policy 5.6.1)
+-- a character of which the name of a package is made (Policy 5.6.1)
 unfoldable pub is_package_char : ℕ → Bool
 is_package_char c = is_lower_or_digit c || (c == code "+" || (c == code "-" || c == code "."))
 
--- of which a qualifier and an architecture word are made (Policy 11.1.1)
+-- a character of which a qualifier and an architecture word are made (Policy 11.1.1)
 unfoldable pub is_arch_char : ℕ → Bool
 is_arch_char c = is_lower_or_digit c || c == code "-"
 

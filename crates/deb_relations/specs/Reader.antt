@@ -29,7 +29,7 @@ abbrev pub strip : ℕ → List ℕ → Option (List ℕ)
 strip c [] = None
 strip c (x ∷ xs) = if x == c then Some xs else None
 
--- two halves of a text with one character more before the first, if there are two
+-- two halves of a text, with one more character before the first, if there are two
 abbrev pub onto_front : ℕ → Option (List ℕ × List ℕ) → Option (List ℕ × List ℕ)
 onto_front c = option_map (λ halves. (c ∷ halves.0, halves.1))
 
@@ -38,20 +38,20 @@ abbrev pub cut : ℕ → List ℕ → Option (List ℕ × List ℕ)
 cut c [] = None
 cut c (x ∷ xs) = if x == c then Some ([], xs) else onto_front x (cut c xs)
 
--- what was read and what is left, if something was
+-- what was read and what is left, if something was read
 abbrev pub with_rest : {X : Type 0} → List ℕ → Option X → Option (X × List ℕ)
 with_rest rest = option_map (λ x. (x, rest))
 
--- what stands between two brackets and after them, of the text after the first of them, if that stands
+-- what stands between two brackets and after them, from the text after the first bracket, if that bracket is there
 abbrev pub between_opened : ℕ → Option (List ℕ) → Option (Option (List ℕ × List ℕ))
 between_opened right None = Some None
 between_opened right (Some behind) = option_map Some (cut right behind)
 
--- what stands between two brackets and after them, if the first of them stands; none at all if it is not closed
+-- what stands between two brackets and after them, if the first of them is there; none at all if it is not closed
 unfoldable pub between : ℕ → ℕ → List ℕ → Option (Option (List ℕ × List ℕ))
 between left right text = between_opened right (strip left (skip is_white text))
 
--- nothing if no bracket stands, else the part between brackets, read
+-- nothing if there is no bracket, else the part between brackets, read
 abbrev pub read_between : {X : Type 0} → (List ℕ → Option X) → X → List ℕ → Option (Option (List ℕ × List ℕ)) → Option (X × List ℕ)
 read_between f none text None = None
 read_between f none text (Some None) = Some (none, text)
@@ -134,7 +134,7 @@ archs_of inside = alike_only (terms_of Arch inside)
 unfoldable pub read_archs : List ℕ → Option (List Term × List ℕ)
 read_archs text = read_between archs_of [] text (between (code "[") (code "]") text)
 
--- a list of build profiles, of the text after its opening bracket, if that stands (deb-src-control(5))
+-- a list of build profiles, from the text after its opening bracket, if that bracket is there (deb-src-control(5))
 abbrev pub profile_behind : Option (List ℕ) → Option (List Term)
 profile_behind = option_and_then (terms_of Profile)
 

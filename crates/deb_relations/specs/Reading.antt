@@ -33,7 +33,7 @@ span (piece ∷ more) = 1 + (length piece + span more)
 unfoldable pub name_fault : List ℕ → RelationFault
 name_fault text = if is_nonempty (skip is_white text) then BadName else EmptyAlternative
 
--- the fault of a version, else that of what stands at a place after it (Policy 7.1)
+-- the fault of a version, else that what stands at this place belongs to nothing (Policy 7.1)
 abbrev pub version_fault : Option VersionFault → ℕ → RelationFault
 version_fault (Some fault) place = BadVersion fault
 version_fault None place = Stray place
@@ -88,7 +88,7 @@ lists_fault end (piece ∷ (next ∷ more)) =
 unfoldable pub profiles_fault : ℕ → List ℕ → RelationFault
 profiles_fault end text = lists_fault end (slice_split is_right_angle text)
 
--- the fault of a part of an alternative if that has no reading, else of what is left after it
+-- the fault of a part of an alternative if the part has no reading, else of what is left after it
 abbrev pub or_behind : {X : Type 0} → RelationFault → (List ℕ → RelationFault) → Option (X × List ℕ) → RelationFault
 or_behind fault behind found = option_map_or (λ pair. behind pair.1) found fault
 
@@ -108,7 +108,7 @@ fault_behind_name end text = or_behind BadName (fault_behind_qualifier end) (rea
 unfoldable pub alternative_fault : ℕ → List ℕ → RelationFault
 alternative_fault end text = or_behind (name_fault text) (fault_behind_name end) (read_name text)
 
--- the fault of the first piece that does not pass, where a mark stands between each two and the last ends at the place end
+-- the fault of the first piece that does not pass, if a mark stands between each two and the last ends at the place end
 abbrev pub first_fault : (List ℕ → Bool) → (ℕ → List ℕ → RelationFault) → ℕ → List (List ℕ) → RelationFault
 first_fault passes fault end [] = EmptyAlternative
 first_fault passes fault end (piece ∷ more) =
@@ -130,7 +130,7 @@ is_group_or_blank piece = is_blank_text piece || is_some (read_group piece)
 unfoldable pub groups_fault : List ℕ → RelationFault
 groups_fault text = first_fault is_group_or_blank group_fault (length text) (slice_split is_comma text)
 
--- the reading of a text: too long above the limit, else its groups, else its first fault (Policy 7.1, the limit this project's own)
+-- the reading of a text: `TooLong` above the limit, else its groups, else its first fault (Policy 7.1, the limit this project's own)
 unfoldable pub reading_of : List ℕ → Result (List (List Alternative)) RelationFault
 reading_of text = if nat_lt relations_limit (length text) then Err TooLong else ok_or (read_groups text) (groups_fault text)
 
@@ -166,7 +166,7 @@ begins_with_term kind inside = begins (λ word. is_some (term_of kind word)) (wo
 unfoldable pub begins_profile : List ℕ → Bool
 begins_profile piece = option_map_or (begins_with_term Profile) (strip (code "<") (skip is_white piece)) false
 
--- of which the text of a version is made: neither white space nor a closing parenthesis (Policy 7.1)
+-- a character of which the text of a version is made: neither white space nor a closing parenthesis (Policy 7.1)
 unfoldable pub is_asked_char : ℕ → Bool
 is_asked_char c = is_solid c && not (c == code ")")
 
@@ -174,7 +174,7 @@ is_asked_char c = is_solid c && not (c == code ")")
 abbrev pub ends_asked : List ℕ → Bool
 ends_asked text = begins (λ c. is_white c || c == code ")") text
 
--- after a parenthesis and an operator a text that is no version, for this fault, up to white space or the closing parenthesis (Policy 7.1)
+-- a text that is no version, with this fault, stands after a parenthesis and an operator, up to white space or the closing parenthesis (Policy 7.1)
 pub record HasBadVersion (text : List ℕ) (fault : VersionFault) : Type 0 where
   pub front : List ℕ
   pub inside : List ℕ

@@ -20,7 +20,7 @@ is_for_arch arch (term ∷ terms) = if term.negated then not (has_match arch (te
 unfoldable pub holds_without_profiles : List Term → Bool
 holds_without_profiles terms = list_all (λ term. term.negated) terms
 
--- whether lists of build profiles are for builds under none: there are no lists, or one of them holds (deb-src-control(5))
+-- whether lists of build profiles are for builds under no profile: there are no lists, or one of them holds (deb-src-control(5))
 abbrev pub is_for_no_profile : List (List Term) → Bool
 is_for_no_profile [] = true
 is_for_no_profile (terms ∷ more) = list_any holds_without_profiles (terms ∷ more)

@@ -8,7 +8,7 @@ use Rattle.deb_text.specs.Text.{text_cmp}
 use Rattle.deb_relations.specs.declared.relations.Restriction.{Restriction}
 use Rattle.deb_relations.specs.declared.relations.Alternative.{Alternative}
 
--- what is available: to each name the versions of its packages
+-- what is available: for each name the versions of its packages
 abbrev pub Pairs : Type 0
 Pairs = map.FinMap text_cmp (List (List ℕ))
 
@@ -24,7 +24,7 @@ no_pairs = map.empty
 unfoldable pub versions_of : Pairs → List ℕ → List (List ℕ)
 versions_of pairs name = unwrap_or (map.get pairs name) []
 
--- what is available, with a version of a name more
+-- what is available, with one more version of a name
 unfoldable pub with_pair : Pairs → List ℕ → List ℕ → Pairs
 with_pair pairs name version = map.insert pairs name (versions_of pairs name ++ version ∷ [])
 

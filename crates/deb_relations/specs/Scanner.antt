@@ -1,4 +1,4 @@
--- Which characters a class has, and what borrowed texts are read as.
+-- Which characters a class has, and the bytes of borrowed texts.
 use Rattle.std.specs.Prelude.{ℕ, Bool, List}
 use denote.Ref.{Bor}
 use Rattle.deb_relations.specs.declared.scanner.Class.{Class}
@@ -16,10 +16,10 @@ test_of Arch = is_arch_char
 test_of Profile = is_profile_char
 test_of Op = is_op_char
 
--- what a borrowed text reads
+-- the bytes of a borrowed text
 abbrev pub text_of : Bor (List ℕ) → List ℕ
 text_of text = text.now
 
--- what two borrowed texts read
+-- the bytes of two borrowed texts
 abbrev pub halves_of : Bor (List ℕ) × Bor (List ℕ) → List ℕ × List ℕ
 halves_of halves = (halves.0.now, halves.1.now)

@@ -20,7 +20,7 @@ pub struct ArchWords {
 }
 
 impl ArchWords {
-    /// Keeps copies of the three words, of which no form is asked. The only error is that
+    /// Keeps copies of the three words, whatever their form. The only error is that
     /// memory ran out; empty words take none.
     /// Source: Debian Policy 11.1.1.
     pub fn new(alloc: Global, name: &str, os: &str, cpu: &str) -> Result<ArchWords, AllocError>
@@ -37,7 +37,7 @@ impl ArchWords {
     }
 }
 
-// Whether a word is a front and a back.
+// Whether a word is a front followed by a back.
 fn is_joined(word: &str, front: &str, back: &str) -> bool
     ensures { result ≡ bytes_eq word.now (front.now ++ back.now) }
 {

@@ -43,8 +43,8 @@ impl Available {
         }
     }
 
-    /// Adds a package of a name in a version, which may be there already; no form is asked of the
-    /// name. The only error is that memory ran out; what is available then stays as it was.
+    /// Adds a package of a name in a version, which may be there already; the name may have any
+    /// form. The only error is that memory ran out; what is available then stays as it was.
     /// Source: this project's own.
     pub fn add(&mut self, name: &str, version: Version) -> Result<(), AllocError>
         ensures value { OnOk result (self.new ≡ with_pair self.old name.now version) }
@@ -109,8 +109,8 @@ fn is_group_met(available: &Available, group: &[Alternative]) -> bool
 }
 
 impl Relations {
-    /// Whether each group has an alternative of whose name a package is available in a version that
-    /// it asks for. Qualifiers, architectures and build profiles play no part. It takes no memory.
+    /// Whether each group has an alternative whose package is available in a version that the
+    /// alternative asks for. Qualifiers, architectures and build profiles play no part. It takes no memory.
     /// Source: Debian Policy 7.1.
     #[tactic(auto, unfolding(crate::specs::Satisfaction::satisfied))]
     pub fn satisfied(&self, available: &Available) -> bool

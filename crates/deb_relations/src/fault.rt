@@ -10,8 +10,8 @@ use std::error::Error;
 use std::fmt;
 
 /// What is wrong with the text of relations: `TooLong` before all else, then the first fault from the left,
-/// save that of a bracket which is not closed in its alternative only that is reported. The place of `Stray` is a
-/// byte offset, counted from 0 at the start of the whole text; one in the fault of a version, at its start.
+/// but for a bracket that is not closed in its alternative, only that is reported. The place of `Stray` is a byte
+/// offset, counted from 0 at the start of the whole text; a place in the fault of a version, from the version's start.
 /// Source: Debian Policy 7.1; the limit is this project's own.
 #[derive(Clone, Copy, PartialEq, Eq, Debug)]
 pub enum RelationFault {
@@ -31,7 +31,7 @@ pub enum RelationFault {
     Stray(usize),
     /// The text has more than 65536 bytes.
     TooLong,
-    /// The growth of a text or of a list was refused.
+    /// Memory ran out.
     Memory,
 }
 

@@ -13,8 +13,8 @@ ghost use Rattle.deb_relations.specs.Reading.{reading_of, HasBadVersion};
 ghost use Rattle.deb_relations.specs.Reduction.{has_no_lists, reduced};
 ghost use Rattle.deb_relations.specs.Satisfaction.{Pairs, no_pairs, satisfied, versions_of, with_pair};
 
-/// What is printed reads back as the same, for each reading and each reduction of one whose printed
-/// text is within the limit; and each text has at most one reading.
+/// What was read, and what it is reduced to, prints as a text that reads back as the same, if that text
+/// is within the limit; and each text has at most one reading.
 /// Source: Debian Policy 7.1.
 pub fn printed_reads()
     ensures same { (text : List ℕ)
@@ -36,8 +36,8 @@ pub fn printed_reads()
 {}
 
 /// A text is read as the groups that the grammar gives it, and has a fault if it gives none:
-/// too long is exactly above 65536 bytes, none is out of memory, and that of a version is the
-/// fault of a text that stands after an operator in parentheses.
+/// `TooLong` exactly above 65536 bytes, never `Memory`, and `BadVersion` only with the fault of a
+/// text that stands after an operator in parentheses.
 /// Source: Debian Policy 7.1; the limit is this project's own.
 pub fn readings_are_of_grammar()
     ensures reads { (text : List ℕ)

@@ -40,7 +40,7 @@ fn place_of(text: &str, end: usize) -> usize
     end.saturating_sub(text.len())
 }
 
-// Where the text before a mark ends, when the text after it ends at this place.
+// Where the text before a mark ends, if the text after it ends at this place.
 fn end_before(behind: &str, end: usize) -> usize
     ensures { result ≡ end_before end behind.now }
 {
@@ -243,7 +243,7 @@ fn terms_of(alloc: Global, kind: Kind, inside: &str) -> Result<Items<Term>, Rela
     Ok(terms)
 }
 
-// Whether all words are negated, or none is, as this says.
+// Whether all words are negated, or none is, as `negated` says.
 fn are_signed(negated: bool, terms: &[Term]) -> bool
     ensures { result
         ≡ list_all (λ other. if negated then other.negated else not other.negated) terms.now }
@@ -294,7 +294,7 @@ fn read_archs(alloc: Global, text: &str) -> Result<(Items<Term>, &str), Relation
     Ok((archs_of(alloc, inside)?, rest))
 }
 
-// A list of build profiles, of which the closing bracket is cut off.
+// A list of build profiles, whose closing bracket is cut off.
 #[tactic(auto, unfolding(crate::specs::Reader::profile_of, crate::specs::Reading::list_fault))]
 fn profile_of(alloc: Global, piece: &str, end: usize) -> Result<Items<Term>, RelationFault>
     ensures ok { IfOk result (λ terms. profile_of piece.now ≡ Some terms) }
@@ -425,12 +425,12 @@ impl Relations {
     /// profiles in angle brackets. White space separates them and means nothing else; none stands inside
     /// a word or after `!`. The old operators `<` and `>` are read as `<=` and `>=`.
     ///
-    /// Errors: `TooLong` above 65536 bytes, and before all else; `Memory` if the growth of a text or of
-    /// a list was refused, which comes after a first package name at the earliest; else, if the text
-    /// has no reading, the first fault from the left: that of the first piece between commas, and in it
-    /// between bars, that has none. A bracket is closed in its own piece or not at all, and if it is
-    /// not, only that is reported. `BadVersion` has the fault of the text up to white space or `)`, and
-    /// `Stray` the byte offset in the whole text.
+    /// Errors: `TooLong` above 65536 bytes, and before all else; `Memory` if memory ran out, which comes
+    /// after a first package name at the earliest; else, if the text has no reading, the first fault
+    /// from the left: that of the first piece between commas, and in it between bars, without a reading.
+    /// A bracket is closed in its own piece or not at all, and if it is not, only that is reported.
+    /// `BadVersion` has the fault of the text up to white space or `)`, and `Stray` the byte offset in
+    /// the whole text.
     /// Source: Debian Policy 7.1, and of qualifiers and build profiles dpkg's deb-src-control(5); the
     /// limit, the skipping of blank groups, the order of the faults and the reading of `<` and `>` are
     /// this project's own.

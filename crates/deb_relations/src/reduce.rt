@@ -120,9 +120,9 @@ fn reduce_group(
 
 impl Relations {
     /// The relations that are asked for on an architecture, if no build profile is active. An
-    /// alternative is dropped whose plain architecture words have no match, whose negated ones have
-    /// one, or none of whose lists of build profiles holds; what remains has no lists, and a group
-    /// of which nothing remains is dropped. A list of build profiles holds if all its words are
+    /// alternative is dropped if it has plain architecture words and none matches, if a negated one
+    /// matches, or if it has lists of build profiles and none holds. What remains has no lists, and a
+    /// group of which nothing remains is dropped. A list of build profiles holds if all its words are
     /// negated. Qualifiers are kept. The only error is that memory ran out; it takes none if nothing is left.
     /// Source: Debian Policy 7.1, and of build profiles dpkg's deb-src-control(5); that no build profile is active is this project's own.
     #[tactic(auto, unfolding(crate::specs::Reduction::reduced))]

@@ -4,7 +4,7 @@ use deb_text::{Items, Text};
 use deb_version::{Op, Version};
 use std::marker::Model;
 
-/// The most bytes that the text of relations has.
+/// The most bytes that the text of relations may have.
 /// Source: this project's own.
 pub const RELATIONS_LIMIT: usize = 65536;
 

@@ -1,4 +1,4 @@
--- Lines, the blanks in them, and the words that blanks part.
+-- Lines, the blanks in them, and the words that blanks separate.
 use Rattle.std.specs.Prelude.{◌≡◌, ℕ, Bool, false, ◌||◌, ◌==◌, List, filter}
 use Prim.Native.Char.{code}
 use Rattle.std.specs.List.{list_all, list_any, slice_split}

@@ -6,7 +6,7 @@ use Rattle.std.specs.Option.{option_or, option_map_or}
 abbrev pub has_value : {X : Type 0} → (X → Bool) → Option X → Bool
 has_value test value = option_map_or test value false
 
--- the first of some that is there
+-- the first of some values that is there
 abbrev pub first_some : {X : Type 0} → List (Option X) → Option X
 first_some [] = None
 first_some (one ∷ later) = option_or one (first_some later)
@@ -16,7 +16,7 @@ abbrev pub ok_unless : {X E : Type 0} → Option E → X → Result X E
 ok_unless None value = Ok value
 ok_unless (Some fault) value = Err fault
 
--- both of two values
+-- a value and more values after it, if both are there
 abbrev pub both : {X : Type 0} → Option X → Option (List X) → Option (List X)
 both None more = None
 both (Some x) None = None

@@ -1,4 +1,4 @@
-//! A list that is kept, whose value is its items, whatever room it has.
+//! A list that is kept, whose value is its items, whatever its capacity.
 ghost use Rattle.std.specs.Prelude.{◌≡◌, [], ◌∷◌, ◌++◌, OnOk, OnErr};
 
 use std::alloc::{AllocError, Global};
@@ -30,7 +30,7 @@ impl<T> Items<T> {
         }
     }
 
-    /// The items as they are read.
+    /// The items as a borrowed slice.
     /// Source: this project's own.
     pub fn as_slice(&self) -> &[T]
         ensures { result.now ≡ self.now }

@@ -1,4 +1,4 @@
-//! Text whose value is its bytes, whatever room it has.
+//! Text whose value is its bytes, whatever its capacity.
 ghost use Rattle.std.specs.Prelude.{◌≡◌, ℕ, List, [], true, IfOk, OnErr};
 ghost use Rattle.std.specs.String.{string_bytes};
 ghost use Rattle.std.specs.Ordering.{as_partial_cmp};
@@ -51,7 +51,7 @@ impl Text {
         })
     }
 
-    /// The text as it is read.
+    /// The text as a borrowed string.
     /// Source: this project's own.
     pub fn as_str(&self) -> &str
         ensures { result.now ≡ self.now }

@@ -6,7 +6,7 @@ use Rattle.deb_version.specs.declared.operator.Op.{Op}
 use Rattle.deb_version.specs.declared.operator.Op.TheVariants.{Earlier, EarlierOrEqual, Equal, LaterOrEqual, Later}
 use Rattle.deb_version.specs.Order.{version_cmp}
 
--- whether the answer of an order is one that the operator allows (Policy 7.1)
+-- whether the operator allows this result of a comparison (Policy 7.1)
 abbrev pub allows : Op → Ordering → Bool
 allows Earlier order = is_lt order
 allows EarlierOrEqual order = is_le order
@@ -14,6 +14,6 @@ allows Equal order = is_eq order
 allows LaterOrEqual order = is_ge order
 allows Later order = is_gt order
 
--- whether the version at hand is, to the one asked for, as the operator says (Policy 7.1)
+-- whether the version at hand stands to the one asked for as the operator says (Policy 7.1)
 unfoldable pub meets : Op → List ℕ → List ℕ → Bool
 meets op have want = allows op (version_cmp have want)

@@ -24,7 +24,7 @@ abbrev mutual
   key_in_digits n [] = pos n ∷ []
   key_in_digits n (c ∷ cs) = if is_ascii_digit c then key_in_digits (with_digit n c) cs else pos n ∷ weight_of c ∷ key_in_run cs
 
--- the key of a part: for each pair of a non-digit run and the digit run after it the weights, then 0, then the number (Policy 5.6.12)
+-- the key of a part: for each pair of a non-digit run and the digit run after it, the weights, then 0, then the number (Policy 5.6.12)
 abbrev pub key_of : List ℕ → List ℤ
 key_of [] = []
 key_of (c ∷ cs) = key_in_run (c ∷ cs)

@@ -75,7 +75,7 @@ version_cmp_total =
     on_total parts_of (then_total (on_total (λ parts. parts.epoch) nat_cmp_total)
     (then_total (on_total (λ parts. parts.upstream) part_cmp_total) (on_total revision_or_zero part_cmp_total)))
 
--- what may follow the digits of a pair of runs: nothing, or after at least one digit a character that is none (Policy 5.6.12)
+-- what may follow the digits of a pair of runs: nothing, or, after at least one digit, a character that is no digit (Policy 5.6.12)
 abbrev pub MayFollow : List ℕ → List ℕ → Type 0
 MayFollow digits [] = Unit {0}
 MayFollow digits (c ∷ rest) = (0 < length digits) × (is_ascii_digit c ≡ false)
@@ -92,7 +92,7 @@ KeyIsByRuns = (run digits rest : List ℕ)
     → IsFirstPair run digits rest → 0 < length run + length digits
     → key_of (run ++ (digits ++ rest)) ≡ map weight_of run ++ (pos 0 ∷ pos (value_of digits) ∷ key_of rest)
 
--- zeros before the digits of a number say nothing (Policy 5.6.12)
+-- zeros before the digits of a number change nothing (Policy 5.6.12)
 abbrev pub ZerosSayNothing : Type 0
 ZerosSayNothing = (digits : List ℕ) → value_of (codes "0" ++ digits) ≡ value_of digits
 

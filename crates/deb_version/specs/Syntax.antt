@@ -67,7 +67,7 @@ upstream_end text = upstream_start text + length (upstream_text text)
 abbrev pub all_digits : List ℕ → Bool
 all_digits text = list_all is_ascii_digit text
 
--- a number with one decimal digit more at its end
+-- a number with one more decimal digit at its end
 unfoldable pub with_digit : ℕ → ℕ → ℕ
 with_digit n c = n * 10 + (c - code "0")
 
@@ -162,7 +162,7 @@ TextIsItsParts = (text : List ℕ)
     ≡ (if has_epoch text then epoch_text text ++ codes ":" else [])
     ++ (upstream_text text ++ (if has_revision text then codes "-" ++ revision_text text else []))
 
--- a number and two places that are a text's epoch and the ends of its upstream version, of a text with a reading
+-- a number and two places that are the epoch and the ends of the upstream version of a text with a reading
 pub record HasCuts (text : List ℕ) (epoch start end : ℕ) : Type 0 where
   pub faultless : fault_of text ≡ None
   pub number : epoch ≡ epoch_of text

@@ -32,7 +32,7 @@ pub enum VersionFault {
     RevisionBad(usize),
     /// The text has more than 1000 bytes.
     TooLong,
-    /// The growth of a text was refused.
+    /// Memory ran out.
     Memory,
 }
 

@@ -14,7 +14,7 @@ pub fn text_is_its_parts()
     ensures { TextIsItsParts }
 {}
 
-/// A text has the reading of the parts of which it is a version, and has a reading if it is one.
+/// A text is read as these parts if it is a version of them, and only then.
 /// Source: Debian Policy 5.6.12.
 pub fn versions_are_read()
     ensures is { (text : List ℕ) (parts : Parts)
@@ -24,7 +24,7 @@ pub fn versions_are_read()
 {}
 
 /// The character for which an upstream version or a revision is refused stands at the place of the fault in
-/// the whole text, and is none that may stand there.
+/// the whole text, and may not stand there.
 /// Source: Debian Policy 5.6.12.
 pub fn bad_characters_stand_in_the_text()
     ensures upstream { (text : List ℕ) (place : ℕ)
@@ -41,13 +41,13 @@ pub fn order_is_by_runs()
     ensures { KeyIsByRuns }
 {}
 
-/// Zeros before the digits of a number say nothing.
+/// Zeros before the digits of a number change nothing.
 /// Source: Debian Policy 5.6.12.
 pub fn zeros_say_nothing()
     ensures { ZerosSayNothing }
 {}
 
-/// What follows a part by `~` is earlier than the part.
+/// A part with `~` and anything more after its end is earlier than the part.
 /// Source: Debian Policy 5.6.12.
 pub fn tilde_is_earlier()
     ensures { TildeIsEarlier }

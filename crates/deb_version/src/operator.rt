@@ -22,7 +22,7 @@ pub enum Op {
     Later,
 }
 
-/// Whether the version at hand is, to the one asked for, as the operator says. It takes no memory.
+/// Whether the version at hand stands to the one asked for as the operator says. It takes no memory.
 /// Source: Debian Policy 7.1, and 5.6.12 for the order.
 #[tactic(auto, unfolding(crate::specs::Operator::meets))]
 pub fn meets(op: Op, have: &Version, want: &Version) -> bool

@@ -153,7 +153,7 @@ fn rest_from(text: &[u8], start: usize) -> &[u8]
     &text[start..]
 }
 
-// Where the upstream version ends, which begins at `start`.
+// Where the upstream version that begins at `start` ends.
 fn upstream_cut(text: &[u8], start: usize) -> Result<usize, VersionFault>
     requires place { start ≡ upstream_start text.now }
     requires inside { start ≤ length text.now }

@@ -45,7 +45,7 @@ impl Version {
     /// upstream version after an epoch, and a letter at its start, is this project's own.
     ///
     /// Errors: the first fault of the text in the order of [`VersionFault`], and `Memory` if
-    /// the text is a version and its growth was refused; the text is not changed.
+    /// the text is a version and memory ran out; the text is not changed.
     /// Source: Debian Policy 5.6.12; the limits are this project's own.
     pub fn parse(alloc: Global, text: &str) -> Result<Version, VersionFault>
         ensures value { IfOk result (λ version. version ≡ text.now) }

@@ -63,7 +63,7 @@ listing_fault_members which paragraph (Control kind) = concat
 listing_fault_members which paragraph (Missing field) = field_fault_members which paragraph (codes "Missing") field
 listing_fault_members which paragraph (BadValue field) = field_fault_members which paragraph (codes "BadValue") field
 
--- the text of a refusal after its opening brace: its number and its name, and what some have further
+-- the text of a refusal after its opening brace: its number, its name, and what else some have
 unfoldable pub refusal_members : Refusal → List ℕ
 refusal_members (OtherVersion have) = concat (codes "\"code\":5,\"have\":" ∷ quoted have ∷ codes ",\"refused\":\"OtherVersion\"}" ∷ [])
 refusal_members (WrongState state) = concat (codes "\"code\":6,\"refused\":\"WrongState\",\"state\":" ∷ quoted (name_of state) ∷ codes "}" ∷ [])
@@ -99,7 +99,7 @@ part_text part = end_text part.arch part.end
 abbrev pub parts_text : List PartReply → List ℕ
 parts_text parts = join_with_byte (code ",") (map part_text parts)
 
--- the text of a reply to the command of this name, which is the value of `ok`, save if it repeats what the builder has
+-- the text of a reply to the command of this name, which is the value of `ok` unless the reply repeats what the builder has
 unfoldable pub reply_text : List ℕ → Reply → List ℕ
 reply_text name (Done accepted) = concat
     (codes "{\"accepted\":" ∷ decimal accepted ∷
@@ -110,7 +110,7 @@ reply_text name (Merged accepted parts) = concat
     (codes "{\"accepted\":" ∷ decimal accepted ∷
     codes ",\"ok\":\"merge\",\"parts\":[" ∷ parts_text parts ∷ codes "]}" ∷ [])
 
--- the text of the refusal that memory ran out
+-- the text of the refusal `Memory`
 abbrev pub memory_text : List ℕ
 memory_text = codes "{\"code\":20,\"refused\":\"Memory\"}"
 
@@ -125,7 +125,7 @@ is_plain (BadListing which paragraph fault) = false
 is_plain (Store fault) = false
 is_plain refusal = true
 
--- the text that memory ran out, as a borrowed constant, which takes none
+-- the text of the refusal `Memory` as a borrowed constant, which takes no memory
 abbrev pub IsMemoryText : CowStr Global → Type 0
 IsMemoryText text = IsBorrowedStr text × (cow_str_bytes text ≡ memory_text)
 

@@ -1,4 +1,4 @@
--- Which commands may be answered by `Memory`, though it was not the machine that refused them.
+-- Which commands may be answered with the refusal `Memory` though the machine did not refuse them so.
 use Rattle.std.specs.Prelude.{◌≡◌, ◌⊎◌, false, IsOk, Err}
 use Rattle.wb_states.specs.Machine.{Machine}
 use Rattle.wb_states.specs.declared.command.Command.{Command}
@@ -6,7 +6,7 @@ use Rattle.wb_states.specs.declared.refusal.Refusal.{Refusal}
 use Rattle.wb_office.specs.Step.{step}
 use Rattle.wb_api.specs.Encoding.{is_plain}
 
--- why a command may be answered that memory ran out: it may need some, or its refusal has more than a number and a name, or its reply repeats an assignment
+-- a command whose answer may be that memory ran out: it may need memory, or its refusal has more than a number and a name, or its reply repeats an assignment
 abbrev pub MayLackMemory : (Command → Type 0) → Machine → Command → Type 0
 MayLackMemory may_want machine command =
     (may_want command

@@ -20,7 +20,7 @@ abbrev pub number_or_null : Option ℕ → Data
 number_or_null None = null
 number_or_null (Some n) = number (unsigned n)
 
--- members with what is built of a record, and before what else
+-- members with what is built of a record, and its build priority
 abbrev pub with_version : Record → Members → Members
 with_version current members = put (codes "build_priority") (number (of_integer current.build_priority))
     (put (codes "build") (string (build_text_of current))

@@ -55,7 +55,7 @@ value_of_listing_fault which paragraph (Control kind) = object
 value_of_listing_fault which paragraph (Missing field) = value_of_field_fault which paragraph (codes "Missing") field
 value_of_listing_fault which paragraph (BadValue field) = value_of_field_fault which paragraph (codes "BadValue") field
 
--- the object of a refusal that has this further, under a key between `code` and `refused`
+-- the object of a refusal with one more value, under a key between `code` and `refused`
 abbrev pub value_with_member : Refusal → List ℕ → Data → Data
 value_with_member refusal key told = object
     (member (codes "code") (number (unsigned (code_of_refusal refusal)))

@@ -16,8 +16,8 @@ use wb_states::{Assignment, MergeCounts, PartEnd, PartReply, Reply};
 /// `name` is the command's name and stands under `ok`, save that `again` stands there if the reply
 /// repeats what a builder builds. A count and a take number stand in all their digits. The parts of a merge
 /// stand in their order, a refused one as its refusal with its architecture. In a text `"`, `\` and the
-/// control bytes are escaped, by the short escape if JSON has one and `\u00` with two lower-case digits
-/// elsewhere; all other bytes stand as they are. The only error is that there is no memory for the text.
+/// control bytes are escaped, by the short escape if JSON has one, else by `\u00` and two lower-case digits;
+/// all other bytes stand as they are. The only error is that there is no memory for the text.
 /// The keys are this project's own.
 #[tactic(auto, using(crate::proofs::EncodingLemmas::printing))]
 pub fn reply_json(alloc: Global, name: &str, reply: &Reply) -> Result<String, AllocError>

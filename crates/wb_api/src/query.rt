@@ -91,7 +91,7 @@ fn value_of_fields(
     Ok(Value::Object(members))
 }
 
-/// Puts what is built of a record, and before what else.
+/// Puts what is built of a record, and its build priority.
 fn put_version(
     alloc: Global,
     members: &mut Map<String, Value>,

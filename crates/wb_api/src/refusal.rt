@@ -16,7 +16,7 @@ use std::alloc::{AllocError, Global};
 use std::borrow::CowStr;
 use wb_states::{ListKind, ListingFault, Refusal};
 
-/// The refusal `Memory`, whose text must not need any.
+/// The text of the refusal `Memory`, which must not need any memory.
 const MEMORY: &str = r#"{"code":20,"refused":"Memory"}"#;
 
 /// The text of a refusal that has no more than its number and its name, which is a constant.
@@ -50,10 +50,10 @@ fn constant_text(refusal: &Refusal) -> Option<&'static str>
 }
 
 /// A refusal as one JSON object (RFC 8259), with no space and no line feed: its number, its name and what
-/// it has further, in all as the keys of this project have it.
+/// what else it has, all under the keys of this project.
 ///
-/// The only error is that there is no memory for the text. That of a refusal that has nothing further is a constant,
-/// which takes no memory.
+/// The only error is that there is no memory for the text. The text of a refusal with only a number and a name is a
+/// constant, which takes no memory.
 pub fn try_refusal_json(alloc: Global, refusal: &Refusal) -> Result<CowStr<'static>, AllocError>
     ensures value { IfOk result (λ text. cow_str_bytes text ≡ refusal_text refusal.now) }
     ensures plain { is_plain refusal.now ≡ true
@@ -65,8 +65,7 @@ pub fn try_refusal_json(alloc: Global, refusal: &Refusal) -> Result<CowStr<'stat
     Ok(CowStr::Owned(text_of_refusal(alloc, refusal)?))
 }
 
-/// The same, with no error: if there is no memory for the text, that of `Memory` stands in its
-/// place.
+/// The same, with no error: if there is no memory for the text, it is that of the refusal `Memory`.
 pub fn refusal_json(alloc: Global, refusal: &Refusal) -> CowStr<'static>
     ensures value { (cow_str_bytes result ≡ refusal_text refusal.now) ⊎ IsMemoryText result }
     ensures plain { is_plain refusal.now ≡ true

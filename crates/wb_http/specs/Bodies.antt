@@ -6,13 +6,13 @@ use Rattle.wb_http.specs.declared.body.Filling.TheVariants as filling
 use Rattle.wb_http.specs.declared.body.BodyRead.{BodyRead}
 use Rattle.wb_http.specs.declared.body.BodyRead.TheVariants as came
 
--- what a read of the rest of a room took, whose front was filled before: all of it, or the input ended before
+-- what a read took into the rest of a room whose front was filled before: all of it, or the input ended before
 abbrev pub TookRest : List ℕ → List ℕ → Option (List ℕ) → Option (List ℕ) → Filling → Type 0
 TookRest front room old new filling.Full = (taken : List ℕ) × Consumes old new taken × (room ≡ front ++ taken)
 TookRest front room old new filling.Ended = (taken : List ℕ) × Consumes old new taken × IsAtEnd new × (length (front ++ taken) < length room)
 TookRest front room old new filling.Failed = ⊤
 
--- what a read of a room took, of which some came already
+-- what a read took into a room, for which some bytes came already
 abbrev pub TookRoom : List ℕ → List ℕ → Option (List ℕ) → Option (List ℕ) → Filling → Type 0
 TookRoom already room old new filling.Full = (taken : List ℕ) × Consumes old new taken
     × (length room ≤ length (already ++ taken)) × (room ≡ take (length room) (already ++ taken))

@@ -1,4 +1,4 @@
--- The commands that bodies give: JSON objects (RFC 8259). Further keys say nothing.
+-- The commands that bodies give: JSON objects (RFC 8259). Further keys are ignored.
 use Rattle.std.specs.Prelude.{ℕ, ℤ, List, Option, None, Some, option_and_then, option_map, is_some, codes, if◌then◌else◌, Result, Ok, Err}
 use Rattle.std.specs.Str.{is_utf8}
 use Rattle.serde_json.specs.Data.{Data}

@@ -32,7 +32,7 @@ values_of name fields = map (λ field. field.1) (filter (is_named name) fields)
 abbrev pub is_number : List ℕ → Bool
 is_number value = nat_lt 0 (length value) && list_all is_ascii_digit value
 
--- whether two texts are numbers, and the same one, whatever zeros it begins with
+-- whether two texts are numbers, and the same number, whatever zeros they begin with
 unfoldable pub is_same_number : List ℕ → List ℕ → Bool
 is_same_number one other = (is_number one && is_number other) && (digits_value 10 one == digits_value 10 other)
 

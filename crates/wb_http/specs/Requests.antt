@@ -1,4 +1,4 @@
--- What the bytes of a connection ask for: one request (RFC 9112, section 2.1), and what follows it says nothing.
+-- What the bytes of a connection ask for: one request (RFC 9112, section 2.1), and what follows it is ignored.
 use Rattle.std.specs.Prelude.{◌≡◌, ◌⊎◌, ℕ, ◌<◌, ◌≤◌, Bool, true, false, nat_le, List, [], ◌∷◌, length, take, map, codes, decimal, if◌then◌else◌}
 use Rattle.std.specs.Prelude.{Option, None, Some, option_map, Result, Ok, Err, ⊤}
 use Rattle.std.specs.Option.{option_or}
@@ -38,7 +38,7 @@ abbrev pub query_wanted : Option (Result Query Fault) → List ℕ → Result Wa
 query_wanted None method = Err NoRoute
 query_wanted (Some query) method = if bytes_eq method (codes "GET") then and_then query (λ q. Ok (wanted.Query q)) else Err WrongMethod
 
--- what a head asks for that has the target of this command, or of none
+-- what a head asks for whose target is that of this command, or of no command
 abbrev pub wanted_by : Option CommandKind → List ℕ → List ℕ → List NameAndValue → Result Wanted Fault
 wanted_by (Some kind) method target fields = command_wanted kind method fields
 wanted_by None method target fields = query_wanted (query_at target) method
@@ -47,7 +47,7 @@ wanted_by None method target fields = query_wanted (query_at target) method
 abbrev pub wanted_of : RequestHead → Result Wanted Fault
 wanted_of head = wanted_by (command_at head.target) head.method head.target (map name_and_value head.fields)
 
--- a head whose wish takes memory: one without a fault, or one whose path is decoded before its fault is found
+-- a head for which memory is taken: one without a fault, or one whose path is decoded before its fault is found
 abbrev pub TakesMemory : Result Wanted Fault → Type 0
 TakesMemory (Ok w) = ⊤
 TakesMemory (Err fault) = fault ≡ BadPath
@@ -72,7 +72,7 @@ asked_by (wanted.Body kind count) rest = body_asked kind count rest
 abbrev pub asked : RequestHead → List ℕ → Result Request Fault
 asked head rest = and_then (wanted_of head) (λ w. asked_by w rest)
 
--- what a POST with this target and this body asks for, whose only field states the length of the body
+-- what a POST asks for with this target, this body, and the length of the body as its only field
 abbrev pub posted : List ℕ → List ℕ → Result Request Fault
 posted target body = asked (record {
   blank = [];
@@ -112,7 +112,7 @@ Answers what (received.Refused fault) = what ≡ Err fault
 Answers what (received.Asked request) = what ≡ Ok request
 
 -- what is received of an input: nothing only if it is empty, else what its head and what follows ask for, or the fault of a head;
--- memory ran out only after a head that takes memory
+-- memory ran out only after a head for which memory is taken
 abbrev pub Means : List ℕ → Received → Type 0
 Means input received.Nothing = input ≡ []
 Means input received.Failed = ⊤

@@ -12,7 +12,7 @@ ghost use Rattle.wb_http.specs.declared.request.Request.{Request as AnyRequest};
 ghost use Rattle.wb_http.specs.declared.request.Request.TheVariants.{Command};
 
 /// An input that begins with a head within the limits is received as what this head and the bytes after it
-/// ask for, or as their first fault, and in no other way but for a failed read or out of memory (RFC 9112,
+/// ask for, or as their first fault, and in no other way unless a read failed or memory ran out (RFC 9112,
 /// section 2.1).
 pub fn a_head_decides()
     ensures value { (input : List ℕ) (head : RequestHead) (rest : List ℕ) (received : AnyReceived)

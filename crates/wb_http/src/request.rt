@@ -27,7 +27,7 @@ use wb_streams::WatchedReader;
 pub enum Request {
     /// A command to the office.
     Command(Command),
-    /// What changes nothing.
+    /// A query, which changes nothing.
     Query(Query),
 }
 

@@ -26,7 +26,7 @@ pub(crate) enum CommandKind {
     BuildPriority,
 }
 
-/// What is asked of the office that changes nothing. Its texts are taken as they came, once decoded: the
+/// What is asked of the office and changes nothing. Its texts are taken as they came, once decoded: the
 /// office tests their forms.
 /// Source: this project's own.
 #[derive(Debug, Drop)]

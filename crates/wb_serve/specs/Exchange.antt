@@ -40,7 +40,7 @@ pub record Response : Type 0 where
   pub body : List ℕ
   pub machine : Machine
 
--- what an answer says after which the office is in this state
+-- an answer as a response, with the state of the office after it
 abbrev pub response_of_answer : Answer → Machine → Response
 response_of_answer answer after = record { status = answer.status; body = cow_str_bytes answer.text; machine = after }
 
@@ -78,7 +78,7 @@ refusal_response machine refusal = record { status = status_of_refusal refusal; 
 abbrev pub memory_response : Machine → Response
 memory_response machine = record { status = code.ServiceUnavailable; body = memory_text; machine = machine }
 
--- a fault of the request, of which the office is not asked
+-- a fault of the request, about which the office is not asked
 abbrev pub fault_response : Machine → Fault → Response
 fault_response machine fault = record { status = status_of_fault fault; body = fault_text fault; machine = machine }
 
@@ -108,12 +108,12 @@ query_response machine query = found_response machine (found_by machine query)
 
 -- ---- what may be answered, and how the office then stands
 
--- a refusal is answered, or that there is no memory for its text, which a constant does not need
+-- the answer is a refusal, or that there is no memory for its text; a constant text needs none
 abbrev pub IsRefusal : Machine → Refusal → Response → Type 0
 IsRefusal machine refusal response =
     (response ≡ refusal_response machine refusal) ⊎ ((is_plain refusal ≡ false) × (response ≡ memory_response machine))
 
--- what was asked is refused since the office is closed, or since the store failed, after which it stands so
+-- what was asked is refused because the office is closed or because the store failed, and the office then stands so
 abbrev pub IsRefusedByStore : Machine → Standing → Response → Standing → Type 0
 IsRefusedByStore machine failed response standing =
     (IsRefusal machine Closed response × (standing ≡ Shut))
@@ -126,7 +126,7 @@ IsCommandAnswer may_want machine command response standing =
     ⊎ (MayLackMemory may_want machine command × (response ≡ memory_response machine))) × (standing ≡ Open))
     ⊎ IsRefusedByStore machine (InDoubt command) response standing
 
--- why a query may be answered that memory ran out: the names that it asks of are well formed
+-- a query whose answer may be that memory ran out: the names in it are well formed
 abbrev pub MayLackMemoryFor : Query → Type 0
 MayLackMemoryFor (query.Item arch source) = has_bad_key arch source ≡ false
 MayLackMemoryFor (query.Mine builder) = is_builder_name builder ≡ true
@@ -151,7 +151,7 @@ Sends response old new (served.Answered status) = (status ≡ response.status) �
 Sends response old new (served.WriteFailed status) = (status ≡ response.status) × AppendsFront old new (answer_bytes response.status response.body)
 Sends response old new result = ⊥
 
--- a request was answered, or its command was accepted and there is no memory for the reply, of which nothing was written then
+-- a request was answered, or its command was accepted and nothing was written, since there is no memory for the reply
 abbrev pub Responds : (Command → Type 0) → Request → Machine → Machine → Standing → Option (List ℕ) → Option (List ℕ) → Served → Type 0
 Responds may_want asked before after standing old new result =
     ((response : Response) × IsAnswer may_want before asked response standing × (after ≡ response.machine) × Sends response old new result)
@@ -179,7 +179,7 @@ is_asked received.Memory = false
 is_asked (received.Refused fault) = false
 is_asked (received.Asked request) = true
 
--- what was received of a reader is what its bytes mean, if they are known, and the reader failed if that is what was received
+-- what was received is what the bytes of the reader mean, if they are known; the flag of the reader is set if the reader failed
 abbrev pub Receives : Stream → Stream → Received → Type 0
 Receives old new received = IfSome old.bytes (λ input. Means input received) × Flags (is_failed received) old new
 

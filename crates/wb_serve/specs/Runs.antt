@@ -15,7 +15,7 @@ pub record Exchange : Type 0 where
   pub received : Received
   pub ended : Served
 
--- exchanges one after another take the office from a state to another, and it stands so after the last; before each it stands open
+-- exchanges one after another take the office from one state to another, and it stands so after the last; before each it stands open
 abbrev pub Serves : (Command → Type 0) → List Exchange → Machine → Machine → Standing → Type 0
 Serves may_want [] before after standing = (after ≡ before) × (standing ≡ Open)
 Serves may_want (one ∷ others) before after standing =
@@ -23,7 +23,7 @@ Serves may_want (one ∷ others) before after standing =
     × Exchanges may_want one.received before between stands old new one.ended
     × (((others ≡ []) × (after ≡ between) × (standing ≡ stands)) ⊎ ((stands ≡ Open) × Serves may_want others between after standing))
 
--- a command was answered with status 200, of which a byte may have come
+-- a command was answered with status 200, or with a front of such an answer
 abbrev pub IsAcknowledged : Exchange → Command → Type 0
 IsAcknowledged one command = (one.received ≡ received.Asked (request.Command command)) × TellsOk one.ended
 

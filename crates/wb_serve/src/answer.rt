@@ -19,7 +19,7 @@ pub(crate) struct Answer {
     pub(crate) text: CowStr<'static>,
 }
 
-/// The answer that memory ran out, which takes none.
+/// The answer that memory ran out. It takes no memory.
 pub(crate) fn memory_answer(alloc: Global) -> Answer
     ensures value { (machine : Machine) → response_of_answer result machine ≡ memory_response machine }
 {
@@ -39,7 +39,7 @@ pub(crate) fn fault_answer(fault: Fault) -> Answer
     }
 }
 
-/// The answer to what was refused, or that memory ran out if there is none for the text of the refusal.
+/// The answer to what was refused. It says that memory ran out if there is none for the text of the refusal.
 pub(crate) fn refusal_answer(alloc: Global, refusal: &Refusal) -> Answer
     ensures value { (machine : Machine)
         → IsRefusal machine refusal.now (response_of_answer result machine) }

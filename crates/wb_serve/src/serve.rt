@@ -124,8 +124,8 @@ fn exchange<O: CarryOut, R: Read + Drop, W: Write + Drop>(
 /// The request is read whole before the office is asked, and nothing is written before the office has answered. A fault
 /// of the request is answered without asking the office. How the bytes are cut into reads plays no part, and neither does
 /// what follows the body. If there is no memory for the request, or for the text of a refusal, of a repeated reply or of
-/// what a query found, `Memory` is answered in its place, with status 503. The exchange ends without
-/// an answer if no byte came, if the reader failed, and if there is no memory for the reply to an accepted command, which
+/// what a query found, the answer is the refusal `Memory` instead, with status 503. The exchange ends without an
+/// answer if no byte came, if the reader failed, and if there is no memory for the reply to an accepted command, which
 /// stands. After a failed write a front of the answer was written, and what was carried out stands too.
 /// Source: RFC 9112, section 9.3, for one exchange; the rest is this project's own.
 pub fn serve_one<O: CarryOut, R: Read + Drop, W: Write + Drop>(
@@ -141,12 +141,12 @@ pub fn serve_one<O: CarryOut, R: Read + Drop, W: Write + Drop>(
         × Leads O.is_clean O.is_closed O.stands_at O.leaves office.old office.new
         (λ before after standing. Exchanges O.may_want_memory received before after standing
         writer.old.bytes writer.new.bytes result) }
-    // what a status of 200 to a command says, of which a byte may have come
+    // what an answer with status 200 to a command says, or a front of one
     ensures acknowledged { (before : Machine) (input : List ℕ) (command : AnyCommand)
         → O.is_clean office.new → O.stands_at office.old before → reader.old.bytes ≡ Some input
         → Means input (Asked (asked_Command command)) → TellsOk result
         → IsOk (step before command).0 × O.stands_at office.new (step before command).1 }
-    // no byte without an answer, and no failed write but a failed writer
+    // no byte is written without an answer, and only a failed write sets the flag of the writer
     ensures silent { is_silent result ≡ true → writer.new.bytes ≡ writer.old.bytes }
     ensures failed { Flags (fails_to_write result) writer.old writer.new }
 {

@@ -1,7 +1,7 @@
 //! A reader and a writer that report whether they failed, as a stream of C can (`ferror`).
 //!
 //! The flags are private to this file, and only its one call of `read` and its one of `write` set them. That
-//! a flag is set if that call failed, and nowhere else, is read here and not proved: all else that a
+//! a flag is set if that call failed, and only then, can be read here but is not proved: all else that a
 //! contract says of a failed read or write rests on it.
 ghost use Rattle.std.specs.Prelude.{◌≡◌, ◌<◌, length, true, false, OnErr, OnOk, IfOk};
 ghost use Rattle.std.specs.Io.{ReadsAtMost, WritesAtMost};
