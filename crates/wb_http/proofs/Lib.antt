@@ -2,6 +2,7 @@ pub mod FieldLemmas
 pub mod LawLemmas
 pub mod LiteralLemmas
 pub mod NumberLemmas
+pub mod ReadLemmas
 pub mod RequestLemmas
 pub mod RouteLemmas
 pub mod StreamLemmas

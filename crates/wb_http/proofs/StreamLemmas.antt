@@ -2,9 +2,9 @@
 use Rattle.wb_http.specs.Answers.{AppendsFront}
 use Rattle.std.proofs.Math.Seq.{take-append-add}
 use Rattle.std.specs.List.{concat}
-use Rattle.std.proofs.lemmas.List.{take-append-le, take_all}
+use Rattle.std.proofs.lemmas.List.{length-take-le, take-append-le, take_all}
 use Rattle.std.proofs.Common.{Bor, ◌-◌, get_or, map, length, length-append, arith, take, drop, take-add, subst, append-nil, ◌≤◌, Option, None, Some, ◌≡◌, ℕ, ◌+◌, List, [], ◌∷◌, ◌++◌, sym, ap, ◌∙◌, append_assoc, refl}
-use Rattle.std.specs.Io.KnownBytes.{Consumes, Appends}
+use Rattle.std.specs.Io.KnownBytes.{Consumes, Appends, Keeps}
 
 pub Consumes-nil : (a : Option (List ℕ)) → Consumes a a []
 Consumes-nil None = tt
@@ -15,6 +15,13 @@ Consumes-then None b c xs ys p q = tt
 Consumes-then (Some x) None c xs ys p q = absurd p
 Consumes-then (Some x) (Some y) None xs ys p q = absurd q
 Consumes-then (Some x) (Some y) (Some z) xs ys p q = p ∙ ap (λ l. xs ++ l) q ∙ sym (append_assoc xs ys z)
+
+-- a read that failed changes nothing
+pub Consumes-kept : (a b c : Option (List ℕ)) (xs : List ℕ) → Consumes a b xs → Keeps b c → Consumes a c xs
+Consumes-kept None b c xs p q = tt
+Consumes-kept (Some x) None c xs p q = absurd p
+Consumes-kept (Some x) (Some y) None xs p q = absurd q
+Consumes-kept (Some x) (Some y) (Some z) xs p q = p ∙ ap (λ l. xs ++ l) (sym q)
 
 -- a room that was filled up to a place, and from there on by more
 pub Consumes-on : (a b c : Option (List ℕ)) (before after : List ℕ) (at more : ℕ)
@@ -33,6 +40,14 @@ pub room-grown : (before after front taken : List ℕ) (at more : ℕ)
     → take at after ≡ take at before → take at before ≡ front ++ taken → take (at + more) after ≡ front ++ (taken ++ take more (drop at after))
 room-grown before after front taken at more same is =
     take-add at more after ∙ ap (λ l. l ++ take more (drop at after)) (same ∙ is) ∙ append_assoc front taken (take more (drop at after))
+
+-- what was read after a front is no more than the room takes after it
+pub taken-fits : (room front taken : List ℕ) (filled size : ℕ) → filled ≤ length room → length room ≡ size
+    → take filled room ≡ front ++ taken → length taken ≤ size - length front
+taken-fits room front taken filled size within same is =
+    let sum : length (take filled room) ≡ length front + length taken = ap length is ∙ length-append front taken in
+    let part : length (take filled room) ≡ filled = length-take-le filled room within in
+    omega arith
 
 -- ---- what a writer holds
 

@@ -1,5 +1,5 @@
 -- The head of a request at the front of a stream (RFC 9112, sections 2 to 5). It has limits of length and of fields.
-use Rattle.std.specs.Prelude.{◌≡◌, ◌⊎◌, ℕ, ◌<◌, ◌≤◌, Bool, true, false, List, [], length, take, drop, Option, ⊤}
+use Rattle.std.specs.Prelude.{◌≡◌, ◌⊎◌, ℕ, ◌<◌, ◌≤◌, Bool, true, false, List, [], length, take, drop, Option}
 use Rattle.std.specs.Io.KnownBytes.{Consumes, IsAtEnd}
 use Rattle.httparse.specs.Grammar.{HasNoRequest, MayBecomeRequest, NeverHasRequest, ReadsRequest, RequestHead, print_request}
 use Rattle.httparse.specs.Spans.{RequestExceeds, RequestOverflows}
@@ -38,6 +38,10 @@ IsFront bytes front.Unfinished = IsUnfinished bytes
 IsFront bytes front.Malformed = NeverHasRequest bytes
 IsFront bytes front.Crowded = HasManyFields bytes
 
+-- the front of a head and not all of one: no byte, or fewer bytes than a head may have, which are no head yet
+abbrev pub IsHeadFront : List ℕ → Type 0
+IsHeadFront seen = (length seen < head_limit) × ((seen ≡ []) ⊎ IsUnfinished seen)
+
 -- bytes after which no head comes: nothing that follows makes them one, or nothing follows
 abbrev pub IsMalformed : List ℕ → Option (List ℕ) → Type 0
 IsMalformed seen left = (length seen ≤ head_limit)
@@ -48,14 +52,14 @@ abbrev pub IsTooLarge : List ℕ → Type 0
 IsTooLarge seen = (length seen ≤ head_limit)
     × (((length seen ≡ head_limit) × IsUnfinished seen) ⊎ HasManyFields seen)
 
--- what a read of a head took from the reader, into the room
+-- what a read of a head took from the reader, into the room; if the reader failed, it was the front of a head
 abbrev pub TookHead : List ℕ → Option (List ℕ) → Option (List ℕ) → HeadRead → Type 0
 TookHead room old new (came.Whole count filled) = (filled ≤ head_limit) × Consumes old new (take filled room)
     × (head : RequestHead) × IsHeadAt (take filled room) count head
 TookHead room old new came.Nothing = Consumes old new [] × IsAtEnd new
 TookHead room old new came.Malformed = (seen : List ℕ) × (0 < length seen) × Consumes old new seen × IsMalformed seen new
 TookHead room old new came.TooLarge = (seen : List ℕ) × Consumes old new seen × IsTooLarge seen
-TookHead room old new came.Failed = ⊤
+TookHead room old new came.Failed = (seen : List ℕ) × Consumes old new seen × IsHeadFront seen
 
 -- whether a read of a head failed
 abbrev pub is_failed_head : HeadRead → Bool

@@ -7,7 +7,7 @@ use Rattle.httparse.specs.Grammar.{HasNoRequest, NeverHasRequest, ReadsRequest, 
 use Rattle.httparse.specs.Spans.{name_and_value}
 use Rattle.wb_http.specs.Commands.{command_of}
 use Rattle.wb_http.specs.Fields.{NameAndValue, content_length, has_field, length_stated, values_of}
-use Rattle.wb_http.specs.Heads.{HasManyFields, IsUnfinished, field_limit, head_limit}
+use Rattle.wb_http.specs.Heads.{HasManyFields, IsHeadFront, IsUnfinished, field_limit, head_limit}
 use Rattle.wb_http.specs.Routes.{and_then, command_at, item_at, item_query, mine_at, mine_query}
 use Rattle.wb_http.specs.declared.fault.Fault.{Fault}
 use Rattle.wb_http.specs.declared.fault.Fault.TheVariants.{BadHead, BadPath, HeadTooLarge, NoRoute, WrongMethod, NotSupported, BodyCut}
@@ -120,6 +120,22 @@ Means input received.Memory = (head : RequestHead) × (rest : List ℕ) × IsHea
 Means input (received.Refused fault) = ((head : RequestHead) × (rest : List ℕ) × IsHead input head rest × (asked head rest ≡ Err fault))
     ⊎ HasHeadFault input fault
 Means input (received.Asked request) = (head : RequestHead) × (rest : List ℕ) × IsHead input head rest × (asked head rest ≡ Ok request)
+
+-- how many bytes of a body a head asks for: none unless it is a command without a fault
+abbrev pub body_length : Result Wanted Fault → ℕ
+body_length (Ok (wanted.Query query)) = 0
+body_length (Ok (wanted.Body kind count)) = count
+body_length (Err fault) = 0
+
+-- the front of a request, and not all of one: the front of a head, or a head within the limits and less than the body that it asks for
+abbrev pub IsRequestFront : List ℕ → Type 0
+IsRequestFront seen = IsHeadFront seen
+    ⊎ ((head : RequestHead) × (rest : List ℕ) × IsHead seen head rest × (length rest < body_length (wanted_of head)))
+
+-- no more bytes than a head may have, or a head within the limits and no more than the body that it asks for
+abbrev pub IsWithinRequest : List ℕ → Type 0
+IsWithinRequest seen = (length seen ≤ head_limit)
+    ⊎ ((head : RequestHead) × (rest : List ℕ) × IsHead seen head rest × (length rest ≤ body_length (wanted_of head)))
 
 -- whether the reader failed
 abbrev pub is_failed : Received → Bool

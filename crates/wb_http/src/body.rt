@@ -1,7 +1,8 @@
 //! The body of a request (RFC 9112, section 6), read from a stream.
 ghost use Rattle.std.specs.Prelude.{◌≡◌, ◌≤◌, length, take};
 ghost use Rattle.wb_streams.specs.Streams.{Flags};
-ghost use Rattle.wb_http.specs.Bodies.{is_failed_body, is_failed_fill, TookBody, TookRest, TookRoom};
+ghost use Rattle.wb_http.specs.Bodies.{is_failed_body, is_failed_fill, TookBody};
+ghost use Rattle.wb_http.specs.Bodies.{TookNoMore, TookRest, TookRoom};
 
 use crate::head::read_on;
 use std::alloc::Global;
@@ -37,6 +38,8 @@ fn fill<R: Read + Drop>(reader: &mut WatchedReader<R>, room: &mut [u8], start: u
     requires { start ≤ length room.old }
     ensures value { TookRest (take start room.old) room.new reader.old.bytes reader.new.bytes result }
     ensures length { length room.new ≡ length room.old }
+    ensures bound { TookNoMore (take start room.old) (length room.new)
+        reader.old.bytes reader.new.bytes }
     ensures failed { Flags (is_failed_fill result) reader.old reader.new }
 {
     let mut filled = start;
@@ -60,6 +63,7 @@ fn fill_after<R: Read + Drop>(
 ) -> Filling
     ensures value { TookRoom already.now room.new reader.old.bytes reader.new.bytes result }
     ensures length { length room.new ≡ length room.old }
+    ensures bound { TookNoMore already.now (length room.new) reader.old.bytes reader.new.bytes }
     ensures failed { Flags (is_failed_fill result) reader.old reader.new }
 {
     let ready = already.len().min(room.len());
@@ -76,6 +80,7 @@ pub(crate) fn read_body<R: Read + Drop>(
     count: usize,
 ) -> BodyRead
     ensures value { TookBody already.now count reader.old.bytes reader.new.bytes result }
+    ensures bound { TookNoMore already.now count reader.old.bytes reader.new.bytes }
     ensures failed { Flags (is_failed_body result) reader.old reader.new }
 {
     let Ok(mut body) = vec![in alloc; 0u8; count] else {

@@ -71,6 +71,7 @@ pub(crate) fn read_on<R: Read + Drop>(
         count ≡ 0 → filled < length room.old → IsAtEnd reader.new.bytes) }
     ensures kept { OnOk result (reader.new.failed ≡ reader.old.failed) }
     ensures err { OnErr result (reader.new.failed ≡ true) }
+    ensures unchanged { OnErr result (Keeps reader.old.bytes reader.new.bytes) }
 {
     reader.read(&mut room[filled..])
 }

@@ -1,10 +1,13 @@
 //! A request (RFC 9112, section 2.1), read from a stream.
-ghost use Rattle.std.specs.Prelude.{◌≡◌, ℕ, ◌≤◌, ◌++◌, drop, length, IfSome, map, Some};
+ghost use Rattle.std.specs.Prelude.{◌≡◌, ℕ, ◌≤◌, List, ◌++◌, drop, length, IfSome, map, Some};
+ghost use Rattle.std.specs.Io.KnownBytes.{Consumes};
 ghost use Rattle.httparse.specs.Borrowed.{header_parts};
 ghost use Rattle.httparse.specs.Grammar.{RequestHead};
 ghost use Rattle.wb_streams.specs.Streams.{Flags};
+ghost use Rattle.wb_http.specs.Bodies.{TookLess, TookNoMore};
 ghost use Rattle.wb_http.specs.Heads.{IsHeadAt};
-ghost use Rattle.wb_http.specs.Requests.{Answers, asked, body_asked, command_wanted, is_failed, Means};
+ghost use Rattle.wb_http.specs.Requests.{Answers, asked, body_asked, body_length, command_wanted};
+ghost use Rattle.wb_http.specs.Requests.{is_failed, IsRequestFront, IsWithinRequest, Means};
 ghost use Rattle.wb_http.specs.Requests.{query_at, query_wanted, TakesMemory, wanted_by, wanted_of, WantsOr};
 ghost use Rattle.wb_http.specs.declared.request.Received.TheVariants as received;
 ghost use Rattle.wb_http.specs.Routes.{command_at, item_query, mine_query};
@@ -168,6 +171,9 @@ fn receive_body<R: Read + Drop>(
     ensures value { IfSome reader.old.bytes
         (λ left. Answers (body_asked kind length (already.now ++ left)) result) }
     ensures failed { Flags (is_failed result) reader.old reader.new }
+    ensures front { result ≡ received.Failed
+        → TookLess already.now length reader.old.bytes reader.new.bytes }
+    ensures bound { TookNoMore already.now length reader.old.bytes reader.new.bytes }
 {
     match read_body(alloc, reader, already, length) {
         BodyRead::Whole(body) => match command_of(alloc, kind, body.as_slice()) {
@@ -194,6 +200,12 @@ fn receive_rest<R: Read + Drop>(
     ensures memory { result ≡ received.Memory → (head : RequestHead) → IsHeadAt already.now count head
         → TakesMemory (wanted_of head) }
     ensures failed { Flags (is_failed result) reader.old reader.new }
+    ensures front { result ≡ received.Failed → (head : RequestHead)
+        → IsHeadAt already.now count head → TookLess (drop count already.now)
+        (body_length (wanted_of head)) reader.old.bytes reader.new.bytes }
+    ensures bound { (head : RequestHead) → IsHeadAt already.now count head
+        → TookNoMore (drop count already.now) (body_length (wanted_of head))
+        reader.old.bytes reader.new.bytes }
 {
     match wanted_of(alloc, already) {
         Ok(Wanted::Query(query)) => Received::Asked(Request::Query(query)),
@@ -208,11 +220,17 @@ fn receive_rest<R: Read + Drop>(
 /// Reads one request: a head of at most 8192 bytes and 32 fields, and for a command a body of at most
 /// 16777216 bytes. No byte after the request plays a part, and neither does how the bytes are cut into
 /// reads. A read that fails, also one that is interrupted, ends it, and so does the end of the input. The
-/// memory for a body is taken before the first read of it.
+/// memory for a body is taken before the first read of it. There is no read once the request has come, or a
+/// fault of it, since the client waits for its answer then. The reads of a head take at most 8192 bytes, which
+/// may include bytes after the request; those of a body take none after it.
 /// Source: RFC 9112; the limits, the paths and the keys are this project's own.
 pub fn read_request<R: Read + Drop>(alloc: Global, reader: &mut WatchedReader<R>) -> Received
     ensures value { IfSome reader.old.bytes (λ input. Means input result) }
     ensures failed { Flags (is_failed result) reader.old reader.new }
+    ensures front { result ≡ received.Failed → (seen : List ℕ)
+        × Consumes reader.old.bytes reader.new.bytes seen × IsRequestFront seen }
+    ensures bound { (seen : List ℕ)
+        × Consumes reader.old.bytes reader.new.bytes seen × IsWithinRequest seen }
 {
     let mut room = [0u8; HEAD_LIMIT];
     match read_head(reader, &mut room) {

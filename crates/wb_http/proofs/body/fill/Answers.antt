@@ -1,7 +1,7 @@
 -- A read adds to what was read before it.
 use Rattle.std.proofs.Common.{[], refl, ◌∙◌, ap, arith, append-nil, take, drop, sym, length, ◌++◌}
 use Rattle.std.proofs.lemmas.List.{take_all, length-take-le}
-use Rattle.wb_http.proofs.StreamLemmas.{Consumes-nil, Consumes-none, Consumes-then, room-grown}
+use Rattle.wb_http.proofs.StreamLemmas.{Consumes-kept, Consumes-nil, Consumes-none, Consumes-then, room-grown, taken-fits}
 use Rattle.wb_http.proofs.body.fill.Goals as goal
 
 pub loop-filled-init : goal.loop-filled-init
@@ -36,4 +36,18 @@ returns-clause-value g c = (
   c.loop-filled.invariant.taken.0,
   c.loop-filled.invariant.taken.1,
   sym (take_all c.loop-filled.filled c.loop-filled.room (omega arith)) ∙ c.loop-filled.invariant.taken.2,
+)
+
+pub returns-in_default-clause-bound : goal.returns-in_default-clause-bound
+returns-in_default-clause-bound g c = (
+  c.loop-filled.invariant.taken.0,
+  Consumes-kept _ _ _ _ c.loop-filled.invariant.taken.1 c.in_default.ensures.unchanged,
+  taken-fits _ _ _ _ _ c.loop-filled.invariant.within (omega arith) c.loop-filled.invariant.taken.2,
+)
+
+pub returns-then-count-eq0-clause-bound : goal.returns-then-count-eq0-clause-bound
+returns-then-count-eq0-clause-bound g c = (
+  c.loop-filled.invariant.taken.0,
+  Consumes-none _ _ _ _ _ _ c.if-count-eq0.true c.loop-filled.invariant.taken.1 c.in-Ok.ensures.ok,
+  taken-fits _ _ _ _ _ c.loop-filled.invariant.within (omega arith) c.loop-filled.invariant.taken.2,
 )

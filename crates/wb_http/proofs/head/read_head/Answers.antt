@@ -1,6 +1,7 @@
 -- What was read so far is the front of the room, and each read adds to it.
 use Rattle.std.proofs.Common.{inl, inr, arith, length, take, length-take, ◌∙◌, ◌≡◌, ◌+◌}
-use Rattle.wb_http.proofs.StreamLemmas.{Consumes-none, Consumes-on}
+use Rattle.wb_http.proofs.ReadLemmas.{head_front}
+use Rattle.wb_http.proofs.StreamLemmas.{Consumes-kept, Consumes-none, Consumes-on}
 use Rattle.wb_http.proofs.head.read_head.Goals as goal
 
 pub returns-else-filled-eq0-clause-value : goal.returns-else-filled-eq0-clause-value
@@ -50,4 +51,12 @@ returns-in-Crowded-clause-value g c =
       take (c.loop-filled.filled + c.in-Ok.count) c.read_on.new.room,
       Consumes-on _ _ _ _ _ _ _ c.in-Ok.ensures.front c.loop-filled.invariant.taken c.in-Ok.ensures.ok,
       (omega (arith, c.requires, c.loop-filled.auto.room, c.in-Ok.ensures.bound), inr c.in-Crowded.ensures.value),
+    )
+
+pub returns-in_default-clause-value : goal.returns-in_default-clause-value
+returns-in_default-clause-value g c =
+    let long : length (take c.loop-filled.filled c.loop-filled.room) ≡ c.loop-filled.filled = simp length-take (omega arith) in (
+      take c.loop-filled.filled c.loop-filled.room,
+      Consumes-kept _ _ _ _ c.loop-filled.invariant.taken c.in_default.ensures.unchanged,
+      head_front c.loop-filled.room c.loop-filled.filled (omega (arith, c.requires, c.loop-filled.auto.room)) c.loop-filled.invariant.unfinished,
     )
