@@ -7,7 +7,7 @@ use Rattle.sqlite.specs.Tree.{Trees}
 use Rattle.sqlite.specs.Held.{Held, state}
 use Rattle.sqlite.specs.State.{State, HasCleanDisk, IsUnchanged, IsRolledBack, Survives}
 use Rattle.wb_sql.specs.Transactions.{IsKeptOrUndone, LeavesNoMore}
-use Rattle.wb_schema.specs.Tables.{office_schema}
+use Rattle.wb_schema.specs.Among.{HasOffice}
 use Rattle.wb_states.specs.declared.command.Command.{Command}
 use Rattle.wb_states.specs.declared.command.Command.TheVariants as of
 use Rattle.wb_states.specs.declared.refusal.Refusal.{Refusal}
@@ -54,7 +54,7 @@ rolled_back_then a b c one two = record {
 }
 
 module _ {S : Type 0} (g : Ghosts S) (old new : Held S) where
-  fewer : Survives (state g old) (state g new) (λ _. ¬ (old.schema ≡ office_schema)) → old.schema ≡ office_schema → HasCleanDisk (state g new) → LeavesNoMore (state g old) (state g new)
+  fewer : Survives (state g old) (state g new) (λ _. ¬ HasOffice old.schema) → HasOffice old.schema → HasCleanDisk (state g new) → LeavesNoMore (state g old) (state g new)
   fewer survives same clean db may = elim (survives.crash clean db may) [ inl was ↦ was | inr other ↦ absurd (other same) ]
 
   kept_or_undone_in : (e : Error) → FailsToLookUp (state g old) (state g new) e → IsKeptOrUndone (state g old) (state g new)
@@ -80,14 +80,14 @@ module _ {S : Type 0} (g : Ghosts S) (old new : Held S) where
   pub found : {A : Type 0} {Answer : Machine → A → Type 0} {machine : Machine} {x : A} → Finds g Answer old new (Ok x) → HasCleanDisk (state g new) → IsConsistent machine → IsSettled machine (state g old)
       → IsSettled machine (state g new) × Answer machine x
   found {machine = machine} finds clean consistent settled =
-      let schema = settled.holds.schema_is in
+      let schema = settled.holds.stands.has in
       (stays_settled_as (finds.same clean schema) (fewer finds.survives schema clean) settled, finds.value clean schema machine consistent (office_stands (state g old).now settled.holds))
 
   -- look-ups that fail leave the connection at its state, unless a fault shut it
   pub not_found : {A : Type 0} {Answer : Machine → A → Type 0} {machine : Machine} {e : Error} → Finds {A = A} g Answer old new (Err e) → HasCleanDisk (state g new) → IsSettled machine (state g old)
       → FailsToFind g old new e × IsBackAt machine (state g new)
   not_found {e = e} finds clean settled =
-      let schema = settled.holds.schema_is in
+      let schema = settled.holds.stands.has in
       let failed : FailsToFind g old new e = finds.err clean schema in
       let kept = undone_after failed.0 failed.1 (kept_or_undone_in_mid failed.0 failed.2) in
       (failed, back_by kept (fewer finds.survives schema clean) settled)
@@ -230,7 +230,7 @@ module _ {S : Type 0} (g : Ghosts S) (command : Command) (old mid new : Held S) 
         answers.ok clean machine consistent at.0 (gives machine first at.1);
     err = λ clean machine consistent settled first.
         let at = found g old mid finds (answers.was_clean clean) consistent settled in
-        fails_later machine r (finds.same (answers.was_clean clean) settled.holds.schema_is) (answers.err clean machine consistent at.0 (gives machine first at.1));
+        fails_later machine r (finds.same (answers.was_clean clean) settled.holds.stands.has) (answers.err clean machine consistent at.0 (gives machine first at.1));
     utf8 = answers.utf8;
   }
     where

@@ -1,5 +1,5 @@
 -- What an office over tables answers after a failure, and how it stands then.
-use Rattle.std.proofs.Common.{◌≡◌, ◌≢◌, ◌⊎◌, inl, inr, true, false, Bool, ℕ, ◌+◌, Option, Some, None, Result, Ok, Err, IsTrue, IfErr, refl, sym, ap, subst, ◌∙◌}
+use Rattle.std.proofs.Common.{◌≡◌, ◌≢◌, ◌⊎◌, inl, inr, true, false, not, Bool, ℕ, ◌+◌, Option, Some, None, Result, Ok, Err, IsTrue, IfErr, refl, sym, ap, subst, ◌∙◌}
 use Rattle.std.proofs.lemmas.Bool.{both_ways}
 use Rattle.sqlite_trees.specs.declared.store.Store.{Ghosts}
 use Rattle.sqlite_disk.specs.declared.Disk.{Ghosts as DiskGhosts}
@@ -39,7 +39,7 @@ use Rattle.wb_durable.specs.declared.answer.Failure.TheVariants.{Refused, Unread
 use Rattle.wb_durable.specs.declared.carry.CarryError.TheVariants.{TakenBack, RollBackFailed, InDoubt}
 use Rattle.wb_durable.specs.Answers.{Answers, accepted_of}
 use Rattle.wb_durable.specs.Standing.{StandsAt, LeavesOne}
-use Rattle.wb_durable.specs.Applies.{refusal_for, doubt_for, IsRefusedIn, Applies, Ends, EndsWith}
+use Rattle.wb_durable.specs.Applies.{refusal_for, doubt_for, CannotBeUsed, IsRefusedIn, Applies, Ends, EndsWith}
 use Rattle.wb_durable.proofs.AnswerLemmas.{was_clean}
 
 -- ---- the connection after a probe
@@ -54,14 +54,23 @@ module _ {S : Type 0} (g : Ghosts S) (old new : Held S) where
 
   -- out of memory, and the connection is asked whether it can be used
   pub ends_of_memory : (usable : Bool) → (HasCleanDisk (state g new) → IsTrue usable → IsUnchanged (state g old) (state g new)) → (HasCleanDisk (state g new) → IsKeptOrUndone (state g old) (state g new))
-      → Survives (state g old) (state g new) (λ _. ⊥) → (closed : Bool) → (closed ≡ false → IsTrue usable) → EndsWith g fault.Memory old new Memory closed
-  ends_of_memory usable still unchanged survives closed is_open = record {
+      → (HasCleanDisk (state g new) → usable ≡ false → CannotBeUsed g old new) → Survives (state g old) (state g new) (λ _. ⊥) → EndsWith g fault.Memory old new Memory (not usable)
+  ends_of_memory usable still unchanged shut survives = record {
     was_clean = was_clean (state g old) (state g new) survives;
     told = refl;
     back = λ clean machine back. probed (unchanged clean) (less survives clean) back;
-    is_open = λ clean not_closed. (still clean (is_open not_closed)).0.is_open;
+    is_open = λ clean not_closed. (still clean (is_usable usable not_closed)).0.is_open;
     ends = λ of_store. cc;
+    closes = λ clean _ closed. shut clean (is_unusable usable closed);
   }
+    where
+      is_usable : (b : Bool) → not b ≡ false → IsTrue b
+      is_usable true is = refl
+      is_usable false is = cc
+
+      is_unusable : (b : Bool) → not b ≡ true → b ≡ false
+      is_unusable true is = cc
+      is_unusable false is = refl
 
 -- after any other fault the office is closed
 pub ends_of_fault : {S : Type 0} (g : Ghosts S) (held : Held S) (f : StoreFault) → refusal_for f ≡ Store f → EndsWith g f held held (Store f) true
@@ -71,7 +80,11 @@ ends_of_fault g held f told = record {
   back = λ clean machine back. back;
   is_open = λ clean not_closed. cc;
   ends = λ of_store. refl;
+  closes = λ clean is _. absurd (store_is_no_memory is);
 }
+  where
+    store_is_no_memory : {f : StoreFault} → Store f ≢ Memory
+    store_is_no_memory is = cc
 
 -- ---- after a failure
 
@@ -146,6 +159,7 @@ ends_refused g held refusal is_closed closes = record {
     shut = λ is. settled_back (state g held) left.1.1;
   };
   told = refl;
+  closes = λ clean is closed. absurd (both_ways is_closed (closes ∙ ap is_of_store is) closed);
 }
 
 module _ {S : Type 0} (g : Ghosts S) (old new : Held S) (refusal : Refusal) (is_closed : Bool) where
@@ -155,6 +169,7 @@ module _ {S : Type 0} (g : Ghosts S) (old new : Held S) (refusal : Refusal) (is_
     was_clean = h.was_clean;
     refused = λ clean machine command before left. refused_back g machine command new (fault_of e SourceRecord) refusal is_closed h.told (h.back clean machine left.1) (h.is_open clean) h.ends;
     told = h.told;
+    closes = λ clean is closed. inl (h.closes clean is closed);
   }
 
   -- a transaction was taken back
@@ -163,6 +178,7 @@ module _ {S : Type 0} (g : Ghosts S) (old new : Held S) (refusal : Refusal) (is_
     was_clean = h.was_clean;
     refused = λ clean machine command before left. refused_back g machine command new (fault_of e SourceRecord) refusal is_closed h.told (h.back clean machine left.0) (h.is_open clean) h.ends;
     told = h.told;
+    closes = λ clean is closed. inl (h.closes clean is closed);
   }
 
 -- a transaction could not be taken back
@@ -171,6 +187,7 @@ ends_not_taken_back g held e refusal told = record {
   was_clean = λ clean. clean;
   refused = λ clean machine command before left. refused_back g machine command held (fault_of e SourceRecord) refusal true told left.0 (λ not_closed. cc) (λ of_store. refl);
   told = told;
+  closes = λ clean is closed. inr (e, refl);
 }
 
 -- a commit is in doubt
@@ -179,7 +196,14 @@ ends_in_doubt g held e refusal told = record {
   was_clean = λ clean. clean;
   refused = λ clean machine command before left. refused_in_doubt g machine command held (fault_of e SourceRecord) refusal told left.0;
   told = told;
+  closes = λ clean is closed. absurd (doubt_is_no_memory (fault_of e SourceRecord) (doubts_for (fault_of e SourceRecord)) (sym told ∙ is));
 }
+  where
+    doubt_is_no_memory : (f : StoreFault) → (h : StoreFault) × (doubt_for f ≡ Store h) → doubt_for f ≢ Memory
+    doubt_is_no_memory f (h, same) is = no_memory (sym same ∙ is)
+      where
+        no_memory : Store h ≢ Memory
+        no_memory is = cc
 
 -- ---- a command
 
@@ -257,7 +281,7 @@ module _ {S : Type 0} (g : Ghosts S) (command : Command) (was_closed : Bool) (co
     shut = λ closed. absurd (both_ways was_closed opened closed);
     reply = λ clean machine stands. tt;
     refused = λ clean machine stands _. (ends.refused clean machine command old (answers.err (ends.was_clean clean) machine stands.consistent (settled_at stands opened) tt), refl);
-    cause = λ clean machine stands _. (failure, at, answers.err (ends.was_clean clean) machine stands.consistent (settled_at stands opened) tt, ends.told);
+    cause = λ clean machine stands _. (failure, at, answers.err (ends.was_clean clean) machine stands.consistent (settled_at stands opened) tt, ends.told, ends.closes clean);
   }
 
 -- ---- the office that carries out commands

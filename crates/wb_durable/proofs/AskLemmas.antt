@@ -126,6 +126,7 @@ module _ {S : Type 0} {g : Ghosts S} {answer_of : Machine → Result Answer Refu
             back = ends.back clean machine failed.1;
             is_open = ends.is_open clean;
             ends = ends.ends;
+            closes = ends.closes clean;
           }),
         );
   }

@@ -20,13 +20,13 @@ use Rattle.sqlite.proofs.ListingLemmas.{empty_is_sound}
 use Rattle.wb_sql.specs.Transactions.{LeavesAlone}
 use Rattle.wb_sql.proofs.SettledLemmas.{settled_by_close, found_left, found_new}
 use Rattle.wb_sql.specs.Settled.{AreSettled, LeaveOnly}
-use Rattle.wb_schema.specs.Tables.{empty_schema, office_schema}
+use Rattle.wb_schema.specs.Among.{HasOffice}
+use Rattle.wb_schema.specs.Tables.{empty_schema}
 use Rattle.wb_states.specs.declared.store_fault.StoreFault.{StoreFault}
 use Rattle.wb_states.specs.Machine.{IsConsistent, Machine, empty_office}
 use Rattle.wb_office.proofs.ConsistencyLemmas.{IsConsistent-empty_office}
 use Rattle.wb_tables.specs.Opening.{HasGoodRows}
 use Rattle.wb_tables.specs.Settled.{AreSettledAt}
-use Rattle.wb_tables.specs.Stands.{StandsFor}
 use Rattle.wb_tables.proofs.FileLemmas.{files_settled, holds_settled}
 use Rattle.wb_tables.proofs.OpeningSoundLemmas.{good_rows_consistent}
 use Rattle.wb_durable.specs.Files.{AreFoundAt, AreNew, FailsToOpen, IsOver, IsRefusedOver, LeaveOffice}
@@ -97,10 +97,8 @@ closed_at_one c files stays copied clean before after one =
     ]
 
 -- the state of an office that an opening found is consistent, if the rows of its tables are good
-pub found_consistent : {machine : Machine} (s : State) → IsFoundAt machine s → (s.now.schema ≡ office_schema → HasGoodRows s.now) → IsConsistent machine
-found_consistent {machine = machine} s (inl settled) good =
-    let schema_is = settled.holds.schema_is in
-    good_rows_consistent machine s.now (subst (λ schema. StandsFor machine (record { schema = schema; trees = s.now.trees })) (sym schema_is) settled.holds.trees_are.stands) (good schema_is)
+pub found_consistent : {machine : Machine} (s : State) → IsFoundAt machine s → (HasOffice s.now.schema → HasGoodRows s.now) → IsConsistent machine
+found_consistent {machine = machine} s (inl settled) good = good_rows_consistent machine s.now settled.holds.stands (good settled.holds.stands.has)
 found_consistent s (inr blank) good = subst IsConsistent (sym blank.0) IsConsistent-empty_office
 
 -- an office that was adopted over files stands at the state that they hold

@@ -1,5 +1,5 @@
 -- What look-ups, one after another, promise together: from one of them, and from those before and those after.
-use Rattle.std.proofs.Common.{◌≡◌, ◌≢◌, inl, inr, Result, Ok, Err, refl, sym, ap, subst, ◌∙◌, arith}
+use Rattle.std.proofs.Common.{◌≡◌, inl, inr, Result, Ok, Err, refl, sym, ap, subst, ◌∙◌, arith}
 use Rattle.sqlite_trees.specs.declared.store.Store.{Ghosts}
 use Rattle.sqlite.specs.declared.error.Error.{Error}
 use Rattle.sqlite.specs.declared.error.Error.TheVariants.{SqliteFailure}
@@ -8,7 +8,7 @@ use Rattle.sqlite.specs.Effect.{Database}
 use Rattle.sqlite.specs.Held.{Held, state}
 use Rattle.sqlite.specs.State.{State, HasCleanDisk, IsUnchanged, Survives}
 use Rattle.sqlite.proofs.StateLemmas.{survives_then}
-use Rattle.wb_schema.specs.Tables.{office_schema}
+use Rattle.wb_schema.specs.Among.{HasOffice}
 use Rattle.wb_states.specs.Machine.{Machine, IsConsistent}
 use Rattle.wb_tables.specs.Stands.{StandsFor}
 use Rattle.wb_tables.specs.Calls.{LooksUp}
@@ -47,8 +47,8 @@ module _ {S : Type 0} (g : Ghosts S) (old new : Held S) where
   stays-now (inr kept) = kept.0.now_is
 
   -- what stays has the schema that it had, and stands for what it stood for
-  pub stays-schema : StaysAs g old new → old.schema ≡ office_schema → new.schema ≡ office_schema
-  stays-schema stays office = ap (λ (db : Database). db.schema) (stays-now stays) ∙ office
+  pub stays-schema : StaysAs g old new → HasOffice old.schema → HasOffice new.schema
+  stays-schema stays office = subst HasOffice (sym (ap (λ (db : Database). db.schema) (stays-now stays))) office
 
   pub stays-stands : {machine : Machine} → StaysAs g old new → StandsFor machine (state g old).now → StandsFor machine (state g new).now
   stays-stands {machine} stays = subst (StandsFor machine) (sym (stays-now stays))
@@ -104,7 +104,7 @@ module _ {S : Type 0} {g : Ghosts S} {old new : Held S} where
 
   -- memory ran out after look-ups that succeeded, one of which asked
   pub lacks_memory : {A B : Type 0} {Answer : Machine → A → Type 0} {Other : Machine → B → Type 0} {x : A} {r : Result B Error}
-      → Finds g Answer old new (Ok x) → (HasCleanDisk (state g new) → old.schema ≡ office_schema → IsUnchanged (state g old) (state g new))
+      → Finds g Answer old new (Ok x) → (HasCleanDisk (state g new) → HasOffice old.schema → IsUnchanged (state g old) (state g new))
       → r ≡ Err (SqliteFailure OutOfMemory) → Finds g Other old new r
   lacks_memory {B = B} {Other = Other} one kept is = subst (λ (r : Result B Error). Finds g Other old new r) (sym is) (record {
     value = λ clean office. tt;
@@ -134,8 +134,8 @@ finds_unasked is = record {
 
 module _ {S A : Type 0} {g : Ghosts S} {old mid : Held S} {First : Machine → A → Type 0} {x : A} (one : Finds g First old mid (Ok x)) where
   then_survives : (new : Held S) → (HasCleanDisk (state g new) → HasCleanDisk (state g mid))
-      → Survives (state g mid) (state g new) (λ _. mid.schema ≢ office_schema)
-      → Survives (state g old) (state g new) (λ _. old.schema ≢ office_schema)
+      → Survives (state g mid) (state g new) (λ _. ¬ HasOffice mid.schema)
+      → Survives (state g old) (state g new) (λ _. ¬ HasOffice old.schema)
   then_survives new before later =
       survives_then (state g old) (state g mid) (state g new) _ _ _ (λ clean db other. other)
       (λ clean db other office. other (stays-schema g old mid (one.same (before clean) office) office)) one.survives later
@@ -182,8 +182,8 @@ module _ {S A : Type 0} {g : Ghosts S} {old mid : Held S} {First : Machine → A
 
   -- one that asked, and then others, leave the database as it was
   pub unchanged_after : {B : Type 0} {new : Held S} {Second : Machine → B → Type 0} {y : B}
-      → (HasCleanDisk (state g mid) → old.schema ≡ office_schema → IsUnchanged (state g old) (state g mid))
-      → Finds g Second mid new (Ok y) → HasCleanDisk (state g new) → old.schema ≡ office_schema → IsUnchanged (state g old) (state g new)
+      → (HasCleanDisk (state g mid) → HasOffice old.schema → IsUnchanged (state g old) (state g mid))
+      → Finds g Second mid new (Ok y) → HasCleanDisk (state g new) → HasOffice old.schema → IsUnchanged (state g old) (state g new)
   unchanged_after {new} kept two clean office =
       let before : HasCleanDisk (state g new) → HasCleanDisk (state g mid) = λ clean. omega (arith, two.survives.clean, clean) in
       unchanged_stays g old mid new (kept (before clean) office)

@@ -12,7 +12,6 @@ use Rattle.sqlite.proofs.StateLemmas.{survives_then, survives_weaker}
 use Rattle.wb_sql.specs.declared.writing.CommitError.{CommitError}
 use Rattle.wb_sql.specs.declared.writing.CommitError.TheVariants as commit
 use Rattle.wb_sql.specs.Transactions.{rollback_text, cause_of, FailsToCommit, LeavesNoMore}
-use Rattle.wb_schema.specs.Tables.{office_schema}
 use Rattle.wb_states.specs.declared.command.Part.{Part}
 use Rattle.wb_states.specs.Forms.{Merge}
 use Rattle.wb_states.specs.Machine.{Machine}
@@ -113,16 +112,9 @@ module _ {S : Type 0} (g : Ghosts S) (sources : List ℕ) (parts : List Part) (b
 
     holds_step : HasCleanDisk (state g mid) → (db : Trees) → db ≡ (state g mid).now.trees → HoldsMerge g sources parts before after old db
     holds_step clean db is whole stands made =
-        let there = (change.ok clean whole sources stands made).stands in
-        subst (λ trees. StandsFor (step whole (Merge sources parts)).1 (record { schema = office_schema; trees = trees })) (sym is) (record {
-          schema_is = refl;
-          counts = there.counts;
-          archs = there.archs;
-          builders = there.builders;
-          records = there.records;
-          sources = there.sources;
-          binaries = there.binaries;
-        })
+        let there = (change.ok clean whole sources stands made) in
+        subst (λ trees. StandsFor (step whole (Merge sources parts)).1 (record { schema = old.schema; trees = trees })) (sym is)
+        (subst (λ schema. StandsFor (step whole (Merge sources parts)).1 (record { schema = schema; trees = (state g mid).now.trees })) there.schema_is there.stands)
 
     pub commit_survives : Survives (state g (begun old)) (state g at) (HoldsMerge g sources parts before after old)
     commit_survives = survives_then (state g (begun old)) (state g mid) (state g at) _ _ _ (λ clean db other whole stands made. absurd (other whole stands))

@@ -15,7 +15,10 @@ use Rattle.sqlite.proofs.StateLemmas.{survives_then}
 use Rattle.wb_sql.specs.Queries.{TableQuery}
 use Rattle.wb_sql.specs.Transactions.{IsKeptOrUndone, LeavesNoMore}
 use Rattle.wb_schema.specs.Statements as sql
-use Rattle.wb_schema.specs.Tables.{empty_schema, office_schema, scratch_source, scratch_binary}
+use Rattle.sqlite.specs.Table as stored
+use Rattle.wb_schema.specs.Among.{HasOffice, rows_in}
+use Rattle.wb_schema.proofs.BesideLemmas.{empty_has_none}
+use Rattle.wb_schema.specs.Tables.{builder, empty_schema, scratch_source, scratch_binary, source_record}
 use Rattle.wb_states.specs.declared.arch.OsCpu.{OsCpu}
 use Rattle.wb_states.specs.declared.counts.Counts.{Counts}
 use Rattle.wb_states.specs.declared.store_fault.StoreFault.{StoreFault}
@@ -67,17 +70,17 @@ same_now : {S : Type 0} (g : Ghosts S) (old new : Held S) → StaysAs g old new 
 same_now g old new (inl same) = ap (λ h. (state g h).now) (sym same)
 same_now g old new (inr kept) = kept.0.now_is
 
-test_undone : (q : TableQuery) (table : Table) (Bad : List Row → StoreFault → Type 0) (old new : State) (fault : StoreFault)
-    → FailsToTest q table Bad old new fault → IsKeptOrUndone old new
-test_undone q table Bad old new fault (inl failed) = failed.1.1
-test_undone q table Bad old new fault (inr bad) = inl bad.0
+test_undone : (of : stored.Table) (q : TableQuery) (table : Table) (Bad : List Row → StoreFault → Type 0) (old new : State) (fault : StoreFault)
+    → FailsToTest of q table Bad old new fault → IsKeptOrUndone old new
+test_undone of q table Bad old new fault (inl failed) = failed.1.1
+test_undone of q table Bad old new fault (inr bad) = inl bad.0
 
 module _ {S : Type 0} {g : Ghosts S} {old new : Held S} where
   -- one test of a table
-  pub tested : {A : Type 0} {q : TableQuery} {table : Table} {Given : Machine → Type 0} {Good : List Row → A → Type 0}
+  pub tested : {A : Type 0} {of : stored.Table} {q : TableQuery} {table : Table} {Given : Machine → Type 0} {Good : List Row → A → Type 0}
       {Bad : List Row → StoreFault → Type 0} {Outcome : Machine → A → Type 0} (r : Result A StoreFault)
-      → Tests g q table Good Bad old new r → PassesWith g table Given Outcome old new r
-      → ChecksWith g Given (λ db x. ShowsGood q db (λ rows. Good rows x)) Outcome (FailsToTest q table Bad) old new r
+      → Tests g of q table Good Bad old new r → PassesWith g table Given Outcome old new r
+      → ChecksWith g Given (λ db x. ShowsGood of q db (λ rows. Good rows x)) Outcome (FailsToTest of q table Bad) old new r
   tested (Ok x) tests passes = record {
     good = tests.value;
     same = λ clean office. inr (tests.same clean office);
@@ -87,11 +90,11 @@ module _ {S : Type 0} {g : Ghosts S} {old new : Held S} where
     fails = λ clean. tt;
     survives = tests.survives;
   }
-  tested {q = q} {table = table} {Bad = Bad} (Err fault) tests passes = record {
+  tested {of = of} {q = q} {table = table} {Bad = Bad} (Err fault) tests passes = record {
     good = λ clean office. tt;
     same = λ clean office. tt;
     err = λ clean office. (old, inl refl, tests.err clean office);
-    kept = λ clean office. test_undone q table Bad (state g old) (state g new) fault (tests.err clean office);
+    kept = λ clean office. test_undone of q table Bad (state g old) (state g new) fault (tests.err clean office);
     told = λ clean. tt;
     fails = λ clean machine consistent stands given. elim (passes.err clean machine consistent stands given) [
       | inl memory ↦ inl memory
@@ -105,24 +108,24 @@ module _ {S : Type 0} {g : Ghosts S} {old new : Held S} where
 -- the test of the builders, beside these architectures
 abbrev pub ChecksBuilders : {S X : Type 0} → Ghosts S → List (List ℕ × OsCpu) → Held S → Held S → Result (Vec Key X) StoreFault → Type 0
 ChecksBuilders g archs = ChecksWith g (λ machine. archs ≡ finite.entries machine.archs) (λ db pairs. ShowsBuilders db archs pairs.items)
-    (λ machine pairs. pairs.items ≡ builder_pairs machine) (FailsToTest sql.all_builders Builder (AreBadRows Builder builder_cells (IsFormedBuilder archs)))
+    (λ machine pairs. pairs.items ≡ builder_pairs machine) (FailsToTest builder sql.all_builders Builder (AreBadRows Builder builder_cells (IsFormedBuilder archs)))
 
 -- the test of the records, beside these architectures, builders and greatest take number
 abbrev pub ChecksRecords : {S A : Type 0} → Ghosts S → List (List ℕ × OsCpu) → List Key → ℕ → Held S → Held S → Result A StoreFault → Type 0
-ChecksRecords g archs builders handed = ChecksWith g (AreKept archs builders handed) (λ db done. ShowsGood sql.all_records db (HoldsRecords archs builders handed))
-    (λ machine done. AreKept archs builders handed machine → HasGoodRecords machine) (FailsToTest sql.all_records SourceRecord (AreBadRecords archs builders handed))
+ChecksRecords g archs builders handed = ChecksWith g (AreKept archs builders handed) (λ db done. ShowsGood source_record sql.all_records db (HoldsRecords archs builders handed))
+    (λ machine done. AreKept archs builders handed machine → HasGoodRecords machine) (FailsToTest source_record sql.all_records SourceRecord (AreBadRecords archs builders handed))
 
 module _ {S : Type 0} {g : Ghosts S} {old new : Held S} where
   -- with other words for the architectures
   pub builders_tested : {X : Type 0} {given archs : List (List ℕ × OsCpu)} → given ≡ archs → (r : Result (Vec Key X) StoreFault)
-      → Tests g sql.all_builders Builder (λ rows pairs. HoldsBuilders given rows pairs.items) (AreBadRows Builder builder_cells (IsFormedBuilder given)) old new r
+      → Tests g builder sql.all_builders Builder (λ rows pairs. HoldsBuilders given rows pairs.items) (AreBadRows Builder builder_cells (IsFormedBuilder given)) old new r
       → PassesWith g Builder (λ machine. given ≡ finite.entries machine.archs) (λ machine pairs. pairs.items ≡ builder_pairs machine) old new r
       → ChecksBuilders g archs old new r
   builders_tested is r tests passes = subst (λ archs. ChecksBuilders g archs old new r) is (tested r tests passes)
 
   -- with other words for the architectures and the builders
   pub records_tested : {A : Type 0} {given archs : List (List ℕ × OsCpu)} {known builders : List Key} {handed : ℕ} → given ≡ archs → known ≡ builders → (r : Result A StoreFault)
-      → Tests g sql.all_records SourceRecord (λ rows done. HoldsRecords given known handed rows) (AreBadRecords given known handed) old new r
+      → Tests g source_record sql.all_records SourceRecord (λ rows done. HoldsRecords given known handed rows) (AreBadRecords given known handed) old new r
       → PassesWith g SourceRecord (AreKept given known handed) (λ machine done. AreKept given known handed machine → HasGoodRecords machine) old new r
       → ChecksRecords g archs builders handed old new r
   records_tested {archs = archs} {known = known} {handed = handed} is are r tests passes =
@@ -150,7 +153,7 @@ module _ {S : Type 0} {g : Ghosts S} {old new : Held S} where
   -- neither has a row
   pub scratch_empty : {A : Type 0} {x : A} → FindsWhether g has_scratch_rows old new (Ok false) → ChecksScratch g old new (Ok x)
   scratch_empty finds = record {
-    good = λ clean office. neither_has_row ((state g old).now.trees scratch_source.tree) ((state g old).now.trees scratch_binary.tree) (sym (finds.value clean office));
+    good = λ clean office. neither_has_row (rows_in (state g old).now scratch_source) (rows_in (state g old).now scratch_binary) (sym (finds.value clean office));
     same = λ clean office. inr (finds.same clean office);
     err = λ clean office. tt;
     kept = λ clean office. tt;
@@ -169,7 +172,7 @@ module _ {S : Type 0} {g : Ghosts S} {old new : Held S} where
     told = λ clean. tt;
     fails = λ clean machine consistent stands given.
         absurd (both_ways (has_scratch_rows (state g old).now)
-        (has_no_row ((state g old).now.trees scratch_source.tree) ((state g old).now.trees scratch_binary.tree) stands.sources stands.binaries) (sym (finds.value clean stands.schema_is)));
+        (has_no_row (rows_in (state g old).now scratch_source) (rows_in (state g old).now scratch_binary) stands.sources stands.binaries) (sym (finds.value clean stands.has)));
     survives = finds.survives;
   }
 
@@ -182,7 +185,7 @@ module _ {S : Type 0} {g : Ghosts S} {old new : Held S} where
     err = λ clean office. let f = query_later g old new e (finds.err clean office) in (f.0, f.1, inl (e, f.2, is));
     kept = λ clean office. let f = query_later g old new e (finds.err clean office) in undone_after g old f.0 new f.1 f.2.1;
     told = λ clean. tt;
-    fails = λ clean machine consistent stands given. let f = query_later g old new e (finds.err clean stands.schema_is) in inr (f.0, f.1, (ScratchSource, (e, f.2, is)));
+    fails = λ clean machine consistent stands given. let f = query_later g old new e (finds.err clean stands.has) in inr (f.0, f.1, (ScratchSource, (e, f.2, is)));
     survives = finds.survives;
   }
 
@@ -190,10 +193,10 @@ module _ {S : Type 0} {g : Ghosts S} {old new : Held S} where
 
 -- what is known where the tests so far have passed
 pub record HasPassed {S : Type 0} (g : Ghosts S) (Good : Database → Type 0) (Outcome : Machine → Type 0) (old mid : Held S) : Type 0 where
-  pub good : HasCleanDisk (state g mid) → old.schema ≡ office_schema → Good (state g old).now
-  pub same : HasCleanDisk (state g mid) → old.schema ≡ office_schema → StaysAs g old mid
+  pub good : HasCleanDisk (state g mid) → HasOffice old.schema → Good (state g old).now
+  pub same : HasCleanDisk (state g mid) → HasOffice old.schema → StaysAs g old mid
   pub told : HasCleanDisk (state g mid) → (machine : Machine) → StandsFor machine (state g old).now → Outcome machine
-  pub survives : Survives (state g old) (state g mid) (λ _. old.schema ≢ office_schema)
+  pub survives : Survives (state g old) (state g mid) (λ _. ¬ HasOffice old.schema)
 
 -- no test was made yet
 pub none_yet : {S : Type 0} (g : Ghosts S) (old : Held S) → HasPassed g (λ _. ⊤) (λ _. ⊤) old old
@@ -212,8 +215,8 @@ none_yet g old = record {
 }
 
 module _ {S : Type 0} {g : Ghosts S} {old mid : Held S} {Good : Database → Type 0} {Outcome : Machine → Type 0} (one : HasPassed g Good Outcome old mid) where
-  both_survive : (new : Held S) → (HasCleanDisk (state g new) → HasCleanDisk (state g mid)) → Survives (state g mid) (state g new) (λ _. mid.schema ≢ office_schema)
-      → Survives (state g old) (state g new) (λ _. old.schema ≢ office_schema)
+  both_survive : (new : Held S) → (HasCleanDisk (state g new) → HasCleanDisk (state g mid)) → Survives (state g mid) (state g new) (λ _. ¬ HasOffice mid.schema)
+      → Survives (state g old) (state g new) (λ _. ¬ HasOffice old.schema)
   both_survive new before later =
       survives_then (state g old) (state g mid) (state g new) _ _ _ (λ clean db other. other)
       (λ clean db other office. other (stays-schema g old mid (one.same (before clean) office) office)) one.survives later
@@ -232,7 +235,7 @@ module _ {S : Type 0} {g : Ghosts S} {old mid : Held S} {Good : Database → Typ
             let stays = one.same (before clean) office in
             stays_then g old mid new stays (two.same clean (stays-schema g old mid stays office));
         told = λ clean machine stands.
-            (one.told (before clean) machine stands, two.told clean machine (stays-stands g old mid (one.same (before clean) stands.schema_is) stands));
+            (one.told (before clean) machine stands, two.told clean machine (stays-stands g old mid (one.same (before clean) stands.has) stands));
         survives = both_survive new before two.survives;
       }
 
@@ -257,7 +260,7 @@ module _ {S : Type 0} {g : Ghosts S} {old mid : Held S} {Good : Database → Typ
             undone_after g old mid new stays (two.kept clean (stays-schema g old mid stays office));
         told = λ clean. tt;
         fails = λ clean machine consistent stands none.
-            let stays = one.same (before clean) stands.schema_is in
+            let stays = one.same (before clean) stands.has in
             elim (two.fails clean machine consistent (stays-stands g old mid stays stands) (given machine (one.told (before clean) machine stands))) [
               | inl memory ↦ inl memory
               | inr later ↦ inr (later.0, stays_then g old mid later.0 stays later.1, later.2)
@@ -281,7 +284,7 @@ module _ {S : Type 0} {g : Ghosts S} {old mid : Held S} {Good : Database → Typ
 -- ---- the tests of a whole office
 
 module _ {S : Type 0} (g : Ghosts S) (old new : Held S) where
-  fewer : Survives (state g old) (state g new) (λ _. old.schema ≢ office_schema) → old.schema ≡ office_schema → HasCleanDisk (state g new) → LeavesNoMore (state g old) (state g new)
+  fewer : Survives (state g old) (state g new) (λ _. ¬ HasOffice old.schema) → HasOffice old.schema → HasCleanDisk (state g new) → LeavesNoMore (state g old) (state g new)
   fewer survives same clean db may = elim (survives.crash clean db may) [ inl was ↦ was | inr other ↦ absurd (other same) ]
 
   -- what stays as it was stays settled
@@ -300,7 +303,7 @@ module _ {S : Type 0} {g : Ghosts S} {old new : Held S} where
     was_clean = was_clean (state g old) (state g new) h.survives;
     good = λ clean office. let good = h.good clean office in (good.0, good.1, h.same clean office);
     passes = λ clean machine consistent settled.
-        let schema = settled.holds.schema_is in
+        let schema = settled.holds.stands.has in
         (h.told clean machine (office_stands (state g old).now settled.holds), stays_settled_as g old new (h.same clean schema) (fewer g old new h.survives schema clean) settled);
     fails = λ clean machine consistent settled. tt;
     refuses = λ clean office. tt;
@@ -311,7 +314,7 @@ module _ {S : Type 0} {g : Ghosts S} {old new : Held S} where
     good = λ clean office. tt;
     passes = λ clean machine consistent settled. tt;
     fails = λ clean machine consistent settled.
-        let schema = settled.holds.schema_is in
+        let schema = settled.holds.stands.has in
         (back_by g old new (h.kept clean schema) (fewer g old new h.survives schema clean) settled, h.fails clean machine consistent (office_stands (state g old).now settled.holds) tt);
     refuses = h.err;
     survives = h.survives;
@@ -319,19 +322,15 @@ module _ {S : Type 0} {g : Ghosts S} {old new : Held S} where
 
 -- ---- an office is found, or made
 
--- the schema of an office has tables
-empty_is_no_office : empty_schema ≢ office_schema
-empty_is_no_office is = both_ways (has_row empty_schema.tables) refl (ap (λ (s : Schema). has_row s.tables) is)
-
 settled_leaves : {machine : Machine} (s : State) → IsSettled machine s → LeavesFound machine s
 settled_leaves s settled db may = inl ((settled_back s settled).left db may)
 
-no_office : {schema : Schema} {P : Type 0} → schema ≡ empty_schema → schema ≡ office_schema → P
-no_office none office = absurd (empty_is_no_office (sym none ∙ office))
+no_office : {schema : Schema} {P : Type 0} → schema ≡ empty_schema → HasOffice schema → P
+no_office none office = absurd (empty_has_none (subst HasOffice none office))
 
 module _ {S : Type 0} {g : Ghosts S} {old new : Held S} where
   -- a database with the office's tables is tested as it is
-  pub found_office : (r : Result Counts StoreFault) → old.schema ≡ office_schema → Checks g old new r → FindsOffice g old new r
+  pub found_office : (r : Result Counts StoreFault) → HasOffice old.schema → Checks g old new r → FindsOffice g old new r
   found_office (Ok counts) office h = record {
     was_clean = h.was_clean;
     found = λ clean machine consistent at. elim at [
@@ -366,16 +365,16 @@ module _ {S : Type 0} {g : Ghosts S} {old new : Held S} where
   }
 
   -- a database with other tables is refused
-  pub other_refused : old.schema ≢ empty_schema → old.schema ≢ office_schema → new ≡ old → FindsOffice g old new (Err NotOffice)
+  pub other_refused : old.schema ≢ empty_schema → ¬ HasOffice old.schema → new ≡ old → FindsOffice g old new (Err NotOffice)
   other_refused tables others same = record {
     was_clean = λ clean. subst (λ h. HasCleanDisk (state g h)) same clean;
     found = λ clean machine consistent at. tt;
     left = λ clean machine consistent at. elim at [
-      | inl settled ↦ absurd (others settled.holds.schema_is)
+      | inl settled ↦ absurd (others settled.holds.stands.has)
       | inr blank ↦ absurd (tables blank.1.schema_is)
     ];
     fails = λ clean machine consistent at. elim at [
-      | inl settled ↦ absurd (others settled.holds.schema_is)
+      | inl settled ↦ absurd (others settled.holds.stands.has)
       | inr blank ↦ absurd (tables blank.1.schema_is)
     ];
     good = λ clean office. tt;
@@ -390,12 +389,12 @@ module _ {S : Type 0} {g : Ghosts S} {old new : Held S} (none : old.schema ≡ e
   made_and_tested {mid = mid} (Ok counts) makes h = record {
     was_clean = λ clean. makes.was_clean (h.was_clean clean);
     found = λ clean machine consistent at. elim at [
-      | inl settled ↦ no_office none settled.holds.schema_is
+      | inl settled ↦ no_office none settled.holds.stands.has
       | inr blank ↦ subst (λ m. AreCountsOf m counts × IsSettled m (state g new)) (sym blank.0)
           (h.passes clean empty_office IsConsistent-empty_office (makes.made (h.was_clean clean) blank.1))
     ];
     left = λ clean machine consistent at. elim at [
-      | inl settled ↦ no_office none settled.holds.schema_is
+      | inl settled ↦ no_office none settled.holds.stands.has
       | inr blank ↦ subst (λ m. LeavesFound m (state g new)) (sym blank.0)
           (settled_leaves (state g new) (h.passes clean empty_office IsConsistent-empty_office (makes.made (h.was_clean clean) blank.1)).1)
     ];
@@ -409,12 +408,12 @@ module _ {S : Type 0} {g : Ghosts S} {old new : Held S} (none : old.schema ≡ e
     was_clean = λ clean. makes.was_clean (h.was_clean clean);
     found = λ clean machine consistent at. tt;
     left = λ clean machine consistent at. elim at [
-      | inl settled ↦ no_office none settled.holds.schema_is
+      | inl settled ↦ no_office none settled.holds.stands.has
       | inr blank ↦ subst (λ m. LeavesFound m (state g new)) (sym blank.0)
           (λ db may. inl ((h.fails clean empty_office IsConsistent-empty_office (makes.made (h.was_clean clean) blank.1)).0.left db may))
     ];
     fails = λ clean machine consistent at. elim at [
-      | inl settled ↦ no_office none settled.holds.schema_is
+      | inl settled ↦ no_office none settled.holds.stands.has
       | inr blank ↦
           let settled = makes.made (h.was_clean clean) blank.1 in
           inr (mid, inr settled, (h.fails clean empty_office IsConsistent-empty_office settled).1)
@@ -431,7 +430,7 @@ module _ {S : Type 0} {g : Ghosts S} {old new : Held S} (none : old.schema ≡ e
     was_clean = makes.was_clean;
     found = λ clean machine consistent at. tt;
     left = λ clean machine consistent at. elim at [
-      | inl settled ↦ no_office none settled.holds.schema_is
+      | inl settled ↦ no_office none settled.holds.stands.has
       | inr blank ↦ subst (λ m. LeavesFound m (state g new)) (sym blank.0) (makes.left clean blank.1)
     ];
     fails = λ clean machine consistent at. inl (e, makes.err clean, is);

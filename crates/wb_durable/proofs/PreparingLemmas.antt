@@ -4,6 +4,7 @@ use Rattle.sqlite_trees.specs.declared.store.Store.{Ghosts}
 use Rattle.sqlite_catalog.specs.Listing.{IsSound}
 use Rattle.sqlite.specs.declared.error.Error.{Error}
 use Rattle.sqlite.specs.Order.{Row}
+use Rattle.sqlite_schema.specs.Names.{same_name}
 use Rattle.sqlite.specs.Tree.{Trees}
 use Rattle.sqlite.specs.Effect.{Database}
 use Rattle.sqlite.specs.Held.{Held, state}
@@ -12,6 +13,7 @@ use Rattle.wb_sql.specs.declared.writing.CommitError.{CommitError}
 use Rattle.wb_sql.specs.Transactions.{Commits, LeavesAlone, FailsToCommit, cause_of}
 use Rattle.wb_schema.specs.Tables.{empty_schema}
 use Rattle.wb_schema.specs.Making.{HasEmptyTables, MakesOffice, Makes}
+use Rattle.wb_schema.proofs.BesideLemmas.{office_has}
 use Rattle.wb_states.specs.Machine.{Key, empty_office}
 use Rattle.std.specs.List.{list_any}
 use Rattle.std.specs.Ordering.{eq_by_cmp}
@@ -25,7 +27,7 @@ use Rattle.deb_text.proofs.KeyLemmas.{pair_cmp_total}
 use Rattle.wb_rows.specs.Cells.{arch_cells, builder_cells, record_cells}
 use Rattle.wb_tables.specs.Stands.{HoldsRows, StandsFor, arch_rows, builder_rows, record_rows}
 use Rattle.wb_tables.specs.Settled.{StandsForTrees, IsOffice, IsSettled}
-use Rattle.wb_tables.proofs.SettledLemmas.{office_of}
+use Rattle.wb_tables.proofs.SettledLemmas.{office_of, office_trees}
 use Rattle.wb_durable.specs.Preparing.{IsBlank, LeavesFound, FailsToMake, MakesEmptyOffice}
 
 -- ---- an empty office has no rows
@@ -52,16 +54,16 @@ no_builders =
 
 -- the tables that are made hold the rows of an empty office
 stands_empty : (old new : State) → MakesOffice old new → StandsFor empty_office new.now
-unfolding empty_office
-stands_empty old new made = record {
-  schema_is = made.schema_is;
+unfolding empty_office same_name
+stands_empty old new made = subst (λ schema. StandsFor empty_office (record { schema = schema; trees = new.now.trees })) (sym made.schema_is) (record {
+  has = office_has;
   counts = made.office_row;
   archs = no_rows (arch_rows empty_office) (new.now.trees 1) (ap (map arch_cells) (no_entries text_cmp _ refl)) made.others.0;
   builders = no_rows (builder_rows empty_office) (new.now.trees 3) no_builders made.others.1.0;
   records = no_rows (record_rows empty_office) (new.now.trees 5) (ap (map record_cells) (no_entries pair_cmp _ refl)) made.others.1.1.0;
   sources = made.others.1.1.1.0;
   binaries = made.others.1.1.1.1.0;
-}
+})
 
 -- a clean disk was clean before
 was_clean : {P : Trees → Type 0} (old new : State) → Survives old new P → HasCleanDisk new → HasCleanDisk old
@@ -111,7 +113,7 @@ module _ {S : Type 0} (g : Ghosts S) (old begun written new : Held S) (begins : 
         settled r (commits clean) (alone clean) is_office,
         λ db may. elim (survives.crash clean db may) [
           | inl was ↦ inr (refl, left_blank g old begun written (Ok x) begins makes before blank db was)
-          | inr kept ↦ inl (subst (StandsForTrees empty_office) (sym kept) is_office.trees_are)
+          | inr kept ↦ inl (subst (StandsForTrees empty_office) (sym kept) (office_trees (state g written).now is_office))
         ],
       )
     where

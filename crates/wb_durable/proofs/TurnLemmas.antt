@@ -40,13 +40,14 @@ module _ {S : Type 0} (g : Ghosts S) where
   comes_becomes old mid new (inr one) two = record {
     stands = two.stands;
     shown = record { was_open = one.shown.was_open; is_open = two.shown.is_open; now_is = refl; committed_is = two.shown.committed_is ∙ one.shown.committed_is; mode = two.shown.mode };
+    schema_is = two.schema_is ∙ one.schema_is;
     marks = two.marks ∙ one.marks;
   }
 
   comes_then : {between machine : Machine} (old mid new : Held S) → Reaches g between old mid → Reaches g machine mid new → Reaches g machine old new
   comes_then {machine = machine} old mid new (inl nothing) two = subst (λ held. Reaches g machine held new) (sym nothing.0) two
   comes_then {machine = machine} old mid new (inr one) (inl nothing) =
-      inr (subst (λ held. Becomes machine (state g old) (state g held)) nothing.0 (record { stands = subst (λ (held : Held S). StandsFor machine (state g held).now) (sym nothing.0) nothing.1; shown = one.shown; marks = one.marks }))
+      inr (subst (λ held. Becomes machine (state g old) (state g held)) nothing.0 (record { stands = subst (λ (held : Held S). StandsFor machine (state g held).now) (sym nothing.0) nothing.1; shown = one.shown; schema_is = one.schema_is; marks = one.marks }))
   comes_then old mid new (inr one) (inr two) = inr (comes_becomes old mid new (inr one) two)
 
   comes_inside : {machine : Machine} (old new : Held S) → Reaches g machine old new → IsTrue old.in_transaction → IsTrue new.in_transaction
@@ -87,7 +88,7 @@ module _ {S : Type 0} (g : Ghosts S) where
     cause = λ clean inside machine stands. if_err {P = FailsToWrite (state g old) (state g new)} r (λ e failed. (machine, old, inl (refl, stands), inl failed)) (h.err clean inside);
     err = λ clean before now way. on_err {P = IsUnderWay before now (state g new) ⊎ IsBackAt before (state g new)} r
         (λ left. elim left [ inl there ↦ inl (now, there) | inr back ↦ inr back ]) (not_changed g old new r h clean way);
-    survives = survives_weaker (state g old) (state g new) _ _ (λ clean db other machine stands. other stands.schema_is) h.survives;
+    survives = survives_weaker (state g old) (state g new) _ _ (λ clean db other machine stands. other stands.has) h.survives;
   }
 
   -- ---- several

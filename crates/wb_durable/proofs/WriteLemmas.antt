@@ -1,5 +1,5 @@
 -- How the writes of a change, one after the other, are the whole change.
-use Rattle.std.proofs.Common.{◌≡◌, ◌≢◌, ◌∙◌, ◌⊎◌, inl, inr, refl, sym, ap, subst, arith, ℕ, ◌≤◌, IsTrue, Result, Ok, Err, OnErr, IfErr, IfSome, Option, Some, None, option_map}
+use Rattle.std.proofs.Common.{◌≡◌, ◌∙◌, ◌⊎◌, inl, inr, refl, sym, ap, subst, arith, ℕ, ◌≤◌, IsTrue, Result, Ok, Err, OnErr, IfErr, IfSome, Option, Some, None, option_map}
 use Rattle.std.specs.Prelude.{⊤}
 use Rattle.sqlite_trees.specs.declared.store.Store.{Ghosts}
 use Rattle.sqlite.specs.declared.error.Error.{Error}
@@ -10,7 +10,7 @@ use Rattle.sqlite.specs.State.{State, HasCleanDisk, Survives}
 use Rattle.sqlite.proofs.StateLemmas.{survives_then, survives_weaker}
 use Rattle.wb_sql.specs.Transactions.{LeavesNoMore}
 use Rattle.wb_sql.proofs.CallLemmas.{on_ok}
-use Rattle.wb_schema.specs.Tables.{office_schema}
+use Rattle.wb_schema.specs.Among.{HasOffice}
 use Rattle.wb_states.specs.declared.command.Command.{Command}
 use Rattle.std.specs.FinMap as map
 use Rattle.wb_states.specs.declared.record.Record.{Record}
@@ -88,7 +88,7 @@ module _ {S A : Type 0} {g : Ghosts S} {old : Held S} {Fits : Type 0} where
 -- ---- two writes
 
 module _ {S : Type 0} (g : Ghosts S) (old new : Held S) where
-  leaves_no_more : Survives (state g old) (state g new) (λ _. old.schema ≢ office_schema) → old.schema ≡ office_schema → HasCleanDisk (state g new) → LeavesNoMore (state g old) (state g new)
+  leaves_no_more : Survives (state g old) (state g new) (λ _. ¬ HasOffice old.schema) → HasOffice old.schema → HasCleanDisk (state g new) → LeavesNoMore (state g old) (state g new)
   leaves_no_more survives is clean db may = elim (survives.crash clean db may) [ inl was ↦ was | inr other ↦ absurd (other is) ]
 
   -- a write leaves a database that stands for what it made
@@ -129,6 +129,7 @@ module _ {S : Type 0} (g : Ghosts S) (old mid new : Held S) where
       committed_is = two.shown.committed_is ∙ one.shown.committed_is;
       mode = two.shown.mode;
     };
+    schema_is = two.schema_is ∙ one.schema_is;
     marks = two.marks ∙ one.marks;
   }
 
@@ -158,8 +159,8 @@ module _ {S : Type 0} (g : Ghosts S) (command : Command) (key : Option Key) (aft
   changes_not new e r is one = subst (λ r. ChangesBy g command key after old new r) (sym is) (record {
     ok = λ clean. tt;
     cause = λ clean inside whole stands made. inl (one.err clean inside);
-    err = λ clean before whole way made. failed_way g old new e (one.err clean way.inside) (leaves_no_more g old new one.survives way.stands.schema_is clean) way;
-    survives = survives_weaker (state g old) (state g new) _ _ (λ clean db other ready. other ready.1.schema_is) one.survives;
+    err = λ clean before whole way made. failed_way g old new e (one.err clean way.inside) (leaves_no_more g old new one.survives way.stands.has clean) way;
+    survives = survives_weaker (state g old) (state g new) _ _ (λ clean db other ready. other ready.1.has) one.survives;
   })
 
   -- the first write succeeded, and then the counts are written
@@ -180,13 +181,13 @@ module _ {S : Type 0} (g : Ghosts S) (command : Command) (key : Option Key) (aft
             if_err {P = FailsToWrite (state g mid) (state g new)} r (λ e failed. inr (mid, reached, failed)) (two.err clean (reached_inside g old mid reached inside));
         err = λ clean first whole way made.
             let reached = one.ok (before clean) whole way.stands made in
-            let here : IsUnderWay first (before_counts command whole) (state g mid) = reached_way g old mid reached (leaves_no_more g old mid one.survives way.stands.schema_is (before clean)) way in
+            let here : IsUnderWay first (before_counts command whole) (state g mid) = reached_way g old mid reached (leaves_no_more g old mid one.survives way.stands.has (before clean)) way in
             on_err {P = IsUnderWay first (before_counts command whole) (state g new) ⊎ IsBackAt first (state g new)} r (λ left. elim left [
               | inl still ↦ inl (before_counts command whole, still)
               | inr back ↦ inr back
             ]) (not_changed g mid new r two clean here);
-        survives = survives_then (state g old) (state g mid) (state g new) _ _ _ (λ clean db other ready. other ready.1.schema_is)
-            (λ clean db other ready. other (reached_stands g old mid (one.ok (before clean) ready.0 ready.1 ready.2)).schema_is) one.survives two.survives;
+        survives = survives_then (state g old) (state g mid) (state g new) _ _ _ (λ clean db other ready. other ready.1.has)
+            (λ clean db other ready. other (reached_stands g old mid (one.ok (before clean) ready.0 ready.1 ready.2)).has) one.survives two.survives;
       }
 
 -- ---- numbers that fit

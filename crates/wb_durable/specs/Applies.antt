@@ -1,8 +1,10 @@
 -- What an office over tables answers to a command, and how it stands then.
-use Rattle.std.specs.Prelude.{◌≡◌, ◌≢◌, ℕ, Bool, true, false, Result, Ok, Err, IfOk, IfErr, IsTrue}
+use Rattle.std.specs.Prelude.{◌≡◌, ◌≢◌, ◌⊎◌, ℕ, Bool, true, false, [], Result, Ok, Err, IfOk, IfErr, IsTrue}
 use Rattle.sqlite_trees.specs.declared.store.Store.{Ghosts}
+use Rattle.sqlite.specs.declared.error.Error.{Error}
 use Rattle.sqlite.specs.Held.{Held, state}
 use Rattle.sqlite.specs.State.{HasCleanDisk}
+use Rattle.wb_sql.specs.Transactions.{FailsToRun}
 use Rattle.wb_states.specs.declared.command.Command.{Command}
 use Rattle.wb_states.specs.declared.reply.Reply.{Reply}
 use Rattle.wb_states.specs.declared.refusal.Refusal.{Refusal}
@@ -48,16 +50,26 @@ pub record IsRefusedIn {S : Type 0} (g : Ghosts S) (machine : Machine) (command 
   pub left : LeavesEither machine (step machine command).1 (state g new)
   pub shut : refusal ≡ Closed → IsBackAt machine (state g new)
 
+-- the connection cannot be used on, since the empty text fails on it
+abbrev pub CannotBeUsed : {S : Type 0} → Ghosts S → Held S → Held S → Type 0
+CannotBeUsed g old new = FailsToRun [] (state g old) (state g new)
+
+-- why an office is closed that is out of memory: its connection cannot be used on, or the transaction could not be taken back
+abbrev pub MustClose : {S : Type 0} → Ghosts S → Failure → Held S → Held S → Type 0
+MustClose g failure old new = CannotBeUsed g old new ⊎ ((e : Error) × (failure ≡ Uncommitted (RollBackFailed e)))
+
 -- what is answered after a failure, and whether the office is closed then
 pub record Ends {S : Type 0} (g : Ghosts S) (failure : Failure) (old new : Held S) (refusal : Refusal) (is_closed : Bool) : Type 0 where
   pub was_clean : HasCleanDisk (state g new) → HasCleanDisk (state g old)
   pub refused : HasCleanDisk (state g new) → (machine : Machine) (command : Command) (before : Held S) → IsLeft g machine command before old failure
       → IsRefusedIn g machine command is_closed new refusal
   pub told : refusal ≡ refusal_of failure
+  pub closes : HasCleanDisk (state g new) → refusal ≡ Memory → is_closed ≡ true → MustClose g failure old new
 
 -- an office over tables carries out a command: the reply is that of the step, and the office stands at the state after it; a refusal of the state
--- changes nothing; out of memory, it stands as before, but may be closed; after a fault of the store it is closed, and the command stands whole or
--- not at all; and a closed office, and no other, answers that it is closed
+-- changes nothing; out of memory, it stands as before, and is closed only if its connection cannot be used on, or the transaction could not be taken
+-- back; after a fault of the store it is closed, and the command stands whole or not at all; and a closed office, and no other, answers that it is
+-- closed
 pub record Applies {S : Type 0} (g : Ghosts S) (command : Command) (was_closed : Bool) (counted : ℕ) (old : Held S) (is_closed : Bool) (counts : ℕ) (new : Held S) (result : Result Reply Refusal) : Type 0 where
   pub was_clean : HasCleanDisk (state g new) → HasCleanDisk (state g old)
   pub shut : was_closed ≡ true → (result ≡ Err Closed) × (is_closed ≡ true) × (counts ≡ counted) × (new ≡ old)
@@ -66,13 +78,15 @@ pub record Applies {S : Type 0} (g : Ghosts S) (command : Command) (was_closed :
   pub refused : HasCleanDisk (state g new) → (machine : Machine) → StandsAt machine was_closed counted (state g old) → was_closed ≡ false
       → IfErr result (λ refusal. IsRefusedIn g machine command is_closed new refusal × (counts ≡ counted))
   pub cause : HasCleanDisk (state g new) → (machine : Machine) → StandsAt machine was_closed counted (state g old) → was_closed ≡ false
-      → IfErr result (λ refusal. (failure : Failure) × (at : Held S) × IsLeft g machine command old at failure × (refusal ≡ refusal_of failure))
+      → IfErr result (λ refusal. (failure : Failure) × (at : Held S) × IsLeft g machine command old at failure × (refusal ≡ refusal_of failure)
+      × (refusal ≡ Memory → is_closed ≡ true → MustClose g failure at new))
 
--- what is answered after this fault of a call that changed nothing, and whether the office is closed then: out of memory, it goes on if its
--- connection is open
+-- what is answered after this fault of a call that changed nothing, and whether the office is closed then: out of memory, it is closed only if its
+-- connection cannot be used on, and otherwise the connection is open
 pub record EndsWith {S : Type 0} (g : Ghosts S) (fault : StoreFault) (old new : Held S) (refusal : Refusal) (is_closed : Bool) : Type 0 where
   pub was_clean : HasCleanDisk (state g new) → HasCleanDisk (state g old)
   pub told : refusal ≡ refusal_for fault
   pub back : HasCleanDisk (state g new) → (machine : Machine) → IsBackAt machine (state g old) → IsBackAt machine (state g new)
   pub is_open : HasCleanDisk (state g new) → is_closed ≡ false → IsTrue (state g new).is_open
   pub ends : is_of_store refusal ≡ true → is_closed ≡ true
+  pub closes : HasCleanDisk (state g new) → refusal ≡ Memory → is_closed ≡ true → CannotBeUsed g old new

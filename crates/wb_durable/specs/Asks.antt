@@ -12,7 +12,7 @@ use Rattle.wb_office.specs.declared.query.Answer.{Answer}
 use Rattle.wb_office.specs.Ends.{is_of_store}
 use Rattle.wb_tables.specs.Faults.{fault_of}
 use Rattle.wb_tables.specs.Settled.{IsSettled, IsBackAt}
-use Rattle.wb_durable.specs.Applies.{refusal_for}
+use Rattle.wb_durable.specs.Applies.{CannotBeUsed, refusal_for}
 use Rattle.wb_durable.specs.Finds.{FailsToFind}
 use Rattle.wb_durable.specs.Standing.{StandsAt}
 
@@ -24,8 +24,8 @@ FailsByName is_bad refusal = ((is_bad ≡ true) × (refusal ≡ BadName)) ⊎ ((
 abbrev pub IsAnswered : {S : Type 0} → Ghosts S → (Machine → Result Answer Refusal) → Machine → Held S → Bool → Result Answer Refusal → Type 0
 IsAnswered g answer_of machine new is_closed result = (answer_of machine ≡ result) × IsSettled machine (state g new) × (is_closed ≡ false)
 
--- a look-up of a query failed: this is the refusal for its error, the office has its state as before, and it is open only if its connection is,
--- or closed after a fault of the store
+-- a look-up of a query failed: this is the refusal for its error, the office has its state as before, and it is open only if its connection is;
+-- after a fault of the store it is closed, and out of memory only if its connection cannot be used on
 pub record IsUnread {S : Type 0} (g : Ghosts S) (machine : Machine) (old new : Held S) (is_closed : Bool) (refusal : Refusal) : Type 0 where
   pub error : Error
   pub at : Held S
@@ -34,6 +34,7 @@ pub record IsUnread {S : Type 0} (g : Ghosts S) (machine : Machine) (old new : H
   pub back : IsBackAt machine (state g new)
   pub is_open : is_closed ≡ false → IsTrue (state g new).is_open
   pub ends : is_of_store refusal ≡ true → is_closed ≡ true
+  pub closes : refusal ≡ Memory → is_closed ≡ true → CannotBeUsed g at new
 
 -- a query of an office that stands open at this state: it is answered; or a look-up failed; or memory ran out before there was one, and nothing
 -- was done

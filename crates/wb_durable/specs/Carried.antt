@@ -8,7 +8,6 @@ use Rattle.sqlite.specs.Tree.{Trees}
 use Rattle.sqlite.specs.Held.{Held, state}
 use Rattle.sqlite.specs.State.{State, HasCleanDisk, IsRolledBack, Executes, Survives}
 use Rattle.wb_sql.specs.Transactions.{rollback_text, FailsToCommit}
-use Rattle.wb_schema.specs.Tables.{office_schema}
 use Rattle.wb_states.specs.declared.command.Command.{Command}
 use Rattle.wb_states.specs.Machine.{Machine, Key}
 use Rattle.wb_office.specs.Step.{step}
@@ -72,7 +71,7 @@ EndsFor g command key after whole old new (InDoubt e) = FailsAtCommit g (step wh
 -- these trees hold the tables of the office after a step of the one for which the database stands
 abbrev pub HoldsStep : {S : Type 0} → Ghosts S → Command → Option Key → Machine → Held S → Trees → Type 0
 HoldsStep g command key after old db =
-    (whole : Machine) → StandsFor whole (state g old).now → IsStepOf whole command key after → StandsFor (step whole command).1 (record { schema = office_schema; trees = db })
+    (whole : Machine) → StandsFor whole (state g old).now → IsStepOf whole command key after → StandsFor (step whole command).1 (record { schema = old.schema; trees = db })
 
 -- the change of an accepted command in a transaction of its own, over a connection that is settled at the whole office: if it succeeds, the
 -- connection is settled at the office after the command; if it fails, the office is as before, but if the commit is in doubt a crash leaves

@@ -6,7 +6,7 @@ use Rattle.sqlite_trees.specs.declared.store.Store.{Ghosts}
 use Rattle.sqlite.specs.declared.error.Error.{Error}
 use Rattle.sqlite.specs.Held.{Held, state}
 use Rattle.sqlite.specs.State.{HasCleanDisk, Survives}
-use Rattle.wb_schema.specs.Tables.{office_schema}
+use Rattle.wb_schema.specs.Among.{HasOffice}
 use Rattle.wb_states.specs.declared.command.Command.{Command}
 use Rattle.wb_states.specs.declared.record.Record.{Record}
 use Rattle.wb_states.specs.declared.reply.Assignment.{Assignment}
@@ -78,7 +78,7 @@ FailsAtOnce g Fits old new e = FailsToWrite (state g old) (state g new) e ⊎ (I
 pub record Writes {S A : Type 0} (g : Ghosts S) (Fits : Type 0) (Allows : Machine → Type 0) (after : Machine → Machine) (old new : Held S) (result : Result A Error) : Type 0 where
   pub ok : HasCleanDisk (state g new) → OnOk result ((machine : Machine) → StandsFor machine (state g old).now → Allows machine → Reaches g (after machine) old new)
   pub err : HasCleanDisk (state g new) → IsTrue old.in_transaction → IfErr result (FailsAtOnce g Fits old new)
-  pub survives : Survives (state g old) (state g new) (λ _. old.schema ≢ office_schema)
+  pub survives : Survives (state g old) (state g new) (λ _. ¬ HasOffice old.schema)
 
 -- ---- the whole change
 

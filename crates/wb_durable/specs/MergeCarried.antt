@@ -5,7 +5,6 @@ use Rattle.sqlite.specs.declared.error.Error.{Error}
 use Rattle.sqlite.specs.Tree.{Trees}
 use Rattle.sqlite.specs.Held.{Held, state}
 use Rattle.sqlite.specs.State.{HasCleanDisk, Survives}
-use Rattle.wb_schema.specs.Tables.{office_schema}
 use Rattle.wb_states.specs.declared.command.Part.{Part}
 use Rattle.wb_states.specs.Forms.{Merge}
 use Rattle.wb_states.specs.Machine.{Machine}
@@ -32,7 +31,7 @@ MergeEndsFor g after now old new (InDoubt e) = FailsAtCommit g now old e
 abbrev pub HoldsMerge : {S : Type 0} → Ghosts S → List ℕ → List Part → Machine → Machine → Held S → Trees → Type 0
 HoldsMerge g sources parts before after old db =
     (whole : Machine) → StandsFor whole (state g old).now → IsMergeIn whole sources parts before after
-    → StandsFor (step whole (Merge sources parts)).1 (record { schema = office_schema; trees = db })
+    → StandsFor (step whole (Merge sources parts)).1 (record { schema = old.schema; trees = db })
 
 -- what a merge changed, in a transaction of its own, over a connection that is settled at the whole office: if it succeeds, the connection is
 -- settled at the office after the merge; if it fails, the office is as before, but if the commit is in doubt a crash leaves the one or the

@@ -7,7 +7,8 @@ use Rattle.sqlite.specs.Held.{Held, state}
 use Rattle.sqlite.specs.State.{State, HasCleanDisk, IsUnchanged, Survives}
 use Rattle.wb_sql.specs.Transactions.{IsKeptOrUndone}
 use Rattle.wb_schema.specs.Statements as sql
-use Rattle.wb_schema.specs.Tables.{empty_schema, office_schema, scratch_source, scratch_binary}
+use Rattle.wb_schema.specs.Among.{HasOffice, rows_in}
+use Rattle.wb_schema.specs.Tables.{arch, builder, empty_schema, office, scratch_binary, scratch_source, source_record}
 use Rattle.wb_states.specs.declared.arch.OsCpu.{OsCpu}
 use Rattle.wb_states.specs.declared.counts.Counts.{Counts}
 use Rattle.wb_states.specs.declared.store_fault.StoreFault.{StoreFault}
@@ -30,15 +31,15 @@ AreCountsOf machine counts = (counts.handed ≡ machine.handed) × (counts.accep
 
 -- the office's row in a database is good, with these counts
 abbrev pub ShowsCounts : Database → Counts → Type 0
-ShowsCounts db counts = ShowsGood sql.office_counts db (λ rows. HoldsCounts rows counts)
+ShowsCounts db counts = ShowsGood office sql.office_counts db (λ rows. HoldsCounts rows counts)
 
 -- the rows of the architectures in a database are good, and the architectures are these
 abbrev pub ShowsArchs : Database → List (List ℕ × OsCpu) → Type 0
-ShowsArchs db archs = ShowsGood sql.all_archs db (λ rows. HoldsArchs rows archs)
+ShowsArchs db archs = ShowsGood arch sql.all_archs db (λ rows. HoldsArchs rows archs)
 
 -- the rows of the builders in a database are good beside these architectures, and the builders are these
 abbrev pub ShowsBuilders : Database → List (List ℕ × OsCpu) → List Key → Type 0
-ShowsBuilders db archs builders = ShowsGood sql.all_builders db (λ rows. HoldsBuilders archs rows builders)
+ShowsBuilders db archs builders = ShowsGood builder sql.all_builders db (λ rows. HoldsBuilders archs rows builders)
 
 -- the rows of the office's tables are good, with these counts
 abbrev pub HasGoodRowsWith : Database → Counts → Type 0
@@ -46,31 +47,31 @@ HasGoodRowsWith db counts = (h : HasGoodRows db) × (h.counts ≡ counts)
 
 -- the two scratch tables of a merge have no row
 abbrev pub HasNoScratchRows : Database → Type 0
-HasNoScratchRows db = (db.trees scratch_source.tree ≡ []) × (db.trees scratch_binary.tree ≡ [])
+HasNoScratchRows db = (rows_in db scratch_source ≡ []) × (rows_in db scratch_binary ≡ [])
 
 -- the test of the architectures fails, after a good row of the office
 abbrev pub FailsOnArchs : State → State → StoreFault → Type 0
 FailsOnArchs old new fault =
     (counts : Counts) × ShowsCounts old.now counts
-    × FailsToTest sql.all_archs Arch (AreBadRows Arch arch_cells IsFormedArch) old new fault
+    × FailsToTest arch sql.all_archs Arch (AreBadRows Arch arch_cells IsFormedArch) old new fault
 
 -- the test of the builders fails, after good rows of the office and of the architectures
 abbrev pub FailsOnBuilders : State → State → StoreFault → Type 0
 FailsOnBuilders old new fault =
     (counts : Counts) × (archs : List (List ℕ × OsCpu)) × ShowsCounts old.now counts × ShowsArchs old.now archs
-    × FailsToTest sql.all_builders Builder (AreBadRows Builder builder_cells (IsFormedBuilder archs)) old new fault
+    × FailsToTest builder sql.all_builders Builder (AreBadRows Builder builder_cells (IsFormedBuilder archs)) old new fault
 
 -- the test of the records fails, after good rows of all the other tables
 abbrev pub FailsOnRecords : State → State → StoreFault → Type 0
 FailsOnRecords old new fault =
     (counts : Counts) × (archs : List (List ℕ × OsCpu)) × (builders : List Key)
     × ShowsCounts old.now counts × ShowsArchs old.now archs × ShowsBuilders old.now archs builders
-    × FailsToTest sql.all_records SourceRecord (AreBadRecords archs builders counts.handed) old new fault
+    × FailsToTest source_record sql.all_records SourceRecord (AreBadRecords archs builders counts.handed) old new fault
 
 -- why the tests of the rows fail: the first of the four that fails, after good rows of the tables before it
 abbrev pub FailsOnRows : State → State → StoreFault → Type 0
 FailsOnRows old new fault =
-    FailsToTest sql.office_counts Office AreBadCounts old new fault
+    FailsToTest office sql.office_counts Office AreBadCounts old new fault
     ⊎ (FailsOnArchs old new fault ⊎ (FailsOnBuilders old new fault ⊎ FailsOnRecords old new fault))
 
 -- why the test of the scratch tables fails: a query failed, or one of them has a row, and nothing is changed
@@ -100,14 +101,14 @@ LacksMemoryOrQuery g old new fault = (fault ≡ Memory) ⊎ ComesLater g IsQuery
 -- ran out or a query failed; and a crash leaves no more than before
 pub record ChecksWith {S A : Type 0} (g : Ghosts S) (Given : Machine → Type 0) (Good : Database → A → Type 0)
     (Outcome : Machine → A → Type 0) (Why : State → State → StoreFault → Type 0) (old new : Held S) (result : Result A StoreFault) : Type 0 where
-  pub good : HasCleanDisk (state g new) → old.schema ≡ office_schema → IfOk result (Good (state g old).now)
-  pub same : HasCleanDisk (state g new) → old.schema ≡ office_schema → OnOk result (StaysAs g old new)
-  pub err : HasCleanDisk (state g new) → old.schema ≡ office_schema → IfErr result (ComesLater g Why old new)
-  pub kept : HasCleanDisk (state g new) → old.schema ≡ office_schema → OnErr result (IsKeptOrUndone (state g old) (state g new))
+  pub good : HasCleanDisk (state g new) → HasOffice old.schema → IfOk result (Good (state g old).now)
+  pub same : HasCleanDisk (state g new) → HasOffice old.schema → OnOk result (StaysAs g old new)
+  pub err : HasCleanDisk (state g new) → HasOffice old.schema → IfErr result (ComesLater g Why old new)
+  pub kept : HasCleanDisk (state g new) → HasOffice old.schema → OnErr result (IsKeptOrUndone (state g old) (state g new))
   pub told : HasCleanDisk (state g new) → IfOk result (λ x. (machine : Machine) → StandsFor machine (state g old).now → Outcome machine x)
   pub fails : HasCleanDisk (state g new)
       → IfErr result (λ fault. (machine : Machine) → IsConsistent machine → StandsFor machine (state g old).now → Given machine → LacksMemoryOrQuery g old new fault)
-  pub survives : Survives (state g old) (state g new) (λ _. old.schema ≢ office_schema)
+  pub survives : Survives (state g old) (state g new) (λ _. ¬ HasOffice old.schema)
 
 -- the tests of the rows of the office's tables
 abbrev pub ChecksRows : {S : Type 0} → Ghosts S → Held S → Held S → Result Counts StoreFault → Type 0
@@ -121,14 +122,14 @@ ChecksScratch g = ChecksWith g (λ _. ⊤) (λ db _. HasNoScratchRows db) (λ _ 
 -- stays settled, or goes back to its state if memory ran out or a query failed; and no fault is given but that of a test
 pub record Checks {S : Type 0} (g : Ghosts S) (old new : Held S) (result : Result Counts StoreFault) : Type 0 where
   pub was_clean : HasCleanDisk (state g new) → HasCleanDisk (state g old)
-  pub good : HasCleanDisk (state g new) → old.schema ≡ office_schema
+  pub good : HasCleanDisk (state g new) → HasOffice old.schema
       → IfOk result (λ counts. HasGoodRowsWith (state g old).now counts × HasNoScratchRows (state g old).now × StaysAs g old new)
   pub passes : HasCleanDisk (state g new) → (machine : Machine) → IsConsistent machine → IsSettled machine (state g old)
       → IfOk result (λ counts. AreCountsOf machine counts × IsSettled machine (state g new))
   pub fails : HasCleanDisk (state g new) → (machine : Machine) → IsConsistent machine → IsSettled machine (state g old)
       → IfErr result (λ fault. IsBackAt machine (state g new) × LacksMemoryOrQuery g old new fault)
-  pub refuses : HasCleanDisk (state g new) → old.schema ≡ office_schema → IfErr result (ComesLater g FailsOnOffice old new)
-  pub survives : Survives (state g old) (state g new) (λ _. old.schema ≢ office_schema)
+  pub refuses : HasCleanDisk (state g new) → HasOffice old.schema → IfErr result (ComesLater g FailsOnOffice old new)
+  pub survives : Survives (state g old) (state g new) (λ _. ¬ HasOffice old.schema)
 
 -- no office is made: a statement or the commit failed, which is the fault of the office's table
 abbrev pub IsFaultOfMaking : {S : Type 0} → Ghosts S → Held S → StoreFault → Type 0
@@ -138,9 +139,10 @@ IsFaultOfMaking g new fault = (e : Error) × FailsToMake g new e × (fault ≡ f
 abbrev pub LacksAfter : {S : Type 0} → Ghosts S → Held S → Held S → StoreFault → Type 0
 LacksAfter {S} g old new fault = (at : Held S) × ((old ≡ at) ⊎ IsSettled empty_office (state g at)) × LacksMemoryOrQuery g at new fault
 
--- an office is found, or made in a database without a table: if that succeeds, it is settled at its state, with its counts; whatever it answers, a
--- crash leaves that state; it fails only if it could not be made, or if memory ran out or a query failed; an office that is found has good
--- rows, or is refused by one of its tests; and a database with other tables is never taken for an office, and is left as it is
+-- an office is found, perhaps beside tables of others, or made in a database without a table: if that succeeds, it is settled at its state, with its
+-- counts; whatever it answers, a crash leaves that state; it fails only if it could not be made, or if memory ran out or a query failed; an office
+-- that is found has good rows, or is refused by one of its tests; and a database with tables of others alone is never taken for an office, and is
+-- left as it is
 pub record FindsOffice {S : Type 0} (g : Ghosts S) (old new : Held S) (result : Result Counts StoreFault) : Type 0 where
   pub was_clean : HasCleanDisk (state g new) → HasCleanDisk (state g old)
   pub found : HasCleanDisk (state g new) → (machine : Machine) → IsConsistent machine → IsFoundAt machine (state g old)
@@ -148,11 +150,11 @@ pub record FindsOffice {S : Type 0} (g : Ghosts S) (old new : Held S) (result : 
   pub left : HasCleanDisk (state g new) → (machine : Machine) → IsConsistent machine → IsFoundAt machine (state g old) → LeavesFound machine (state g new)
   pub fails : HasCleanDisk (state g new) → (machine : Machine) → IsConsistent machine → IsFoundAt machine (state g old)
       → IfErr result (λ fault. IsFaultOfMaking g new fault ⊎ LacksAfter g old new fault)
-  pub good : HasCleanDisk (state g new) → old.schema ≡ office_schema
+  pub good : HasCleanDisk (state g new) → HasOffice old.schema
       → IfOk result (λ counts. HasGoodRowsWith (state g old).now counts × HasNoScratchRows (state g old).now × StaysAs g old new)
-  pub refuses : HasCleanDisk (state g new) → old.schema ≡ office_schema → IfErr result (ComesLater g FailsOnOffice old new)
-  pub known : IfOk result (λ counts. (old.schema ≡ empty_schema) ⊎ (old.schema ≡ office_schema))
-  pub other : old.schema ≢ empty_schema → old.schema ≢ office_schema → (result ≡ Err NotOffice) × (new ≡ old)
+  pub refuses : HasCleanDisk (state g new) → HasOffice old.schema → IfErr result (ComesLater g FailsOnOffice old new)
+  pub known : IfOk result (λ counts. (old.schema ≡ empty_schema) ⊎ HasOffice old.schema)
+  pub other : old.schema ≢ empty_schema → ¬ HasOffice old.schema → (result ≡ Err NotOffice) × (new ≡ old)
 
 -- an opening was refused, and its connection given up, in the state in which the search for the office left it
 abbrev pub IsRefusedFrom : {S : Type 0} → Ghosts S → Held S → StoreFault → Type 0

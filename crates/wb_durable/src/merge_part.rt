@@ -2,7 +2,7 @@
 ghost use Rattle.std.specs.Prelude.{◌≡◌, ◌++◌, OnOk, map as each};
 ghost use Rattle.sqlite.specs.Held.{state};
 ghost use Rattle.sqlite.specs.State.{HasCleanDisk, IsUnchanged};
-ghost use Rattle.wb_schema.specs.Tables.{office_schema};
+ghost use Rattle.wb_schema.specs.Among.{HasOffice};
 ghost use Rattle.wb_store.specs.Lookups.{entry_of};
 ghost use Rattle.wb_office.specs.MergedParts.{part_for_merge};
 ghost use Rattle.wb_durable.specs.Finds.{Finds};
@@ -48,7 +48,7 @@ fn find_rows<S: Alter>(
 fn find<S: Alter>(alloc: Global, conn: &mut Connection<S>, parts: &[Part]) -> Result<Found, Error>
     ensures finds { Finds S.Store (λ machine found.
         HasFoundParts machine parts.now found) conn.old conn.new result }
-    ensures same { HasCleanDisk (state S.Store conn.new) → conn.old.schema ≡ office_schema
+    ensures same { HasCleanDisk (state S.Store conn.new) → HasOffice conn.old.schema
         → OnOk result (IsUnchanged (state S.Store conn.old) (state S.Store conn.new)) }
 {
     let counts = wb_tables::counts(conn)?;

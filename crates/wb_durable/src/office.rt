@@ -9,7 +9,8 @@ ghost use Rattle.wb_states.specs.Names.{is_builder_name};
 ghost use Rattle.wb_states.specs.declared.store_fault.StoreFault.TheVariants.{NotOffice};
 ghost use Rattle.wb_sql.specs.Settled.{LeaveOnly};
 ghost use Rattle.wb_tables.specs.Settled.{AreSettledAt, StandsForTrees};
-ghost use Rattle.wb_schema.specs.Tables.{empty_schema, office_schema};
+ghost use Rattle.wb_schema.specs.Among.{HasOffice};
+ghost use Rattle.wb_schema.specs.Tables.{empty_schema};
 ghost use Rattle.wb_tables.specs.Opening.{HasGoodRows};
 ghost use Rattle.wb_durable.specs.Opening.{HasNoScratchRows, IsRefusedFrom};
 ghost use Rattle.wb_durable.specs.Files.{AreFoundAt, AreNew, FailsToOpen, IsFaultOfClosing, IsRefusedOver};
@@ -48,12 +49,13 @@ pub struct Office<S: Alter + Drop> {
 
 impl<S: Alter + Drop> Office<S> {
     /// Opens the office whose tables the connection has, which is in no transaction; a database without a table becomes
-    /// that of an empty office. Each row is tested. The faults are `NotOffice` if the database has other tables, which
-    /// are then left as they are, or the row of the office is missing or of an older format, `NewerSchema` if that
-    /// format is newer than this program's, `Damaged` with the table and the first row, counted from 1, that breaks the
-    /// rules of an office, or with row 0 if a statement on the table was refused, `Memory`, and `Device` if the disk
-    /// failed or is full. After a fault a crash leaves the office as it was found, or the tables of an empty one (this
-    /// project's own).
+    /// that of an empty office. Tables of others may stand beside the office's, as
+    /// [`has_office_tables`](wb_schema::has_office_tables) says. Each row of the office's tables is tested. The faults are
+    /// `NotOffice` if the database has tables, but not those of an office, and is then left as it is, or the row of the
+    /// office is missing or of an older format, `NewerSchema` if that format is newer than this program's, `Damaged` with
+    /// the table and the first row, counted from 1, that breaks the rules of an office, or with row 0 if a statement on
+    /// the table was refused, `Memory`, and `Device` if the disk failed or is full. After a fault a crash leaves the office
+    /// as it was found, or the tables of an empty one (this project's own).
     pub fn adopt(alloc: Global, conn: Connection<S>) -> Result<Office<S>, StoreFault>
         requires idle { conn.in_transaction ≡ false }
         ensures opened { IfOk result (λ office. office.is_closed ≡ false) }
@@ -61,10 +63,10 @@ impl<S: Alter + Drop> Office<S> {
             → (machine : Machine) → IsFoundAt machine (state S.Store conn)
             → StandsAt machine office.is_closed office.accepted (state S.Store office.conn)) }
         ensures good { IfOk result (λ office. HasCleanDisk (state S.Store office.conn)
-            → conn.schema ≡ office_schema
+            → HasOffice conn.schema
             → HasGoodRows (state S.Store conn).now × HasNoScratchRows (state S.Store conn).now) }
-        ensures known { IfOk result (λ _. (conn.schema ≡ empty_schema) ⊎ (conn.schema ≡ office_schema)) }
-        ensures other { conn.schema ≢ empty_schema → conn.schema ≢ office_schema → result ≡ Err NotOffice }
+        ensures known { IfOk result (λ _. (conn.schema ≡ empty_schema) ⊎ HasOffice conn.schema) }
+        ensures other { conn.schema ≢ empty_schema → ¬ HasOffice conn.schema → result ≡ Err NotOffice }
         ensures clean { IfOk result (λ office. HasCleanDisk (state S.Store office.conn) → HasCleanDisk (state S.Store conn)) }
         ensures refused { IfErr result (IsRefusedFrom S.Store conn) }
     {

@@ -11,11 +11,12 @@ use wb_tables::{
 };
 
 /// The two counts of the office that the database holds, or of an empty one, whose tables are made first if the
-/// database has no table. [`Office::adopt`](crate::Office::adopt) is this call, with the connection it was given. The
-/// faults are `NotOffice` if the database has tables and they are not exactly those of an office, which is then left as
-/// it is, and those of [`check`], and before them those of the table of the office if the tables cannot be made. An
-/// office that was there stays as it is, but for a transaction that a failure of a query takes back; a crash of a
-/// database without a table leaves that, or the empty office (this project's own).
+/// database has no table. Tables of others may stand beside those of an office, as [`has_office_tables`] says.
+/// [`Office::adopt`](crate::Office::adopt) is this call, with the connection it was given. The faults are `NotOffice` if
+/// the database has tables, but not those of an office, and is then left as it is, and those of [`check`], and before
+/// them those of the table of the office if the tables cannot be made. An office that was there stays as it is, but for
+/// a transaction that a failure of a query takes back; a crash of a database without a table leaves that, or the empty
+/// office (this project's own).
 pub fn find_office<S: Alter>(conn: &mut Connection<S>) -> Result<Counts, StoreFault>
     requires idle { conn.old.in_transaction ≡ false }
     ensures finds { FindsOffice S.Store conn.old conn.new result }

@@ -1,3 +1,4 @@
+pub mod Among
 pub mod Making
 pub mod Recognition
 pub mod Statements

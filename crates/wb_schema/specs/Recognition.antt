@@ -1,6 +1,8 @@
 -- The parts of the office's schema, by which it is recognized.
-use Rattle.std.specs.Prelude.{◌≡◌, ℕ, pos, true, false, Some, None, List, [], ◌∷◌, map, slice_get}
+use Rattle.std.specs.Prelude.{◌≡◌, ℕ, ◌^◌, ◌==◌, nat_le, Bool, not, ◌&&◌, pos, true, false, Some, None, List, [], ◌∷◌, map, filter, find, slice_get}
+use Rattle.std.specs.List.{list_all, position_from}
 use Rattle.sqlite.specs.Collation.TheVariants.{Binary}
+use Rattle.sqlite.specs.Schema.{Schema}
 use Rattle.sqlite.specs.Table.{Table}
 use Rattle.sqlite.specs.Term.{Term, lit, col, op2}
 use Rattle.sqlite.specs.declared.types.Value.TheVariants.{Int}
@@ -8,12 +10,17 @@ use Rattle.sqlite_schema.specs.declared.code.Op.{Op}
 use Rattle.sqlite_schema.specs.declared.code.Op.TheVariants as op
 use Rattle.sqlite_schema.specs.declared.schema.Column.{Column}
 use Rattle.sqlite_schema.specs.declared.schema.Index.{Index}
+use Rattle.sqlite_schema.specs.Names.{table_named}
 use Rattle.sqlite_sql.specs.declared.ops.BinaryOp.TheVariants.{Compare}
 use Rattle.sqlite_sql.specs.declared.ops.CompareOp.TheVariants.{Eq}
 use Rattle.sqlite_value.specs.Keys.{plain}
+use Rattle.wb_sql.specs.Changes.{is_no_action}
 use Rattle.wb_schema.specs.declared.definitions.ColumnDefinition.{ColumnDefinition}
 use Rattle.wb_schema.specs.declared.definitions.IndexDefinition.{IndexDefinition}
-use Rattle.wb_schema.specs.Tables.{index_on, office, typed}
+use Rattle.sqlite_catalog.specs.Listing.{automatic}
+use Rattle.wb_schema.specs.Tables.{index_on, typed, office, arch, builder, source_record, scratch_source, scratch_binary}
+use Rattle.wb_schema.specs.Tables.{record_order, record_take, source_name, binary_source, binary_name}
+use Rattle.wb_schema.specs.Among.{HasTable, table_in, tree_named, index_at, names_office}
 
 -- the column that is defined so
 abbrev pub column_of : ColumnDefinition → Column
@@ -23,22 +30,64 @@ column_of definition = typed definition.kind definition.not_null definition.name
 abbrev pub columns_of : List ColumnDefinition → List Column
 columns_of = map column_of
 
--- the index of a key, which comes once
-abbrev pub key_on : List ℕ → ℕ → ℕ → List ℕ → Index
-key_on name tree table columns = record (index_on name tree table columns) { is_unique = true }
+-- an index, but for its tree
+abbrev pub treeless : Index → Index
+treeless index = record index { tree = 0 }
 
--- the index that is defined so
-abbrev pub index_of : IndexDefinition → Index
-index_of definition = record (index_on definition.name.now definition.tree definition.table definition.columns.now) { is_unique = definition.is_unique }
+-- the indexes on the table in this tree
+abbrev pub indexes_on : ℕ → List Index → List Index
+indexes_on table = filter (λ index. index.table == table)
 
--- the indexes that are defined so
-abbrev pub indexes_of : List IndexDefinition → List Index
-indexes_of = map index_of
+-- the index of a key, which comes once, on this table, but for its tree
+abbrev pub key_on : List ℕ → ℕ → List ℕ → Index
+key_on name table columns = record (index_on name 0 table columns) { is_unique = true }
 
--- a table of this name, root and columns, where no default is computed and no row is counted
-pub record IsTable (table : Table) (name : List ℕ) (tree : ℕ) (columns : List Column) : Type 0 where
+-- the index that is defined so, on this table, but for its tree
+abbrev pub index_of : ℕ → IndexDefinition → Index
+index_of table definition = record (index_on definition.name.now 0 table definition.columns.now) { is_unique = definition.is_unique }
+
+-- the indexes that are defined so, on this table, but for their trees
+abbrev pub indexes_of : ℕ → List IndexDefinition → List Index
+indexes_of table = map (index_of table)
+
+-- the first of the tables in this tree is at this place, and the tree is stored
+pub record IsFirstInTree (tables : List Table) (at tree : ℕ) : Type 0 where
+  pub first : position_from (λ t. t.tree == tree) 0 tables ≡ Some at
+  pub stored : nat_le (2 ^ 31) tree ≡ false
+
+-- of the tables of the schema, the first with this name, if it is also the first in its tree, and the tree is stored
+pub record IsFound (schema : Schema) (name : List ℕ) (table : Table) : Type 0 where
+  pub at : ℕ
+  pub named : table_named schema name ≡ Some at
+  pub listed : slice_get schema.tables at ≡ Some table
+  pub in_tree : find (λ t. t.tree == table.tree) schema.tables ≡ Some table
+  pub stored : nat_le (2 ^ 31) table.tree ≡ false
+
+-- the schema has one of the office's tables, and on it these indexes, in whatever trees, and no other
+pub record HasIndexed (schema : Schema) (table : Table) (indexes : List Index) : Type 0 where
+  pub has : HasTable schema (table_in schema table)
+  pub indexed : map treeless (indexes_on (tree_named schema table.name) schema.indexes) ≡ map (index_at 0 (tree_named schema table.name)) indexes
+
+-- the schema has each of the office's tables, and on each its indexes, in whatever trees, and no other
+pub record HasTables (schema : Schema) : Type 0 where
+  pub office_is : HasIndexed schema office []
+  pub archs_are : HasIndexed schema arch (automatic arch 0 (1 ∷ []) 2 ∷ [])
+  pub builders_are : HasIndexed schema builder (automatic builder 0 (1 ∷ 2 ∷ []) 4 ∷ [])
+  pub records_are : HasIndexed schema source_record (automatic source_record 0 (1 ∷ 2 ∷ []) 6 ∷ record_order ∷ record_take ∷ [])
+  pub sources_are : HasIndexed schema scratch_source (source_name ∷ [])
+  pub binaries_are : HasIndexed schema scratch_binary (binary_source ∷ binary_name ∷ [])
+
+-- no reference of the table is to one of the office's tables
+abbrev pub refers_to_none : Table → Bool
+refers_to_none table = list_all (λ ref. not (names_office ref.parent)) table.references
+
+-- no foreign key of the table does anything
+abbrev pub is_quiet : Table → Bool
+is_quiet table = list_all (λ ref. is_no_action ref.on_delete && is_no_action ref.on_update) table.references
+
+-- a table of this name and these columns, where no default is computed and no row is counted
+pub record IsTable (table : Table) (name : List ℕ) (columns : List Column) : Type 0 where
   pub name_is : table.name ≡ name
-  pub tree_is : table.tree ≡ tree
   pub columns_are : table.columns ≡ columns
   pub uncomputed : table.computed ≡ []
   pub unstamped : table.stamps ≡ office.stamps

@@ -1,9 +1,9 @@
 //! Whether the parts of a schema are the ones that are wanted, each compared field by field.
-ghost use Rattle.std.specs.Prelude.{◌≡◌, ◌↔◌, IsTrue, [], ◌∷◌, codes};
+ghost use Rattle.std.specs.Prelude.{◌≡◌, ◌↔◌, IsTrue, [], ◌∷◌, map, codes};
 ghost use Rattle.sqlite_value.specs.Keys.{plain};
 ghost use Rattle.wb_schema.specs.Tables.{names_arch, office};
 ghost use Rattle.wb_schema.specs.Recognition.{column_of, columns_of, index_of, indexes_of};
-ghost use Rattle.wb_schema.specs.Recognition.{IsTable, IsKeyedById, IsKeyedBy};
+ghost use Rattle.wb_schema.specs.Recognition.{indexes_on, treeless, IsTable, IsKeyedById, IsKeyedBy};
 
 use crate::definitions::{ColumnDefinition, IndexDefinition};
 use sqlite_schema::code::Terms;
@@ -11,18 +11,12 @@ use sqlite_schema::schema::{Action, Column, Index, Reference, Stamps, Table};
 use sqlite_value::keys::{Collation, Order};
 use sqlite_value::value::{Bytes, Value};
 
-/// Whether these are the name, the root and the columns of the table, and nothing of a row is computed. It says nothing
-/// of the table's keys, checks and references.
-pub(crate) fn is_table(
-    table: &Table,
-    name: &str,
-    tree: u32,
-    columns: &[ColumnDefinition<'_>],
-) -> bool
-    ensures value { IsTrue result ↔ IsTable table.now name.now tree (columns_of columns.now) }
+/// Whether these are the name and the columns of the table, and nothing of a row is computed. It says nothing of the
+/// table's tree, keys, checks and references.
+pub(crate) fn is_table(table: &Table, name: &str, columns: &[ColumnDefinition<'_>]) -> bool
+    ensures value { IsTrue result ↔ IsTable table.now name.now (columns_of columns.now) }
 {
     is_name(&table.name, name)
-        && table.tree == tree
         && are_columns(table.columns.as_slice(), columns)
         && table.computed.is_empty()
         && are_no_stamps(&table.stamps)
@@ -64,17 +58,26 @@ pub(crate) fn refers_to_arch(table: &Table, place: usize) -> bool
     are_no_terms(&table.checks) && is_one_reference(table.references.as_slice(), place)
 }
 
-/// Whether the indexes are the ones that are defined so, in this order.
-pub(crate) fn are_indexes(indexes: &[Index], definitions: &[IndexDefinition<'_>]) -> bool
-    ensures value { IsTrue result ↔ (indexes.now ≡ indexes_of definitions.now) }
+/// Whether those of the indexes that are on the table in this tree are the ones that are defined so, in this order. In
+/// which trees they are themselves, and which indexes other tables have, does not matter.
+pub(crate) fn are_indexes(
+    indexes: &[Index],
+    table: u32,
+    definitions: &[IndexDefinition<'_>],
+) -> bool
+    ensures value { IsTrue result
+        ↔ (map treeless (indexes_on table indexes.now) ≡ indexes_of table definitions.now) }
 {
     let [index, indexes @ ..] = indexes else {
         return definitions.is_empty();
     };
+    if index.table != table {
+        return are_indexes(indexes, table, definitions);
+    }
     let [definition, definitions @ ..] = definitions else {
         return false;
     };
-    is_index(index, definition) && are_indexes(indexes, definitions)
+    is_index(index, definition) && are_indexes(indexes, table, definitions)
 }
 
 /// Whether the columns are the ones that are defined so, in this order.
@@ -102,13 +105,12 @@ fn is_column(column: &Column, definition: &ColumnDefinition<'_>) -> bool
         && column.collation == Collation::Binary
 }
 
-/// Whether the index is the one that is defined so.
+/// Whether the index is the one that is defined so, in whatever tree and on whatever table.
 fn is_index(index: &Index, definition: &IndexDefinition<'_>) -> bool
-    ensures value { IsTrue result ↔ (index.now ≡ index_of definition.now) }
+    ensures value { IsTrue result
+        ↔ (treeless index.now ≡ index_of index.now.table definition.now) }
 {
     is_name(&index.name, definition.name)
-        && index.tree == definition.tree
-        && index.table == definition.table
         && are_places(index.columns.as_slice(), definition.columns)
         && index.order.digits == 0
         && index.is_unique == definition.is_unique

@@ -1,5 +1,5 @@
 //! What defines a column and an index of the office's tables, short enough to be written in a list.
-ghost use Rattle.std.specs.Prelude.{◌≡◌, false};
+ghost use Rattle.std.specs.Prelude.{◌≡◌, ℕ, false};
 ghost use Rattle.wb_schema.specs.Tables as tables;
 ghost use Rattle.wb_schema.specs.Recognition.{column_of, index_of, key_on};
 
@@ -13,13 +13,11 @@ pub(crate) struct ColumnDefinition<'a> {
     pub(crate) not_null: bool,
 }
 
-/// An index by the bytes of its columns, which all ascend. The columns are those of the table's rows, where the id has
-/// place 0.
+/// An index by the bytes of its columns, which all ascend, on whatever table. The columns are those of the table's rows,
+/// where the id has place 0.
 #[derive(Clone, Copy)]
 pub(crate) struct IndexDefinition<'a> {
     pub(crate) name: &'a str,
-    pub(crate) tree: u32,
-    pub(crate) table: u32,
     pub(crate) columns: &'a [usize],
     pub(crate) is_unique: bool,
 }
@@ -58,36 +56,22 @@ pub(crate) fn optional(name: &str, kind: Kind) -> ColumnDefinition<'_>
 }
 
 /// The index of a key, which comes once.
-pub(crate) fn key_on<'a>(
-    name: &'a str,
-    tree: u32,
-    table: u32,
-    columns: &'a [usize],
-) -> IndexDefinition<'a>
-    ensures value { index_of result ≡ key_on name.now tree table columns.now }
+pub(crate) fn key_on<'a>(name: &'a str, columns: &'a [usize]) -> IndexDefinition<'a>
+    ensures value { (table : ℕ) → index_of table result ≡ key_on name.now table columns.now }
 {
     IndexDefinition {
         name,
-        tree,
-        table,
         columns,
         is_unique: true,
     }
 }
 
 /// An index that lets a key come twice.
-pub(crate) fn index_on<'a>(
-    name: &'a str,
-    tree: u32,
-    table: u32,
-    columns: &'a [usize],
-) -> IndexDefinition<'a>
-    ensures value { index_of result ≡ tables.index_on name.now tree table columns.now }
+pub(crate) fn index_on<'a>(name: &'a str, columns: &'a [usize]) -> IndexDefinition<'a>
+    ensures value { (table : ℕ) → index_of table result ≡ tables.index_on name.now 0 table columns.now }
 {
     IndexDefinition {
         name,
-        tree,
-        table,
         columns,
         is_unique: false,
     }

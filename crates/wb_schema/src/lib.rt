@@ -1,6 +1,7 @@
 //! The tables of the office in SQL: the texts that make them, and what each text means over them.
 #![tactic(auto)]
 
+mod beside;
 mod comparison;
 mod create;
 mod definitions;

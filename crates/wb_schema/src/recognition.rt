@@ -1,14 +1,18 @@
 //! Which tables a database has.
-ghost use Rattle.std.specs.Prelude.{◌≡◌, ◌↔◌, IsTrue};
-ghost use Rattle.wb_schema.specs.Tables.{empty_schema, office_schema};
+ghost use Rattle.std.specs.Prelude.{◌≡◌, ◌↔◌, IsTrue, [], ◌∷◌};
+ghost use Rattle.sqlite_catalog.specs.Listing.{automatic};
 ghost use Rattle.wb_schema.specs.Tables.{office, arch, builder, source_record, scratch_source, scratch_binary};
+ghost use Rattle.wb_schema.specs.Tables.{empty_schema, record_order, record_take, source_name, binary_source, binary_name};
+ghost use Rattle.wb_schema.specs.Among.{HasOffice, table_at};
+ghost use Rattle.wb_schema.specs.Recognition.{HasIndexed, HasTables};
 
+use crate::beside::{are_unreferred, find_table, never_acts};
 use crate::comparison::{
     are_indexes, is_free, is_keyed_by, is_keyed_by_id, is_table, refers_to_arch,
 };
 use crate::definitions::{index_on, key_on, number, optional, text};
 use crate::id_check::is_id_check;
-use sqlite_schema::schema::{Index, Kind, Schema, Table};
+use sqlite_schema::schema::{Kind, Schema, Table};
 
 /// Whether the schema has no table, no index and no view, so that [`crate::prepare`] can make the office's tables. The
 /// schema of a connection is `Connection::schema` (this project's own).
@@ -18,60 +22,109 @@ pub fn is_empty(schema: &Schema) -> bool
     schema.tables.is_empty() && schema.indexes.is_empty() && schema.views.is_empty()
 }
 
-/// Whether the schema is the one that [`crate::prepare`] makes: the office's tables and indexes, in the order in which
-/// it makes them, and no other table, index, view or trigger. What the rows of the tables are does not matter. The
-/// schema of a connection is `Connection::schema` (this project's own).
+/// Whether the schema has the office's six tables, `office`, `arch`, `builder`, `source_record`, `scratch_source` and
+/// `scratch_binary`, each as [`crate::prepare`] makes it and with the indexes that it makes. In which order and in which
+/// trees they are does not matter, nor what their rows are, and other tables, indexes and views may stand beside them.
+/// The answer is false where another index is on one of them, where a table of others refers to one of them, and where a
+/// foreign key of any table has an action (CASCADE, SET NULL, SET DEFAULT or RESTRICT). The schema of a connection is
+/// `Connection::schema` (this project's own).
 pub fn has_office_tables(schema: &Schema) -> bool
-    ensures value { IsTrue result ↔ (schema.now ≡ office_schema) }
+    ensures value { IsTrue result ↔ HasOffice schema.now }
 {
-    are_office_tables(schema.tables.as_slice())
-        && are_office_indexes(schema.indexes.as_slice())
-        && schema.views.is_empty()
+    has_tables(schema) && are_unreferred(schema) && never_acts(schema)
 }
 
-/// Whether these are the office's tables.
-fn are_office_tables(tables: &[Table]) -> bool
-    ensures value { IsTrue result ↔ (tables.now ≡ office_schema.tables) }
+/// Whether the schema has each of the office's tables, with its indexes alone.
+fn has_tables(schema: &Schema) -> bool
+    ensures value { IsTrue result ↔ HasTables schema.now }
 {
-    let [
-        office,
-        arch,
-        builder,
-        source_record,
-        scratch_source,
-        scratch_binary,
-    ] = tables
-    else {
+    has_office(schema)
+        && has_archs(schema)
+        && has_builders(schema)
+        && has_records(schema)
+        && has_sources(schema)
+        && has_binaries(schema)
+}
+
+/// Whether the schema has the table of the office, which has no index.
+fn has_office(schema: &Schema) -> bool
+    ensures value { IsTrue result ↔ HasIndexed schema.now office [] }
+{
+    let Some(table) = find_table(schema, "office") else {
         return false;
     };
-    is_office(office)
-        && is_arch(arch)
-        && is_builder(builder)
-        && is_source_record(source_record)
-        && is_scratch_source(scratch_source)
-        && is_scratch_binary(scratch_binary)
+    is_office(table) && are_indexes(schema.indexes.as_slice(), table.tree, &[])
 }
 
-/// Whether these are the office's indexes.
-fn are_office_indexes(indexes: &[Index]) -> bool
-    ensures value { IsTrue result ↔ (indexes.now ≡ office_schema.indexes) }
+/// Whether the schema has the table of architectures, with the index of its key alone.
+fn has_archs(schema: &Schema) -> bool
+    ensures value { IsTrue result ↔ HasIndexed schema.now arch (automatic arch 0 (1 ∷ []) 2 ∷ []) }
 {
-    let definitions = [
-        key_on("sqlite_autoindex_arch_1", 2, 1, &[1]),
-        key_on("sqlite_autoindex_builder_1", 4, 3, &[1, 2]),
-        key_on("sqlite_autoindex_source_record_1", 6, 5, &[1, 2]),
-        index_on("record_order", 7, 5, &[1, 3, 16, 2]),
-        index_on("record_take", 8, 5, &[10]),
-        index_on("source_name", 10, 9, &[2, 0]),
-        index_on("binary_source", 12, 11, &[4, 0]),
-        index_on("binary_name", 13, 11, &[2, 0]),
-    ];
-    are_indexes(indexes, &definitions)
+    let Some(table) = find_table(schema, "arch") else {
+        return false;
+    };
+    let definitions = [key_on("sqlite_autoindex_arch_1", &[1])];
+    is_arch(table) && are_indexes(schema.indexes.as_slice(), table.tree, &definitions)
 }
 
-/// Whether it is the table of the office.
+/// Whether the schema has the table of builders, with the index of its key alone.
+fn has_builders(schema: &Schema) -> bool
+    ensures value { IsTrue result
+        ↔ HasIndexed schema.now builder (automatic builder 0 (1 ∷ 2 ∷ []) 4 ∷ []) }
+{
+    let Some(table) = find_table(schema, "builder") else {
+        return false;
+    };
+    let definitions = [key_on("sqlite_autoindex_builder_1", &[1, 2])];
+    is_builder(table) && are_indexes(schema.indexes.as_slice(), table.tree, &definitions)
+}
+
+/// Whether the schema has the table of records, with its three indexes alone.
+fn has_records(schema: &Schema) -> bool
+    ensures value { IsTrue result
+        ↔ HasIndexed schema.now source_record
+        (automatic source_record 0 (1 ∷ 2 ∷ []) 6 ∷ record_order ∷ record_take ∷ []) }
+{
+    let Some(table) = find_table(schema, "source_record") else {
+        return false;
+    };
+    let definitions = [
+        key_on("sqlite_autoindex_source_record_1", &[1, 2]),
+        index_on("record_order", &[1, 3, 16, 2]),
+        index_on("record_take", &[10]),
+    ];
+    is_source_record(table) && are_indexes(schema.indexes.as_slice(), table.tree, &definitions)
+}
+
+/// Whether the schema has the table of the source packages of a merge, with its index alone.
+fn has_sources(schema: &Schema) -> bool
+    ensures value { IsTrue result ↔ HasIndexed schema.now scratch_source (source_name ∷ []) }
+{
+    let Some(table) = find_table(schema, "scratch_source") else {
+        return false;
+    };
+    let definitions = [index_on("source_name", &[2, 0])];
+    is_scratch_source(table) && are_indexes(schema.indexes.as_slice(), table.tree, &definitions)
+}
+
+/// Whether the schema has the table of the binary packages of a merge, with its two indexes alone.
+fn has_binaries(schema: &Schema) -> bool
+    ensures value { IsTrue result
+        ↔ HasIndexed schema.now scratch_binary (binary_source ∷ binary_name ∷ []) }
+{
+    let Some(table) = find_table(schema, "scratch_binary") else {
+        return false;
+    };
+    let definitions = [
+        index_on("binary_source", &[4, 0]),
+        index_on("binary_name", &[2, 0]),
+    ];
+    is_scratch_binary(table) && are_indexes(schema.indexes.as_slice(), table.tree, &definitions)
+}
+
+/// Whether it is the table of the office, in whatever tree.
 fn is_office(table: &Table) -> bool
-    ensures value { IsTrue result ↔ (table.now ≡ office) }
+    ensures value { IsTrue result ↔ (table.now ≡ table_at table.now.tree office) }
 {
     let columns = [
         optional("id", Kind::Integer),
@@ -79,33 +132,31 @@ fn is_office(table: &Table) -> bool
         number("handed"),
         number("accepted"),
     ];
-    is_table(table, "office", 0, &columns)
+    is_table(table, "office", &columns)
         && is_keyed_by_id(table)
         && is_id_check(&table.checks)
         && table.references.is_empty()
 }
 
-/// Whether it is the table of architectures.
+/// Whether it is the table of architectures, in whatever tree.
 fn is_arch(table: &Table) -> bool
-    ensures value { IsTrue result ↔ (table.now ≡ arch) }
+    ensures value { IsTrue result ↔ (table.now ≡ table_at table.now.tree arch) }
 {
     let columns = [text("name"), text("os"), text("cpu")];
-    is_table(table, "arch", 1, &columns) && is_keyed_by(table, &[1]) && is_free(table)
+    is_table(table, "arch", &columns) && is_keyed_by(table, &[1]) && is_free(table)
 }
 
-/// Whether it is the table of builders.
+/// Whether it is the table of builders, in whatever tree.
 fn is_builder(table: &Table) -> bool
-    ensures value { IsTrue result ↔ (table.now ≡ builder) }
+    ensures value { IsTrue result ↔ (table.now ≡ table_at table.now.tree builder) }
 {
     let columns = [text("name"), text("arch")];
-    is_table(table, "builder", 3, &columns)
-        && is_keyed_by(table, &[1, 2])
-        && refers_to_arch(table, 2)
+    is_table(table, "builder", &columns) && is_keyed_by(table, &[1, 2]) && refers_to_arch(table, 2)
 }
 
-/// Whether it is the table of records.
+/// Whether it is the table of records, in whatever tree.
 fn is_source_record(table: &Table) -> bool
-    ensures value { IsTrue result ↔ (table.now ≡ source_record) }
+    ensures value { IsTrue result ↔ (table.now ≡ table_at table.now.tree source_record) }
 {
     let columns = [
         text("arch"),
@@ -125,14 +176,14 @@ fn is_source_record(table: &Table) -> bool
         number("build_priority"),
         number("rank"),
     ];
-    is_table(table, "source_record", 5, &columns)
+    is_table(table, "source_record", &columns)
         && is_keyed_by(table, &[1, 2])
         && refers_to_arch(table, 1)
 }
 
-/// Whether it is the table of the source packages of a merge.
+/// Whether it is the table of the source packages of a merge, in whatever tree.
 fn is_scratch_source(table: &Table) -> bool
-    ensures value { IsTrue result ↔ (table.now ≡ scratch_source) }
+    ensures value { IsTrue result ↔ (table.now ≡ table_at table.now.tree scratch_source) }
 {
     let columns = [
         optional("seq", Kind::Integer),
@@ -145,12 +196,12 @@ fn is_scratch_source(table: &Table) -> bool
         text("depends"),
         text("depends_arch"),
     ];
-    is_table(table, "scratch_source", 9, &columns) && is_keyed_by_id(table) && is_free(table)
+    is_table(table, "scratch_source", &columns) && is_keyed_by_id(table) && is_free(table)
 }
 
-/// Whether it is the table of the binary packages of a merge.
+/// Whether it is the table of the binary packages of a merge, in whatever tree.
 fn is_scratch_binary(table: &Table) -> bool
-    ensures value { IsTrue result ↔ (table.now ≡ scratch_binary) }
+    ensures value { IsTrue result ↔ (table.now ≡ table_at table.now.tree scratch_binary) }
 {
     let columns = [
         optional("seq", Kind::Integer),
@@ -161,5 +212,5 @@ fn is_scratch_binary(table: &Table) -> bool
         number("number"),
         number("own"),
     ];
-    is_table(table, "scratch_binary", 11, &columns) && is_keyed_by_id(table) && is_free(table)
+    is_table(table, "scratch_binary", &columns) && is_keyed_by_id(table) && is_free(table)
 }

@@ -1,8 +1,7 @@
-//! The SQL texts that work on the office's tables, with what each means over them.
+//! The SQL texts that work on the office's tables, with what each means over every schema that has its table.
 
-ghost use Rattle.wb_sql.specs.Changes.{ReplacesInto, InsertsInto, DeletesFrom};
-ghost use Rattle.wb_sql.specs.Queries.{Asks};
-ghost use Rattle.wb_schema.specs.Tables.{office_schema, office, arch, builder, source_record};
+ghost use Rattle.wb_schema.specs.Tables.{office, arch, builder, source_record, scratch_source, scratch_binary};
+ghost use Rattle.wb_schema.specs.Among.{AsksAmong, ReplacesAmong, InsertsAmong, DeletesAmong};
 ghost use Rattle.wb_schema.specs.Statements.{record_row, has_record_key, record_of_key, queue_of, head_of};
 ghost use Rattle.wb_schema.specs.Statements.{record_of_take, held_by, records_of_arch, all_records};
 ghost use Rattle.wb_schema.specs.Statements.{arch_row, arch_of_name, all_archs, office_row, office_counts};
@@ -10,7 +9,7 @@ ghost use Rattle.wb_schema.specs.Statements.{builder_row, pair_of_builder, pairs
 
 /// Puts a record in place of the one with its key. The parameters are its 16 columns.
 pub fn put_record() -> &'static str
-    ensures { ReplacesInto office_schema result.now source_record record_row }
+    ensures { ReplacesAmong source_record result.now record_row }
 {
     "INSERT OR REPLACE INTO source_record(arch, source, state, version, priority, section, earlier, number, \
      holder, take, waits, depends, note, message, build_priority, rank) \
@@ -19,14 +18,14 @@ pub fn put_record() -> &'static str
 
 /// Takes out the record of an architecture and a source package.
 pub fn remove_record() -> &'static str
-    ensures { DeletesFrom office_schema result.now source_record has_record_key }
+    ensures { DeletesAmong source_record result.now has_record_key }
 {
     "DELETE FROM source_record WHERE arch = ?1 AND source = ?2"
 }
 
 /// The record of an architecture and a source package.
 pub fn record() -> &'static str
-    ensures { Asks office_schema result.now record_of_key }
+    ensures { AsksAmong source_record result.now record_of_key }
 {
     "SELECT arch, source, state, version, priority, section, earlier, number, holder, take, waits, \
      depends, note, message, build_priority, rank \
@@ -35,7 +34,7 @@ pub fn record() -> &'static str
 
 /// The records of an architecture in a state, by rank and then by source package.
 pub fn queue() -> &'static str
-    ensures { Asks office_schema result.now queue_of }
+    ensures { AsksAmong source_record result.now queue_of }
 {
     "SELECT arch, source, state, version, priority, section, earlier, number, holder, take, waits, \
      depends, note, message, build_priority, rank \
@@ -44,7 +43,7 @@ pub fn queue() -> &'static str
 
 /// The first record of an architecture in a state, by rank and then by source package.
 pub fn head() -> &'static str
-    ensures { Asks office_schema result.now head_of }
+    ensures { AsksAmong source_record result.now head_of }
 {
     "SELECT arch, source, state, version, priority, section, earlier, number, holder, take, waits, \
      depends, note, message, build_priority, rank \
@@ -53,7 +52,7 @@ pub fn head() -> &'static str
 
 /// The record with a take number.
 pub fn record_of_take() -> &'static str
-    ensures { Asks office_schema result.now record_of_take }
+    ensures { AsksAmong source_record result.now record_of_take }
 {
     "SELECT arch, source, state, version, priority, section, earlier, number, holder, take, waits, \
      depends, note, message, build_priority, rank \
@@ -62,7 +61,7 @@ pub fn record_of_take() -> &'static str
 
 /// The records that a builder holds, by architecture and then by source package.
 pub fn held_by() -> &'static str
-    ensures { Asks office_schema result.now held_by }
+    ensures { AsksAmong source_record result.now held_by }
 {
     "SELECT arch, source, state, version, priority, section, earlier, number, holder, take, waits, \
      depends, note, message, build_priority, rank \
@@ -71,7 +70,7 @@ pub fn held_by() -> &'static str
 
 /// The records of an architecture, by source package.
 pub fn records_of_arch() -> &'static str
-    ensures { Asks office_schema result.now records_of_arch }
+    ensures { AsksAmong source_record result.now records_of_arch }
 {
     "SELECT arch, source, state, version, priority, section, earlier, number, holder, take, waits, \
      depends, note, message, build_priority, rank \
@@ -80,7 +79,7 @@ pub fn records_of_arch() -> &'static str
 
 /// All records, by architecture and then by source package.
 pub fn all_records() -> &'static str
-    ensures { Asks office_schema result.now all_records }
+    ensures { AsksAmong source_record result.now all_records }
 {
     "SELECT arch, source, state, version, priority, section, earlier, number, holder, take, waits, \
      depends, note, message, build_priority, rank \
@@ -89,77 +88,77 @@ pub fn all_records() -> &'static str
 
 /// All architectures with their two words, by name.
 pub fn all_archs() -> &'static str
-    ensures { Asks office_schema result.now all_archs }
+    ensures { AsksAmong arch result.now all_archs }
 {
     "SELECT name, os, cpu FROM arch ORDER BY name"
 }
 
 /// The architecture of a name with its two words.
 pub fn arch_words() -> &'static str
-    ensures { Asks office_schema result.now arch_of_name }
+    ensures { AsksAmong arch result.now arch_of_name }
 {
     "SELECT name, os, cpu FROM arch WHERE name = ?1"
 }
 
 /// The pair of a builder and an architecture, if the builder was added for it.
 pub fn builder_pair() -> &'static str
-    ensures { Asks office_schema result.now pair_of_builder }
+    ensures { AsksAmong builder result.now pair_of_builder }
 {
     "SELECT name, arch FROM builder WHERE name = ?1 AND arch = ?2"
 }
 
 /// A builder with the architectures for which it was added, by architecture.
 pub fn builder_pairs() -> &'static str
-    ensures { Asks office_schema result.now pairs_of_builder }
+    ensures { AsksAmong builder result.now pairs_of_builder }
 {
     "SELECT name, arch FROM builder WHERE name = ?1 ORDER BY arch"
 }
 
 /// All builders with the architectures for which they were added, by builder and then by architecture.
 pub fn all_builders() -> &'static str
-    ensures { Asks office_schema result.now all_builders }
+    ensures { AsksAmong builder result.now all_builders }
 {
     "SELECT name, arch FROM builder ORDER BY name, arch"
 }
 
 /// The format and the two counts of the office.
 pub fn office_counts() -> &'static str
-    ensures { Asks office_schema result.now office_counts }
+    ensures { AsksAmong office result.now office_counts }
 {
     "SELECT format, handed, accepted FROM office"
 }
 
 /// The place of one source package of a merge, if there is one.
 pub fn first_scratch_source() -> &'static str
-    ensures { Asks office_schema result.now first_source }
+    ensures { AsksAmong scratch_source result.now first_source }
 {
     "SELECT seq FROM scratch_source LIMIT 1"
 }
 
 /// The place of one binary package of a merge, if there is one.
 pub fn first_scratch_binary() -> &'static str
-    ensures { Asks office_schema result.now first_binary }
+    ensures { AsksAmong scratch_binary result.now first_binary }
 {
     "SELECT seq FROM scratch_binary LIMIT 1"
 }
 
 /// Puts an architecture in. The parameters are its name and its two words.
 pub fn add_arch() -> &'static str
-    ensures { InsertsInto office_schema result.now arch arch_row }
+    ensures { InsertsAmong arch result.now arch_row }
 {
     "INSERT INTO arch(name, os, cpu) VALUES (?1, ?2, ?3)"
 }
 
 /// Puts a builder in, for an architecture. The parameters are the two names.
 pub fn add_builder() -> &'static str
-    ensures { InsertsInto office_schema result.now builder builder_row }
+    ensures { InsertsAmong builder result.now builder_row }
 {
     "INSERT INTO builder(name, arch) VALUES (?1, ?2)"
 }
 
 /// Puts the office's row in place of the one that is there. The parameters are its two counts.
 pub fn put_office() -> &'static str
-    ensures { ReplacesInto office_schema result.now office office_row }
+    ensures { ReplacesAmong office result.now office_row }
 {
     "INSERT OR REPLACE INTO office(id, format, handed, accepted) VALUES (1, 2, ?1, ?2)"
 }

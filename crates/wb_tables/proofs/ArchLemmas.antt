@@ -11,7 +11,9 @@ use Rattle.sqlite.specs.Order.{Row}
 use Rattle.sqlite_trees.specs.Tree.{IsAscending}
 use Rattle.sqlite_keyed.proofs.ListLemmas.{all_of, ascending_weaker, filter_all, filter_same, IsPermutation-same}
 use Rattle.wb_sql.specs.Queries.{Answers}
+use Rattle.wb_schema.specs.Among.{rows_in}
 use Rattle.wb_schema.specs.Statements as sql
+use Rattle.wb_schema.specs.Tables as tables
 use Rattle.deb_text.specs.Lists.{first_of}
 use Rattle.deb_text.specs.Text.{text_cmp}
 use Rattle.deb_text.proofs.KeyLemmas.{text_cmp_total, text_cmp-same, eq_by_cmp-same}
@@ -54,24 +56,24 @@ module _ (machine : Machine) (db : Database) (stands : StandsFor machine db) (an
 
   module _ {params : Row} where
     -- the words that are read from the answer, for one name
-    pub words_found : (name : List ℕ) (found : Option OsCpu) → params ≡ Text name ∷ [] → Answers sql.arch_of_name params (db.trees 1) answer → FirstWords answer found
+    pub words_found : (name : List ℕ) (found : Option OsCpu) → params ≡ Text name ∷ [] → Answers sql.arch_of_name params (rows_in db tables.arch) answer → FirstWords answer found
         → found ≡ finite.get machine.archs name
     words_found name found given a first =
         let chosen : filter (λ (arch : List ℕ × OsCpu). passes sql.arch_of_name (Text name ∷ []) (arch_cells arch)) known ≡ entry_at name (finite.get machine.archs name) =
         filter_same (λ (arch : List ℕ × OsCpu). passes sql.arch_of_name (Text name ∷ []) (arch_cells arch)) _ (name_passes name) known
         ∙ filter_at text_cmp text_cmp_total text_cmp-same name known (finite.entries_sorted machine.archs) ∙ ap (entry_at name) (sym (finite.get-entries machine.archs name)) in
         let is : answer ≡ map arch_cells (entry_at name (finite.get machine.archs name)) =
-        few_answer arch_cells sql.arch_of_name (Text name ∷ []) (skips_name (Text name ∷ [])) (λ x. refl) refl known (db.trees 1) answer stands.archs
-        (subst (λ p. Answers sql.arch_of_name p (db.trees 1) answer) given a)
+        few_answer arch_cells sql.arch_of_name (Text name ∷ []) (skips_name (Text name ∷ [])) (λ x. refl) refl known (rows_in db tables.arch) answer stands.archs
+        (subst (λ p. Answers sql.arch_of_name p (rows_in db tables.arch) answer) given a)
         (subst (λ (l : List (List ℕ × OsCpu)). (l ≡ []) ⊎ ((x : List ℕ × OsCpu) × (l ≡ x ∷ []))) (sym chosen) (few_at name (finite.get machine.archs name))) refl
         ∙ ap (map arch_cells) chosen in
         let same : first.0 ≡ entry_at name (finite.get machine.archs name) = map_injective arch_cells arch_cells-same first.0 _ (sym first.1 ∙ is) in
         first.2 ∙ ap (λ archs. option_map (λ (arch : List ℕ × OsCpu). arch.1) (first_of archs)) same ∙ words_at name (finite.get machine.archs name)
 
     -- its rows are those of architectures, if the office is consistent
-    pub name_readable : IsConsistent machine → Answers sql.arch_of_name params (db.trees 1) answer → AreArchs answer
+    pub name_readable : IsConsistent machine → Answers sql.arch_of_name params (rows_in db tables.arch) answer → AreArchs answer
     name_readable sound a =
-        whole_fits arch_cells sql.arch_of_name params (skips_name params) (λ x. refl) refl known (db.trees 1) answer stands.archs a IsReadableArch
+        whole_fits arch_cells sql.arch_of_name params (skips_name params) (λ x. refl) refl known (rows_in db tables.arch) answer stands.archs a IsReadableArch
         (all_from_in IsReadableArch known (kept_arch_readable machine sound)) refl
 
 -- ---- all architectures
@@ -80,7 +82,7 @@ skips_archs : (params : Row) → SkipsRowid sql.all_archs params
 skips_archs params [] = (refl, refl)
 skips_archs params (x ∷ row) = (refl, refl)
 
-module _ (machine : Machine) (db : Database) (stands : StandsFor machine db) (answer : List Row) (a : Answers sql.all_archs [] (db.trees 1) answer) where
+module _ (machine : Machine) (db : Database) (stands : StandsFor machine db) (answer : List Row) (a : Answers sql.all_archs [] (rows_in db tables.arch) answer) where
   abbrev archs : List (List ℕ × OsCpu)
   archs = finite.entries machine.archs
 
@@ -91,7 +93,7 @@ module _ (machine : Machine) (db : Database) (stands : StandsFor machine db) (an
 
   answer_is : answer ≡ map arch_cells archs
   answer_is =
-      rising_answer arch_cells sql.all_archs [] (skips_archs []) (λ x. refl) refl archs (db.trees 1) answer stands.archs a archs ascend
+      rising_answer arch_cells sql.all_archs [] (skips_archs []) (λ x. refl) refl archs (rows_in db tables.arch) answer stands.archs a archs ascend
       (IsPermutation-same _ _ (sym (filter_all (λ x. true) archs (all_of (λ x. true ≡ true) (λ x. refl) archs)))) refl
 
   -- the architectures that are read from the answer
@@ -101,11 +103,11 @@ module _ (machine : Machine) (db : Database) (stands : StandsFor machine db) (an
   -- the answer has rows of architectures alone, if the office is consistent
   pub archs_readable : IsConsistent machine → AreArchs answer
   archs_readable sound =
-      whole_fits arch_cells sql.all_archs [] (skips_archs []) (λ x. refl) refl archs (db.trees 1) answer stands.archs a IsReadableArch
+      whole_fits arch_cells sql.all_archs [] (skips_archs []) (λ x. refl) refl archs (rows_in db tables.arch) answer stands.archs a IsReadableArch
       (all_from_in IsReadableArch archs (kept_arch_readable machine sound)) refl
 
   -- and of architectures with their forms
   pub archs_formed : IsConsistent machine → AreRowsOf arch_cells (λ (x : List ℕ × OsCpu). IsArch x.0 x.1) answer
   archs_formed sound =
-      whole_fits arch_cells sql.all_archs [] (skips_archs []) (λ x. refl) refl archs (db.trees 1) answer stands.archs a (λ x. IsArch x.0 x.1)
+      whole_fits arch_cells sql.all_archs [] (skips_archs []) (λ x. refl) refl archs (rows_in db tables.arch) answer stands.archs a (λ x. IsArch x.0 x.1)
       (all_from_in (λ x. IsArch x.0 x.1) archs (kept_arch_formed machine sound)) refl

@@ -19,7 +19,9 @@ use Rattle.deb_text.specs.Text.{text_cmp, pair_cmp}
 use Rattle.deb_text.proofs.KeyLemmas.{text_cmp_total, text_cmp-same, pair_cmp_total, pair_cmp-same, eq_by_cmp-same}
 use Rattle.deb_text.proofs.SortedLemmas.{IsIn-filter}
 use Rattle.wb_sql.specs.Queries.{Answers}
+use Rattle.wb_schema.specs.Among.{rows_in}
 use Rattle.wb_schema.specs.Statements as sql
+use Rattle.wb_schema.specs.Tables as tables
 use Rattle.wb_states.specs.Machine.{Key, Machine, IsConsistent, archs_of}
 use Rattle.wb_rows.specs.Cells.{builder_cells}
 use Rattle.wb_rows.proofs.CellsLemmas.{builder_cells-same}
@@ -197,17 +199,17 @@ module _ (machine : Machine) (db : Database) (stands : StandsFor machine db) (an
 
   module _ {params : Row} where
     -- a builder and an architecture, if the builder was added for it
-    pub pair_found : (key : Key) → params ≡ key_params key → Answers sql.pair_of_builder params (db.trees 3) answer → has_row answer ≡ set.contains machine.builders key
+    pub pair_found : (key : Key) → params ≡ key_params key → Answers sql.pair_of_builder params (rows_in db tables.builder) answer → has_row answer ≡ set.contains machine.builders key
     pair_found key given a =
         one_there key (set.contains machine.builders key) answer
-        (few_answer builder_cells sql.pair_of_builder (key_params key) (skips_pair (key_params key)) (λ x. refl) refl kept (db.trees 3) answer stands.builders
-        (subst (λ p. Answers sql.pair_of_builder p (db.trees 3) answer) given a)
+        (few_answer builder_cells sql.pair_of_builder (key_params key) (skips_pair (key_params key)) (λ x. refl) refl kept (rows_in db tables.builder) answer stands.builders
+        (subst (λ p. Answers sql.pair_of_builder p (rows_in db tables.builder) answer) given a)
         (subst (λ (l : List Key). (l ≡ []) ⊎ ((x : Key) × (l ≡ x ∷ []))) (sym (pair_chosen key))
         (few_mapped (λ (e : Key × Unit {0}). e.0) (entry_at key (marked (set.contains machine.builders key))) (few_at key (marked (set.contains machine.builders key))))) refl
         ∙ ap (map builder_cells) (pair_chosen key))
 
     -- the architectures that are read from the rows of a builder
-    pub archs_found : IsConsistent machine → (builder : List ℕ) (archs : List (List ℕ)) → params ≡ Text builder ∷ [] → Answers sql.pairs_of_builder params (db.trees 3) answer → HaveArchs answer archs
+    pub archs_found : IsConsistent machine → (builder : List ℕ) (archs : List (List ℕ)) → params ≡ Text builder ∷ [] → Answers sql.pairs_of_builder params (rows_in db tables.builder) answer → HaveArchs answer archs
         → archs ≡ archs_of machine builder
     archs_found sound builder archs given a have =
         let ascends = second_ascends machine builder in
@@ -215,13 +217,13 @@ module _ (machine : Machine) (db : Database) (stands : StandsFor machine db) (an
         ascending_with (λ pair. Unit {0}) (λ a b. text_cmp a.1 b.1 ≡ Less) _ (λ a b here there less. text_order a.1 b.1 ∙ less) (filter (is_of builder) kept)
         (all_from_in (λ pair. Unit {0}) (filter (is_of builder) kept) (λ pair within. tt)) ascends in
         let is : answer ≡ map builder_cells (filter (is_of builder) kept) =
-        rising_answer builder_cells sql.pairs_of_builder (Text builder ∷ []) (skips_builder (Text builder ∷ [])) (λ x. refl) refl kept (db.trees 3) answer stands.builders
-        (subst (λ p. Answers sql.pairs_of_builder p (db.trees 3) answer) given a)
+        rising_answer builder_cells sql.pairs_of_builder (Text builder ∷ []) (skips_builder (Text builder ∷ [])) (λ x. refl) refl kept (rows_in db tables.builder) answer stands.builders
+        (subst (λ p. Answers sql.pairs_of_builder p (rows_in db tables.builder) answer) given a)
         (filter (is_of builder) kept) up (IsPermutation-same _ _ (filter_same (is_of builder) _ (λ pair. sym (builder_passes builder pair)) kept)) refl in
         let same : have.0 ≡ filter (is_of builder) kept = map_injective builder_cells builder_cells-same have.0 _ (sym have.1 ∙ is) in
         have.2 ∙ ap (map (λ (pair : Key). pair.1)) same ∙ seconds_are machine sound builder
 
     -- its rows are those of builders, if the office is consistent
-    pub builder_readable : IsConsistent machine → Answers sql.pairs_of_builder params (db.trees 3) answer → ArePairs answer
+    pub builder_readable : IsConsistent machine → Answers sql.pairs_of_builder params (rows_in db tables.builder) answer → ArePairs answer
     builder_readable sound a =
-        whole_fits builder_cells sql.pairs_of_builder params (skips_builder params) (λ x. refl) refl kept (db.trees 3) answer stands.builders a IsReadablePair (pairs_readable machine sound) refl
+        whole_fits builder_cells sql.pairs_of_builder params (skips_builder params) (λ x. refl) refl kept (rows_in db tables.builder) answer stands.builders a IsReadablePair (pairs_readable machine sound) refl

@@ -1,7 +1,6 @@
 -- What a statement on one of the office's tables makes of the state for which the database stands.
 use Rattle.std.specs.Prelude.{⊤}
-use Rattle.std.proofs.Common.{◌≡◌, ◌≢◌, ℕ, ℤ, pos, false, not, List, [], ◌∷◌, map, filter, drop, None, Result, Ok, Err, IfErr, OnOk, refl, arith, sym, ap, subst, ◌∙◌, IsPermutation}
-use Rattle.std.specs.List.{AllByRecursion}
+use Rattle.std.proofs.Common.{◌≡◌, ◌≢◌, ℕ, ℤ, pos, false, not, List, [], ◌∷◌, length, map, filter, drop, None, Result, Ok, Err, IfErr, OnOk, refl, arith, sym, ap, subst, ◌∙◌, IsPermutation}
 use Rattle.std.specs.FinMap as finite
 use Rattle.std.specs.FinSet as set
 use Rattle.std.proofs.lemmas.List.Sorted.{IsPermutation-sym, IsPermutation-cons, IsPermutation-trans, IsPermutation-map}
@@ -24,20 +23,22 @@ use Rattle.wb_states.specs.declared.record.Record.{Record}
 use Rattle.wb_states.specs.Machine.{Machine}
 use Rattle.wb_states.specs.Queue.{Entry}
 use Rattle.wb_sql.specs.Calls.{RunsStatement}
-use Rattle.wb_sql.specs.Changes.{ReplacesInto, InsertsInto, DeletesFrom, Replaces, Inserts, Deletes, SetsTable}
+use Rattle.wb_sql.specs.Changes.{Replaces, Inserts, Deletes, SetsTable}
 use Rattle.wb_sql.specs.Rows.{cells_of, apart, upserted, without, IsStored}
 use Rattle.wb_sql.specs.Statements.{IsWriting}
 use Rattle.wb_sql.specs.Transactions.{IsKeptOrUndone}
 use Rattle.wb_sql.proofs.CallLemmas.{on_ok}
 use Rattle.wb_sql.proofs.WriteLemmas.{replaces_writes, inserts_writes, deletes_writes}
-use Rattle.wb_schema.specs.Tables.{office, arch, builder, source_record, office_schema}
+use Rattle.wb_schema.specs.Tables.{office, arch, builder, source_record, scratch_source, scratch_binary}
+use Rattle.wb_schema.specs.Among.{HasTable, HasOffice, ReplacesAmong, InsertsAmong, DeletesAmong, table_in, tree_named, rows_in}
 use Rattle.wb_schema.specs.Statements.{office_row as office_terms, arch_row as arch_terms, builder_row as builder_terms, record_row as record_terms, has_record_key}
 use Rattle.wb_schema.proofs.RecordLemmas.{arch_typed, builder_typed}
 use Rattle.wb_rows.specs.Cells.{record_cells, arch_cells, builder_cells, number}
 use Rattle.wb_tables.specs.Stands.{HoldsRows, StandsFor, office_row, record_rows, arch_rows, builder_rows, builder_pairs}
 use Rattle.wb_tables.specs.Calls.{Becomes, Changes, FailsToWrite}
 use Rattle.wb_tables.proofs.MapLemmas.{entries-insert, entries-added, items-added}
-use Rattle.wb_tables.proofs.ChangeRowLemmas.{begins_with, passes, cells_without, cells_apart, records_without, office_replaced, office_typed, entry_typed}
+use Rattle.wb_tables.proofs.ChangeRowLemmas.{begins_with, passes, cells_without, cells_apart, records_without, office_replaced, office_typed, entry_typed, typed_at}
+use Rattle.wb_tables.proofs.ApartLemmas.{other_rows, own_rows}
 
 -- ---- any statement that writes
 
@@ -47,7 +48,7 @@ weaker_err (Err e) follows h = follows e h
 
 -- what a statement that writes makes of the state
 pub statement_changes : {S A : Type 0} {g : Ghosts S} {sql : List ℕ} {params : Row} {Allows : Machine → Type 0} {after : Machine → Machine} {old new : Held S} {r : Result A Error} (Done : State → State → Type 0)
-    → IsWriting office_schema sql
+    → ((schema : Schema) → HasOffice schema → IsWriting schema sql)
     → ((machine : Machine) → StandsFor machine (state g old).now → Allows machine → Done (state g old) (state g new) → Becomes (after machine) (state g old) (state g new))
     → RunsStatement g sql params old new r → (HasCleanDisk (state g new) → OnOk r (Done (state g old) (state g new))) → Changes g Allows after old new r
 statement_changes {g = g} {sql = sql} {params = params} {old = old} {new = new} {r = r} Done writes makes ran ok = record {
@@ -55,32 +56,36 @@ statement_changes {g = g} {sql = sql} {params = params} {old = old} {new = new} 
   err = λ clean inside. weaker_err {P = λ e. Executes sql params (state g old) (state g new) (Err e) × IsKeptOrUndone (state g old) (state g new)} {Q = FailsToWrite (state g old) (state g new)} r
       (λ e failed. ((sql, params, failed.0), failed.1)) (ran.err clean inside);
   ended = ran.ended;
-  survives = survives_weaker (state g old) (state g new) _ _ (λ clean db none same. none (subst (λ s. IsWriting s sql) (sym same) writes)) ran.survives;
+  survives = survives_weaker (state g old) (state g new) _ _ (λ clean db none has. none (writes old.schema has)) ran.survives;
 }
 
 -- ---- the other tables
 
-module _ {machine : Machine} {old new : State} (stands : StandsFor machine old.now) (table : Table) (rows : List Row) (made : SetsTable table rows old new) where
-  others : AllByRecursion (λ t. t.tree ≢ table.tree → new.now.trees t.tree ≡ old.now.trees t.tree) office_schema.tables
-  others = subst (λ (s : Schema). AllByRecursion (λ t. t.tree ≢ table.tree → new.now.trees t.tree ≡ old.now.trees t.tree) s.tables) stands.schema_is made.tables
+module _ {machine : Machine} {old new : State} (stands : StandsFor machine old.now) (table : Table) (rows : List Row) (is : HasTable old.now.schema table) (made : SetsTable table rows old new) where
+  still_has : HasOffice new.now.schema
+  still_has = subst HasOffice (sym made.schema) stands.has
 
-  still_counts : 0 ≢ table.tree → new.now.trees 0 ≡ office_row machine ∷ []
-  still_counts other = others.0 other ∙ stands.counts
+  still_counts : length office.columns ≢ length table.columns → rows_in new.now office ≡ office_row machine ∷ []
+  still_counts differ = other_rows old new table rows office is made stands.has.office_is differ ∙ stands.counts
 
-  still_archs : 1 ≢ table.tree → HoldsRows (arch_rows machine) (new.now.trees 1)
-  still_archs other = subst (HoldsRows (arch_rows machine)) (sym (others.1.0 other)) stands.archs
+  still_archs : length arch.columns ≢ length table.columns → HoldsRows (arch_rows machine) (rows_in new.now arch)
+  still_archs differ = subst (HoldsRows (arch_rows machine)) (sym (other_rows old new table rows arch is made stands.has.arch_is differ)) stands.archs
 
-  still_builders : 3 ≢ table.tree → HoldsRows (builder_rows machine) (new.now.trees 3)
-  still_builders other = subst (HoldsRows (builder_rows machine)) (sym (others.1.1.0 other)) stands.builders
+  still_builders : length builder.columns ≢ length table.columns → HoldsRows (builder_rows machine) (rows_in new.now builder)
+  still_builders differ = subst (HoldsRows (builder_rows machine)) (sym (other_rows old new table rows builder is made stands.has.builder_is differ)) stands.builders
 
-  still_records : 5 ≢ table.tree → HoldsRows (record_rows machine) (new.now.trees 5)
-  still_records other = subst (HoldsRows (record_rows machine)) (sym (others.1.1.1.0 other)) stands.records
+  still_records : length source_record.columns ≢ length table.columns → HoldsRows (record_rows machine) (rows_in new.now source_record)
+  still_records differ = subst (HoldsRows (record_rows machine)) (sym (other_rows old new table rows source_record is made stands.has.record_is differ)) stands.records
 
-  still_sources : 9 ≢ table.tree → new.now.trees 9 ≡ []
-  still_sources other = others.1.1.1.1.0 other ∙ stands.sources
+  still_sources : length scratch_source.columns ≢ length table.columns → rows_in new.now scratch_source ≡ []
+  still_sources differ = other_rows old new table rows scratch_source is made stands.has.source_is differ ∙ stands.sources
 
-  still_binaries : 11 ≢ table.tree → new.now.trees 11 ≡ []
-  still_binaries other = others.1.1.1.1.1.0 other ∙ stands.binaries
+  still_binaries : length scratch_binary.columns ≢ length table.columns → rows_in new.now scratch_binary ≡ []
+  still_binaries differ = other_rows old new table rows scratch_binary is made stands.has.binary_is differ ∙ stands.binaries
+
+-- the rows of an office's table, after a change that kept the schema
+moved : (old new : State) (t : Table) (columns : List Row) → new.now.schema ≡ old.now.schema → HoldsRows columns (new.now.trees (tree_named old.now.schema t.name)) → HoldsRows columns (rows_in new.now t)
+moved old new t columns same = subst (λ (s : Schema). HoldsRows columns (new.now.trees (tree_named s t.name))) (sym same)
 
 -- rows beside which one more is put
 rows_beside : {X : Type 0} (columns : X → Row) (x : X) (xs ys : List X) (left : List Row) (rows : List Row) → IsPermutation (x ∷ xs) ys → IsPermutation (map columns xs) left → IsStored rows
@@ -94,115 +99,135 @@ rows_beside columns x xs ys left rows same kept stored put = record {
 -- ---- each statement
 
 module _ (sql : List ℕ) (machine : Machine) (old new : State) (stands : StandsFor machine old.now) where
+  abbrev schema : Schema
+  schema = old.now.schema
+
   -- the office's row with these counts
-  pub counts_put : (handed accepted : ℕ) → ReplacesInto office_schema sql office office_terms → Replaces sql (number handed ∷ number accepted ∷ []) old new
+  pub counts_put : (handed accepted : ℕ) → ReplacesAmong office sql office_terms → Replaces sql (number handed ∷ number accepted ∷ []) old new
       → Becomes (record machine { handed = handed; accepted = accepted }) old new
   counts_put handed accepted text does =
       let after : Machine = record machine { handed = handed; accepted = accepted } in
-      let stored : IsStored (old.now.trees 0) = subst IsStored (sym stands.counts) (record { whole = refl; rising = (tt, tt) }) in
-      let made = (does office office_terms (subst (λ s. ReplacesInto s sql office office_terms) (sym stands.schema_is) text) stored (office_typed after)).0 in
-      let rows = upserted old.now.schema office (office_row after) (old.now.trees 0) in
-      let row : rows ≡ office_row after ∷ [] =
-      ap (λ s. upserted s office (office_row after) (old.now.trees 0)) stands.schema_is ∙ ap (upserted office_schema office (office_row after)) stands.counts ∙ office_replaced machine after in
+      let stored : IsStored (rows_in old.now office) = subst IsStored (sym stands.counts) (record { whole = refl; rising = (tt, tt) }) in
+      let tree = tree_named schema office.name in
+      let typed = typed_at tree office (office_row after) (office_typed after) in
+      let made = (does (table_in schema office) office_terms (text schema tree stands.has.office_is stands.has.quiet) stored typed).0 in
+      let rows = upserted schema (table_in schema office) (office_row after) (rows_in old.now office) in
+      let row : rows ≡ office_row after ∷ [] = ap (upserted schema (table_in schema office) (office_row after)) stands.counts ∙ office_replaced schema stands.has machine after in
       record {
         stands = record {
-          schema_is = made.schema ∙ stands.schema_is;
-          counts = made.rows_are ∙ row;
-          archs = still_archs stands office rows made (λ e. omega (arith, e));
-          builders = still_builders stands office rows made (λ e. omega (arith, e));
-          records = still_records stands office rows made (λ e. omega (arith, e));
-          sources = still_sources stands office rows made (λ e. omega (arith, e));
-          binaries = still_binaries stands office rows made (λ e. omega (arith, e));
+          has = still_has stands (table_in schema office) rows stands.has.office_is made;
+          counts = own_rows old new office rows made ∙ row;
+          archs = still_archs stands (table_in schema office) rows stands.has.office_is made (λ e. omega (arith, e));
+          builders = still_builders stands (table_in schema office) rows stands.has.office_is made (λ e. omega (arith, e));
+          records = still_records stands (table_in schema office) rows stands.has.office_is made (λ e. omega (arith, e));
+          sources = still_sources stands (table_in schema office) rows stands.has.office_is made (λ e. omega (arith, e));
+          binaries = still_binaries stands (table_in schema office) rows stands.has.office_is made (λ e. omega (arith, e));
         };
+        schema_is = made.schema;
         shown = made.shown;
         marks = made.marks;
       }
 
   -- one more architecture
-  pub arch_put : (name : List ℕ) (words : OsCpu) → InsertsInto office_schema sql arch arch_terms → finite.get machine.archs name ≡ None → Inserts sql (arch_cells (name, words)) old new
+  pub arch_put : (name : List ℕ) (words : OsCpu) → InsertsAmong arch sql arch_terms → finite.get machine.archs name ≡ None → Inserts sql (arch_cells (name, words)) old new
       → Becomes (record machine { archs = finite.insert machine.archs name words }) old new
   arch_put name words text unknown does =
-      let put = does arch arch_terms (subst (λ s. InsertsInto s sql arch arch_terms) (sym stands.schema_is) text) stands.archs.stored (arch_typed name words.os words.cpu) in
+      let tree = tree_named schema arch.name in
+      let typed = typed_at tree arch (Null ∷ arch_cells (name, words)) (arch_typed name words.os words.cpu) in
+      let put = does (table_in schema arch) arch_terms (text schema tree stands.has.arch_is stands.has.quiet) stands.archs.stored typed in
       let made = put.0 in
+      let after = finite.insert machine.archs name words in
+      let holds : HoldsRows (map arch_cells (finite.entries after)) (new.now.trees tree) =
+      rows_beside arch_cells (name, words) (finite.entries machine.archs) (finite.entries after) (cells_of (rows_in old.now arch)) (new.now.trees tree)
+      (entries-added text_cmp_total text_cmp-same machine.archs name words unknown) stands.archs.same put.1 put.2 in
       record {
         stands = record {
-          schema_is = made.schema ∙ stands.schema_is;
-          counts = still_counts stands arch _ made (λ e. omega (arith, e));
-          archs = rows_beside arch_cells (name, words) (finite.entries machine.archs) (finite.entries (finite.insert machine.archs name words)) (cells_of (old.now.trees 1)) (new.now.trees 1)
-              (entries-added text_cmp_total text_cmp-same machine.archs name words unknown) stands.archs.same put.1 put.2;
-          builders = still_builders stands arch _ made (λ e. omega (arith, e));
-          records = still_records stands arch _ made (λ e. omega (arith, e));
-          sources = still_sources stands arch _ made (λ e. omega (arith, e));
-          binaries = still_binaries stands arch _ made (λ e. omega (arith, e));
+          has = still_has stands (table_in schema arch) _ stands.has.arch_is made;
+          counts = still_counts stands (table_in schema arch) _ stands.has.arch_is made (λ e. omega (arith, e));
+          archs = moved old new arch _ made.schema holds;
+          builders = still_builders stands (table_in schema arch) _ stands.has.arch_is made (λ e. omega (arith, e));
+          records = still_records stands (table_in schema arch) _ stands.has.arch_is made (λ e. omega (arith, e));
+          sources = still_sources stands (table_in schema arch) _ stands.has.arch_is made (λ e. omega (arith, e));
+          binaries = still_binaries stands (table_in schema arch) _ stands.has.arch_is made (λ e. omega (arith, e));
         };
+        schema_is = made.schema;
         shown = made.shown;
         marks = made.marks;
       }
 
   -- one more pair of a builder and an architecture
-  pub builder_put : (name of : List ℕ) → InsertsInto office_schema sql builder builder_terms → set.contains machine.builders (name, of) ≡ false → Inserts sql (builder_cells (name, of)) old new
+  pub builder_put : (name of : List ℕ) → InsertsAmong builder sql builder_terms → set.contains machine.builders (name, of) ≡ false → Inserts sql (builder_cells (name, of)) old new
       → Becomes (record machine { builders = set.insert machine.builders (name, of) }) old new
   builder_put name of text unknown does =
       let after : Machine = record machine { builders = set.insert machine.builders (name, of) } in
-      let put = does builder builder_terms (subst (λ s. InsertsInto s sql builder builder_terms) (sym stands.schema_is) text) stands.builders.stored (builder_typed name of) in
+      let tree = tree_named schema builder.name in
+      let typed = typed_at tree builder (Null ∷ builder_cells (name, of)) (builder_typed name of) in
+      let put = does (table_in schema builder) builder_terms (text schema tree stands.has.builder_is stands.has.quiet) stands.builders.stored typed in
       let made = put.0 in
+      let holds : HoldsRows (builder_rows after) (new.now.trees tree) =
+      rows_beside builder_cells (name, of) (builder_pairs machine) (builder_pairs after) (cells_of (rows_in old.now builder)) (new.now.trees tree)
+      (items-added pair_cmp_total pair_cmp-same machine.builders (name, of) unknown) stands.builders.same put.1 put.2 in
       record {
         stands = record {
-          schema_is = made.schema ∙ stands.schema_is;
-          counts = still_counts stands builder _ made (λ e. omega (arith, e));
-          archs = still_archs stands builder _ made (λ e. omega (arith, e));
-          builders = rows_beside builder_cells (name, of) (builder_pairs machine) (builder_pairs after) (cells_of (old.now.trees 3)) (new.now.trees 3)
-              (items-added pair_cmp_total pair_cmp-same machine.builders (name, of) unknown) stands.builders.same put.1 put.2;
-          records = still_records stands builder _ made (λ e. omega (arith, e));
-          sources = still_sources stands builder _ made (λ e. omega (arith, e));
-          binaries = still_binaries stands builder _ made (λ e. omega (arith, e));
+          has = still_has stands (table_in schema builder) _ stands.has.builder_is made;
+          counts = still_counts stands (table_in schema builder) _ stands.has.builder_is made (λ e. omega (arith, e));
+          archs = still_archs stands (table_in schema builder) _ stands.has.builder_is made (λ e. omega (arith, e));
+          builders = moved old new builder _ made.schema holds;
+          records = still_records stands (table_in schema builder) _ stands.has.builder_is made (λ e. omega (arith, e));
+          sources = still_sources stands (table_in schema builder) _ stands.has.builder_is made (λ e. omega (arith, e));
+          binaries = still_binaries stands (table_in schema builder) _ stands.has.builder_is made (λ e. omega (arith, e));
         };
+        schema_is = made.schema;
         shown = made.shown;
         marks = made.marks;
       }
 
   -- other rows of records
-  records_made : (after : finite.FinMap pair_cmp Record) (rows : List Row) → SetsTable source_record rows old new → HoldsRows (map record_cells (finite.entries after)) (new.now.trees 5)
-      → Becomes (record machine { records = after }) old new
-  records_made after rows made holds = record {
-    stands = record {
-      schema_is = made.schema ∙ stands.schema_is;
-      counts = still_counts stands source_record rows made (λ e. omega (arith, e));
-      archs = still_archs stands source_record rows made (λ e. omega (arith, e));
-      builders = still_builders stands source_record rows made (λ e. omega (arith, e));
-      records = holds;
-      sources = still_sources stands source_record rows made (λ e. omega (arith, e));
-      binaries = still_binaries stands source_record rows made (λ e. omega (arith, e));
-    };
-    shown = made.shown;
-    marks = made.marks;
-  }
+  records_made : (after : finite.FinMap pair_cmp Record) (rows : List Row) → SetsTable (table_in schema source_record) rows old new
+      → HoldsRows (map record_cells (finite.entries after)) (new.now.trees (tree_named schema source_record.name)) → Becomes (record machine { records = after }) old new
+  records_made after rows made holds =
+      record {
+        stands = record {
+          has = still_has stands (table_in schema source_record) rows stands.has.record_is made;
+          counts = still_counts stands (table_in schema source_record) rows stands.has.record_is made (λ e. omega (arith, e));
+          archs = still_archs stands (table_in schema source_record) rows stands.has.record_is made (λ e. omega (arith, e));
+          builders = still_builders stands (table_in schema source_record) rows stands.has.record_is made (λ e. omega (arith, e));
+          records = moved old new source_record _ made.schema holds;
+          sources = still_sources stands (table_in schema source_record) rows stands.has.record_is made (λ e. omega (arith, e));
+          binaries = still_binaries stands (table_in schema source_record) rows stands.has.record_is made (λ e. omega (arith, e));
+        };
+        schema_is = made.schema;
+        shown = made.shown;
+        marks = made.marks;
+      }
 
   -- a record less
-  pub record_removed : (of source : List ℕ) → DeletesFrom office_schema sql source_record has_record_key → Deletes sql (Text of ∷ Text source ∷ []) old new
+  pub record_removed : (of source : List ℕ) → DeletesAmong source_record sql has_record_key → Deletes sql (Text of ∷ Text source ∷ []) old new
       → Becomes (record machine { records = finite.remove machine.records (of, source) }) old new
   record_removed of source text does =
-      let put = does source_record has_record_key (subst (λ s. DeletesFrom s sql source_record has_record_key) (sym stands.schema_is) text) stands.records.stored in
+      let put = does (table_in schema source_record) has_record_key (text schema (tree_named schema source_record.name) stands.has.record_is stands.has.quiet) stands.records.stored in
       let columns = map record_cells (finite.entries (finite.remove machine.records (of, source))) in
-      let rows = without (passes of source) (old.now.trees 5) in
-      let same : IsPermutation columns (cells_of rows) = subst (IsPermutation columns) (sym (cells_without of source (old.now.trees 5))) (records_without machine of source (cells_of (old.now.trees 5)) stands.records.same) in
+      let was = rows_in old.now source_record in
+      let rows = without (passes of source) was in
+      let same : IsPermutation columns (cells_of rows) = subst (IsPermutation columns) (sym (cells_without of source was)) (records_without machine of source (cells_of was) stands.records.same) in
       records_made (finite.remove machine.records (of, source)) rows put.0
       (record { stored = put.1; same = subst (λ all. IsPermutation columns (cells_of all)) (sym put.0.rows_are) same })
 
   -- a record in place of the one with its key
-  pub record_put : (of source : List ℕ) (current : Record) → ReplacesInto office_schema sql source_record record_terms → Replaces sql (record_cells ((of, source), current)) old new
+  pub record_put : (of source : List ℕ) (current : Record) → ReplacesAmong source_record sql record_terms → Replaces sql (record_cells ((of, source), current)) old new
       → Becomes (record machine { records = finite.insert machine.records (of, source) current }) old new
   record_put of source current text does =
       let entry : Entry = ((of, source), current) in
-      let put = does source_record record_terms (subst (λ s. ReplacesInto s sql source_record record_terms) (sym stands.schema_is) text) stands.records.stored (entry_typed entry) in
-      let rows = old.now.trees 5 in
+      let tree = tree_named schema source_record.name in
+      let typed = typed_at tree source_record (Null ∷ record_cells entry) (entry_typed entry) in
+      let put = does (table_in schema source_record) record_terms (text schema tree stands.has.record_is stands.has.quiet) stands.records.stored typed in
+      let rows = rows_in old.now source_record in
       let beside = filter (λ columns. not (begins_with of source columns)) (cells_of rows) in
-      let apart_is : cells_of (apart old.now.schema source_record (Null ∷ record_cells entry) rows) ≡ beside =
-      ap (λ s. cells_of (apart s source_record (Null ∷ record_cells entry) rows)) stands.schema_is ∙ cells_apart of source (drop 2 (record_cells entry)) rows stands.records.stored in
+      let apart_is : cells_of (apart schema (table_in schema source_record) (Null ∷ record_cells entry) rows) ≡ beside = cells_apart schema stands.has of source (drop 2 (record_cells entry)) rows stands.records.stored in
       records_made (finite.insert machine.records (of, source) current) _ put.0
-      (rows_beside record_cells entry (finite.entries (finite.remove machine.records (of, source))) (finite.entries (finite.insert machine.records (of, source) current)) beside (new.now.trees 5)
+      (rows_beside record_cells entry (finite.entries (finite.remove machine.records (of, source))) (finite.entries (finite.insert machine.records (of, source) current)) beside (new.now.trees tree)
       (entries-insert pair_cmp_total pair_cmp-same machine.records (of, source) current) (records_without machine of source (cells_of rows) stands.records.same) put.1
-      (subst (λ left. IsPermutation (record_cells entry ∷ left) (cells_of (new.now.trees 5))) apart_is put.2))
+      (subst (λ left. IsPermutation (record_cells entry ∷ left) (cells_of (new.now.trees tree))) apart_is put.2))
 
 -- ---- the parameters
 
@@ -217,37 +242,37 @@ number_bound value cast kept is same = ap bound_value is ∙ ap Int same
 -- ---- each call
 
 module _ {S A : Type 0} {g : Ghosts S} {sql : List ℕ} {params : Row} {old new : Held S} {r : Result A Error} where
-  pub counts_change : (handed accepted : ℕ) → ReplacesInto office_schema sql office office_terms → params ≡ number handed ∷ number accepted ∷ [] → RunsStatement g sql params old new r
+  pub counts_change : (handed accepted : ℕ) → ReplacesAmong office sql office_terms → params ≡ number handed ∷ number accepted ∷ [] → RunsStatement g sql params old new r
       → (HasCleanDisk (state g new) → OnOk r (Replaces sql params (state g old) (state g new)))
       → Changes g (λ _. ⊤) (λ machine. record machine { handed = handed; accepted = accepted }) old new r
   counts_change handed accepted text is =
-      statement_changes (Replaces sql params) (replaces_writes office_schema sql office office_terms text)
+      statement_changes (Replaces sql params) (λ schema has. replaces_writes schema sql (table_in schema office) office_terms (text schema (tree_named schema office.name) has.office_is has.quiet))
       (λ machine stands allows does. counts_put sql machine (state g old) (state g new) stands handed accepted text (subst (λ p. Replaces sql p (state g old) (state g new)) is does))
 
-  pub arch_change : (name : List ℕ) (words : OsCpu) → InsertsInto office_schema sql arch arch_terms → params ≡ arch_cells (name, words) → RunsStatement g sql params old new r
+  pub arch_change : (name : List ℕ) (words : OsCpu) → InsertsAmong arch sql arch_terms → params ≡ arch_cells (name, words) → RunsStatement g sql params old new r
       → (HasCleanDisk (state g new) → OnOk r (Inserts sql params (state g old) (state g new)))
       → Changes g (λ machine. finite.get machine.archs name ≡ None) (λ machine. record machine { archs = finite.insert machine.archs name words }) old new r
   arch_change name words text is =
-      statement_changes (Inserts sql params) (inserts_writes office_schema sql arch arch_terms text)
+      statement_changes (Inserts sql params) (λ schema has. inserts_writes schema sql (table_in schema arch) arch_terms (text schema (tree_named schema arch.name) has.arch_is has.quiet))
       (λ machine stands unknown does. arch_put sql machine (state g old) (state g new) stands name words text unknown (subst (λ p. Inserts sql p (state g old) (state g new)) is does))
 
-  pub builder_change : (name of : List ℕ) → InsertsInto office_schema sql builder builder_terms → params ≡ builder_cells (name, of) → RunsStatement g sql params old new r
+  pub builder_change : (name of : List ℕ) → InsertsAmong builder sql builder_terms → params ≡ builder_cells (name, of) → RunsStatement g sql params old new r
       → (HasCleanDisk (state g new) → OnOk r (Inserts sql params (state g old) (state g new)))
       → Changes g (λ machine. set.contains machine.builders (name, of) ≡ false) (λ machine. record machine { builders = set.insert machine.builders (name, of) }) old new r
   builder_change name of text is =
-      statement_changes (Inserts sql params) (inserts_writes office_schema sql builder builder_terms text)
+      statement_changes (Inserts sql params) (λ schema has. inserts_writes schema sql (table_in schema builder) builder_terms (text schema (tree_named schema builder.name) has.builder_is has.quiet))
       (λ machine stands unknown does. builder_put sql machine (state g old) (state g new) stands name of text unknown (subst (λ p. Inserts sql p (state g old) (state g new)) is does))
 
-  pub removal_change : (of source : List ℕ) → DeletesFrom office_schema sql source_record has_record_key → params ≡ Text of ∷ Text source ∷ [] → RunsStatement g sql params old new r
+  pub removal_change : (of source : List ℕ) → DeletesAmong source_record sql has_record_key → params ≡ Text of ∷ Text source ∷ [] → RunsStatement g sql params old new r
       → (HasCleanDisk (state g new) → OnOk r (Deletes sql params (state g old) (state g new)))
       → Changes g (λ _. ⊤) (λ machine. record machine { records = finite.remove machine.records (of, source) }) old new r
   removal_change of source text is =
-      statement_changes (Deletes sql params) (deletes_writes office_schema sql source_record has_record_key text)
+      statement_changes (Deletes sql params) (λ schema has. deletes_writes schema sql (table_in schema source_record) has_record_key (text schema (tree_named schema source_record.name) has.record_is has.quiet))
       (λ machine stands allows does. record_removed sql machine (state g old) (state g new) stands of source text (subst (λ p. Deletes sql p (state g old) (state g new)) is does))
 
-  pub record_change : (of source : List ℕ) (current : Record) → ReplacesInto office_schema sql source_record record_terms → params ≡ record_cells ((of, source), current) → RunsStatement g sql params old new r
+  pub record_change : (of source : List ℕ) (current : Record) → ReplacesAmong source_record sql record_terms → params ≡ record_cells ((of, source), current) → RunsStatement g sql params old new r
       → (HasCleanDisk (state g new) → OnOk r (Replaces sql params (state g old) (state g new)))
       → Changes g (λ _. ⊤) (λ machine. record machine { records = finite.insert machine.records (of, source) current }) old new r
   record_change of source current text is =
-      statement_changes (Replaces sql params) (replaces_writes office_schema sql source_record record_terms text)
+      statement_changes (Replaces sql params) (λ schema has. replaces_writes schema sql (table_in schema source_record) record_terms (text schema (tree_named schema source_record.name) has.record_is has.quiet))
       (λ machine stands allows does. record_put sql machine (state g old) (state g new) stands of source current text (subst (λ p. Replaces sql p (state g old) (state g new)) is does))

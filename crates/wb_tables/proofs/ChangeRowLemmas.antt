@@ -9,6 +9,8 @@ use Rattle.std.proofs.lemmas.Cmp.{tied_itself}
 use Rattle.sqlite.specs.Collation.TheVariants.{Binary}
 use Rattle.sqlite.specs.Edit.{have_rowids, id_in, next_rowid}
 use Rattle.sqlite.specs.Order.{Row, column}
+use Rattle.sqlite.specs.Schema.{Schema}
+use Rattle.sqlite.specs.Table.{Table}
 use Rattle.sqlite.specs.Tree.{rowid, put_row}
 use Rattle.sqlite.specs.Term.{holds}
 use Rattle.sqlite.specs.Rowids.TheVariants.{Chosen}
@@ -30,9 +32,11 @@ use Rattle.wb_states.specs.Machine.{Machine}
 use Rattle.wb_states.specs.Queue.{Entry}
 use Rattle.wb_sql.specs.Rows.{cells, cells_of, IsStored, IsTyped, meets, apart, upserted, without}
 use Rattle.wb_sql.proofs.WriteLemmas.{cast_int, cast_null}
-use Rattle.wb_schema.specs.Tables.{office, source_record, office_schema}
+use Rattle.wb_schema.specs.Tables.{office, source_record}
+use Rattle.wb_schema.specs.Among.{HasOffice, HasIndexes, table_at, table_in, tree_named}
 use Rattle.wb_schema.specs.Statements.{has_record_key}
-use Rattle.wb_schema.proofs.RecordLemmas.{meets_record, record_typed}
+use Rattle.wb_schema.proofs.MeetingLemmas.{meets_by, meets_record_among}
+use Rattle.wb_schema.proofs.RecordLemmas.{record_typed}
 use Rattle.wb_rows.specs.Cells.{record_cells, text_or_null, number_or_null}
 use Rattle.wb_tables.specs.Stands.{office_row, record_rows}
 use Rattle.wb_tables.proofs.MapLemmas.{entries-remove}
@@ -117,18 +121,20 @@ other_rowid id row whole free =
     let is = int_is (rowid row) whole in
     ap (λ v. equal Binary v (Int id)) is ∙ equal_numbers (id_in (rowid row)) id ∙ ap (λ v. is_eq (value_cmp v (Int id))) (sym is) ∙ free
 
-module _ (id : ℤ) (arch source : List ℕ) (more : Row) where
+module _ (schema : Schema) (has : HasOffice schema) (id : ℤ) (arch source : List ℕ) (more : Row) where
   abbrev new : Row
   new = Int id ∷ Text arch ∷ Text source ∷ more
 
   -- a record that comes with a new rowid meets the one that has its key
-  meets_key : (row : Row) → is_int (rowid row) ≡ true → is_eq (value_cmp (rowid row) (Int id)) ≡ false → meets office_schema source_record new row ≡ begins_with arch source (cells row)
+  meets_key : (row : Row) → is_int (rowid row) ≡ true → is_eq (value_cmp (rowid row) (Int id)) ≡ false
+      → meets schema (table_in schema source_record) new row ≡ begins_with arch source (cells row)
   meets_key row whole free =
-      meets_record new row ∙ ap (λ b. b || (equal Binary (column row 1) (Text arch) && equal Binary (column row 2) (Text source))) (other_rowid id row whole free)
+      meets_record_among schema (tree_named schema source_record.name) has.at.record_key has.at.record_order has.at.record_take new row has.records_indexed
+      ∙ ap (λ b. b || (equal Binary (column row 1) (Text arch) && equal Binary (column row 2) (Text source))) (other_rowid id row whole free)
       ∙ (λ i. equal Binary (first_cell row i) (Text arch) && equal Binary (second_cell row i) (Text source))
 
   each_meets : (rows : List Row) → have_rowids rows ≡ true → list_any (λ row. is_eq (value_cmp (rowid row) (Int id))) rows ≡ false
-      → AllByRecursion (λ row. meets office_schema source_record new row ≡ begins_with arch source (cells row)) rows
+      → AllByRecursion (λ row. meets schema (table_in schema source_record) new row ≡ begins_with arch source (cells row)) rows
   each_meets [] whole free = tt
   each_meets (row ∷ rows) whole free =
       let ints = and_parts (is_int (rowid row)) (have_rowids rows) whole in
@@ -140,12 +146,12 @@ each_whole [] whole = tt
 each_whole (row ∷ rows) whole = let parts = and_parts (is_int (rowid row)) (have_rowids rows) whole in (parts.0, each_whole rows parts.1)
 
 -- the columns beside which a record is put
-pub cells_apart : (arch source : List ℕ) (more : Row) (rows : List Row) → IsStored rows
-    → cells_of (apart office_schema source_record (Null ∷ Text arch ∷ Text source ∷ more) rows) ≡ filter (λ columns. not (begins_with arch source columns)) (cells_of rows)
-cells_apart arch source more rows stored =
+pub cells_apart : (schema : Schema) (has : HasOffice schema) (arch source : List ℕ) (more : Row) (rows : List Row) → IsStored rows
+    → cells_of (apart schema (table_in schema source_record) (Null ∷ Text arch ∷ Text source ∷ more) rows) ≡ filter (λ columns. not (begins_with arch source columns)) (cells_of rows)
+cells_apart schema has arch source more rows stored =
     let id = next_rowid rows in
     let free = next_is_free Chosen rows (Text arch ∷ Text source ∷ more) stored.rising (each_whole rows stored.whole) in
-    left_rows (meets office_schema source_record (Int id ∷ Text arch ∷ Text source ∷ more)) arch source rows (each_meets id arch source more rows stored.whole free)
+    left_rows (meets schema (table_in schema source_record) (Int id ∷ Text arch ∷ Text source ∷ more)) arch source rows (each_meets schema has id arch source more rows stored.whole free)
 
 -- the records without that of one key
 pub records_without : (machine : Machine) (arch source : List ℕ) (columns : List Row) → IsPermutation (record_rows machine) columns
@@ -165,15 +171,21 @@ rowid_test : (a : Bool) → ((a && true) || false) ≡ a
 rowid_test true = refl
 rowid_test false = refl
 
-meets_office : (new row : Row) → meets office_schema office new row ≡ equal Binary (column row 0) (column new 0)
+-- a row of the office meets another with its id
+meets_office_among : (schema : Schema) (tree : ℕ) (new row : Row) → HasIndexes schema tree [] → meets schema (table_at tree office) new row ≡ equal Binary (column row 0) (column new 0)
 unfolding first_key
-meets_office new row = rowid_test (equal Binary (column row 0) (column new 0))
+meets_office_among schema tree new row has = meets_by schema (table_at tree office) [] new row has ∙ rowid_test (equal Binary (column row 0) (column new 0))
 
 -- a new row of the office comes in place of the old one
-pub office_replaced : (old new : Machine) → upserted office_schema office (office_row new) (office_row old ∷ []) ≡ office_row new ∷ []
-office_replaced old new =
+pub office_replaced : (schema : Schema) (has : HasOffice schema) (old new : Machine) → upserted schema (table_in schema office) (office_row new) (office_row old ∷ []) ≡ office_row new ∷ []
+office_replaced schema has old new =
     let one = equal_numbers (pos 1) (pos 1) ∙ ap is_eq (tied_itself value_cmp_total (Int (pos 1))) in
-    ap (λ b. put_row (office_row new) (cond (not b) (office_row old ∷ []) [])) (meets_office (office_row new) (office_row old) ∙ one)
+    ap (λ b. put_row (office_row new) (cond (not b) (office_row old ∷ []) []))
+    (meets_office_among schema (tree_named schema office.name) (office_row new) (office_row old) has.office_indexes ∙ one)
+
+-- a row is typed in whatever tree its table is
+pub typed_at : (tree : ℕ) (table : Table) (given : Row) → IsTyped table given → IsTyped (table_at tree table) given
+typed_at tree table given typed = record { row = typed.row; id = typed.id; cast = typed.cast; present = typed.present }
 
 pub office_typed : (machine : Machine) → IsTyped office (office_row machine)
 office_typed machine = record {

@@ -7,6 +7,7 @@ use Rattle.sqlite_store.specs.declared.store.FileStore.{FileStore}
 use Rattle.sqlite_trees.specs.Objects.{catalog_tree}
 use Rattle.sqlite_catalog.specs.Listing.{Lists}
 use Rattle.sqlite_catalog.proofs.ReadLemmas.{lists_once}
+use Rattle.sqlite.specs.Schema.{Schema}
 use Rattle.sqlite.specs.Tree.{Trees}
 use Rattle.sqlite.specs.Effect.{Database}
 use Rattle.sqlite.specs.Held.{Held}
@@ -14,29 +15,31 @@ use Rattle.sqlite.specs.Files.{file_state, IsOpened}
 use Rattle.sqlite.specs.State.{HasCleanDisk}
 use Rattle.wb_sql.specs.Transactions.{LeavesAlone}
 use Rattle.wb_sql.specs.Settled.{AreSettled}
-use Rattle.wb_schema.specs.Tables.{office_schema}
 use Rattle.wb_states.specs.Machine.{Machine}
+use Rattle.wb_tables.specs.Stands.{StandsFor}
 use Rattle.wb_tables.specs.Settled.{StandsForTrees, IsSettled, AreSettledAt}
+use Rattle.wb_tables.proofs.SettledLemmas.{office_trees}
 
 module _ {D : Type 0} (g : Ghosts D) where
   -- files that hold the last commit of a settled connection hold its state
   pub files_settled : {machine : Machine} (c : Held (FileStore D g)) (files : Files D) → IsSettled machine (file_state c) → AreSettled g files (file_state c).committed.trees → AreSettledAt g files machine
   files_settled {machine = machine} c files h are =
-      ((file_state c).committed.trees, subst (λ (d : Database). StandsForTrees machine d.trees) h.committed h.holds.trees_are, are)
+      ((file_state c).committed.trees, subst (λ (d : Database). StandsForTrees machine d.trees) h.committed (office_trees (file_state c).now h.holds), are)
 
   -- a connection that was opened is settled at the state for which its database stands
   pub holds_settled : {machine : Machine} (c : Held (FileStore D g)) → StandsForTrees machine (file_state c).committed.trees → IsOpened c → LeavesAlone (file_state c) (file_state c).committed.trees → IsSettled machine (file_state c)
   holds_settled {machine = machine} c stands opened alone =
       let there : (file_state c).now.trees ≡ (file_state c).committed.trees = ap (λ (d : Database). d.trees) opened.0.clean in
-      let listed = (opened.1 opened.0.is_open).0.lists in
+      let sound = (opened.1 opened.0.is_open).0 in
+      let same : (file_state c).now.schema ≡ stands.schema =
+      lists_once ((file_state c).committed.trees catalog_tree) (file_state c).now.schema stands.schema (subst (λ (trees : Trees). Lists (trees catalog_tree) (file_state c).now.schema) there sound.lists) stands.sound.lists in
+      let here : StandsFor machine (record { schema = stands.schema; trees = (file_state c).now.trees }) =
+      subst (λ (trees : Trees). StandsFor machine (record { schema = stands.schema; trees = trees })) (sym there) stands.stands in
       record {
         is_open = opened.0.is_open;
         idle = opened.0.autocommit;
         committed = opened.0.clean;
-        holds = record {
-          schema_is = lists_once ((file_state c).committed.trees catalog_tree) (file_state c).now.schema office_schema (subst (λ (trees : Trees). Lists (trees catalog_tree) (file_state c).now.schema) there listed) stands.sound.lists;
-          trees_are = subst (StandsForTrees machine) (sym there) stands;
-        };
+        holds = record { sound = sound; stands = subst (λ (s : Schema). StandsFor machine (record { schema = s; trees = (file_state c).now.trees })) (sym same) here };
         alone = λ db may. alone db may ∙ sym there;
       }
 

@@ -13,7 +13,9 @@ use Rattle.sqlite.specs.Values.{bound_value}
 use Rattle.sqlite_keyed.proofs.ListLemmas.{map-map, filter_none}
 use Rattle.wb_sql.specs.Queries.{Answers, outputs}
 use Rattle.wb_sql.proofs.AnswerLemmas.{whole_answer}
+use Rattle.wb_schema.specs.Among.{rows_in}
 use Rattle.wb_schema.specs.Statements as sql
+use Rattle.wb_schema.specs.Tables as tables
 use Rattle.deb_text.specs.Lists.{IsIn, first_of}
 use Rattle.deb_text.specs.Options.{has_value}
 use Rattle.wb_states.specs.declared.record.Record.{Record}
@@ -75,49 +77,49 @@ module _ (machine : Machine) where
 
 module _ (machine : Machine) (db : Database) (stands : StandsFor machine db) where
   -- the counts in the office's row
-  pub counts_found : (rows : List Row) → Answers sql.office_counts [] (db.trees 0) rows → AreCounts rows machine.handed machine.accepted
+  pub counts_found : (rows : List Row) → Answers sql.office_counts [] (rows_in db tables.office) rows → AreCounts rows machine.handed machine.accepted
   counts_found rows a =
       let one : Output = ([], counts_row machine.handed machine.accepted) in
-      let all : outputs sql.office_counts [] (db.trees 0) ≡ one ∷ [] = ap (outputs sql.office_counts []) stands.counts in
+      let all : outputs sql.office_counts [] (rows_in db tables.office) ≡ one ∷ [] = ap (outputs sql.office_counts []) stands.counts in
       let ordered : a.ordered ≡ one ∷ [] = one_permutation one a.ordered (subst (λ l. IsPermutation l a.ordered) all a.same) in
-      whole_answer sql.office_counts [] (db.trees 0) rows a refl refl ∙ ap (map (λ (o : Output). o.1)) ordered
+      whole_answer sql.office_counts [] (rows_in db tables.office) rows a refl refl ∙ ap (map (λ (o : Output). o.1)) ordered
 
   module _ (rows : List KeyedRecord) {params : Row} where
     -- the record at a key
-    pub current_found : (key : Key) → params ≡ key_params key → Answers sql.record_of_key params (db.trees 5) (map keyed_cells rows)
+    pub current_found : (key : Key) → params ≡ key_params key → Answers sql.record_of_key params (rows_in db tables.source_record) (map keyed_cells rows)
         → option_map (λ (row : KeyedRecord). row.current) (first_of rows) ≡ finite.get machine.records key
     current_found key given a =
         current_at key rows (finite.get machine.records key)
-        (entries_are rows _ (key_answer machine db stands _ key (subst (λ p. Answers sql.record_of_key p (db.trees 5) (map keyed_cells rows)) given a)))
+        (entries_are rows _ (key_answer machine db stands _ key (subst (λ p. Answers sql.record_of_key p (rows_in db tables.source_record) (map keyed_cells rows)) given a)))
 
     -- the records of an architecture
-    pub arch_found : (arch : List ℕ) → params ≡ Text arch ∷ [] → Answers sql.records_of_arch params (db.trees 5) (map keyed_cells rows) → map entry_of rows ≡ rows_of machine arch
-    arch_found arch given a = entries_are rows _ (arch_answer machine db stands _ arch (subst (λ p. Answers sql.records_of_arch p (db.trees 5) (map keyed_cells rows)) given a))
+    pub arch_found : (arch : List ℕ) → params ≡ Text arch ∷ [] → Answers sql.records_of_arch params (rows_in db tables.source_record) (map keyed_cells rows) → map entry_of rows ≡ rows_of machine arch
+    arch_found arch given a = entries_are rows _ (arch_answer machine db stands _ arch (subst (λ p. Answers sql.records_of_arch p (rows_in db tables.source_record) (map keyed_cells rows)) given a))
 
     -- what a builder holds
-    pub held_found : (builder : List ℕ) → params ≡ Text builder ∷ [] → Answers sql.held_by params (db.trees 5) (map keyed_cells rows)
+    pub held_found : (builder : List ℕ) → params ≡ Text builder ∷ [] → Answers sql.held_by params (rows_in db tables.source_record) (map keyed_cells rows)
         → map entry_of rows ≡ filter (is_held_by builder) (finite.entries machine.records)
-    held_found builder given a = entries_are rows _ (held_answer machine db stands _ builder (subst (λ p. Answers sql.held_by p (db.trees 5) (map keyed_cells rows)) given a))
+    held_found builder given a = entries_are rows _ (held_answer machine db stands _ builder (subst (λ p. Answers sql.held_by p (rows_in db tables.source_record) (map keyed_cells rows)) given a))
 
     -- the queue
-    pub queue_found : IsConsistent machine → (arch : List ℕ) → params ≡ queue_params arch → Answers sql.queue_of params (db.trees 5) (map keyed_cells rows) → map entry_of rows ≡ queue_of machine arch
-    queue_found sound arch given a = entries_are rows _ (queue_answer machine db stands _ sound arch (subst (λ p. Answers sql.queue_of p (db.trees 5) (map keyed_cells rows)) given a))
+    pub queue_found : IsConsistent machine → (arch : List ℕ) → params ≡ queue_params arch → Answers sql.queue_of params (rows_in db tables.source_record) (map keyed_cells rows) → map entry_of rows ≡ queue_of machine arch
+    queue_found sound arch given a = entries_are rows _ (queue_answer machine db stands _ sound arch (subst (λ p. Answers sql.queue_of p (rows_in db tables.source_record) (map keyed_cells rows)) given a))
 
     -- the head of the queue
-    pub head_found : IsConsistent machine → (arch : List ℕ) → params ≡ queue_params arch → Answers sql.head_of params (db.trees 5) (map keyed_cells rows)
+    pub head_found : IsConsistent machine → (arch : List ℕ) → params ≡ queue_params arch → Answers sql.head_of params (rows_in db tables.source_record) (map keyed_cells rows)
         → option_map entry_of (first_of rows) ≡ head_of machine arch
     unfolding head_of
     head_found sound arch given a =
-        let is = entries_are rows _ (head_answer machine db stands _ sound arch (subst (λ p. Answers sql.head_of p (db.trees 5) (map keyed_cells rows)) given a)) in
+        let is = entries_are rows _ (head_answer machine db stands _ sound arch (subst (λ p. Answers sql.head_of p (rows_in db tables.source_record) (map keyed_cells rows)) given a)) in
         first_of-map entry_of rows ∙ ap first_of is ∙ first_of-take_one (queue_of machine arch)
 
     -- the record with a take number
-    pub taken_found : IsConsistent machine → (take_number : ℕ) → params ≡ number (min take_number (2 ^ 63 - 1)) ∷ [] → Answers sql.record_of_take params (db.trees 5) (map keyed_cells rows)
+    pub taken_found : IsConsistent machine → (take_number : ℕ) → params ≡ number (min take_number (2 ^ 63 - 1)) ∷ [] → Answers sql.record_of_take params (rows_in db tables.source_record) (map keyed_cells rows)
         → option_map entry_of (first_of rows) ≡ taken_as machine take_number
     unfolding taken_as
     taken_found sound take_number given a =
         let stored = min take_number (2 ^ 63 - 1) in
-        let is = entries_are rows _ (take_answer machine db stands _ sound.takes stored (subst (λ p. Answers sql.record_of_take p (db.trees 5) (map keyed_cells rows)) given a)) in
+        let is = entries_are rows _ (take_answer machine db stands _ sound.takes stored (subst (λ p. Answers sql.record_of_take p (rows_in db tables.source_record) (map keyed_cells rows)) given a)) in
         first_of-map entry_of rows ∙ ap first_of (is ∙ stored_take machine sound take_number stored refl)
 
 -- ---- parameters

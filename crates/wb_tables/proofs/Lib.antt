@@ -1,3 +1,4 @@
+pub mod ApartLemmas
 pub mod ArchLemmas
 pub mod BuilderLemmas
 pub mod ChangeLemmas

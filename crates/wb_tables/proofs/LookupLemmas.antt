@@ -15,7 +15,9 @@ use Rattle.sqlite_value.proofs.OrderLemmas.{value_cmp-Text}
 use Rattle.sqlite_trees.specs.Tree.{IsAscending}
 use Rattle.sqlite_keyed.proofs.ListLemmas.{filter_same, ascending-filter, IsPermutation-same}
 use Rattle.wb_sql.specs.Queries.{TableQuery, Answers}
+use Rattle.wb_schema.specs.Among.{rows_in}
 use Rattle.wb_schema.specs.Statements as sql
+use Rattle.wb_schema.specs.Tables as tables
 use Rattle.deb_text.specs.Text.{text_cmp, pair_cmp}
 use Rattle.deb_text.specs.Lists.{IsIn}
 use Rattle.deb_text.specs.Options.{has_value}
@@ -226,64 +228,64 @@ module _ (machine : Machine) (db : Database) (stands : StandsFor machine db) (an
   kept = finite.entries machine.records
 
   -- the record of a key
-  pub key_answer : (key : Key) → Answers sql.record_of_key (key_params key) (db.trees 5) answer → answer ≡ map record_cells (entry_at key (finite.get machine.records key))
+  pub key_answer : (key : Key) → Answers sql.record_of_key (key_params key) (rows_in db tables.source_record) answer → answer ≡ map record_cells (entry_at key (finite.get machine.records key))
   key_answer key a =
       let chosen : filter (entry_passes sql.record_of_key (key_params key)) kept ≡ entry_at key (finite.get machine.records key) =
       filter_same (entry_passes sql.record_of_key (key_params key)) _ (key_passes key) kept
       ∙ filter_at pair_cmp pair_cmp_total pair_cmp-same key kept (finite.entries_sorted machine.records) ∙ ap (entry_at key) (sym (finite.get-entries machine.records key)) in
-      few_answer record_cells sql.record_of_key (key_params key) (skips_key (key_params key)) (λ e. refl) refl kept (db.trees 5) answer stands.records a
+      few_answer record_cells sql.record_of_key (key_params key) (skips_key (key_params key)) (λ e. refl) refl kept (rows_in db tables.source_record) answer stands.records a
       (subst (λ (l : List Entry). (l ≡ []) ⊎ ((e : Entry) × (l ≡ e ∷ []))) (sym chosen) (few_at key (finite.get machine.records key))) refl
       ∙ ap (map record_cells) chosen
 
   -- the records of an architecture
-  pub arch_answer : (arch : List ℕ) → Answers sql.records_of_arch (Text arch ∷ []) (db.trees 5) answer → answer ≡ map record_cells (rows_of machine arch)
+  pub arch_answer : (arch : List ℕ) → Answers sql.records_of_arch (Text arch ∷ []) (rows_in db tables.source_record) answer → answer ≡ map record_cells (rows_of machine arch)
   unfolding rows_of
   arch_answer arch a =
-      rising_answer record_cells sql.records_of_arch (Text arch ∷ []) (skips_arch (Text arch ∷ [])) (λ e. refl) refl kept (db.trees 5) answer stands.records a
+      rising_answer record_cells sql.records_of_arch (Text arch ∷ []) (skips_arch (Text arch ∷ [])) (λ e. refl) refl kept (rows_in db tables.source_record) answer stands.records a
       (filter (is_of arch) kept) (arch_ascends machine arch) (IsPermutation-same _ _ (filter_same (is_of arch) _ (λ e. sym (arch_passes arch e)) kept)) refl
 
   -- what a builder holds, by the keys
-  pub held_answer : (builder : List ℕ) → Answers sql.held_by (Text builder ∷ []) (db.trees 5) answer → answer ≡ map record_cells (filter (is_held_by builder) kept)
+  pub held_answer : (builder : List ℕ) → Answers sql.held_by (Text builder ∷ []) (rows_in db tables.source_record) answer → answer ≡ map record_cells (filter (is_held_by builder) kept)
   held_answer builder a =
-      rising_answer record_cells sql.held_by (Text builder ∷ []) (skips_holder (Text builder ∷ [])) (λ e. refl) refl kept (db.trees 5) answer stands.records a
+      rising_answer record_cells sql.held_by (Text builder ∷ []) (skips_holder (Text builder ∷ [])) (λ e. refl) refl kept (rows_in db tables.source_record) answer stands.records a
       (filter (is_held_by builder) kept) (held_ascends machine builder) (IsPermutation-same _ _ (filter_same (is_held_by builder) _ (λ e. sym (held_passes builder e)) kept)) refl
 
   -- the queue of an architecture
-  pub queue_answer : IsConsistent machine → (arch : List ℕ) → Answers sql.queue_of (queue_params arch) (db.trees 5) answer → answer ≡ map record_cells (queue_of machine arch)
+  pub queue_answer : IsConsistent machine → (arch : List ℕ) → Answers sql.queue_of (queue_params arch) (rows_in db tables.source_record) answer → answer ≡ map record_cells (queue_of machine arch)
   queue_answer sound arch a =
-      rising_answer record_cells sql.queue_of (queue_params arch) (skips_queue (queue_params arch)) (λ e. refl) refl kept (db.trees 5) answer stands.records a
+      rising_answer record_cells sql.queue_of (queue_params arch) (skips_queue (queue_params arch)) (λ e. refl) refl kept (rows_in db tables.source_record) answer stands.records a
       (queue_of machine arch) (queue_ascends machine sound arch) (queue_chosen machine arch) refl
 
   -- its first record
-  pub head_answer : IsConsistent machine → (arch : List ℕ) → Answers sql.head_of (queue_params arch) (db.trees 5) answer → answer ≡ map record_cells (take 1 (queue_of machine arch))
+  pub head_answer : IsConsistent machine → (arch : List ℕ) → Answers sql.head_of (queue_params arch) (rows_in db tables.source_record) answer → answer ≡ map record_cells (take 1 (queue_of machine arch))
   head_answer sound arch a =
-      rising_first record_cells sql.head_of (queue_params arch) (skips_head (queue_params arch)) (λ e. refl) refl kept (db.trees 5) answer stands.records a
+      rising_first record_cells sql.head_of (queue_params arch) (skips_head (queue_params arch)) (λ e. refl) refl kept (rows_in db tables.source_record) answer stands.records a
       (queue_of machine arch) (queue_ascends machine sound arch) (queue_chosen machine arch) refl
 
   -- the record with a take number
-  pub take_answer : HasDistinctTakes machine → (take_number : ℕ) → Answers sql.record_of_take (number take_number ∷ []) (db.trees 5) answer → answer ≡ map record_cells (filter (is_taken_as take_number) kept)
+  pub take_answer : HasDistinctTakes machine → (take_number : ℕ) → Answers sql.record_of_take (number take_number ∷ []) (rows_in db tables.source_record) answer → answer ≡ map record_cells (filter (is_taken_as take_number) kept)
   take_answer distinct take_number a =
       let chosen = filter_same (entry_passes sql.record_of_take (number take_number ∷ [])) (is_taken_as take_number) (taken_passes take_number) kept in
-      few_answer record_cells sql.record_of_take (number take_number ∷ []) (skips_take (number take_number ∷ [])) (λ e. refl) refl kept (db.trees 5) answer stands.records a
+      few_answer record_cells sql.record_of_take (number take_number ∷ []) (skips_take (number take_number ∷ [])) (λ e. refl) refl kept (rows_in db tables.source_record) answer stands.records a
       (subst (λ (l : List Entry). (l ≡ []) ⊎ ((e : Entry) × (l ≡ e ∷ []))) (sym chosen) (take_few machine take_number distinct)) refl
       ∙ ap (map record_cells) chosen
 
   -- each of these answers has rows of records alone, if the office is consistent
   module _ (sound : IsConsistent machine) (params : Row) where
-    pub key_readable : Answers sql.record_of_key params (db.trees 5) answer → AreRecords answer
-    key_readable a = whole_fits record_cells sql.record_of_key params (skips_key params) (λ e. refl) refl kept (db.trees 5) answer stands.records a IsReadable (readable machine sound) refl
+    pub key_readable : Answers sql.record_of_key params (rows_in db tables.source_record) answer → AreRecords answer
+    key_readable a = whole_fits record_cells sql.record_of_key params (skips_key params) (λ e. refl) refl kept (rows_in db tables.source_record) answer stands.records a IsReadable (readable machine sound) refl
 
-    pub arch_readable : Answers sql.records_of_arch params (db.trees 5) answer → AreRecords answer
-    arch_readable a = whole_fits record_cells sql.records_of_arch params (skips_arch params) (λ e. refl) refl kept (db.trees 5) answer stands.records a IsReadable (readable machine sound) refl
+    pub arch_readable : Answers sql.records_of_arch params (rows_in db tables.source_record) answer → AreRecords answer
+    arch_readable a = whole_fits record_cells sql.records_of_arch params (skips_arch params) (λ e. refl) refl kept (rows_in db tables.source_record) answer stands.records a IsReadable (readable machine sound) refl
 
-    pub held_readable : Answers sql.held_by params (db.trees 5) answer → AreRecords answer
-    held_readable a = whole_fits record_cells sql.held_by params (skips_holder params) (λ e. refl) refl kept (db.trees 5) answer stands.records a IsReadable (readable machine sound) refl
+    pub held_readable : Answers sql.held_by params (rows_in db tables.source_record) answer → AreRecords answer
+    held_readable a = whole_fits record_cells sql.held_by params (skips_holder params) (λ e. refl) refl kept (rows_in db tables.source_record) answer stands.records a IsReadable (readable machine sound) refl
 
-    pub queue_readable : Answers sql.queue_of params (db.trees 5) answer → AreRecords answer
-    queue_readable a = whole_fits record_cells sql.queue_of params (skips_queue params) (λ e. refl) refl kept (db.trees 5) answer stands.records a IsReadable (readable machine sound) refl
+    pub queue_readable : Answers sql.queue_of params (rows_in db tables.source_record) answer → AreRecords answer
+    queue_readable a = whole_fits record_cells sql.queue_of params (skips_queue params) (λ e. refl) refl kept (rows_in db tables.source_record) answer stands.records a IsReadable (readable machine sound) refl
 
-    pub head_readable : Answers sql.head_of params (db.trees 5) answer → AreRecords answer
-    head_readable a = first_fits_too record_cells sql.head_of params (skips_head params) (λ e. refl) refl kept (db.trees 5) answer stands.records a IsReadable (readable machine sound) refl
+    pub head_readable : Answers sql.head_of params (rows_in db tables.source_record) answer → AreRecords answer
+    head_readable a = first_fits_too record_cells sql.head_of params (skips_head params) (λ e. refl) refl kept (rows_in db tables.source_record) answer stands.records a IsReadable (readable machine sound) refl
 
-    pub take_readable : Answers sql.record_of_take params (db.trees 5) answer → AreRecords answer
-    take_readable a = whole_fits record_cells sql.record_of_take params (skips_take params) (λ e. refl) refl kept (db.trees 5) answer stands.records a IsReadable (readable machine sound) refl
+    pub take_readable : Answers sql.record_of_take params (rows_in db tables.source_record) answer → AreRecords answer
+    take_readable a = whole_fits record_cells sql.record_of_take params (skips_take params) (λ e. refl) refl kept (rows_in db tables.source_record) answer stands.records a IsReadable (readable machine sound) refl

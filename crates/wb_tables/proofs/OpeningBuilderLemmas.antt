@@ -15,7 +15,9 @@ use Rattle.sqlite_trees.specs.declared.store.Store.{Ghosts}
 use Rattle.sqlite_keyed.proofs.ListLemmas.{all_of, ascending-map, ascending_weaker, filter_all, IsPermutation-same}
 use Rattle.sqlite_value.proofs.OrderLemmas.{value_cmp-Text}
 use Rattle.wb_sql.specs.Queries.{Answers}
+use Rattle.wb_schema.specs.Among.{rows_in}
 use Rattle.wb_schema.specs.Statements as sql
+use Rattle.wb_schema.specs.Tables as tables
 use Rattle.deb_text.specs.Lists.{IsIn}
 use Rattle.deb_text.specs.Text.{text_cmp, pair_cmp}
 use Rattle.deb_text.proofs.KeyLemmas.{pair_cmp_total}
@@ -79,7 +81,7 @@ skips_pairs : (params : Row) → SkipsRowid sql.all_builders params
 skips_pairs params [] = (refl, refl)
 skips_pairs params (x ∷ row) = (refl, refl)
 
-module _ (machine : Machine) (db : Database) (stands : StandsFor machine db) (answer : List Row) (a : Answers sql.all_builders [] (db.trees 3) answer) where
+module _ (machine : Machine) (db : Database) (stands : StandsFor machine db) (answer : List Row) (a : Answers sql.all_builders [] (rows_in db tables.builder) answer) where
   abbrev pairs : List Key
   pairs = builder_pairs machine
 
@@ -90,7 +92,7 @@ module _ (machine : Machine) (db : Database) (stands : StandsFor machine db) (an
 
   answer_is : answer ≡ map builder_cells pairs
   answer_is =
-      rising_answer builder_cells sql.all_builders [] (skips_pairs []) (λ x. refl) refl pairs (db.trees 3) answer stands.builders a pairs ascend
+      rising_answer builder_cells sql.all_builders [] (skips_pairs []) (λ x. refl) refl pairs (rows_in db tables.builder) answer stands.builders a pairs ascend
       (IsPermutation-same _ _ (sym (filter_all (λ x. true) pairs (all_of (λ x. true ≡ true) (λ x. refl) pairs)))) refl
 
   -- the builders that are read from the answer
@@ -99,12 +101,12 @@ module _ (machine : Machine) (db : Database) (stands : StandsFor machine db) (an
 
   builders_formed : IsConsistent machine → (archs : List (List ℕ × OsCpu)) → archs ≡ finite.entries machine.archs → AreRowsOf builder_cells (IsFormedBuilder archs) answer
   builders_formed sound archs is = subst (λ l. AreRowsOf builder_cells (IsFormedBuilder l) answer) (sym is)
-      (whole_fits builder_cells sql.all_builders [] (skips_pairs []) (λ x. refl) refl pairs (db.trees 3) answer stands.builders a (IsFormedBuilder (finite.entries machine.archs))
+      (whole_fits builder_cells sql.all_builders [] (skips_pairs []) (λ x. refl) refl pairs (rows_in db tables.builder) answer stands.builders a (IsFormedBuilder (finite.entries machine.archs))
       (all_from_in (IsFormedBuilder (finite.entries machine.archs)) pairs (kept_builder_formed machine sound)) refl)
 
 -- what the test of the builders says of an office
 pub builders_pass : {S : Type 0} {g : Ghosts S} {old new : Held S} {X : Type 0} (archs : List (List ℕ × OsCpu)) (r : Result (Vec Key X) StoreFault)
-    → Tests g sql.all_builders Builder (λ rows pairs. HoldsBuilders archs rows pairs.items) (AreBadRows Builder builder_cells (IsFormedBuilder archs)) old new r
+    → Tests g tables.builder sql.all_builders Builder (λ rows pairs. HoldsBuilders archs rows pairs.items) (AreBadRows Builder builder_cells (IsFormedBuilder archs)) old new r
     → PassesWith g Builder (λ machine. archs ≡ finite.entries machine.archs) (λ machine pairs. pairs.items ≡ builder_pairs machine) old new r
 builders_pass {g} {old} archs r tests =
     passes_from r tests (λ machine stands rows a made holds. builders_found machine (state g old).now stands rows a made.items holds.same)

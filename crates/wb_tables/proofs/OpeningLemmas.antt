@@ -4,10 +4,12 @@ use Rattle.std.specs.List.{AllByRecursion}
 use Rattle.std.specs.FinMap as finite
 use Rattle.sqlite.specs.Held.{Held, state}
 use Rattle.sqlite.specs.Order.{Row}
+use Rattle.sqlite.specs.Table as stored
 use Rattle.sqlite_trees.specs.declared.store.Store.{Ghosts}
-use Rattle.wb_sql.specs.Queries.{TableQuery, Asks, Answers}
+use Rattle.wb_sql.specs.Queries.{TableQuery, Answers}
+use Rattle.wb_schema.specs.Among.{rows_in}
 use Rattle.wb_schema.specs.Statements as sql
-use Rattle.wb_schema.specs.Tables.{office_schema}
+use Rattle.wb_schema.specs.Tables as tables
 use Rattle.wb_states.specs.declared.arch.OsCpu.{OsCpu}
 use Rattle.wb_states.specs.declared.store_fault.StoreFault.{StoreFault}
 use Rattle.wb_states.specs.declared.store_fault.StoreFault.TheVariants.{Memory}
@@ -21,7 +23,7 @@ use Rattle.wb_tables.specs.Opening.{AreBadRows, HoldsArchs, IsBadRow, IsFirstBad
 use Rattle.wb_tables.specs.Stands.{StandsFor}
 use Rattle.wb_tables.proofs.ArchLemmas.{archs_found, archs_formed}
 use Rattle.wb_tables.proofs.FormLemmas.{formed_arch_readable}
-use Rattle.wb_tables.proofs.ReadLemmas.{asked_over, crash_over, one_of_rows, plain_over, row_read}
+use Rattle.wb_tables.proofs.ReadLemmas.{AsksOffice, answered, crash_over, one_of_rows, plain_over, row_read}
 
 -- a call that hands on the fault of another one
 pub faulted : {T E : Type 0} {e : E} (r : Result T E) → IsErrAnd r (λ d. d ≡ e) → r ≡ Err e
@@ -72,12 +74,12 @@ module _ {X : Type 0} (columns : X → Row) (Fits : X → Type 0) where
 
 -- ---- the test of a table
 
-module _ {S : Type 0} {g : Ghosts S} {text : List ℕ} {q : TableQuery} (asks : Asks office_schema text q) {table : Table} {old new : Held S} where
+module _ {S : Type 0} {g : Ghosts S} {text : List ℕ} {q : TableQuery} {of : stored.Table} (asks : AsksOffice text of q) {table : Table} {old new : Held S} where
   -- a test whose rows are had
   pub tests_rows : {A X : Type 0} {rows : Vec Row X} {Good : List Row → A → Type 0} {Bad : List Row → StoreFault → Type 0} (r : Result A StoreFault) → ReadsTable g text table old new (Ok rows)
-      → IfOk r (Good rows.items) → IfErr r (Bad rows.items) → Tests g q table Good Bad old new r
+      → IfOk r (Good rows.items) → IfErr r (Bad rows.items) → Tests g of q table Good Bad old new r
   tests_rows {rows} (Ok x) read good bad = record {
-    value = λ clean office. (rows.items, read.value clean q (asked_over asks office), good);
+    value = λ clean office. (rows.items, answered asks (state g old) office (read.value clean), good);
     same = λ clean office. read.same clean (plain_over asks office);
     err = λ clean office. tt;
     survives = crash_over asks g old new read.survives;
@@ -85,24 +87,34 @@ module _ {S : Type 0} {g : Ghosts S} {text : List ℕ} {q : TableQuery} (asks : 
   tests_rows {rows} (Err fault) read good bad = record {
     value = λ clean office. tt;
     same = λ clean office. tt;
-    err = λ clean office. inr (read.same clean (plain_over asks office), (rows.items, read.value clean q (asked_over asks office), bad));
+    err = λ clean office. inr (read.same clean (plain_over asks office), (rows.items, answered asks (state g old) office (read.value clean), bad));
     survives = crash_over asks g old new read.survives;
   }
 
+  -- a test whose rows are not had
+  pub tests_nothing : {A X : Type 0} {fault : StoreFault} {Good : List Row → A → Type 0} {Bad : List Row → StoreFault → Type 0} {r : Result A StoreFault} → ReadsTable {X = X} g text table old new (Err fault)
+      → r ≡ Err fault → Tests g of q table Good Bad old new r
+  tests_nothing {A} {Good} {Bad} read is = subst (λ (r : Result A StoreFault). Tests g of q table Good Bad old new r) (sym is) (record {
+    value = λ clean office. tt;
+    same = λ clean office. tt;
+    err = λ clean office. inl (read.err clean);
+    survives = crash_over asks g old new read.survives;
+  })
+
 -- what a test says of an office
-pub passes_from : {S A : Type 0} {g : Ghosts S} {q : TableQuery} {table : Table} {old new : Held S} {Good : List Row → A → Type 0} {Bad : List Row → StoreFault → Type 0} {Given : Machine → Type 0} {Outcome : Machine → A → Type 0}
-    (r : Result A StoreFault) → Tests g q table Good Bad old new r
-    → ((machine : Machine) → StandsFor machine (state g old).now → (rows : List Row) → Answers q [] ((state g old).now.trees q.tree) rows → (x : A) → Good rows x → Outcome machine x)
-    → ((machine : Machine) → IsConsistent machine → StandsFor machine (state g old).now → Given machine → (rows : List Row) → Answers q [] ((state g old).now.trees q.tree) rows
+pub passes_from : {S A : Type 0} {g : Ghosts S} {of : stored.Table} {q : TableQuery} {table : Table} {old new : Held S} {Good : List Row → A → Type 0} {Bad : List Row → StoreFault → Type 0} {Given : Machine → Type 0} {Outcome : Machine → A → Type 0}
+    (r : Result A StoreFault) → Tests g of q table Good Bad old new r
+    → ((machine : Machine) → StandsFor machine (state g old).now → (rows : List Row) → Answers q [] (rows_in (state g old).now of) rows → (x : A) → Good rows x → Outcome machine x)
+    → ((machine : Machine) → IsConsistent machine → StandsFor machine (state g old).now → Given machine → (rows : List Row) → Answers q [] (rows_in (state g old).now of) rows
     → (fault : StoreFault) → Bad rows fault → fault ≡ Memory)
     → PassesWith g table Given Outcome old new r
 passes_from (Ok x) tests finds fits = record {
-  value = λ clean machine stands. let found = tests.value clean stands.schema_is in finds machine stands found.0 found.1 x found.2;
+  value = λ clean machine stands. let found = tests.value clean stands.has in finds machine stands found.0 found.1 x found.2;
   err = λ clean. tt;
 }
 passes_from (Err fault) tests finds fits = record {
   value = λ clean. tt;
-  err = λ clean machine sound stands given. elim (tests.err clean stands.schema_is) [
+  err = λ clean machine sound stands given. elim (tests.err clean stands.has) [
     | inl failed ↦ inr failed
     | inr (kept, (rows, answers, bad)) ↦ inl (fits machine sound stands given rows answers fault bad)
   ];
@@ -112,7 +124,7 @@ passes_from (Err fault) tests finds fits = record {
 
 -- what the test of the architectures says of an office
 pub archs_pass : {S : Type 0} {g : Ghosts S} {old new : Held S} {X : Type 0} (r : Result (Vec (List ℕ × OsCpu) X) StoreFault)
-    → Tests g sql.all_archs Arch (λ rows archs. HoldsArchs rows archs.items) (AreBadRows Arch arch_cells IsFormedArch) old new r
+    → Tests g tables.arch sql.all_archs Arch (λ rows archs. HoldsArchs rows archs.items) (AreBadRows Arch arch_cells IsFormedArch) old new r
     → Passes g Arch (λ machine archs. archs.items ≡ finite.entries machine.archs) old new r
 archs_pass {g} {old} r tests =
     passes_from r tests (λ machine stands rows a made holds. archs_found machine (state g old).now stands rows a made.items holds.same)

@@ -1,5 +1,5 @@
 -- The rows of records that an opening reads, one after another, and what those of a consistent office are.
-use Rattle.std.proofs.Common.{◌≡◌, ◌⊎◌, inl, inr, ℕ, suc, ◌<◌, Bool, true, false, ◌||◌, List, [], ◌∷◌, ◌++◌, append_assoc, length, map, filter, cond, Option, None, Some, IfSome, is_some, option_map, unwrap_or, find, nat_eq, bytes_eq, Result, refl, sym, ap, ap₂, subst, ◌∙◌, arith, Less, length-append}
+use Rattle.std.proofs.Common.{◌≡◌, ◌⊎◌, inl, inr, ℕ, suc, Bool, true, false, ◌||◌, List, [], ◌∷◌, ◌++◌, append_assoc, length, map, filter, cond, Option, None, Some, IfSome, is_some, option_map, unwrap_or, find, nat_eq, bytes_eq, Result, refl, sym, ap, ap₂, subst, ◌∙◌, arith, Less}
 use Rattle.std.specs.Prelude.{⊤}
 use Rattle.std.specs.List.{list_any}
 use Rattle.std.specs.Option.{IsSomeAnd}
@@ -18,7 +18,9 @@ use Rattle.sqlite_trees.specs.declared.store.Store.{Ghosts}
 use Rattle.sqlite_keyed.proofs.ListLemmas.{all_of, ascending_weaker, filter_all, IsPermutation-same}
 use Rattle.sqlite_value.proofs.OrderLemmas.{value_cmp-Text}
 use Rattle.wb_sql.specs.Queries.{Answers}
+use Rattle.wb_schema.specs.Among.{rows_in}
 use Rattle.wb_schema.specs.Statements as sql
+use Rattle.wb_schema.specs.Tables as tables
 use Rattle.deb_text.specs.Lists.{IsIn}
 use Rattle.deb_text.specs.Options.{has_value}
 use Rattle.deb_text.specs.Text.{text_cmp, pair_cmp}
@@ -269,7 +271,7 @@ skips_records : (params : Row) → SkipsRowid sql.all_records params
 skips_records params [] = (refl, refl)
 skips_records params (x ∷ row) = (refl, refl)
 
-module _ (machine : Machine) (db : Database) (stands : StandsFor machine db) (answer : List Row) (a : Answers sql.all_records [] (db.trees 5) answer) where
+module _ (machine : Machine) (db : Database) (stands : StandsFor machine db) (answer : List Row) (a : Answers sql.all_records [] (rows_in db tables.source_record) answer) where
   abbrev records : List Entry
   records = finite.entries machine.records
 
@@ -280,7 +282,7 @@ module _ (machine : Machine) (db : Database) (stands : StandsFor machine db) (an
 
   answer_is : answer ≡ map record_cells records
   answer_is =
-      rising_answer record_cells sql.all_records [] (skips_records []) (λ x. refl) refl records (db.trees 5) answer stands.records a records ascend
+      rising_answer record_cells sql.all_records [] (skips_records []) (λ x. refl) refl records (rows_in db tables.source_record) answer stands.records a records ascend
       (IsPermutation-same _ _ (sym (filter_all (λ x. true) records (all_of (λ x. true ≡ true) (λ x. refl) records)))) refl
 
   -- the rows of a consistent office are those of records that fit
@@ -305,7 +307,7 @@ module _ (machine : Machine) (db : Database) (stands : StandsFor machine db) (an
 
 -- what the test of the records says of an office
 pub records_pass : {S : Type 0} {g : Ghosts S} {old new : Held S} (archs : List (List ℕ × OsCpu)) (builders : List Key) (handed : ℕ) (r : Result ⊤ StoreFault)
-    → Tests g sql.all_records SourceRecord (λ rows done. HoldsRecords archs builders handed rows) (AreBadRecords archs builders handed) old new r
+    → Tests g tables.source_record sql.all_records SourceRecord (λ rows done. HoldsRecords archs builders handed rows) (AreBadRecords archs builders handed) old new r
     → PassesWith g SourceRecord (AreKept archs builders handed) (λ machine done. AreKept archs builders handed machine → HasGoodRecords machine) old new r
 records_pass {g} {old} archs builders handed r tests =
     passes_from r tests (λ machine stands rows a done holds given. records_good machine (state g old).now stands rows a archs builders handed holds given)

@@ -1,5 +1,5 @@
 -- A query of an opening whose rows are read one at a time, and what its test says at each way out.
-use Rattle.std.proofs.Common.{◌≡◌, ◌≢◌, inl, inr, ℕ, ◌≤◌, List, [], ◌∷◌, ◌++◌, None, Some, Option, Result, Ok, Err, IsErrAnd, refl, sym, ap, subst, ◌∙◌, arith}
+use Rattle.std.proofs.Common.{◌≡◌, inl, inr, ℕ, ◌≤◌, List, [], ◌∷◌, ◌++◌, None, Some, Result, Ok, Err, refl, sym, ap, subst, ◌∙◌, arith}
 use Rattle.sqlite.specs.Clock.{timed}
 use Rattle.sqlite.specs.Effect.{Database, RefusesToRead}
 use Rattle.sqlite.specs.Given.{Advances, FailsToAdvance, HasBegun, HasGiven, IsPlain}
@@ -7,6 +7,7 @@ use Rattle.sqlite.specs.Held.{Held, state}
 use Rattle.sqlite.specs.Listing.{understood, reads_listing, IsSourceOf}
 use Rattle.sqlite.specs.Order.{Row}
 use Rattle.sqlite.specs.Schema.{Schema}
+use Rattle.sqlite.specs.Table as stored
 use Rattle.sqlite.specs.State.{State, HasCleanDisk, IsStatement, IsUnchanged, IsNotRun, CommitsShowing, FailsToQuery, FailsToShow, Shown, Survives}
 use Rattle.sqlite.specs.declared.error.Error.{Error}
 use Rattle.sqlite.proofs.Callers.{EndsIn, begins_shown, begun_plain, given_begin, never_commits, unchanged_then}
@@ -17,12 +18,12 @@ use Rattle.sqlite_trees.specs.declared.store.Store.{Ghosts}
 use Rattle.wb_sql.specs.Queries.{TableQuery, Asks, Answers}
 use Rattle.wb_sql.specs.Statements.{command_in}
 use Rattle.wb_sql.proofs.ReadingLemmas.{answers_query, query_kept}
-use Rattle.wb_schema.specs.Tables.{office_schema}
+use Rattle.wb_schema.specs.Among.{HasOffice, query_in}
 use Rattle.wb_states.specs.declared.store_fault.StoreFault.{StoreFault}
 use Rattle.wb_states.specs.declared.store_fault.Table.{Table}
 use Rattle.wb_tables.specs.Faults.{fault_of}
-use Rattle.wb_tables.specs.Opening.{IsQueryFault, Tests}
-use Rattle.wb_tables.proofs.ReadLemmas.{asked_over, plain_over}
+use Rattle.wb_tables.specs.Opening.{Tests}
+use Rattle.wb_tables.proofs.ReadLemmas.{AsksOffice, answers_of, asked_over, plain_over}
 
 -- ---- a query that fails later, as one that fails at its start
 
@@ -82,35 +83,35 @@ answer_ends sql q old mid new rows asks same shown =
 -- ---- the query under way
 
 -- a query of the table has given these rows so far, and the database is as it was
-pub record IsUnderWay {S : Type 0} (g : Ghosts S) (q : TableQuery) (old now : Held S) (given : List Row) : Type 0 where
+pub record IsUnderWay {S : Type 0} (g : Ghosts S) (of : stored.Table) (q : TableQuery) (old now : Held S) (given : List Row) : Type 0 where
   pub text : List ℕ
-  pub asks : Asks office_schema text q
-  pub runs : HasCleanDisk (state g now) → old.schema ≡ office_schema → HasGiven g text [] now given × IsUnchanged (state g old) (state g now)
-  pub survives : Survives (state g old) (state g now) (λ _. old.schema ≢ office_schema)
+  pub asks : AsksOffice text of q
+  pub runs : HasCleanDisk (state g now) → HasOffice old.schema → HasGiven g text [] now given × IsUnchanged (state g old) (state g now)
+  pub survives : Survives (state g old) (state g now) (λ _. ¬ HasOffice old.schema)
 
 -- a crash in a query that writes nothing
-crash_plain : {S : Type 0} (g : Ghosts S) {text : List ℕ} {q : TableQuery} (asks : Asks office_schema text q) (old new : Held S) → Survives (state g old) (state g new) (CommitsShowing text [] (state g old))
-    → Survives (state g old) (state g new) (λ _. old.schema ≢ office_schema)
+crash_plain : {S : Type 0} (g : Ghosts S) {text : List ℕ} {q : TableQuery} {of : stored.Table} (asks : AsksOffice text of q) (old new : Held S) → Survives (state g old) (state g new) (CommitsShowing text [] (state g old))
+    → Survives (state g old) (state g new) (λ _. ¬ HasOffice old.schema)
 crash_plain g {text} asks old new =
-    survives_weaker (state g old) (state g new) (CommitsShowing text [] (state g old)) (λ _. old.schema ≢ office_schema)
+    survives_weaker (state g old) (state g new) (CommitsShowing text [] (state g old)) (λ _. ¬ HasOffice old.schema)
     (λ clean db made office. never_commits text [] (state g old) db (plain_over asks office) made)
 
 -- a crash in a query after one more call
-crash_later : {S : Type 0} (g : Ghosts S) (old now new : Held S) → Survives (state g old) (state g now) (λ _. old.schema ≢ office_schema) → Survives (state g now) (state g new) (λ _. ⊥)
-    → Survives (state g old) (state g new) (λ _. old.schema ≢ office_schema)
+crash_later : {S : Type 0} (g : Ghosts S) (old now new : Held S) → Survives (state g old) (state g now) (λ _. ¬ HasOffice old.schema) → Survives (state g now) (state g new) (λ _. ⊥)
+    → Survives (state g old) (state g new) (λ _. ¬ HasOffice old.schema)
 crash_later g old now new =
-    survives_then (state g old) (state g now) (state g new) (λ _. old.schema ≢ office_schema) (λ _. ⊥) (λ _. old.schema ≢ office_schema) (λ clean db other. other) (λ clean db none. absurd none)
+    survives_then (state g old) (state g now) (state g new) (λ _. ¬ HasOffice old.schema) (λ _. ⊥) (λ _. ¬ HasOffice old.schema) (λ clean db other. other) (λ clean db none. absurd none)
 
-module _ {S : Type 0} {g : Ghosts S} {text : List ℕ} {q : TableQuery} (asks : Asks office_schema text q) {old new : Held S}
+module _ {S : Type 0} {g : Ghosts S} {text : List ℕ} {q : TableQuery} {of : stored.Table} (asks : AsksOffice text of q) {old new : Held S}
     (survives : Survives (state g old) (state g new) (CommitsShowing text [] (state g old))) where
   -- the query begins
-  pub begins : (HasCleanDisk (state g new) → HasBegun g text [] old new) → IsUnderWay g q old new []
+  pub begins : (HasCleanDisk (state g new) → HasBegun g text [] old new) → IsUnderWay g of q old new []
   begins begun = record { text = text; asks = asks; runs = λ clean office. begun_plain g text [] old new (plain_over asks office) (begun clean); survives = crash_plain g asks old new survives }
 
   -- the query does not begin
   pub tests_refused : {A : Type 0} {table : Table} {Good : List Row → A → Type 0} {Bad : List Row → StoreFault → Type 0} {r : Result A StoreFault} (e : Error)
-      → (HasCleanDisk (state g new) → FailsToQuery text [] (state g old) (state g new) e) → r ≡ Err (fault_of e table) → Tests g q table Good Bad old new r
-  tests_refused {A} {table} {Good} {Bad} e fails is = subst (λ (r : Result A StoreFault). Tests g q table Good Bad old new r) (sym is) (record {
+      → (HasCleanDisk (state g new) → FailsToQuery text [] (state g old) (state g new) e) → r ≡ Err (fault_of e table) → Tests g of q table Good Bad old new r
+  tests_refused {A} {table} {Good} {Bad} e fails is = subst (λ (r : Result A StoreFault). Tests g of q table Good Bad old new r) (sym is) (record {
     value = λ clean office. tt;
     same = λ clean office. tt;
     err = λ clean office. let failed = fails clean in inl (e, ((text, [], failed), query_kept text [] (state g old) (state g new) e failed), refl);
@@ -118,15 +119,15 @@ module _ {S : Type 0} {g : Ghosts S} {text : List ℕ} {q : TableQuery} (asks : 
   })
 
 -- what a test says of a state says it of the same state
-pub tests_at : {S A : Type 0} {g : Ghosts S} {q : TableQuery} {table : Table} {Good : List Row → A → Type 0} {Bad : List Row → StoreFault → Type 0} {old now new : Held S} {r : Result A StoreFault}
-    → Tests g q table Good Bad old now r → new ≡ now → Tests g q table Good Bad old new r
-tests_at {g} {q} {table} {Good} {Bad} {old} {r} tests same = subst (λ h. Tests g q table Good Bad old h r) (sym same) tests
+pub tests_at : {S A : Type 0} {g : Ghosts S} {of : stored.Table} {q : TableQuery} {table : Table} {Good : List Row → A → Type 0} {Bad : List Row → StoreFault → Type 0} {old now new : Held S} {r : Result A StoreFault}
+    → Tests g of q table Good Bad old now r → new ≡ now → Tests g of q table Good Bad old new r
+tests_at {g} {of} {q} {table} {Good} {Bad} {old} {r} tests same = subst (λ h. Tests g of q table Good Bad old h r) (sym same) tests
 
-module _ {S : Type 0} {g : Ghosts S} {q : TableQuery} {old now : Held S} {given : List Row} (under : IsUnderWay g q old now given) where
+module _ {S : Type 0} {g : Ghosts S} {of : stored.Table} {q : TableQuery} {old now : Held S} {given : List Row} (under : IsUnderWay g of q old now given) where
   module _ (new : Held S) (later : Survives (state g now) (state g new) (λ _. ⊥)) where
     -- one more row is given
     pub moves : (row : Row) → (HasCleanDisk (state g new) → Advances g now new (Some row)) → (HasCleanDisk (state g new) → IsUnchanged (state g now) (state g new))
-        → IsUnderWay g q old new (given ++ row ∷ [])
+        → IsUnderWay g of q old new (given ++ row ∷ [])
     moves row advances same = record {
       text = under.text;
       asks = under.asks;
@@ -138,19 +139,19 @@ module _ {S : Type 0} {g : Ghosts S} {q : TableQuery} {old now : Held S} {given 
     module _ {A : Type 0} {table : Table} {Good : List Row → A → Type 0} {Bad : List Row → StoreFault → Type 0} {r : Result A StoreFault} where
       -- the rows are at their end, and good
       pub tests_ended : (x : A) → (HasCleanDisk (state g new) → Advances g now new None) → (HasCleanDisk (state g new) → IsUnchanged (state g now) (state g new)) → Good given x → r ≡ Ok x
-          → Tests g q table Good Bad old new r
-      tests_ended x advances same good is = subst (λ (r : Result A StoreFault). Tests g q table Good Bad old new r) (sym is) (record {
+          → Tests g of q table Good Bad old new r
+      tests_ended x advances same good is = subst (λ (r : Result A StoreFault). Tests g of q table Good Bad old new r) (sym is) (record {
         value = λ clean office.
             let was = under.runs (omega (arith, clean, later.clean)) office in
-            (given, answer_ends under.text q (state g old) (state g now) (state g new) given (asked_over under.asks office) was.1 (advances clean under.text [] given was.0), good);
+            (given, answers_of (answer_ends under.text (query_in old.schema of q) (state g old) (state g now) (state g new) given (asked_over under.asks office) was.1 (advances clean under.text [] given was.0)), good);
         same = λ clean office. unchanged_then (state g old) (state g now) (state g new) (under.runs (omega (arith, clean, later.clean)) office).1 (same clean);
         err = λ clean office. tt;
         survives = crash_later g old now new under.survives later;
       })
 
       -- the next row cannot be read
-      pub tests_failed : (e : Error) → (HasCleanDisk (state g new) → FailsToAdvance g now new e) → r ≡ Err (fault_of e table) → Tests g q table Good Bad old new r
-      tests_failed e fails is = subst (λ (r : Result A StoreFault). Tests g q table Good Bad old new r) (sym is) (record {
+      pub tests_failed : (e : Error) → (HasCleanDisk (state g new) → FailsToAdvance g now new e) → r ≡ Err (fault_of e table) → Tests g of q table Good Bad old new r
+      tests_failed e fails is = subst (λ (r : Result A StoreFault). Tests g of q table Good Bad old new r) (sym is) (record {
         value = λ clean office. tt;
         same = λ clean office. tt;
         err = λ clean office.
@@ -163,13 +164,13 @@ module _ {S : Type 0} {g : Ghosts S} {q : TableQuery} {old now : Held S} {given 
 
   -- the rows so far show that the test fails, whatever comes after them
   pub tests_bad : {A : Type 0} {table : Table} {Good : List Row → A → Type 0} {Bad : List Row → StoreFault → Type 0} {r : Result A StoreFault} (fault : StoreFault)
-      → ((rest : List Row) → Bad (given ++ rest) fault) → r ≡ Err fault → Tests g q table Good Bad old now r
-  tests_bad {A} {table} {Good} {Bad} fault bad is = subst (λ (r : Result A StoreFault). Tests g q table Good Bad old now r) (sym is) (record {
+      → ((rest : List Row) → Bad (given ++ rest) fault) → r ≡ Err fault → Tests g of q table Good Bad old now r
+  tests_bad {A} {table} {Good} {Bad} fault bad is = subst (λ (r : Result A StoreFault). Tests g of q table Good Bad old now r) (sym is) (record {
     value = λ clean office. tt;
     same = λ clean office. tt;
     err = λ clean office.
         let was = under.runs clean office in
-        let whole = answer_begins g under.text q (state g old) now given (asked_over under.asks office) was.0 was.1 in
-        inr (was.1, (given ++ whole.0, whole.1, bad whole.0));
+        let whole = answer_begins g under.text (query_in old.schema of q) (state g old) now given (asked_over under.asks office) was.0 was.1 in
+        inr (was.1, (given ++ whole.0, answers_of whole.1, bad whole.0));
     survives = under.survives;
   })

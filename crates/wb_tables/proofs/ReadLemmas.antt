@@ -1,5 +1,5 @@
 -- From the run of a query to the records that it answers, and to what a look-up promises.
-use Rattle.std.proofs.Common.{◌≡◌, ◌≢◌, inl, inr, ℕ, List, [], ◌∷◌, ◌++◌, append_assoc, map, Result, Ok, Err, IfOk, IfErr, IsErrAnd, Vec, refl, sym, ap, subst, ◌∙◌}
+use Rattle.std.proofs.Common.{◌≡◌, inl, inr, ℕ, List, [], ◌∷◌, ◌++◌, append_assoc, map, Result, Ok, Err, IfOk, IfErr, IsErrAnd, Vec, refl, sym, ap, subst, ◌∙◌}
 use Rattle.std.proofs.lemmas.List.{map-append}
 use Rattle.sqlite.specs.declared.error.Error.{Error}
 use Rattle.sqlite.specs.declared.error.Error.TheVariants.{SqliteFailure}
@@ -9,12 +9,14 @@ use Rattle.sqlite.specs.Held.{Held, state}
 use Rattle.sqlite.specs.Listing.{understood}
 use Rattle.sqlite.specs.Order.{Row}
 use Rattle.sqlite.specs.Schema.{Schema}
-use Rattle.sqlite.specs.State.{Survives}
+use Rattle.sqlite.specs.State.{State, Survives}
+use Rattle.sqlite.specs.Table.{Table}
 use Rattle.sqlite.proofs.StateLemmas.{survives_weaker}
 use Rattle.sqlite_trees.specs.declared.store.Store.{Ghosts}
 use Rattle.wb_sql.specs.Calls.{RunsQuery}
 use Rattle.wb_sql.specs.Queries.{TableQuery, Asks, Answers}
-use Rattle.wb_schema.specs.Tables.{office_schema}
+use Rattle.wb_schema.specs.Among.{AsksAmong, HasOffice, query_at, query_in, rows_in, tree_named}
+use Rattle.wb_schema.specs.Tables as tables
 use Rattle.wb_states.specs.Machine.{Machine, IsConsistent}
 use Rattle.wb_store.specs.declared.keyed.KeyedRecord.{KeyedRecord}
 use Rattle.wb_tables.specs.Stands.{StandsFor}
@@ -52,18 +54,55 @@ row_read columns made after new row rest left all whole next pushed is =
 
 -- ---- the run of a query
 
-module _ {sql : List ℕ} {q : TableQuery} (asks : Asks office_schema sql q) where
-  -- what a text asks over the office's tables
-  pub plain_over : {schema : Schema} → schema ≡ office_schema → IsPlain (understood schema sql)
-  plain_over is = subst (λ s. IsPlain (understood s sql)) (sym is) asks.means.plain
+-- over each schema with the office's tables the text asks this of one of them, in the tree in which the schema has it
+pub record AsksOffice (sql : List ℕ) (table : Table) (q : TableQuery) : Type 0 where
+  pub over : (schema : Schema) → HasOffice schema → Asks schema sql (query_in schema table q)
 
-  pub asked_over : {schema : Schema} → schema ≡ office_schema → Asks schema sql q
-  asked_over is = subst (λ s. Asks s sql q) (sym is) asks
+module _ {sql : List ℕ} (q : TableQuery) where
+  -- a text on the table of the counts
+  pub asks_office : AsksAmong tables.office sql q → AsksOffice sql tables.office q
+  asks_office asks = record { over = λ schema has. asks schema (tree_named schema tables.office.name) has.office_is }
+
+  -- a text on the table of the architectures
+  pub asks_arch : AsksAmong tables.arch sql q → AsksOffice sql tables.arch q
+  asks_arch asks = record { over = λ schema has. asks schema (tree_named schema tables.arch.name) has.arch_is }
+
+  -- a text on the table of the builders
+  pub asks_builder : AsksAmong tables.builder sql q → AsksOffice sql tables.builder q
+  asks_builder asks = record { over = λ schema has. asks schema (tree_named schema tables.builder.name) has.builder_is }
+
+  -- a text on the table of the records
+  pub asks_record : AsksAmong tables.source_record sql q → AsksOffice sql tables.source_record q
+  asks_record asks = record { over = λ schema has. asks schema (tree_named schema tables.source_record.name) has.record_is }
+
+  -- a text on the table of the source packages of a merge
+  pub asks_source : AsksAmong tables.scratch_source sql q → AsksOffice sql tables.scratch_source q
+  asks_source asks = record { over = λ schema has. asks schema (tree_named schema tables.scratch_source.name) has.source_is }
+
+  -- a text on the table of the binary packages of a merge
+  pub asks_binary : AsksAmong tables.scratch_binary sql q → AsksOffice sql tables.scratch_binary q
+  asks_binary asks = record { over = λ schema has. asks schema (tree_named schema tables.scratch_binary.name) has.binary_is }
+
+-- what a query answers does not depend on the tree in which its table is
+pub answers_of : {q : TableQuery} {tree : ℕ} {params : Row} {rows answer : List Row} → Answers (query_at tree q) params rows answer → Answers q params rows answer
+answers_of a = record { ordered = a.ordered; same = a.same; sorted = a.sorted; shown = a.shown }
+
+module _ {sql : List ℕ} {q : TableQuery} {table : Table} (asks : AsksOffice sql table q) where
+  -- what a text asks over a schema with the office's tables
+  pub asked_over : {schema : Schema} → HasOffice schema → Asks schema sql (query_in schema table q)
+  asked_over {schema} has = asks.over schema has
+
+  pub plain_over : {schema : Schema} → HasOffice schema → IsPlain (understood schema sql)
+  plain_over has = (asked_over has).means.plain
+
+  -- what it may answer, it answers of the rows of the table
+  pub answered : {params : Row} {rows : List Row} (at : State) → HasOffice at.now.schema → MayAnswer sql params at rows → Answers q params (rows_in at.now table) rows
+  answered at has answers = answers_of (answers (query_in at.now.schema table q) (asked_over has))
 
   pub crash_over : {S : Type 0} (g : Ghosts S) (old new : Held S) → Survives (state g old) (state g new) (λ _. ¬ IsPlain (understood old.schema sql))
-      → Survives (state g old) (state g new) (λ _. old.schema ≢ office_schema)
+      → Survives (state g old) (state g new) (λ _. ¬ HasOffice old.schema)
   crash_over g old new =
-      survives_weaker (state g old) (state g new) (λ _. ¬ IsPlain (understood old.schema sql)) (λ _. old.schema ≢ office_schema) (λ clean db unplain is. unplain (plain_over is))
+      survives_weaker (state g old) (state g new) (λ _. ¬ IsPlain (understood old.schema sql)) (λ _. ¬ HasOffice old.schema) (λ clean db unplain has. unplain (plain_over has))
 
 module _ {S : Type 0} {g : Ghosts S} {sql : List ℕ} {params : Row} {old new : Held S} where
   -- the records in the rows of a query that succeeded
@@ -91,14 +130,14 @@ module _ {S : Type 0} {g : Ghosts S} {sql : List ℕ} {params : Row} {old new : 
     survives = run.survives;
   })
 
-  module _ {q : TableQuery} (asks : Asks office_schema sql q) where
+  module _ {q : TableQuery} {table : Table} (asks : AsksOffice sql table q) where
     -- a look-up whose query succeeded, and whose rows are read
     pub looks_up_rows : {A X : Type 0} {rows : Vec Row X} {Answer : Machine → A → Type 0} (Fits : Type 0) (r : Result A Error) → RunsQuery g sql params old new (Ok rows)
-        → ((machine : Machine) → StandsFor machine (state g old).now → Answers q params ((state g old).now.trees q.tree) rows.items → IfOk r (Answer machine)) → IfErr r (IsReadFault Fits)
-        → ((machine : Machine) → IsConsistent machine → StandsFor machine (state g old).now → Answers q params ((state g old).now.trees q.tree) rows.items → Fits)
+        → ((machine : Machine) → StandsFor machine (state g old).now → Answers q params (rows_in (state g old).now table) rows.items → IfOk r (Answer machine)) → IfErr r (IsReadFault Fits)
+        → ((machine : Machine) → IsConsistent machine → StandsFor machine (state g old).now → Answers q params (rows_in (state g old).now table) rows.items → Fits)
         → LooksUp g Answer old new r
     looks_up_rows Fits (Ok x) run finds fault fits = record {
-      value = λ clean machine stands. finds machine stands (run.answers clean q (asked_over asks stands.schema_is));
+      value = λ clean machine stands. finds machine stands (answered asks (state g old) stands.has (run.answers clean));
       same = λ clean office. run.same clean (plain_over asks office);
       err = λ clean office. tt;
       survives = crash_over asks g old new run.survives;
@@ -108,7 +147,7 @@ module _ {S : Type 0} {g : Ghosts S} {sql : List ℕ} {params : Row} {old new : 
       same = λ clean office. tt;
       err = λ clean office. elim fault [
         | inl memory ↦ inr (inl (memory, run.same clean (plain_over asks office)))
-        | inr corrupt ↦ inr (inr (corrupt.0, run.same clean (plain_over asks office), λ machine sound stands. corrupt.1 (fits machine sound stands (run.answers clean q (asked_over asks stands.schema_is)))))
+        | inr corrupt ↦ inr (inr (corrupt.0, run.same clean (plain_over asks office), λ machine sound stands. corrupt.1 (fits machine sound stands (answered asks (state g old) stands.has (run.answers clean)))))
       ];
       survives = crash_over asks g old new run.survives;
     }
@@ -124,10 +163,10 @@ module _ {S : Type 0} {g : Ghosts S} {sql : List ℕ} {params : Row} {old new : 
 
     -- a look-up of records
     pub looks_up : {A X : Type 0} {rows : Vec KeyedRecord X} {Answer : Machine → A → Type 0} {x : A} → ReadsRecords g sql params old new (Ok rows)
-        → ((machine : Machine) → StandsFor machine (state g old).now → Answers q params ((state g old).now.trees q.tree) (map keyed_cells rows.items) → Answer machine x)
+        → ((machine : Machine) → StandsFor machine (state g old).now → Answers q params (rows_in (state g old).now table) (map keyed_cells rows.items) → Answer machine x)
         → LooksUp g Answer old new (Ok x)
     looks_up read finds = record {
-      value = λ clean machine stands. finds machine stands (read.value clean q (asked_over asks stands.schema_is));
+      value = λ clean machine stands. finds machine stands (answered asks (state g old) stands.has (read.value clean));
       same = λ clean office. read.same clean (plain_over asks office);
       err = λ clean office. tt;
       survives = crash_over asks g old new read.survives;
@@ -135,7 +174,7 @@ module _ {S : Type 0} {g : Ghosts S} {sql : List ℕ} {params : Row} {old new : 
 
     -- a look-up whose records are not had
     pub fails_to_look_up : {A X : Type 0} {e : Error} {Answer : Machine → A → Type 0} {r : Result A Error} → ReadsRecords {X = X} g sql params old new (Err e) → r ≡ Err e
-        → ((machine : Machine) → IsConsistent machine → StandsFor machine (state g old).now → (rows : List Row) → Answers q params ((state g old).now.trees q.tree) rows → AreRecords rows)
+        → ((machine : Machine) → IsConsistent machine → StandsFor machine (state g old).now → (rows : List Row) → Answers q params (rows_in (state g old).now table) rows → AreRecords rows)
         → LooksUp g Answer old new r
     fails_to_look_up {A} {e} {Answer} read is fits = subst (λ (r : Result A Error). LooksUp g Answer old new r) (sym is) (record {
       value = λ clean. tt;
@@ -144,11 +183,11 @@ module _ {S : Type 0} {g : Ghosts S} {sql : List ℕ} {params : Row} {old new : 
       survives = crash_over asks g old new read.survives;
     })
       where
-        why : old.schema ≡ office_schema → FailsToReadRecords sql params (state g old) (state g new) e → FailsToLookUp (state g old) (state g new) e
+        why : HasOffice old.schema → FailsToReadRecords sql params (state g old) (state g new) e → FailsToLookUp (state g old) (state g new) e
         why office (inl failed) = inl failed
         why office (inr (kept, (rows, answers, inl memory))) = inr (inl (memory, kept))
         why office (inr (kept, (rows, answers, inr corrupt))) =
-            inr (inr (corrupt.0, kept, λ machine sound stands. corrupt.1 (fits machine sound stands rows (answers q (asked_over asks stands.schema_is)))))
+            inr (inr (corrupt.0, kept, λ machine sound stands. corrupt.1 (fits machine sound stands rows (answered asks (state g old) stands.has answers))))
 
     -- a look-up that is out of memory for its answer
     pub lacks_memory : {A X : Type 0} {rows : Vec KeyedRecord X} {Answer : Machine → A → Type 0} {r : Result A Error} → ReadsRecords g sql params old new (Ok rows)
@@ -162,8 +201,8 @@ module _ {S : Type 0} {g : Ghosts S} {sql : List ℕ} {params : Row} {old new : 
 
     -- all the records of a look-up
     pub looks_up_all : {X : Type 0} {Answer : Machine → Vec KeyedRecord X → Type 0} (r : Result (Vec KeyedRecord X) Error) → ReadsRecords g sql params old new r
-        → ((machine : Machine) (rows : Vec KeyedRecord X) → StandsFor machine (state g old).now → Answers q params ((state g old).now.trees q.tree) (map keyed_cells rows.items) → Answer machine rows)
-        → ((machine : Machine) → IsConsistent machine → StandsFor machine (state g old).now → (rows : List Row) → Answers q params ((state g old).now.trees q.tree) rows → AreRecords rows)
+        → ((machine : Machine) (rows : Vec KeyedRecord X) → StandsFor machine (state g old).now → Answers q params (rows_in (state g old).now table) (map keyed_cells rows.items) → Answer machine rows)
+        → ((machine : Machine) → IsConsistent machine → StandsFor machine (state g old).now → (rows : List Row) → Answers q params (rows_in (state g old).now table) rows → AreRecords rows)
         → LooksUp g Answer old new r
     looks_up_all (Ok rows) read finds fits = looks_up read (λ machine. finds machine rows)
     looks_up_all (Err e) read finds fits = fails_to_look_up read refl fits

@@ -8,16 +8,17 @@ use Rattle.sqlite.specs.Held.{Held, state}
 use Rattle.sqlite.specs.Order.{Row}
 use Rattle.sqlite.specs.Query.{Output}
 use Rattle.sqlite.specs.State.{State, HasCleanDisk, IsUnchanged}
+use Rattle.sqlite.specs.Table.{Table}
 use Rattle.sqlite.proofs.StateLemmas.{survives_then}
 use Rattle.sqlite_trees.specs.declared.store.Store.{Ghosts}
 use Rattle.wb_sql.specs.Calls.{RunsQuery}
-use Rattle.wb_sql.specs.Queries.{TableQuery, Asks, Answers, outputs}
+use Rattle.wb_sql.specs.Queries.{TableQuery, Answers, outputs}
 use Rattle.wb_sql.proofs.AnswerLemmas.{first_answer}
+use Rattle.wb_schema.specs.Among.{HasOffice, rows_in}
 use Rattle.wb_schema.specs.Statements as sql
-use Rattle.wb_schema.specs.Tables.{office_schema}
 use Rattle.wb_tables.specs.Scratch.{has_row, FailsToTest, FindsWhether}
 use Rattle.wb_tables.proofs.OrderLemmas.{none_permuted}
-use Rattle.wb_tables.proofs.ReadLemmas.{plain_over, asked_over, crash_over}
+use Rattle.wb_tables.proofs.ReadLemmas.{AsksOffice, answered, crash_over, plain_over}
 
 -- ---- whether a list has a row
 
@@ -59,12 +60,12 @@ module _ (tree : ℕ) (rows answer : List Row) (a : Answers (sql.first_of_scratc
 
 -- ---- what a test promises
 
-module _ {S : Type 0} {g : Ghosts S} {text : List ℕ} {q : TableQuery} (asks : Asks office_schema text q) {old new : Held S} {test : Database → Bool} where
+module _ {S : Type 0} {g : Ghosts S} {text : List ℕ} {q : TableQuery} {table : Table} (asks : AsksOffice text table q) {old new : Held S} {test : Database → Bool} where
   -- a test whose query succeeded
   pub tests_rows : {X : Type 0} {rows : Vec Row X} {found : Bool} → RunsQuery g text [] old new (Ok rows)
-      → (Answers q [] ((state g old).now.trees q.tree) rows.items → found ≡ test (state g old).now) → FindsWhether g test old new (Ok found)
+      → (Answers q [] (rows_in (state g old).now table) rows.items → found ≡ test (state g old).now) → FindsWhether g test old new (Ok found)
   tests_rows run finds = record {
-    value = λ clean office. finds (run.answers clean q (asked_over asks office));
+    value = λ clean office. finds (answered asks (state g old) office (run.answers clean));
     same = λ clean office. run.same clean (plain_over asks office);
     err = λ clean office. tt;
     survives = crash_over asks g old new run.survives;
@@ -94,8 +95,8 @@ unchanged_then a b c one two = (
 
 module _ {S : Type 0} {g : Ghosts S} {old mid : Held S} {first : Database → Bool} where
   module _ (one : FindsWhether g first old mid (Ok false)) where
-    kept : HasCleanDisk (state g mid) → old.schema ≡ office_schema → mid.schema ≡ office_schema
-    kept clean office = ap (λ (db : Database). db.schema) (one.same clean office).0.now_is ∙ office
+    kept : HasCleanDisk (state g mid) → HasOffice old.schema → HasOffice mid.schema
+    kept clean office = subst (λ (db : Database). HasOffice db.schema) (sym (one.same clean office).0.now_is) office
 
     later_fault : (new : Held S) (e : Error) → IsUnchanged (state g old) (state g mid) → FailsToTest g mid new e → FailsToTest g old new e
     later_fault new e same (inl failed) = inr (mid, same, failed)

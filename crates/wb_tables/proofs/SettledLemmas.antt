@@ -5,15 +5,13 @@ use Rattle.sqlite_trees.specs.declared.store.Store.{Ghosts}
 use Rattle.sqlite.specs.declared.error.Error.{Error}
 use Rattle.sqlite.specs.Tree.{Trees}
 use Rattle.sqlite.specs.Effect.{Database, IsDatabase}
-use Rattle.sqlite.specs.Schema.{Schema}
-use Rattle.sqlite_catalog.specs.Listing.{IsSound}
 use Rattle.sqlite.specs.Held.{Held, state}
 use Rattle.sqlite.specs.State.{State, HasCleanDisk, IsLive, IsUnchanged, IsRolledBack, Survives}
 use Rattle.wb_sql.specs.declared.writing.CommitError.{CommitError}
 use Rattle.wb_sql.specs.declared.writing.CommitError.TheVariants.{Memory}
 use Rattle.wb_sql.specs.Transactions.{IsKeptOrUndone, IsTakenBack, Commits, LeavesAlone, LeavesNoMore}
 use Rattle.wb_sql.proofs.CallLemmas.{on_ok}
-use Rattle.wb_schema.specs.Tables.{office_schema}
+use Rattle.wb_schema.specs.Among.{HasOffice}
 use Rattle.wb_states.specs.Machine.{Machine}
 use Rattle.wb_tables.specs.Stands.{StandsFor}
 use Rattle.wb_tables.specs.Calls.{Becomes, Changes, FailsToWrite, LooksUp, FailsToLookUp}
@@ -21,38 +19,17 @@ use Rattle.wb_tables.specs.Settled.{StandsForTrees, IsOffice, IsSettled, IsUnder
 
 -- ---- a database and its trees
 
-of_trees : {machine : Machine} (db : Database) → StandsForTrees machine db.trees → db.schema ≡ office_schema → StandsFor machine db
-of_trees db h same = record {
-  schema_is = same;
-  counts = h.stands.counts;
-  archs = h.stands.archs;
-  builders = h.stands.builders;
-  records = h.stands.records;
-  sources = h.stands.sources;
-  binaries = h.stands.binaries;
-}
-
 -- a database that stands for a state and is sound is that of an office
 pub office_of : {machine : Machine} (db : Database) → StandsFor machine db → IsDatabase db → IsOffice machine db
-office_of db h sound = record {
-  schema_is = h.schema_is;
-  trees_are = record {
-    sound = subst (λ (s : Schema). IsSound s db.trees) h.schema_is sound;
-    stands = record {
-      schema_is = refl;
-      counts = h.counts;
-      archs = h.archs;
-      builders = h.builders;
-      records = h.records;
-      sources = h.sources;
-      binaries = h.binaries;
-    };
-  };
-}
+office_of db h sound = record { sound = sound; stands = h }
 
 -- the database of an office stands for its state
 pub office_stands : {machine : Machine} (db : Database) → IsOffice machine db → StandsFor machine db
-office_stands db h = of_trees db h.trees_are h.schema_is
+office_stands db h = h.stands
+
+-- the trees of an office's database stand for its state
+pub office_trees : {machine : Machine} (db : Database) → IsOffice machine db → StandsForTrees machine db.trees
+office_trees db h = record { schema = db.schema; sound = h.sound; stands = h.stands }
 
 same_office : {machine : Machine} (a b : Database) → b ≡ a → IsOffice machine a → IsOffice machine b
 same_office {machine = machine} a b same = subst (IsOffice machine) (sym same)
@@ -61,7 +38,7 @@ same_stands : {machine : Machine} (a b : Database) → b ≡ a → StandsFor mac
 same_stands {machine = machine} a b same = subst (StandsFor machine) (sym same)
 
 only_of : {machine : Machine} (s : State) (db : Database) → LeavesAlone s db.trees → IsOffice machine db → LeavesOnly machine s
-only_of {machine = machine} s db alone is left may = subst (StandsForTrees machine) (sym (alone left may)) is.trees_are
+only_of {machine = machine} s db alone is left may = subst (StandsForTrees machine) (sym (alone left may)) (office_trees db is)
 
 -- ---- a transaction begins
 
@@ -173,7 +150,7 @@ module _ {S A : Type 0} (g : Ghosts S) (old new : Held S) where
     memory = λ clean before now h is. stays_or_goes_back (state g old) (state g new) (subst (λ x. OnErr x (IsKeptOrUndone (state g old) (state g new))) is (err clean)) (memory clean is) h;
     crash = λ clean before now h db may. elim (survives.crash clean db may) [
       | inl was ↦ inl (only_of (state g old) (state g old).committed h.alone h.began db was)
-      | inr made ↦ inr (subst (StandsForTrees now) (sym made) (office_of (state g old).now h.stands (live h.is_open).0).trees_are)
+      | inr made ↦ inr (subst (StandsForTrees now) (sym made) (office_trees (state g old).now (office_of (state g old).now h.stands (live h.is_open).0)))
     ];
   }
     where
@@ -208,8 +185,8 @@ module _ {S A : Type 0} (g : Ghosts S) (old new : Held S) where
 -- ---- changes and look-ups
 
 module _ {S : Type 0} (g : Ghosts S) (old new : Held S) where
-  fewer_by : Survives (state g old) (state g new) (λ _. ¬ (old.schema ≡ office_schema)) → old.schema ≡ office_schema → HasCleanDisk (state g new) → LeavesNoMore (state g old) (state g new)
-  fewer_by survives same = fewer_of (state g old) (state g new) survives (λ db other. other same)
+  fewer_by : Survives (state g old) (state g new) (λ _. ¬ HasOffice old.schema) → HasOffice old.schema → HasCleanDisk (state g new) → LeavesNoMore (state g old) (state g new)
+  fewer_by survives has = fewer_of (state g old) (state g new) survives (λ db other. other has)
 
   kept_or_undone_in : (e : Error) → FailsToLookUp (state g old) (state g new) e → IsKeptOrUndone (state g old) (state g new)
   kept_or_undone_in e (inl read) = read.1
@@ -227,25 +204,25 @@ module _ {S A : Type 0} (g : Ghosts S) (old new : Held S) where
         inside = subst IsTrue (sym made.shown.mode) refl;
         stands = made.stands;
         began = same_office (state g old).committed (state g new).committed made.shown.committed_is way.began;
-        alone = λ db may. way.alone db (fewer_by g old new h.survives way.stands.schema_is clean db may) ∙ ap (λ (d : Database). d.trees) (sym made.shown.committed_is);
+        alone = λ db may. way.alone db (fewer_by g old new h.survives way.stands.has clean db may) ∙ ap (λ (d : Database). d.trees) (sym made.shown.committed_is);
       }) (h.ok clean)
 
   -- a change that fails leaves the transaction under way as it was, or taken back
   pub not_changed : {Allows : Machine → Type 0} {after : Machine → Machine} {before now : Machine} (r : Result A Error) → Changes g Allows after old new r → HasCleanDisk (state g new) → IsUnderWay before now (state g old)
       → OnErr r (IsUnderWay before now (state g new) ⊎ IsBackAt before (state g new))
   not_changed r h clean way = on_err {P = FailsToWrite (state g old) (state g new)} r
-      (λ e failed. stays_or_goes_back (state g old) (state g new) failed.1 (fewer_by g old new h.survives way.stands.schema_is clean) way) (h.err clean way.inside)
+      (λ e failed. stays_or_goes_back (state g old) (state g new) failed.1 (fewer_by g old new h.survives way.stands.has clean) way) (h.err clean way.inside)
 
   -- a look-up that succeeds leaves the connection settled
   pub looked_up : {Answer : Machine → A → Type 0} {machine : Machine} (r : Result A Error) → LooksUp g Answer old new r → HasCleanDisk (state g new) → IsSettled machine (state g old) → OnOk r (IsSettled machine (state g new))
-  looked_up r h clean settled = on_ok r (λ same. stays_settled (state g old) (state g new) same (fewer_by g old new h.survives settled.holds.schema_is clean) settled) (h.same clean settled.holds.schema_is)
+  looked_up r h clean settled = on_ok r (λ same. stays_settled (state g old) (state g new) same (fewer_by g old new h.survives settled.holds.stands.has clean) settled) (h.same clean settled.holds.stands.has)
 
   -- a look-up that fails leaves the connection at its state, unless a fault shut it
   pub not_looked_up : {Answer : Machine → A → Type 0} {machine : Machine} (r : Result A Error) → LooksUp g Answer old new r → HasCleanDisk (state g new) → IsSettled machine (state g old) → OnErr r (IsBackAt machine (state g new))
   not_looked_up {machine = machine} r h clean settled =
-      let fewer = fewer_by g old new h.survives settled.holds.schema_is clean in
+      let fewer = fewer_by g old new h.survives settled.holds.stands.has clean in
       on_err {P = FailsToLookUp (state g old) (state g new)} r
-      (λ e failed. back_at (kept_or_undone_in g old new e failed) fewer) (h.err clean settled.holds.schema_is)
+      (λ e failed. back_at (kept_or_undone_in g old new e failed) fewer) (h.err clean settled.holds.stands.has)
     where
       back_at : IsKeptOrUndone (state g old) (state g new) → LeavesNoMore (state g old) (state g new) → IsBackAt machine (state g new)
       back_at (inl same) fewer = stays_back (state g old) (state g new) same fewer (settled_back (state g old) settled)

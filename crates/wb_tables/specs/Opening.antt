@@ -1,5 +1,5 @@
 -- What an opening tests of the office's tables, row by row.
-use Rattle.std.specs.Prelude.{◌≡◌, ◌≢◌, ◌⊎◌, ◌++◌, ℕ, suc, ◌<◌, ◌≤◌, ⊤, Bool, false, ◌&&◌, ◌||◌, nat_eq, bytes_eq, IsTrue, List, [], ◌∷◌, length, map, find, Option, IfSome, Result, Vec, IfOk, IfErr, OnOk}
+use Rattle.std.specs.Prelude.{◌≡◌, ◌⊎◌, ◌++◌, ℕ, suc, ◌<◌, ◌≤◌, ⊤, Bool, false, ◌&&◌, ◌||◌, nat_eq, bytes_eq, IsTrue, List, [], ◌∷◌, length, map, find, Option, IfSome, Result, Vec, IfOk, IfErr, OnOk}
 use Rattle.std.specs.Option.{option_map, IsSomeAnd}
 use Rattle.std.specs.List.{AllByRecursion, list_any}
 use Rattle.std.specs.FinMap as finite
@@ -11,10 +11,12 @@ use Rattle.sqlite.specs.Given.{IsPlain}
 use Rattle.sqlite.specs.Held.{Held, state}
 use Rattle.sqlite.specs.Listing.{understood}
 use Rattle.sqlite.specs.Order.{Row}
+use Rattle.sqlite.specs.Table as stored
 use Rattle.sqlite.specs.State.{State, HasCleanDisk, IsUnchanged, Survives}
 use Rattle.wb_sql.specs.Queries.{TableQuery, Answers}
 use Rattle.wb_schema.specs.Statements as sql
-use Rattle.wb_schema.specs.Tables.{office_schema}
+use Rattle.wb_schema.specs.Among.{HasOffice, rows_in}
+use Rattle.wb_schema.specs.Tables.{office, arch, builder, source_record}
 use Rattle.wb_states.specs.declared.arch.OsCpu.{OsCpu}
 use Rattle.wb_states.specs.declared.counts.Counts.{Counts}
 use Rattle.wb_states.specs.declared.store_fault.StoreFault.{StoreFault}
@@ -75,17 +77,17 @@ pub record ReadsTable {S X : Type 0} (g : Ghosts S) (sql : List ℕ) (table : Ta
   pub survives : Survives (state g old) (state g new) (λ _. ¬ IsPlain (understood old.schema sql))
 
 -- why a test of a table fails: its query failed; or memory ran out or a row is damaged, and nothing is changed
-abbrev pub FailsToTest : TableQuery → Table → (List Row → StoreFault → Type 0) → State → State → StoreFault → Type 0
-FailsToTest q table Bad old new fault =
-    IsQueryFault table old new fault ⊎ (IsUnchanged old new × ((rows : List Row) × Answers q [] (old.now.trees q.tree) rows × Bad rows fault))
+abbrev pub FailsToTest : stored.Table → TableQuery → Table → (List Row → StoreFault → Type 0) → State → State → StoreFault → Type 0
+FailsToTest of q table Bad old new fault =
+    IsQueryFault table old new fault ⊎ (IsUnchanged old new × ((rows : List Row) × Answers q [] (rows_in old.now of) rows × Bad rows fault))
 
 -- a test of the rows of a table, which a query answers: if it succeeds, they are good, and the database stays as it is; if it fails, it fails
 -- for one of the reasons above; and a crash leaves no more than before
-pub record Tests {S A : Type 0} (g : Ghosts S) (q : TableQuery) (table : Table) (Good : List Row → A → Type 0) (Bad : List Row → StoreFault → Type 0) (old new : Held S) (result : Result A StoreFault) : Type 0 where
-  pub value : HasCleanDisk (state g new) → old.schema ≡ office_schema → IfOk result (λ x. (rows : List Row) × Answers q [] ((state g old).now.trees q.tree) rows × Good rows x)
-  pub same : HasCleanDisk (state g new) → old.schema ≡ office_schema → OnOk result (IsUnchanged (state g old) (state g new))
-  pub err : HasCleanDisk (state g new) → old.schema ≡ office_schema → IfErr result (FailsToTest q table Bad (state g old) (state g new))
-  pub survives : Survives (state g old) (state g new) (λ _. old.schema ≢ office_schema)
+pub record Tests {S A : Type 0} (g : Ghosts S) (of : stored.Table) (q : TableQuery) (table : Table) (Good : List Row → A → Type 0) (Bad : List Row → StoreFault → Type 0) (old new : Held S) (result : Result A StoreFault) : Type 0 where
+  pub value : HasCleanDisk (state g new) → HasOffice old.schema → IfOk result (λ x. (rows : List Row) × Answers q [] (rows_in (state g old).now of) rows × Good rows x)
+  pub same : HasCleanDisk (state g new) → HasOffice old.schema → OnOk result (IsUnchanged (state g old) (state g new))
+  pub err : HasCleanDisk (state g new) → HasOffice old.schema → IfErr result (FailsToTest of q table Bad (state g old) (state g new))
+  pub survives : Survives (state g old) (state g new) (λ _. ¬ HasOffice old.schema)
 
 -- if this is true of the state, the tables of a consistent office pass the test, with this outcome: it fails only if memory ran out or its query
 -- failed
@@ -240,15 +242,15 @@ pub record HasGoodRecords (machine : Machine) : Type 0 where
   pub takes : HasDistinctTakes machine
 
 -- the rows that a query shows of a database are good
-abbrev pub ShowsGood : TableQuery → Database → (List Row → Type 0) → Type 0
-ShowsGood q db Good = (rows : List Row) × Answers q [] (db.trees q.tree) rows × Good rows
+abbrev pub ShowsGood : stored.Table → TableQuery → Database → (List Row → Type 0) → Type 0
+ShowsGood of q db Good = (rows : List Row) × Answers q [] (rows_in db of) rows × Good rows
 
 -- the rows of the office's tables are good, those of each table beside those of the others
 pub record HasGoodRows (db : Database) : Type 0 where
   pub counts : Counts
   pub archs : List (List ℕ × OsCpu)
   pub builders : List Key
-  pub counts_held : ShowsGood sql.office_counts db (λ rows. HoldsCounts rows counts)
-  pub archs_held : ShowsGood sql.all_archs db (λ rows. HoldsArchs rows archs)
-  pub builders_held : ShowsGood sql.all_builders db (λ rows. HoldsBuilders archs rows builders)
-  pub records_held : ShowsGood sql.all_records db (HoldsRecords archs builders counts.handed)
+  pub counts_held : ShowsGood office sql.office_counts db (λ rows. HoldsCounts rows counts)
+  pub archs_held : ShowsGood arch sql.all_archs db (λ rows. HoldsArchs rows archs)
+  pub builders_held : ShowsGood builder sql.all_builders db (λ rows. HoldsBuilders archs rows builders)
+  pub records_held : ShowsGood source_record sql.all_records db (HoldsRecords archs builders counts.handed)

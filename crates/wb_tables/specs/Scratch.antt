@@ -1,11 +1,12 @@
 -- Whether the scratch tables of a merge have rows, and what a call that asks this promises.
-use Rattle.std.specs.Prelude.{◌≡◌, ◌≢◌, ◌⊎◌, Bool, true, false, ◌||◌, List, [], ◌∷◌, Result, IfOk, IfErr, OnOk}
+use Rattle.std.specs.Prelude.{◌≡◌, ◌⊎◌, Bool, true, false, ◌||◌, List, [], ◌∷◌, Result, IfOk, IfErr, OnOk}
 use Rattle.sqlite_trees.specs.declared.store.Store.{Ghosts}
 use Rattle.sqlite.specs.declared.error.Error.{Error}
 use Rattle.sqlite.specs.Effect.{Database}
 use Rattle.sqlite.specs.Held.{Held, state}
 use Rattle.sqlite.specs.State.{HasCleanDisk, IsUnchanged, Survives}
-use Rattle.wb_schema.specs.Tables.{office_schema, scratch_source, scratch_binary}
+use Rattle.wb_schema.specs.Among.{HasOffice, rows_in}
+use Rattle.wb_schema.specs.Tables.{scratch_source, scratch_binary}
 use Rattle.wb_tables.specs.Calls.{FailsToRead}
 
 -- whether there is a row
@@ -15,11 +16,11 @@ has_row (row ∷ rows) = true
 
 -- whether the scratch table of source packages has a row
 abbrev pub has_sources : Database → Bool
-has_sources db = has_row (db.trees scratch_source.tree)
+has_sources db = has_row (rows_in db scratch_source)
 
 -- whether the scratch table of binary packages has a row
 abbrev pub has_binaries : Database → Bool
-has_binaries db = has_row (db.trees scratch_binary.tree)
+has_binaries db = has_row (rows_in db scratch_binary)
 
 -- whether one of the two has a row
 abbrev pub has_scratch_rows : Database → Bool
@@ -34,7 +35,7 @@ FailsToTest {S} g old new e =
 -- a test of a database with the office's tables: if it succeeds, its answer is that of the database, which stays as it is; if it fails, one of
 -- its queries did; and a crash leaves no more than before
 pub record FindsWhether {S : Type 0} (g : Ghosts S) (test : Database → Bool) (old new : Held S) (result : Result Bool Error) : Type 0 where
-  pub value : HasCleanDisk (state g new) → old.schema ≡ office_schema → IfOk result (λ found. found ≡ test (state g old).now)
-  pub same : HasCleanDisk (state g new) → old.schema ≡ office_schema → OnOk result (IsUnchanged (state g old) (state g new))
-  pub err : HasCleanDisk (state g new) → old.schema ≡ office_schema → IfErr result (FailsToTest g old new)
-  pub survives : Survives (state g old) (state g new) (λ _. old.schema ≢ office_schema)
+  pub value : HasCleanDisk (state g new) → HasOffice old.schema → IfOk result (λ found. found ≡ test (state g old).now)
+  pub same : HasCleanDisk (state g new) → HasOffice old.schema → OnOk result (IsUnchanged (state g old) (state g new))
+  pub err : HasCleanDisk (state g new) → HasOffice old.schema → IfErr result (FailsToTest g old new)
+  pub survives : Survives (state g old) (state g new) (λ _. ¬ HasOffice old.schema)

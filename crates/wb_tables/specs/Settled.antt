@@ -4,6 +4,7 @@ use Rattle.sqlite_trees.specs.declared.store.Store.{Ghosts}
 use Rattle.sqlite_catalog.specs.Listing.{IsSound}
 use Rattle.sqlite_disk.specs.declared.Disk.{Ghosts as DiskGhosts}
 use Rattle.sqlite_disk.specs.declared.Files.{Files}
+use Rattle.sqlite.specs.Schema.{Schema}
 use Rattle.sqlite.specs.Tree.{Trees}
 use Rattle.sqlite.specs.Effect.{Database}
 use Rattle.sqlite.specs.Held.{Held, state}
@@ -12,19 +13,19 @@ use Rattle.wb_sql.specs.declared.writing.CommitError.{CommitError}
 use Rattle.wb_sql.specs.declared.writing.CommitError.TheVariants.{Memory}
 use Rattle.wb_sql.specs.Transactions.{LeavesAlone}
 use Rattle.wb_sql.specs.Settled.{AreSettled}
-use Rattle.wb_schema.specs.Tables.{office_schema}
 use Rattle.wb_states.specs.Machine.{Machine}
 use Rattle.wb_tables.specs.Stands.{StandsFor}
 
--- the trees hold the office's tables alone, as their catalogue lists them, with the rows of this state
+-- the trees hold the office's tables, beside those of others, as their catalogue lists them, with the rows of this state
 pub record StandsForTrees (machine : Machine) (trees : Trees) : Type 0 where
-  pub sound : IsSound office_schema trees
-  pub stands : StandsFor machine (record { schema = office_schema; trees = trees })
+  pub schema : Schema
+  pub sound : IsSound schema trees
+  pub stands : StandsFor machine (record { schema = schema; trees = trees })
 
--- the database is that of an office in this state, and its trees alone say so
+-- the database is that of an office in this state, as its trees alone say, whose catalogue lists its schema
 pub record IsOffice (machine : Machine) (db : Database) : Type 0 where
-  pub schema_is : db.schema ≡ office_schema
-  pub trees_are : StandsForTrees machine db.trees
+  pub sound : IsSound db.schema db.trees
+  pub stands : StandsFor machine db
 
 -- a connection without a transaction, whose database stands for this state, and of which a crash leaves only that
 pub record IsSettled (machine : Machine) (s : State) : Type 0 where

@@ -1,4 +1,4 @@
--- When a database stands for a state of the office: its tables are the office's alone, and hold the rows of that state.
+-- When a database stands for a state of the office: it has the office's tables, and they hold the rows of that state.
 use Rattle.std.specs.Prelude.{◌≡◌, List, [], ◌∷◌, map, pos, IsPermutation}
 use Rattle.std.specs.FinMap as finite
 use Rattle.std.specs.FinSet as set
@@ -6,7 +6,8 @@ use Rattle.sqlite.specs.declared.types.Value.TheVariants.{Null, Int}
 use Rattle.sqlite.specs.Order.{Row}
 use Rattle.sqlite.specs.Effect.{Database}
 use Rattle.wb_sql.specs.Rows.{cells_of, IsStored}
-use Rattle.wb_schema.specs.Tables.{office, arch, builder, source_record, scratch_source, scratch_binary, office_schema}
+use Rattle.wb_schema.specs.Tables.{office, arch, builder, source_record, scratch_source, scratch_binary}
+use Rattle.wb_schema.specs.Among.{HasOffice, rows_in}
 use Rattle.deb_text.specs.Text.{pair_cmp}
 use Rattle.wb_states.specs.Machine.{Machine, Key}
 use Rattle.wb_rows.specs.Cells.{record_cells, arch_cells, builder_cells, number}
@@ -36,12 +37,12 @@ builder_pairs machine = finite.keys (finite.from_entries {R = pair_cmp} (map (λ
 abbrev pub builder_rows : Machine → List Row
 builder_rows machine = map builder_cells (builder_pairs machine)
 
--- the database has the office's tables and indexes alone, and they hold the rows of this state, and no other row
+-- the database has the office's tables with their indexes, beside those of others, and they hold the rows of this state, and no other row
 pub record StandsFor (machine : Machine) (db : Database) : Type 0 where
-  pub schema_is : db.schema ≡ office_schema
-  pub counts : db.trees office.tree ≡ office_row machine ∷ []
-  pub archs : HoldsRows (arch_rows machine) (db.trees arch.tree)
-  pub builders : HoldsRows (builder_rows machine) (db.trees builder.tree)
-  pub records : HoldsRows (record_rows machine) (db.trees source_record.tree)
-  pub sources : db.trees scratch_source.tree ≡ []
-  pub binaries : db.trees scratch_binary.tree ≡ []
+  pub has : HasOffice db.schema
+  pub counts : rows_in db office ≡ office_row machine ∷ []
+  pub archs : HoldsRows (arch_rows machine) (rows_in db arch)
+  pub builders : HoldsRows (builder_rows machine) (rows_in db builder)
+  pub records : HoldsRows (record_rows machine) (rows_in db source_record)
+  pub sources : rows_in db scratch_source ≡ []
+  pub binaries : rows_in db scratch_binary ≡ []

@@ -24,8 +24,7 @@ pub fn archs<S: Alter>(conn: &mut Connection<S>) -> Result<Vec<(Text, OsCpu)>, E
     archs_in(read(conn, texts::all_archs(), &[])?)
 }
 
-/// The words of the architecture, or none if it was never added. It reads all architectures, of which an office has
-/// a few.
+/// The words of the architecture, or none if it was never added.
 /// It fails if the query fails, with `OutOfMemory` if memory runs out for the answer, and with `DatabaseCorrupt` if a
 /// row is not that of an architecture. The database stays as it is; only a failed query may take a transaction back.
 /// Source: this project's own.

@@ -4,7 +4,7 @@ ghost use Rattle.std.specs.FinSet as set;
 ghost use Rattle.std.specs.Option.{option_map};
 ghost use Rattle.sqlite.specs.Held.{state};
 ghost use Rattle.sqlite.specs.State.{HasCleanDisk, IsUnchanged};
-ghost use Rattle.wb_schema.specs.Tables.{office_schema};
+ghost use Rattle.wb_schema.specs.Among.{HasOffice};
 ghost use Rattle.wb_states.specs.Machine.{archs_of};
 ghost use Rattle.wb_store.specs.Lookups.{entry_of};
 ghost use Rattle.wb_office.specs.Named.{pairs_named};
@@ -189,7 +189,7 @@ pub(crate) fn find<S: Alter>(
 ) -> Result<Found, Error>
     ensures finds { Finds S.Store (λ machine found.
         HasFound machine command.now names.now found) conn.old conn.new result }
-    ensures same { HasCleanDisk (state S.Store conn.new) → conn.old.schema ≡ office_schema
+    ensures same { HasCleanDisk (state S.Store conn.new) → HasOffice conn.old.schema
         → OnOk result (IsUnchanged (state S.Store conn.old) (state S.Store conn.new)) }
 {
     let counts = counts(conn)?;

@@ -3,6 +3,7 @@ ghost use Rattle.std.specs.Prelude.{◌≡◌, ◌↔◌, IfOk, IfErr, IsTrue};
 ghost use Rattle.std.specs.FinMap as map;
 ghost use Rattle.wb_states.specs.declared.store_fault.Table.TheVariants.{Builder};
 ghost use Rattle.wb_schema.specs.Statements.{all_builders};
+ghost use Rattle.wb_schema.specs.Tables as tables;
 ghost use Rattle.wb_rows.specs.Cells.{builder_cells};
 ghost use Rattle.wb_tables.specs.Stands.{builder_pairs};
 ghost use Rattle.wb_tables.specs.Opening.{AreBadRows, HoldsBuilders, IsBadRow, IsFormedBuilder, IsRowOf, PassesWith, Tests, has_arch};
@@ -23,7 +24,7 @@ pub fn check_builders<S: Alter>(
     conn: &mut Connection<S>,
     archs: &[(Text, OsCpu)],
 ) -> Result<Vec<(Text, Text)>, StoreFault>
-    ensures tests { Tests S.Store all_builders Builder (λ rows pairs. HoldsBuilders archs.now rows pairs.items)
+    ensures tests { Tests S.Store tables.builder all_builders Builder (λ rows pairs. HoldsBuilders archs.now rows pairs.items)
         (AreBadRows Builder builder_cells (IsFormedBuilder archs.now)) conn.old conn.new result }
     ensures passes { PassesWith S.Store Builder (λ machine. archs.now ≡ map.entries machine.archs)
         (λ machine pairs. pairs.items ≡ builder_pairs machine) conn.old conn.new result }

@@ -4,6 +4,7 @@ ghost use Rattle.sqlite.specs.Order.{column};
 ghost use Rattle.wb_states.specs.declared.store_fault.Table.TheVariants.{Office};
 ghost use Rattle.wb_states.specs.Limits.{count_limit};
 ghost use Rattle.wb_schema.specs.Statements.{office_counts};
+ghost use Rattle.wb_schema.specs.Tables as tables;
 ghost use Rattle.wb_rows.specs.Cells.{number};
 ghost use Rattle.wb_tables.specs.Opening.{AreBadCounts, HasFormat, HoldsCounts, IsDamagedOffice, IsOfficeRow, Passes, Tests};
 
@@ -22,7 +23,7 @@ const FORMAT: u64 = 2;
 /// the query. The database stays as it is, but for a transaction that a failure of the query takes back (this
 /// project's own).
 pub fn check_counts<S: Alter>(conn: &mut Connection<S>) -> Result<Counts, StoreFault>
-    ensures tests { Tests S.Store office_counts Office HoldsCounts AreBadCounts conn.old conn.new result }
+    ensures tests { Tests S.Store tables.office office_counts Office HoldsCounts AreBadCounts conn.old conn.new result }
     ensures passes { Passes S.Store Office (λ machine counts. (counts.handed ≡ machine.handed)
         × (counts.accepted ≡ machine.accepted)) conn.old conn.new result }
 {

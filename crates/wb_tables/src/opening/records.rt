@@ -6,6 +6,7 @@ ghost use Rattle.deb_text.specs.Options.{has_value};
 ghost use Rattle.wb_states.specs.declared.store_fault.StoreFault.TheVariants.{Damaged};
 ghost use Rattle.wb_states.specs.declared.store_fault.Table.TheVariants.{SourceRecord};
 ghost use Rattle.wb_schema.specs.Statements.{all_records};
+ghost use Rattle.wb_schema.specs.Tables as tables;
 ghost use Rattle.wb_store.specs.Lookups.{entry_of};
 ghost use Rattle.wb_rows.specs.Cells.{record_cells};
 ghost use Rattle.wb_tables.specs.Lookups.{keyed_cells};
@@ -38,7 +39,7 @@ pub fn check_records<S: Alter>(
     builders: &[(Text, Text)],
     handed: u64,
 ) -> Result<(), StoreFault>
-    ensures tests { Tests S.Store all_records SourceRecord
+    ensures tests { Tests S.Store tables.source_record all_records SourceRecord
         (λ rows done. HoldsRecords archs.now builders.now handed rows)
         (AreBadRecords archs.now builders.now handed) conn.old conn.new result }
     ensures passes { PassesWith S.Store SourceRecord (AreKept archs.now builders.now handed)
@@ -56,7 +57,7 @@ pub fn check_records<S: Alter>(
 
 /// Tests the rows of the records, each as it is read.
 fn test_rows<S: Alter>(conn: &mut Connection<S>, kept: &Kept<'_>) -> Result<(), StoreFault>
-    ensures tests { Tests S.Store all_records SourceRecord
+    ensures tests { Tests S.Store tables.source_record all_records SourceRecord
         (λ rows done. HoldsRecords kept.now.archs.now kept.now.builders.now kept.now.handed rows)
         (AreBadRecords kept.now.archs.now kept.now.builders.now kept.now.handed) conn.old conn.new result }
 {

@@ -1,17 +1,18 @@
-use Rattle.std.proofs.Common.{refl, sym, ◌∙◌}
+use Rattle.std.proofs.Common.{refl, subst, sym, ◌∙◌}
 use Rattle.std.proofs.lemmas.Bool.{both_ways}
+use Rattle.wb_schema.specs.Among.{HasOffice}
 use Rattle.wb_durable.proofs.OpeningLemmas.{found_office, made_and_tested, none_made, other_refused}
 use Rattle.wb_durable.proofs.opening.find_office.Goals as goal
 
 pub returns-then-has_office_tables : goal.returns-then-has_office_tables
 returns-then-has_office_tables g c =
-    record { finds = found_office c.check.result (sym c.schema.ensures.value ∙ c.if-has_office_tables.ensures.value.0 refl) c.check.ensures.checks }
+    record { finds = found_office c.check.result (subst HasOffice c.schema.ensures.value (c.if-has_office_tables.ensures.value.0 refl)) c.check.ensures.checks }
 
 pub returns-then-not-is_empty : goal.returns-then-not-is_empty
 returns-then-not-is_empty g c =
     record {
       finds = other_refused (λ none. both_ways _ refl (c.if-not-is_empty.ensures.value.1 (c.schema-2.ensures.value ∙ none)))
-          (λ office. both_ways _ refl (c.if-has_office_tables.ensures.value.1 (c.schema.ensures.value ∙ office))) refl;
+          (λ office. both_ways _ refl (c.if-has_office_tables.ensures.value.1 (subst HasOffice (sym c.schema.ensures.value) office))) refl;
     }
 
 pub returns-in-Ok : goal.returns-in-Ok

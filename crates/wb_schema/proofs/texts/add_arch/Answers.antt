@@ -1,8 +1,30 @@
-use Rattle.std.proofs.Common.{refl}
+use Rattle.std.proofs.Common.{refl, [], codes, ◌∷◌}
 use Rattle.sqlite_tied.specs.Compute.{everything}
-use Rattle.sqlite.specs.Listing.{understood}
+use Rattle.sqlite_resolve.specs.Compile.{first}
+use Rattle.sqlite_ast.specs.declared.Expr.{roll-Expr}
+use Rattle.sqlite_ast.specs.declared.Expr.TheOpen.Expr-F.{Parameter}
+use Rattle.sqlite_ast.specs.declared.Rows.TheVariants.{Values}
+use Rattle.wb_schema.specs.Tables.{arch}
+use Rattle.wb_schema.specs.Statements.{arch_row}
+use Rattle.wb_schema.proofs.AmongLemmas.{inserts_among}
 use Rattle.wb_schema.proofs.texts.add_arch.Goals as goal
 
 pub returns : goal.returns
-unfolding understood everything
-returns c = record { at = 1; width = 4; table_is = record { listed = refl; uncounted = refl; unstamped = refl; quiet = refl }; one_row = record { count = refl; all = refl }; means = record { is = refl; plain = (refl, refl) } }
+unfolding first everything
+returns c = inserts_among arch _ arch_row (record {
+  width = 4;
+  columns =
+      codes "name" ∷ codes "os" ∷ codes "cpu" ∷ [];
+  rows =
+      Values ((
+      roll-Expr (Parameter 1) ∷ roll-Expr (Parameter 2) ∷ roll-Expr (Parameter 3) ∷ []) ∷ []);
+  names =
+      codes "?1" ∷ codes "?2" ∷ codes "?3" ∷ [];
+  start = 0;
+  stop = 51;
+  tail = 51;
+  first_is = refl;
+  rows_are = λ schema tree. refl;
+  one_row = record { count = refl; all = refl };
+  still = record { uncounted = refl; unstamped = refl; untimed = refl };
+})

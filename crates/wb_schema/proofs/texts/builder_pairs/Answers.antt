@@ -1,8 +1,35 @@
-use Rattle.std.proofs.Common.{refl, [], ◌∷◌, codes}
+use Rattle.std.proofs.Common.{refl, [], ◌∷◌, codes, None, map}
 use Rattle.sqlite_tied.specs.Compute.{everything}
-use Rattle.sqlite.specs.Listing.{understood}
+use Rattle.wb_schema.specs.Tables.{builder, text}
+use Rattle.wb_schema.specs.Statements.{pairs_of_builder, no_limit}
+use Rattle.wb_schema.proofs.SelectForm.{select}
+use Rattle.wb_schema.proofs.ShownLemmas.{name_of}
+use Rattle.wb_schema.proofs.OfficeLemmas.{builder_columns, builder_columns_are}
+use Rattle.wb_schema.proofs.AmongLemmas.{asks_among}
+use Rattle.sqlite_resolve.specs.Compile.{first}
 use Rattle.wb_schema.proofs.texts.builder_pairs.Goals as goal
 
 pub returns : goal.returns
-unfolding understood everything
-returns c = record { names = codes "name" ∷ codes "arch" ∷ []; means = record { is = refl; plain = (refl, refl) }; unlisted = refl; stored = refl }
+unfolding first everything
+returns c = asks_among builder _ pairs_of_builder (record {
+  columns = builder_columns;
+  tests = (0, text (codes "name"), 1) ∷ [];
+  order = (1, text (codes "arch")) ∷ [];
+  limit = no_limit;
+  statement = select (codes "builder") (map name_of builder_columns) ((codes "name", 1) ∷ []) (codes "arch" ∷ []) None;
+  names = codes "?1" ∷ [];
+  start = 0;
+  stop = 60;
+  tail = 60;
+  first_is = refl;
+  select_is = λ tree. record { none = refl; others = refl; distinct = refl; shown = refl; from = refl; filter = refl; group = refl; having = refl; sorted = refl; paged = λ schema. refl };
+  typed = λ tree. record {
+    columns_are = builder_columns_are tree;
+    tests_are = record { column = record { named = refl; is = refl }; place = refl; plain = refl };
+    order_is = (record { named = refl; is = refl }, tt);
+    free = (refl, tt);
+    small = refl;
+    typed = refl;
+  };
+  asks = λ tree. refl;
+})

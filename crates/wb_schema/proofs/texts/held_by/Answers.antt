@@ -1,9 +1,36 @@
-use Rattle.std.proofs.Common.{refl}
+use Rattle.std.proofs.Common.{refl, None, [], codes, false, map, ◌∷◌}
 use Rattle.sqlite_tied.specs.Compute.{everything}
-use Rattle.sqlite.specs.Listing.{understood}
-use Rattle.wb_schema.proofs.NameLemmas.{record_names}
+use Rattle.wb_schema.specs.Tables.{source_record, text, typed}
+use Rattle.wb_schema.specs.Statements.{held_by, no_limit}
+use Rattle.wb_schema.proofs.SelectForm.{select}
+use Rattle.wb_schema.proofs.ShownLemmas.{name_of}
+use Rattle.wb_schema.proofs.OfficeLemmas.{record_columns, record_columns_are}
+use Rattle.wb_schema.proofs.AmongLemmas.{asks_among}
+use Rattle.sqlite.specs.Kind.TheVariants.{Text}
+use Rattle.sqlite_resolve.specs.Compile.{first}
 use Rattle.wb_schema.proofs.texts.held_by.Goals as goal
 
 pub returns : goal.returns
-unfolding understood everything
-returns c = record { names = record_names; means = record { is = refl; plain = (refl, refl) }; unlisted = refl; stored = refl }
+unfolding first everything
+returns c = asks_among source_record _ held_by (record {
+  columns = record_columns;
+  tests = (8, typed Text false (codes "holder"), 1) ∷ [];
+  order = (0, text (codes "arch")) ∷ (1, text (codes "source")) ∷ [];
+  limit = no_limit;
+  statement = select (codes "source_record") (map name_of record_columns) ((codes "holder", 1) ∷ []) (codes "arch" ∷ codes "source" ∷ []) None;
+  names = codes "?1" ∷ [];
+  start = 0;
+  stop = 197;
+  tail = 197;
+  first_is = refl;
+  select_is = λ tree. record { none = refl; others = refl; distinct = refl; shown = refl; from = refl; filter = refl; group = refl; having = refl; sorted = refl; paged = λ schema. refl };
+  typed = λ tree. record {
+    columns_are = record_columns_are tree;
+    tests_are = record { column = record { named = refl; is = refl }; place = refl; plain = refl };
+    order_is = (record { named = refl; is = refl }, (record { named = refl; is = refl }, tt));
+    free = (refl, (refl, tt));
+    small = refl;
+    typed = refl;
+  };
+  asks = λ tree. refl;
+})

@@ -1,8 +1,35 @@
-use Rattle.std.proofs.Common.{refl, [], ◌∷◌, codes}
+use Rattle.std.proofs.Common.{refl, [], codes, None, map}
 use Rattle.sqlite_tied.specs.Compute.{everything}
-use Rattle.sqlite.specs.Listing.{understood}
+use Rattle.wb_schema.specs.Tables.{office}
+use Rattle.wb_schema.specs.Statements.{office_counts, no_limit}
+use Rattle.wb_schema.proofs.SelectForm.{select}
+use Rattle.wb_schema.proofs.ShownLemmas.{name_of}
+use Rattle.wb_schema.proofs.OfficeLemmas.{office_columns, office_columns_are}
+use Rattle.wb_schema.proofs.AmongLemmas.{asks_among}
+use Rattle.sqlite_resolve.specs.Compile.{first}
 use Rattle.wb_schema.proofs.texts.office_counts.Goals as goal
 
 pub returns : goal.returns
-unfolding understood everything
-returns c = record { names = codes "format" ∷ codes "handed" ∷ codes "accepted" ∷ []; means = record { is = refl; plain = (refl, refl) }; unlisted = refl; stored = refl }
+unfolding first everything
+returns c = asks_among office _ office_counts (record {
+  columns = office_columns;
+  tests = [];
+  order = [];
+  limit = no_limit;
+  statement = select (codes "office") (map name_of office_columns) [] [] None;
+  names = [];
+  start = 0;
+  stop = 43;
+  tail = 43;
+  first_is = refl;
+  select_is = λ tree. record { none = refl; others = refl; distinct = refl; shown = refl; from = refl; filter = refl; group = refl; having = refl; sorted = refl; paged = λ schema. refl };
+  typed = λ tree. record {
+    columns_are = office_columns_are tree;
+    tests_are = tt;
+    order_is = tt;
+    free = tt;
+    small = refl;
+    typed = refl;
+  };
+  asks = λ tree. refl;
+})

@@ -1,8 +1,23 @@
-use Rattle.std.proofs.Common.{refl}
+use Rattle.std.proofs.Common.{refl, [], codes, ◌∷◌}
 use Rattle.sqlite_tied.specs.Compute.{everything}
-use Rattle.sqlite.specs.Listing.{understood}
+use Rattle.sqlite_resolve.specs.Compile.{first}
+use Rattle.wb_schema.specs.Tables.{source_record, text}
+use Rattle.wb_schema.specs.Statements.{has_record_key}
+use Rattle.wb_schema.proofs.AmongLemmas.{deletes_among}
 use Rattle.wb_schema.proofs.texts.remove_record.Goals as goal
 
 pub returns : goal.returns
-unfolding understood everything
-returns c = record { at = 3; table_is = record { listed = refl; uncounted = refl; unstamped = refl; quiet = refl }; stored = refl; means = record { is = refl; plain = (refl, refl) } }
+unfolding first everything
+returns c = deletes_among source_record _ has_record_key (record {
+  tests = (0, text (codes "arch"), 1) ∷ (1, text (codes "source"), 2) ∷ [];
+  names = codes "?1" ∷ codes "?2" ∷ [];
+  start = 0;
+  stop = 57;
+  tail = 57;
+  first_is = refl;
+  tests_are = λ tree. (record { column = record { named = refl; is = refl }; place = refl; plain = refl }, record { column = record { named = refl; is = refl }; place = refl; plain = refl });
+  small = refl;
+  typed = λ tree. refl;
+  terms_are = λ tree. refl;
+  still = record { uncounted = refl; unstamped = refl; untimed = refl };
+})

@@ -14,6 +14,9 @@ returns-in-Ok-clause-found g c = λ clean machine is.
       is_open = λ _. found.1.is_open;
     }
 
+pub returns-in-Ok-clause-good : goal.returns-in-Ok-clause-good
+returns-in-Ok-clause-good g c = λ clean office. let good = c.in-Ok.ensures.finds.good clean office in (good.0.0, good.1)
+
 pub returns-in-Ok-clause-clean : goal.returns-in-Ok-clause-clean
 returns-in-Ok-clause-clean g c = c.in-Ok.ensures.finds.was_clean
 

@@ -1,0 +1,116 @@
+-- The office's tables in a schema that may have tables, indexes and views of others.
+use Rattle.std.specs.Prelude.{◌≡◌, ℕ, ◌^◌, ◌==◌, nat_le, Bool, true, false, not, ◌||◌, List, [], ◌∷◌, filter, find, slice_get, Some, option_map, option_and_then, unwrap_or}
+use Rattle.std.specs.List.{list_all, list_any}
+use Rattle.sqlite.specs.Schema.{Schema}
+use Rattle.sqlite.specs.Table.{Table}
+use Rattle.sqlite.specs.Term.{Term}
+use Rattle.sqlite.specs.Order.{Row}
+use Rattle.sqlite.specs.Effect.{Database}
+use Rattle.sqlite_schema.specs.declared.schema.Index.{Index}
+use Rattle.sqlite_schema.specs.Names.{same_name, table_named}
+use Rattle.sqlite_catalog.specs.Listing.{automatic}
+use Rattle.wb_sql.specs.Queries.{TableQuery, Asks}
+use Rattle.wb_sql.specs.Changes.{ReplacesInto, InsertsInto, DeletesFrom, never_acts}
+use Rattle.wb_schema.specs.Tables.{office, arch, builder, source_record, scratch_source, scratch_binary, office_schema}
+use Rattle.wb_schema.specs.Tables.{record_order, record_take, source_name, binary_source, binary_name}
+
+-- a table whose rows are in another tree
+abbrev pub table_at : ℕ → Table → Table
+table_at tree table = record table { tree = tree }
+
+-- the same query on a table in another tree
+abbrev pub query_at : ℕ → TableQuery → TableQuery
+query_at tree q = record q { tree = tree }
+
+-- the schema has this table at a place, the table is the first with its name and the first in its tree, and the tree is stored
+pub record HasTable (schema : Schema) (table : Table) : Type 0 where
+  pub at : ℕ
+  pub named : table_named schema table.name ≡ Some at
+  pub listed : slice_get schema.tables at ≡ Some table
+  pub in_tree : find (λ t. t.tree == table.tree) schema.tables ≡ Some table
+  pub stored : nat_le (2 ^ 31) table.tree ≡ false
+
+-- the tree of the first table with this name; if there is none, 0
+abbrev pub tree_named : Schema → List ℕ → ℕ
+tree_named schema name = unwrap_or (option_map (λ t. t.tree) (option_and_then (slice_get schema.tables) (table_named schema name))) 0
+
+-- one of the office's tables, in the tree in which the schema has it
+abbrev pub table_in : Schema → Table → Table
+table_in schema table = table_at (tree_named schema table.name) table
+
+-- a query on one of the office's tables, in the tree in which the schema has it
+abbrev pub query_in : Schema → Table → TableQuery → TableQuery
+query_in schema table q = query_at (tree_named schema table.name) q
+
+-- the rows of one of the office's tables
+abbrev pub rows_in : Database → Table → List Row
+rows_in db table = db.trees (tree_named db.schema table.name)
+
+-- the indexes on the table in this tree are these, and it has none of others
+abbrev pub HasIndexes : Schema → ℕ → List Index → Type 0
+HasIndexes schema tree indexes = filter (λ i. i.table == tree) schema.indexes ≡ indexes
+
+-- an index in this tree, on the table in another
+abbrev pub index_at : ℕ → ℕ → Index → Index
+index_at tree table index = record index { tree = tree; table = table }
+
+-- the trees of the indexes of the office's tables
+pub record IndexTrees : Type 0 where
+  pub arch_key : ℕ
+  pub builder_key : ℕ
+  pub record_key : ℕ
+  pub record_order : ℕ
+  pub record_take : ℕ
+  pub source_name : ℕ
+  pub binary_source : ℕ
+  pub binary_name : ℕ
+
+-- the indexes of the records, in these trees, on the table in this one
+abbrev pub record_indexes : IndexTrees → ℕ → List Index
+record_indexes at tree =
+    automatic (table_at tree source_record) 0 (1 ∷ 2 ∷ []) at.record_key ∷ index_at at.record_order tree record_order ∷ index_at at.record_take tree record_take ∷ []
+
+-- the name of one of the office's tables
+abbrev pub names_office : List ℕ → Bool
+names_office name = list_any (λ table. same_name table.name name) office_schema.tables
+
+-- no table but those of the office refers to one of them
+abbrev pub are_unreferred : Schema → Bool
+are_unreferred schema = list_all (λ table. names_office table.name || list_all (λ ref. not (names_office ref.parent)) table.references) schema.tables
+
+-- the schema has the office's tables with their indexes, beside tables, indexes and views of others; no table of others refers to them, and no foreign
+-- key of the schema does anything
+pub record HasOffice (schema : Schema) : Type 0 where
+  pub at : IndexTrees
+  pub office_is : HasTable schema (table_in schema office)
+  pub office_indexes : HasIndexes schema (tree_named schema office.name) []
+  pub arch_is : HasTable schema (table_in schema arch)
+  pub arch_indexes : HasIndexes schema (tree_named schema arch.name) (automatic (table_in schema arch) 0 (1 ∷ []) at.arch_key ∷ [])
+  pub builder_is : HasTable schema (table_in schema builder)
+  pub builder_indexes : HasIndexes schema (tree_named schema builder.name) (automatic (table_in schema builder) 0 (1 ∷ 2 ∷ []) at.builder_key ∷ [])
+  pub record_is : HasTable schema (table_in schema source_record)
+  pub records_indexed : HasIndexes schema (tree_named schema source_record.name) (record_indexes at (tree_named schema source_record.name))
+  pub source_is : HasTable schema (table_in schema scratch_source)
+  pub source_indexes : HasIndexes schema (tree_named schema scratch_source.name) (index_at at.source_name (tree_named schema scratch_source.name) source_name ∷ [])
+  pub binary_is : HasTable schema (table_in schema scratch_binary)
+  pub binary_indexes :
+      HasIndexes schema (tree_named schema scratch_binary.name)
+      (index_at at.binary_source (tree_named schema scratch_binary.name) binary_source ∷ index_at at.binary_name (tree_named schema scratch_binary.name) binary_name ∷ [])
+  pub unreferred : are_unreferred schema ≡ true
+  pub quiet : never_acts schema ≡ true
+
+-- over each schema that has the table, in whatever tree and beside whatever else, the text asks this
+abbrev pub AsksAmong : Table → List ℕ → TableQuery → Type 0
+AsksAmong table sql q = (schema : Schema) (tree : ℕ) → HasTable schema (table_at tree table) → Asks schema sql (query_at tree q)
+
+-- over each schema that has the table, and in which no foreign key does anything, the text is INSERT OR REPLACE INTO the table VALUES (terms)
+abbrev pub ReplacesAmong : Table → List ℕ → List Term → Type 0
+ReplacesAmong table sql terms = (schema : Schema) (tree : ℕ) → HasTable schema (table_at tree table) → never_acts schema ≡ true → ReplacesInto schema sql (table_at tree table) terms
+
+-- over each such schema the text is INSERT INTO the table VALUES (terms)
+abbrev pub InsertsAmong : Table → List ℕ → List Term → Type 0
+InsertsAmong table sql terms = (schema : Schema) (tree : ℕ) → HasTable schema (table_at tree table) → never_acts schema ≡ true → InsertsInto schema sql (table_at tree table) terms
+
+-- over each such schema the text is DELETE FROM the table WHERE each of these tests
+abbrev pub DeletesAmong : Table → List ℕ → List Term → Type 0
+DeletesAmong table sql tests = (schema : Schema) (tree : ℕ) → HasTable schema (table_at tree table) → never_acts schema ≡ true → DeletesFrom schema sql (table_at tree table) tests
