@@ -1,4 +1,4 @@
--- Each stage of reading a SELECT on one table, matched the schema is known to have the table at a place.
+-- How a SELECT on one table is read, step by step, over a schema that has the table at a place.
 use Rattle.std.proofs.Common.{◌≡◌, refl, ℕ, List, [], ◌∷◌, Ok, None, Some, Bool, true, false, slice_get}
 use Rattle.sqlite_value.specs.declared.keys.Key.{Key}
 use Rattle.sqlite_schema.specs.declared.schema.Schema.{Schema}

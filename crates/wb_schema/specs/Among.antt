@@ -74,9 +74,13 @@ record_indexes at tree =
 abbrev pub names_office : List ℕ → Bool
 names_office name = list_any (λ table. same_name table.name name) office_schema.tables
 
+-- no reference of the table is to one of the office's tables
+abbrev pub refers_to_none : Table → Bool
+refers_to_none table = list_all (λ ref. not (names_office ref.parent)) table.references
+
 -- no table but those of the office refers to one of them
 abbrev pub are_unreferred : Schema → Bool
-are_unreferred schema = list_all (λ table. names_office table.name || list_all (λ ref. not (names_office ref.parent)) table.references) schema.tables
+are_unreferred schema = list_all (λ table. names_office table.name || refers_to_none table) schema.tables
 
 -- the schema has the office's tables with their indexes, beside tables, indexes and views of others; no table of others refers to them, and no foreign
 -- key of the schema does anything

@@ -1,5 +1,5 @@
 -- The parts of the office's schema, by which it is recognized.
-use Rattle.std.specs.Prelude.{◌≡◌, ℕ, ◌^◌, ◌==◌, nat_le, Bool, not, ◌&&◌, pos, true, false, Some, None, List, [], ◌∷◌, map, filter, find, slice_get}
+use Rattle.std.specs.Prelude.{◌≡◌, ℕ, ◌^◌, ◌==◌, nat_le, Bool, ◌&&◌, pos, true, false, Some, None, List, [], ◌∷◌, map, filter, find, slice_get}
 use Rattle.std.specs.List.{list_all, position_from}
 use Rattle.sqlite.specs.Collation.TheVariants.{Binary}
 use Rattle.sqlite.specs.Schema.{Schema}
@@ -20,7 +20,7 @@ use Rattle.wb_schema.specs.declared.definitions.IndexDefinition.{IndexDefinition
 use Rattle.sqlite_catalog.specs.Listing.{automatic}
 use Rattle.wb_schema.specs.Tables.{index_on, typed, office, arch, builder, source_record, scratch_source, scratch_binary}
 use Rattle.wb_schema.specs.Tables.{record_order, record_take, source_name, binary_source, binary_name}
-use Rattle.wb_schema.specs.Among.{HasTable, table_in, tree_named, index_at, names_office}
+use Rattle.wb_schema.specs.Among.{HasTable, table_in, tree_named, index_at}
 
 -- the column that is defined so
 abbrev pub column_of : ColumnDefinition → Column
@@ -76,10 +76,6 @@ pub record HasTables (schema : Schema) : Type 0 where
   pub records_are : HasIndexed schema source_record (automatic source_record 0 (1 ∷ 2 ∷ []) 6 ∷ record_order ∷ record_take ∷ [])
   pub sources_are : HasIndexed schema scratch_source (source_name ∷ [])
   pub binaries_are : HasIndexed schema scratch_binary (binary_source ∷ binary_name ∷ [])
-
--- no reference of the table is to one of the office's tables
-abbrev pub refers_to_none : Table → Bool
-refers_to_none table = list_all (λ ref. not (names_office ref.parent)) table.references
 
 -- no foreign key of the table does anything
 abbrev pub is_quiet : Table → Bool

@@ -3,8 +3,8 @@ ghost use Rattle.std.specs.Prelude.{◌≡◌, ◌↔◌, ◌==◌, IsTrue, Matc
 ghost use Rattle.std.specs.List.{position_from};
 ghost use Rattle.sqlite.specs.Table.{Table};
 ghost use Rattle.wb_sql.specs.Changes.{is_no_action, never_acts};
-ghost use Rattle.wb_schema.specs.Among.{names_office, are_unreferred};
-ghost use Rattle.wb_schema.specs.Recognition.{IsFound, IsFirstInTree, refers_to_none, is_quiet};
+ghost use Rattle.wb_schema.specs.Among.{names_office, refers_to_none, are_unreferred};
+ghost use Rattle.wb_schema.specs.Recognition.{IsFound, IsFirstInTree, is_quiet};
 
 use sqlite_schema::names::same_name;
 use sqlite_schema::schema::{Action, Schema, Table};
