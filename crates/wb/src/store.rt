@@ -4,13 +4,23 @@ use crate::{Work, act, said};
 use sqlite::Connection;
 use std::alloc::AllocError;
 use std::fs::{self, File, OpenOptions, TryLockError};
-use std::io;
+use std::io::{self, Read};
 use wb_daemon::status;
 use wb_durable::{Office, opening_fault};
+use wb_schema::lacks_office;
 use wb_states::StoreFault;
 
 /// How many bytes the log of a file has if it holds no commit: those of its header.
 const EMPTY_LOG: u64 = 41;
+
+/// The first bytes of a database, by the format of SQLite's files.
+const MAGIC: &[u8] = b"SQLite format 3\0";
+
+/// Where the header of a database says how many bytes at the end of each page are left to others.
+const RESERVED_AT: usize = 20;
+
+/// How many of these bytes a checksum takes.
+const SUM_SIZE: u8 = 8;
 
 /// Why the lock on the file of an office is not taken.
 enum LockRefusal {
@@ -23,6 +33,7 @@ enum LockRefusal {
 /// Has the office over the records in the file do its work. The file is made if it is not there, with a sum of each page,
 /// unless its log holds commits, which would then be written over. One program at a time has the file: it holds a lock
 /// on the file with this name and `.lock` after it. A new office is reported on standard error: its name may be a slip.
+/// None begins in a database whose pages have no checksums, as another program makes it.
 pub(crate) fn open_for(rt: &HostRuntime, file: &str, work: Work) -> u8 {
     let _lock = match lock_of(rt, file) {
         Ok(lock) => lock,
@@ -34,17 +45,22 @@ pub(crate) fn open_for(rt: &HostRuntime, file: &str, work: Work) -> u8 {
         Ok(true) => return refuse_lost(rt, file),
         Err(AllocError) => return refuse_fault(rt, file, StoreFault::Memory),
     }
-    let is_new = size_of(rt, file) == 0;
+    let was_empty = size_of(rt, file) == 0;
+    let is_of_others = lacks_sums(rt, file);
     let conn = match Connection::open_with_sums(rt, file) {
         Ok(conn) => conn,
         Err(error) => return refuse_fault(rt, file, opening_fault(error)),
     };
+    let is_new = lacks_office(conn.schema());
+    if is_new && is_of_others {
+        return refuse_other(rt, file);
+    }
     let mut office = match Office::adopt(rt.alloc(), conn) {
         Ok(office) => office,
         Err(fault) => return refuse_fault(rt, file, fault),
     };
     if is_new {
-        let _ = eprintln!(rt; "wb: {file} was empty or not there: a new office begins in it");
+        report_new(rt, file, was_empty);
     }
     let status = act(rt, &mut office, work);
     match office.close() {
@@ -56,10 +72,33 @@ pub(crate) fn open_for(rt: &HostRuntime, file: &str, work: Work) -> u8 {
     }
 }
 
+/// Says that a new office begins in the file, which was empty or not there, or else holds what others made.
+fn report_new(rt: &HostRuntime, file: &str, was_empty: bool) {
+    let _ = if was_empty {
+        eprintln!(rt; "wb: {file} was empty or not there: a new office begins in it")
+    } else {
+        eprintln!(rt; "wb: {file} had no office: a new one begins in it, beside what it holds")
+    };
+}
+
 /// Whether the file is not there, or is empty, while its log holds commits.
 fn is_lost_beside_its_log(rt: &HostRuntime, file: &str) -> Result<bool, AllocError> {
     let log = format!(in rt.alloc(); "{file}-wal")?;
     Ok(size_of(rt, file) == 0 && EMPTY_LOG < size_of(rt, log.as_str()))
+}
+
+/// Whether the file is a database whose pages have no room for checksums. It is read before it is opened as a database,
+/// since the end of a later read would let go of the locks on it.
+fn lacks_sums(rt: &HostRuntime, file: &str) -> bool {
+    let mut header = [0u8; RESERVED_AT + 1];
+    match File::open(rt, file) {
+        Ok(mut data) => {
+            data.read_exact(&mut header).is_ok()
+                && header.starts_with(MAGIC)
+                && header[RESERVED_AT] != SUM_SIZE
+        }
+        Err(_) => false,
+    }
 }
 
 /// The size of a file in bytes, 0 if there is none that can be seen.
@@ -104,6 +143,14 @@ fn refuse_fault(rt: &HostRuntime, file: &str, fault: StoreFault) -> u8 {
 fn refuse_lost(rt: &HostRuntime, file: &str) -> u8 {
     let _ = eprintln!(rt;
         "wb: {file} cannot be opened: it is empty or not there, and its log {file}-wal holds commits"
+    );
+    said_store(rt, StoreFault::NotOffice.name())
+}
+
+/// Says that no office begins in the file, since another program made it.
+fn refuse_other(rt: &HostRuntime, file: &str) -> u8 {
+    let _ = eprintln!(rt;
+        "wb: {file} cannot be opened: it is a database of another program, whose pages have no checksums"
     );
     said_store(rt, StoreFault::NotOffice.name())
 }

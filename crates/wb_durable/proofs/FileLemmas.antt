@@ -8,7 +8,7 @@ use Rattle.sqlite_wal.proofs.LogLemmas.{SeenMayStay}
 use Rattle.sqlite_store.specs.declared.store.FileStore.{FileStore}
 use Rattle.sqlite_store.specs.Laws.{stays_at}
 use Rattle.sqlite_trees.specs.Objects.{catalog_tree}
-use Rattle.sqlite_catalog.specs.Listing.{IsSound, Lists}
+use Rattle.sqlite_catalog.specs.Listing.{Lists}
 use Rattle.sqlite_catalog.proofs.ReadLemmas.{lists_once}
 use Rattle.sqlite.specs.Tree.{Trees}
 use Rattle.sqlite.specs.Closing.{IsCopied}
@@ -20,8 +20,8 @@ use Rattle.sqlite.proofs.ListingLemmas.{empty_is_sound}
 use Rattle.wb_sql.specs.Transactions.{LeavesAlone}
 use Rattle.wb_sql.proofs.SettledLemmas.{settled_by_close, found_left, found_new}
 use Rattle.wb_sql.specs.Settled.{AreSettled, LeaveOnly}
-use Rattle.wb_schema.specs.Among.{HasOffice}
-use Rattle.wb_schema.specs.Tables.{empty_schema}
+use Rattle.wb_schema.specs.Among.{HasOffice, LacksOffice}
+use Rattle.wb_schema.proofs.GrowthLemmas.{empty_lacks}
 use Rattle.wb_states.specs.declared.store_fault.StoreFault.{StoreFault}
 use Rattle.wb_states.specs.Machine.{IsConsistent, Machine, empty_office}
 use Rattle.wb_office.proofs.ConsistencyLemmas.{IsConsistent-empty_office}
@@ -31,21 +31,24 @@ use Rattle.wb_tables.proofs.FileLemmas.{files_settled, holds_settled}
 use Rattle.wb_tables.proofs.OpeningSoundLemmas.{good_rows_consistent}
 use Rattle.wb_durable.specs.Files.{AreFoundAt, AreNew, FailsToOpen, IsOver, IsRefusedOver, LeaveOffice}
 use Rattle.wb_durable.specs.Opening.{IsRefusedFrom}
-use Rattle.wb_durable.specs.Preparing.{HoldOffice, IsBlank, IsFoundAt}
+use Rattle.wb_durable.specs.Preparing.{AreBlank, HoldOffice, IsBlank, IsFoundAt}
 use Rattle.wb_durable.specs.Standing.{LeavesOne, StandsAt}
+use Rattle.wb_durable.proofs.NumberedLemmas.{empty_schema}
 
 module _ {D : Type 0} (g : Ghosts D) (c : Held (FileStore D g)) (opened : IsOpened c) (alone : LeavesAlone (file_state c) (file_state c).committed.trees) where
-  -- a database without a table
-  holds_blank : IsSound empty_schema (file_state c).committed.trees → IsBlank (file_state c)
-  holds_blank sound =
+  -- a database that lacks the office's tables
+  holds_blank : AreBlank (file_state c).committed.trees → IsBlank (file_state c)
+  holds_blank blank =
       let there : (file_state c).now.trees ≡ (file_state c).committed.trees = ap (λ (d : Database). d.trees) opened.0.clean in
-      let listed = (opened.1 opened.0.is_open).0.lists in
+      let sound = (opened.1 opened.0.is_open).0 in
+      let same : (file_state c).now.schema ≡ blank.schema =
+      lists_once ((file_state c).committed.trees catalog_tree) (file_state c).now.schema blank.schema (subst (λ (trees : Trees). Lists (trees catalog_tree) (file_state c).now.schema) there sound.lists) blank.sound.lists in
       record {
         is_open = opened.0.is_open;
         idle = opened.0.autocommit;
         committed = opened.0.clean;
-        schema_is = lists_once ((file_state c).committed.trees catalog_tree) (file_state c).now.schema empty_schema (subst (λ (trees : Trees). Lists (trees catalog_tree) (file_state c).now.schema) there listed) sound.lists;
-        sound = subst (IsSound empty_schema) (sym there) sound;
+        lacks = subst LacksOffice (sym same) blank.lacks;
+        sound = sound;
         alone = λ other may. alone other may ∙ sym there;
       }
 
@@ -60,7 +63,7 @@ module _ {D : Type 0} (g : Ghosts D) (c : Held (FileStore D g)) (opened : IsOpen
 
   -- an empty office is found in files in which no database was made
   pub found_in_new : (files : Files D) → Finds files c → AreNew g files → IsFoundAt empty_office (file_state c)
-  found_in_new files finds new = inr (refl, holds_blank (empty_is_sound (file_state c).committed.trees (found_new c files finds new).1))
+  found_in_new files finds new = inr (refl, holds_blank (record { schema = empty_schema; sound = empty_is_sound (file_state c).committed.trees (found_new c files finds new).1; lacks = empty_lacks }))
 
   -- one of the offices is found that a crash leaves of the files
   pub found_one : (files : Files D) → SeenMayStay g → Finds files c → (one other : Machine) → LeaveOffice g files one other → ∥ (IsFoundAt one (file_state c) ⊎ IsFoundAt other (file_state c)) ∥₁

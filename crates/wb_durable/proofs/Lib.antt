@@ -9,6 +9,7 @@ pub mod MergeCarryLemmas
 pub mod MergePartLemmas
 pub mod MergeRecordLemmas
 pub mod MergeWriteLemmas
+pub mod NumberedLemmas
 pub mod OpeningLemmas
 pub mod PreparingLemmas
 pub mod SoughtLemmas

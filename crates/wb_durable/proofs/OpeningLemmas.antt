@@ -1,5 +1,5 @@
 -- What tests of the office's tables, one after another, promise together, and what they leave of a settled connection.
-use Rattle.std.proofs.Common.{◌≡◌, ◌≢◌, inl, inr, true, false, ◌||◌, ℕ, List, [], ◌∷◌, Result, Ok, Err, Vec, refl, sym, ap, subst, ◌∙◌, arith}
+use Rattle.std.proofs.Common.{◌≡◌, inl, inr, true, false, ◌||◌, ℕ, List, [], ◌∷◌, Result, Ok, Err, Vec, refl, sym, ap, subst, ◌∙◌, arith}
 use Rattle.std.specs.Bool.{⊤}
 use Rattle.std.specs.FinMap as finite
 use Rattle.std.proofs.lemmas.Bool.{both_ways}
@@ -16,9 +16,9 @@ use Rattle.wb_sql.specs.Queries.{TableQuery}
 use Rattle.wb_sql.specs.Transactions.{IsKeptOrUndone, LeavesNoMore}
 use Rattle.wb_schema.specs.Statements as sql
 use Rattle.sqlite.specs.Table as stored
-use Rattle.wb_schema.specs.Among.{HasOffice, rows_in}
-use Rattle.wb_schema.proofs.BesideLemmas.{empty_has_none}
-use Rattle.wb_schema.specs.Tables.{builder, empty_schema, scratch_source, scratch_binary, source_record}
+use Rattle.wb_schema.specs.Among.{HasOffice, LacksOffice, rows_in}
+use Rattle.wb_schema.proofs.GrowthLemmas.{lacks_none}
+use Rattle.wb_schema.specs.Tables.{builder, scratch_source, scratch_binary, source_record}
 use Rattle.wb_states.specs.declared.arch.OsCpu.{OsCpu}
 use Rattle.wb_states.specs.declared.counts.Counts.{Counts}
 use Rattle.wb_states.specs.declared.store_fault.StoreFault.{StoreFault}
@@ -325,8 +325,8 @@ module _ {S : Type 0} {g : Ghosts S} {old new : Held S} where
 settled_leaves : {machine : Machine} (s : State) → IsSettled machine s → LeavesFound machine s
 settled_leaves s settled db may = inl ((settled_back s settled).left db may)
 
-no_office : {schema : Schema} {P : Type 0} → schema ≡ empty_schema → HasOffice schema → P
-no_office none office = absurd (empty_has_none (subst HasOffice none office))
+no_office : {schema : Schema} {P : Type 0} → LacksOffice schema → HasOffice schema → P
+no_office {schema = schema} lacks office = absurd (lacks_none schema lacks office)
 
 module _ {S : Type 0} {g : Ghosts S} {old new : Held S} where
   -- a database with the office's tables is tested as it is
@@ -335,11 +335,11 @@ module _ {S : Type 0} {g : Ghosts S} {old new : Held S} where
     was_clean = h.was_clean;
     found = λ clean machine consistent at. elim at [
       | inl settled ↦ h.passes clean machine consistent settled
-      | inr blank ↦ no_office blank.1.schema_is office
+      | inr blank ↦ no_office blank.1.lacks office
     ];
     left = λ clean machine consistent at. elim at [
       | inl settled ↦ settled_leaves (state g new) (h.passes clean machine consistent settled).1
-      | inr blank ↦ no_office blank.1.schema_is office
+      | inr blank ↦ no_office blank.1.lacks office
     ];
     fails = λ clean machine consistent at. tt;
     good = h.good;
@@ -352,11 +352,11 @@ module _ {S : Type 0} {g : Ghosts S} {old new : Held S} where
     found = λ clean machine consistent at. tt;
     left = λ clean machine consistent at. elim at [
       | inl settled ↦ λ db may. inl ((h.fails clean machine consistent settled).0.left db may)
-      | inr blank ↦ no_office blank.1.schema_is office
+      | inr blank ↦ no_office blank.1.lacks office
     ];
     fails = λ clean machine consistent at. elim at [
       | inl settled ↦ inr (old, inl refl, (h.fails clean machine consistent settled).1)
-      | inr blank ↦ no_office blank.1.schema_is office
+      | inr blank ↦ no_office blank.1.lacks office
     ];
     good = λ clean same. tt;
     refuses = h.refuses;
@@ -364,18 +364,18 @@ module _ {S : Type 0} {g : Ghosts S} {old new : Held S} where
     other = λ tables others. absurd (others office);
   }
 
-  -- a database with other tables is refused
-  pub other_refused : old.schema ≢ empty_schema → ¬ HasOffice old.schema → new ≡ old → FindsOffice g old new (Err NotOffice)
+  -- a database that neither has the office's tables nor lacks them is refused
+  pub other_refused : ¬ LacksOffice old.schema → ¬ HasOffice old.schema → new ≡ old → FindsOffice g old new (Err NotOffice)
   other_refused tables others same = record {
     was_clean = λ clean. subst (λ h. HasCleanDisk (state g h)) same clean;
     found = λ clean machine consistent at. tt;
     left = λ clean machine consistent at. elim at [
       | inl settled ↦ absurd (others settled.holds.stands.has)
-      | inr blank ↦ absurd (tables blank.1.schema_is)
+      | inr blank ↦ absurd (tables blank.1.lacks)
     ];
     fails = λ clean machine consistent at. elim at [
       | inl settled ↦ absurd (others settled.holds.stands.has)
-      | inr blank ↦ absurd (tables blank.1.schema_is)
+      | inr blank ↦ absurd (tables blank.1.lacks)
     ];
     good = λ clean office. tt;
     refuses = λ clean office. absurd (others office);
@@ -383,7 +383,7 @@ module _ {S : Type 0} {g : Ghosts S} {old new : Held S} where
     other = λ _ _. (refl, same);
   }
 
-module _ {S : Type 0} {g : Ghosts S} {old new : Held S} (none : old.schema ≡ empty_schema) where
+module _ {S : Type 0} {g : Ghosts S} {old new : Held S} (none : LacksOffice old.schema) where
   -- an empty office is made, and then tested
   pub made_and_tested : {A : Type 0} {x : A} {mid : Held S} (r : Result Counts StoreFault) → MakesEmptyOffice g old mid (Ok x) → Checks g mid new r → FindsOffice g old new r
   made_and_tested {mid = mid} (Ok counts) makes h = record {
@@ -391,12 +391,12 @@ module _ {S : Type 0} {g : Ghosts S} {old new : Held S} (none : old.schema ≡ e
     found = λ clean machine consistent at. elim at [
       | inl settled ↦ no_office none settled.holds.stands.has
       | inr blank ↦ subst (λ m. AreCountsOf m counts × IsSettled m (state g new)) (sym blank.0)
-          (h.passes clean empty_office IsConsistent-empty_office (makes.made (h.was_clean clean) blank.1))
+          (h.passes clean empty_office IsConsistent-empty_office (makes.made (h.was_clean clean) blank.1).0)
     ];
     left = λ clean machine consistent at. elim at [
       | inl settled ↦ no_office none settled.holds.stands.has
       | inr blank ↦ subst (λ m. LeavesFound m (state g new)) (sym blank.0)
-          (settled_leaves (state g new) (h.passes clean empty_office IsConsistent-empty_office (makes.made (h.was_clean clean) blank.1)).1)
+          (settled_leaves (state g new) (h.passes clean empty_office IsConsistent-empty_office (makes.made (h.was_clean clean) blank.1).0).1)
     ];
     fails = λ clean machine consistent at. tt;
     good = λ clean office. no_office none office;
@@ -410,12 +410,12 @@ module _ {S : Type 0} {g : Ghosts S} {old new : Held S} (none : old.schema ≡ e
     left = λ clean machine consistent at. elim at [
       | inl settled ↦ no_office none settled.holds.stands.has
       | inr blank ↦ subst (λ m. LeavesFound m (state g new)) (sym blank.0)
-          (λ db may. inl ((h.fails clean empty_office IsConsistent-empty_office (makes.made (h.was_clean clean) blank.1)).0.left db may))
+          (λ db may. inl ((h.fails clean empty_office IsConsistent-empty_office (makes.made (h.was_clean clean) blank.1).0).0.left db may))
     ];
     fails = λ clean machine consistent at. elim at [
       | inl settled ↦ no_office none settled.holds.stands.has
       | inr blank ↦
-          let settled = makes.made (h.was_clean clean) blank.1 in
+          let settled = (makes.made (h.was_clean clean) blank.1).0 in
           inr (mid, inr settled, (h.fails clean empty_office IsConsistent-empty_office settled).1)
     ];
     good = λ clean office. tt;

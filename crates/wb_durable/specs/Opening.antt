@@ -1,5 +1,5 @@
 -- What an opening tests of the tables of an office, in one call, and how it finds an office or makes one.
-use Rattle.std.specs.Prelude.{◌≡◌, ◌≢◌, ◌⊎◌, ⊤, IsTrue, List, ℕ, [], Result, Err, IfOk, IfErr, OnOk, OnErr}
+use Rattle.std.specs.Prelude.{◌≡◌, ◌⊎◌, ⊤, IsTrue, List, ℕ, [], Result, Err, IfOk, IfErr, OnOk, OnErr}
 use Rattle.sqlite_trees.specs.declared.store.Store.{Ghosts}
 use Rattle.sqlite.specs.declared.error.Error.{Error}
 use Rattle.sqlite.specs.Effect.{Database}
@@ -7,8 +7,8 @@ use Rattle.sqlite.specs.Held.{Held, state}
 use Rattle.sqlite.specs.State.{State, HasCleanDisk, IsUnchanged, Survives}
 use Rattle.wb_sql.specs.Transactions.{IsKeptOrUndone}
 use Rattle.wb_schema.specs.Statements as sql
-use Rattle.wb_schema.specs.Among.{HasOffice, rows_in}
-use Rattle.wb_schema.specs.Tables.{arch, builder, empty_schema, office, scratch_binary, scratch_source, source_record}
+use Rattle.wb_schema.specs.Among.{HasOffice, LacksOffice, rows_in}
+use Rattle.wb_schema.specs.Tables.{arch, builder, office, scratch_binary, scratch_source, source_record}
 use Rattle.wb_states.specs.declared.arch.OsCpu.{OsCpu}
 use Rattle.wb_states.specs.declared.counts.Counts.{Counts}
 use Rattle.wb_states.specs.declared.store_fault.StoreFault.{StoreFault}
@@ -139,10 +139,10 @@ IsFaultOfMaking g new fault = (e : Error) × FailsToMake g new e × (fault ≡ f
 abbrev pub LacksAfter : {S : Type 0} → Ghosts S → Held S → Held S → StoreFault → Type 0
 LacksAfter {S} g old new fault = (at : Held S) × ((old ≡ at) ⊎ IsSettled empty_office (state g at)) × LacksMemoryOrQuery g at new fault
 
--- an office is found, perhaps beside tables of others, or made in a database without a table: if that succeeds, it is settled at its state, with its
+-- an office is found, or made in a database that lacks it, each perhaps beside tables of others: if that succeeds, it is settled at its state, with its
 -- counts; whatever it answers, a crash leaves that state; it fails only if it could not be made, or if memory ran out or a query failed; an office
--- that is found has good rows, or is refused by one of its tests; and a database with tables of others alone is never taken for an office, and is
--- left as it is
+-- that is found has good rows, or is refused by one of its tests; and a database that neither has the office's tables nor lacks them is never taken for
+-- an office, and is left as it is
 pub record FindsOffice {S : Type 0} (g : Ghosts S) (old new : Held S) (result : Result Counts StoreFault) : Type 0 where
   pub was_clean : HasCleanDisk (state g new) → HasCleanDisk (state g old)
   pub found : HasCleanDisk (state g new) → (machine : Machine) → IsConsistent machine → IsFoundAt machine (state g old)
@@ -153,8 +153,8 @@ pub record FindsOffice {S : Type 0} (g : Ghosts S) (old new : Held S) (result : 
   pub good : HasCleanDisk (state g new) → HasOffice old.schema
       → IfOk result (λ counts. HasGoodRowsWith (state g old).now counts × HasNoScratchRows (state g old).now × StaysAs g old new)
   pub refuses : HasCleanDisk (state g new) → HasOffice old.schema → IfErr result (ComesLater g FailsOnOffice old new)
-  pub known : IfOk result (λ counts. (old.schema ≡ empty_schema) ⊎ HasOffice old.schema)
-  pub other : old.schema ≢ empty_schema → ¬ HasOffice old.schema → (result ≡ Err NotOffice) × (new ≡ old)
+  pub known : IfOk result (λ counts. LacksOffice old.schema ⊎ HasOffice old.schema)
+  pub other : ¬ LacksOffice old.schema → ¬ HasOffice old.schema → (result ≡ Err NotOffice) × (new ≡ old)
 
 -- an opening was refused, and its connection given up, in the state in which the search for the office left it
 abbrev pub IsRefusedFrom : {S : Type 0} → Ghosts S → Held S → StoreFault → Type 0

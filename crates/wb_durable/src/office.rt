@@ -1,5 +1,5 @@
 //! The office over tables: each command is one transaction.
-ghost use Rattle.std.specs.Prelude.{◌≡◌, ◌≢◌, ◌⊎◌, ⊤, false, not, true, Err, IfOk, IfErr, IsTrue};
+ghost use Rattle.std.specs.Prelude.{◌≡◌, ◌⊎◌, ⊤, false, not, true, Err, IfOk, IfErr, IsTrue};
 ghost use Rattle.sqlite.specs.Files.{file_state};
 ghost use Rattle.sqlite.specs.Held.{Held, state};
 ghost use Rattle.sqlite.specs.State.{HasCleanDisk};
@@ -9,8 +9,7 @@ ghost use Rattle.wb_states.specs.Names.{is_builder_name};
 ghost use Rattle.wb_states.specs.declared.store_fault.StoreFault.TheVariants.{NotOffice};
 ghost use Rattle.wb_sql.specs.Settled.{LeaveOnly};
 ghost use Rattle.wb_tables.specs.Settled.{AreSettledAt, StandsForTrees};
-ghost use Rattle.wb_schema.specs.Among.{HasOffice};
-ghost use Rattle.wb_schema.specs.Tables.{empty_schema};
+ghost use Rattle.wb_schema.specs.Among.{HasOffice, LacksOffice};
 ghost use Rattle.wb_tables.specs.Opening.{HasGoodRows};
 ghost use Rattle.wb_durable.specs.Opening.{HasNoScratchRows, IsRefusedFrom};
 ghost use Rattle.wb_durable.specs.Files.{AreFoundAt, AreNew, FailsToOpen, IsFaultOfClosing, IsRefusedOver};
@@ -48,11 +47,12 @@ pub struct Office<S: Alter + Drop> {
 }
 
 impl<S: Alter + Drop> Office<S> {
-    /// Opens the office whose tables the connection has, which is in no transaction; a database without a table becomes
+    /// Opens the office whose tables the connection has, which is in no transaction; a database that lacks them becomes
     /// that of an empty office. Tables of others may stand beside the office's, as
-    /// [`has_office_tables`](wb_schema::has_office_tables) says. Each row of the office's tables is tested. The faults are
-    /// `NotOffice` if the database has tables, but not those of an office, and is then left as it is, or the row of the
-    /// office is missing or of an older format, `NewerSchema` if that format is newer than this program's, `Damaged` with
+    /// [`has_office_tables`](wb_schema::has_office_tables) and [`lacks_office`](wb_schema::lacks_office) say. Each row of
+    /// the office's tables is tested. The faults are `NotOffice` if the database has something of the office's names, but
+    /// not its tables, or a table that refers to them, and is then left as it is, or the row of the office is missing or
+    /// of an older format, `NewerSchema` if that format is newer than this program's, `Damaged` with
     /// the table and the first row, counted from 1, that breaks the rules of an office, or with row 0 if a statement on
     /// the table was refused, `Memory`, and `Device` if the disk failed or is full. After a fault a crash leaves the office
     /// as it was found, or the tables of an empty one (this project's own).
@@ -65,8 +65,8 @@ impl<S: Alter + Drop> Office<S> {
         ensures good { IfOk result (λ office. HasCleanDisk (state S.Store office.conn)
             → HasOffice conn.schema
             → HasGoodRows (state S.Store conn).now × HasNoScratchRows (state S.Store conn).now) }
-        ensures known { IfOk result (λ _. (conn.schema ≡ empty_schema) ⊎ HasOffice conn.schema) }
-        ensures other { conn.schema ≢ empty_schema → ¬ HasOffice conn.schema → result ≡ Err NotOffice }
+        ensures known { IfOk result (λ _. LacksOffice conn.schema ⊎ HasOffice conn.schema) }
+        ensures other { ¬ LacksOffice conn.schema → ¬ HasOffice conn.schema → result ≡ Err NotOffice }
         ensures clean { IfOk result (λ office. HasCleanDisk (state S.Store office.conn) → HasCleanDisk (state S.Store conn)) }
         ensures refused { IfErr result (IsRefusedFrom S.Store conn) }
     {
@@ -172,8 +172,8 @@ impl<S: Alter + Drop> Office<S> {
 }
 
 impl<D: Disk + Drop> Office<FileStore<D>> {
-    /// Opens the office that two files hold, a database and its log; a database without a table becomes that of an
-    /// empty office. Each row is tested. The faults are those of [`opening_fault`] if the files cannot be opened as a
+    /// Opens the office that two files hold, a database and its log; a database that lacks the office's tables becomes
+    /// that of an empty office. Each row is tested. The faults are those of [`opening_fault`] if the files cannot be opened as a
     /// database, and those of [`adopt`](Office::adopt) (this project's own).
     pub fn open(
         alloc: Global,

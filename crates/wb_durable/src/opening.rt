@@ -4,19 +4,19 @@ ghost use Rattle.wb_durable.specs.Opening.{Checks, ChecksRows, ChecksScratch, Fi
 
 use crate::preparing::make_office;
 use sqlite::{Alter, Connection};
-use wb_schema::{has_office_tables, is_empty};
+use wb_schema::{has_office_tables, lacks_office};
 use wb_states::{Counts, StoreFault, Table};
 use wb_tables::{
     check_archs, check_builders, check_counts, check_records, fault_of, has_scratch_rows,
 };
 
 /// The two counts of the office that the database holds, or of an empty one, whose tables are made first if the
-/// database has no table. Tables of others may stand beside those of an office, as [`has_office_tables`] says.
+/// database lacks them, as [`lacks_office`] says. Tables of others may stand beside them, as [`has_office_tables`] says.
 /// [`Office::adopt`](crate::Office::adopt) is this call, with the connection it was given. The faults are `NotOffice` if
-/// the database has tables, but not those of an office, and is then left as it is, and those of [`check`], and before
-/// them those of the table of the office if the tables cannot be made. An office that was there stays as it is, but for
-/// a transaction that a failure of a query takes back; a crash of a database without a table leaves that, or the empty
-/// office (this project's own).
+/// the database neither has the office's tables nor lacks them, and is then left as it is, and those of [`check`], and
+/// before them those of the table of the office if the tables cannot be made. An office that was there stays as it is,
+/// but for a transaction that a failure of a query takes back; a crash of a database that lacks the tables leaves that,
+/// or the empty office (this project's own).
 pub fn find_office<S: Alter>(conn: &mut Connection<S>) -> Result<Counts, StoreFault>
     requires idle { conn.old.in_transaction ≡ false }
     ensures finds { FindsOffice S.Store conn.old conn.new result }
@@ -24,7 +24,7 @@ pub fn find_office<S: Alter>(conn: &mut Connection<S>) -> Result<Counts, StoreFa
     if has_office_tables(conn.schema()) {
         return check(conn);
     }
-    if !is_empty(conn.schema()) {
+    if !lacks_office(conn.schema()) {
         return Err(StoreFault::NotOffice);
     }
     match make_office(conn) {

@@ -1,13 +1,13 @@
-//! The tables of an office in a database that has none.
+//! The tables of an office in a database that lacks them.
 ghost use Rattle.std.specs.Prelude.{◌≡◌, false};
 ghost use Rattle.wb_durable.specs.Preparing.{MakesEmptyOffice};
 
 use sqlite::{Alter, Connection, Error, ErrorCode};
 use wb_sql::{CommitError, begin};
 
-/// Makes the tables of an empty office in a database that has none, in one transaction. The error is that of the
-/// statement or of the commit that failed; the database is then as it was, or, if the commit failed, it may be that of
-/// the empty office (this project's own).
+/// Makes the tables of an empty office in a database that lacks them, in one transaction; the tables of others keep their
+/// rows. The error is that of the statement or of the commit that failed; the database is then as it was, or, if the
+/// commit failed, it may be that of the empty office (this project's own).
 pub(crate) fn make_office<S: Alter>(conn: &mut Connection<S>) -> Result<(), Error>
     requires idle { conn.old.in_transaction ≡ false }
     ensures makes { MakesEmptyOffice S.Store conn.old conn.new result }

@@ -22,7 +22,7 @@ use Rattle.sqlite_ast.specs.declared.Conflict.TheVariants as conflict
 use Rattle.sqlite_ast.specs.declared.Select.{Select}
 use Rattle.sqlite_ast.specs.declared.Statement.TheVariants as written
 use Rattle.wb_sql.specs.Queries.{TableQuery, query_of, rowids_where}
-use Rattle.wb_sql.specs.Changes.{IsPlainTable, IsOneRow, never_acts}
+use Rattle.wb_sql.specs.Changes.{IsPlainTable, IsOneRow, never_acts_on}
 use Rattle.wb_sql.specs.Statements.{Means, command_in}
 use Rattle.wb_schema.specs.Among.{table_at, query_at, HasTable, AsksAmong, InsertsAmong, ReplacesAmong, DeletesAmong}
 use Rattle.wb_schema.proofs.SelectForm.{parsed, where_of}
@@ -104,7 +104,7 @@ pub record IsDelete (table : Table) (sql : List ℕ) (terms : List Term) : Type 
   pub terms_are : (tree : ℕ) → map (term_of (table_at tree table)) tests ≡ terms
   pub still : IsStill table
 
-plain_table : (schema : Schema) (table : Table) (tree : ℕ) (has : HasTable schema (table_at tree table)) → never_acts schema ≡ true → IsStill table → IsPlainTable schema has.at (table_at tree table)
+plain_table : (schema : Schema) (table : Table) (tree : ℕ) (has : HasTable schema (table_at tree table)) → never_acts_on schema tree ≡ true → IsStill table → IsPlainTable schema has.at (table_at tree table)
 plain_table schema table tree has quiet still = record { listed = has.listed; uncounted = still.uncounted; unstamped = still.unstamped; quiet = quiet }
 
 pub inserts_among : (table : Table) (sql : List ℕ) (terms : List Term) → IsInsert conflict.Abort table sql terms → InsertsAmong table sql terms

@@ -29,6 +29,7 @@ use Rattle.sqlite_ast.specs.declared.Conflict.TheVariants as conflict
 use Rattle.sqlite_ast.specs.declared.Statement.{Statement}
 use Rattle.sqlite_ast.specs.declared.Statement.TheVariants as written
 use Rattle.wb_schema.specs.Among.{HasTable}
+use Rattle.wb_schema.proofs.AloneLemmas.{found_in_tree}
 use Rattle.wb_schema.proofs.SelectForm.{Name, where_of, parsed}
 use Rattle.wb_schema.proofs.ColumnLemmas.{over, at_budget}
 use Rattle.wb_schema.proofs.CompiledLemmas.{compiled_of, filled_is, program_is}
@@ -102,7 +103,7 @@ rowids_accepted : (schema : Schema) (table : Table) (filter : List Term) → Has
     → (accepts_after [] (query_of (rowids table filter)) (Some (row_classes table ∷ [])) && (is_count [] (lit (Int (negsuc 0))) && is_count [] (number 0))) ≡ true
     → accepts_program schema [] (query_of (rowids table filter)) [] ≡ true
 rowids_accepted schema table filter has typed =
-    subst (λ slots. (accepts_after [] (query_of (rowids table filter)) slots && (is_count [] (lit (Int (negsuc 0))) && is_count [] (number 0))) ≡ true) (sym (filled_is schema table has.stored has.in_tree)) typed
+    subst (λ slots. (accepts_after [] (query_of (rowids table filter)) slots && (is_count [] (lit (Int (negsuc 0))) && is_count [] (number 0))) ≡ true) (sym (filled_is schema table has.stored (found_in_tree schema table has))) typed
 
 pub delete_is : (schema : Schema) (table : Table) (base : ℕ) (tests : List Test) (has : HasTable schema table) → AreTests table tests → suffices_for max_budget tests ≡ true
     → (accepts_after [] (query_of (rowids table (map (term_of table) tests))) (Some (row_classes table ∷ [])) && (is_count [] (lit (Int (negsuc 0))) && is_count [] (number 0))) ≡ true

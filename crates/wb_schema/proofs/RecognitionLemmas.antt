@@ -1,70 +1,13 @@
 -- How the office's tables are recognized among the tables, indexes and views of others.
-use Rattle.std.proofs.Common.{◌≡◌, refl, sym, subst, ap, ◌∙◌, ℕ, ◌≤◌, ◌^◌, ◌==◌, ltb, nat_le, nat_lt, nat_eq, Bool, true, false, cond, Option, Some, None, List, [], ◌∷◌, map, length, slice_get, find, arith}
-use Rattle.std.specs.List.{position_or_len, position_from}
-use Rattle.std.specs.Option.{option_eq}
-use Rattle.std.proofs.lemmas.Bool.{eq-eqb, eqb-true, lt-ltb, ltb-true, ltb-false, lt-leb, leb-false}
-use Rattle.std.proofs.lemmas.Iterator.Adapters.{position_from-zero}
-use Rattle.std.proofs.lemmas.List.Folds.{find_at}
-use Rattle.std.proofs.lemmas.List.Quantifiers.{position-Some}
-use Rattle.std.proofs.lemmas.Option.{get_or_from_slice_get, slice_get_within}
-use Rattle.std.proofs.lemmas.List.Sums.{fails_before_first}
+use Rattle.std.proofs.Common.{◌≡◌, refl, sym, subst, ap, ◌∙◌, ℕ, ◌^◌, ◌==◌, nat_le, nat_lt, true, false, Some, List, [], ◌∷◌, map, length, filter, slice_get}
+use Rattle.std.proofs.lemmas.Bool.{eq-eqb, lt-ltb, ltb-true, lt-leb, leb-false}
 use Rattle.sqlite.specs.Schema.{Schema}
 use Rattle.sqlite.specs.Table.{Table}
 use Rattle.sqlite_schema.specs.declared.schema.Index.{Index}
-use Rattle.sqlite_schema.specs.Names.{same_name, table_named}
-use Rattle.wb_sql.specs.Changes.{never_acts}
-use Rattle.wb_schema.specs.Among.{HasTable, HasOffice, table_at, table_in, tree_named, index_at, are_unreferred}
-use Rattle.wb_schema.specs.Recognition.{IsFound, IsFirstInTree, HasIndexed, HasTables, treeless, indexes_on}
-
--- a place that is given if there is one
-placed : (b : Bool) (n at : ℕ) → cond b (Some n) None ≡ Some at → n ≡ at
-placed true n at e = cc
-placed false n at e = absurd (cc)
-
--- the first place that passes, by the length of what fails before it
-first_is : (p : Table → Bool) (tables : List Table) (at : ℕ) → position_from p 0 tables ≡ Some at → position_or_len p tables ≡ at
-first_is p tables at e = placed _ _ _ (position_from-zero p tables ∙ e)
-
--- the first that passes is the one at the first place that passes
-pub first_at : (p : Table → Bool) (tables : List Table) (at : ℕ) (table : Table) → position_from p 0 tables ≡ Some at → slice_get tables at ≡ Some table → find p tables ≡ Some table
-first_at p tables at table e listed = find_at p tables ∙ (ap (slice_get tables) (first_is p tables at e) ∙ listed)
-
--- what is at the first place that passes does pass
-passes : (p : Table → Bool) (tables : List Table) (at : ℕ) (table : Table) → position_from p 0 tables ≡ Some at → slice_get tables at ≡ Some table → p table ≡ true
-passes p tables at table e listed =
-    let there = position-Some p tables at table (position_from-zero p tables ∙ e) in
-    subst (λ t. p t ≡ true) (get_or_from_slice_get tables at table table listed) there.1
-
--- none before the first place passes
-not_before : (p : Table → Bool) (tables : List Table) (at : ℕ) (table : Table) → slice_get tables at ≡ Some table → p table ≡ true → position_or_len p tables ≤ at
-not_before p tables at table listed passed =
-    by (ltb at (position_or_len p tables)) refl
-  where
-    by : (b : Bool) → ltb at (position_or_len p tables) ≡ b → position_or_len p tables ≤ at
-    by true e =
-        let no : p table ≡ false = subst (λ t. p t ≡ false) (get_or_from_slice_get tables at table table listed) (fails_before_first p tables at table (ltb-true _ _ e)) in
-        absurd (cc)
-    by false e = ltb-false at (position_or_len p tables) e
-
--- a place with a table, before which none passes, is the first that passes
-first_place : (p : Table → Bool) (tables : List Table) (at : ℕ) (table : Table) → slice_get tables at ≡ Some table → position_or_len p tables ≡ at → position_from p 0 tables ≡ Some at
-first_place p tables at table listed e =
-    let within : ltb at (length tables) ≡ true = lt-ltb at (length tables) (slice_get_within tables at table listed) in
-    sym (position_from-zero p tables) ∙ rw (e, within) refl
-
--- the first with one mark, which is also the first with another
-pub first_of_both : (p q : Table → Bool) (tables : List Table) (at : ℕ) (table : Table)
-    → position_from p 0 tables ≡ Some at → slice_get tables at ≡ Some table → find q tables ≡ Some table → q table ≡ true → position_from q 0 tables ≡ Some at
-first_of_both p q tables at table e listed in_tree passed =
-    let there : slice_get tables (position_or_len q tables) ≡ Some table = sym (find_at q tables) ∙ in_tree in
-    let not_after : position_or_len p tables ≤ position_or_len q tables = not_before p tables _ table there (passes p tables at table e listed) in
-    let not_first : position_or_len q tables ≤ at = not_before q tables at table listed passed in
-    first_place q tables at table listed (omega (arith, not_after, not_first, first_is p tables at e))
-
--- an optional place that is equal to this one is this one
-pub place_is : (place : Option ℕ) (at : ℕ) → option_eq nat_eq place (Some at) ≡ true → place ≡ Some at
-place_is None at e = absurd (cc)
-place_is (Some n) at e = ap Some (eqb-true n at e)
+use Rattle.sqlite_schema.specs.Names.{table_named}
+use Rattle.wb_schema.specs.Among.{HasTable, HasOffice, table_at, table_in, tree_named, index_at, are_unreferred, are_quiet}
+use Rattle.wb_schema.proofs.AloneLemmas.{alone_is}
+use Rattle.wb_schema.specs.Recognition.{IsFound, IsAlone, HasIndexed, HasTables, treeless, indexes_on}
 
 -- a tree below 2^31 is stored
 pub stored_is : (tree : ℕ) → nat_lt tree (2 ^ 31) ≡ true → nat_le (2 ^ 31) tree ≡ false
@@ -74,24 +17,23 @@ stored_is tree e = lt-leb _ _ (ltb-true _ _ e)
 pub is_stored : (tree : ℕ) → nat_le (2 ^ 31) tree ≡ false → nat_lt tree (2 ^ 31) ≡ true
 is_stored tree e = lt-ltb _ _ (leb-false _ _ e)
 
--- the table with the name, first in its tree
-pub found : (schema : Schema) (name : List ℕ) (at : ℕ) (table : Table) → table_named schema name ≡ Some at → slice_get schema.tables at ≡ Some table → IsFirstInTree schema.tables at table.tree → IsFound schema name table
-found schema name at table named listed first =
-    record { at = at; named = named; listed = listed; in_tree = first_at (λ t. t.tree == table.tree) schema.tables at table first.first listed; stored = first.stored }
+-- the table with the name, alone in its tree
+pub found : (schema : Schema) (name : List ℕ) (at : ℕ) (table : Table) → table_named schema name ≡ Some at → slice_get schema.tables at ≡ Some table → IsAlone schema.tables table.tree → IsFound schema name table
+found schema name at table named listed alone =
+    record { at = at; named = named; listed = listed; in_tree = alone_is (λ t. t.tree == table.tree) schema.tables at table alone.one listed (eq-eqb table.tree table.tree refl); stored = alone.stored }
 
 -- what is there is one
 some_is : {A : Type 0} (x y : A) → Some x ≡ Some y → x ≡ y
 some_is x y e = cc
 
--- what is found with the name is the table at the first place with it, which is the first in its tree
-pub first_of_found : (schema : Schema) (name : List ℕ) (at : ℕ) (table other : Table)
-    → table_named schema name ≡ Some at → slice_get schema.tables at ≡ Some table → IsFound schema name other → IsFirstInTree schema.tables at table.tree
-first_of_found schema name at table other named listed f =
+-- what is found with the name is the table at the first place with it, which is alone in its tree
+pub alone_if_found : (schema : Schema) (name : List ℕ) (at : ℕ) (table other : Table)
+    → table_named schema name ≡ Some at → slice_get schema.tables at ≡ Some table → IsFound schema name other → IsAlone schema.tables table.tree
+alone_if_found schema name at table other named listed f =
     let place : f.at ≡ at = some_is _ _ (sym f.named ∙ named) in
     let same : other ≡ table = some_is _ _ (sym f.listed ∙ (ap (slice_get schema.tables) place ∙ listed)) in
-    let in_tree : find (λ t. t.tree == table.tree) schema.tables ≡ Some table = subst (λ u. find (λ t. t.tree == u.tree) schema.tables ≡ Some u) same f.in_tree in
     record {
-      first = first_of_both (λ t. same_name t.name name) (λ t. t.tree == table.tree) schema.tables at table named listed in_tree (eq-eqb table.tree table.tree refl);
+      one = subst (λ u. length (filter (λ t. t.tree == u.tree) schema.tables) ≡ 1) same (ap length f.in_tree);
       stored = subst (λ u. nat_le (2 ^ 31) u.tree ≡ false) same f.stored;
     }
 
@@ -113,7 +55,7 @@ has_of schema table t f is =
       at = f.at;
       named = f.named;
       listed = f.listed ∙ ap Some e;
-      in_tree = subst (λ u. find (λ x. x.tree == u.tree) schema.tables ≡ Some u) e f.in_tree;
+      in_tree = subst (λ u. filter (λ x. x.tree == u.tree) schema.tables ≡ u ∷ []) e f.in_tree;
       stored = subst (λ u. nat_le (2 ^ 31) u.tree ≡ false) e f.stored;
     }
 
@@ -179,7 +121,7 @@ three_indexes indexes a b c e =
     (h.tree, (r.0, (r.1.0, h.is ∙ ap (λ rest. moved h.tree rest a) r.1.1)))
 
 -- a schema with each of the tables and its indexes, where nothing of others touches them, has the office's tables
-pub office_of : (schema : Schema) → HasTables schema → are_unreferred schema ≡ true → never_acts schema ≡ true → HasOffice schema
+pub office_of : (schema : Schema) → HasTables schema → are_unreferred schema ≡ true → are_quiet schema ≡ true → HasOffice schema
 office_of schema h unreferred quiet =
     let a = one_index _ _ h.archs_are.indexed in
     let b = one_index _ _ h.builders_are.indexed in

@@ -29,6 +29,7 @@ use Rattle.sqlite_ast.specs.declared.Binary.TheVariants as binary
 use Rattle.sqlite_ast.specs.declared.Core.{out-Core}
 use Rattle.sqlite_ast.specs.declared.Select.{Select, out-Select}
 use Rattle.wb_schema.specs.Among.{HasTable}
+use Rattle.wb_schema.proofs.AloneLemmas.{found_in_tree}
 use Rattle.wb_schema.proofs.SelectForm.{Name, shown, sort, source, test, where_of}
 use Rattle.wb_schema.proofs.ColumnLemmas.{over, at_budget, is_plain}
 use Rattle.wb_schema.proofs.TestLemmas.{IsColumn, lower_test, lower_both, combine_and}
@@ -163,4 +164,4 @@ asked_is schema table s columns tests order limit has is typed =
     read_is schema s (asked table columns tests order limit) (map (λ o. o.name) all) (map (λ o. o.carried.collation) all)
     (query_is schema table.name s (limit, number 0) (shown_of table all filter (keys_after table [] order) limit (number 0)) is.none (is.paged schema) is.others is.from
     (named_is schema table has.at _ table.name (out-Select s).first (out-Select s).order all filter (keys_after table [] order) limit (number 0) _ is.distinct parts))
-    (accepts_is schema table all filter (keys_after table [] order) limit (number 0) has.stored has.in_tree typed.typed)
+    (accepts_is schema table all filter (keys_after table [] order) limit (number 0) has.stored (found_in_tree schema table has) typed.typed)

@@ -1,16 +1,18 @@
 -- The office's tables in a schema that may have tables, indexes and views of others.
-use Rattle.std.specs.Prelude.{◌≡◌, ℕ, ◌^◌, ◌==◌, nat_le, Bool, true, false, not, ◌||◌, List, [], ◌∷◌, filter, find, slice_get, Some, option_map, option_and_then, unwrap_or}
-use Rattle.std.specs.List.{list_all, list_any}
+use Rattle.std.specs.Prelude.{◌≡◌, ℕ, ◌^◌, ◌==◌, ◌≤◌, ◌<◌, nat_le, Bool, true, false, not, ◌||◌, List, [], ◌∷◌, filter, slice_get, Some, option_map, option_and_then, unwrap_or}
+use Rattle.std.specs.List.{AllByRecursion, list_all, list_any}
 use Rattle.sqlite.specs.Schema.{Schema}
 use Rattle.sqlite.specs.Table.{Table}
 use Rattle.sqlite.specs.Term.{Term}
 use Rattle.sqlite.specs.Order.{Row}
 use Rattle.sqlite.specs.Effect.{Database}
+use Rattle.sqlite.specs.Change.{next_tree}
+use Rattle.sqlite.specs.Does.{lacks_sequence}
 use Rattle.sqlite_schema.specs.declared.schema.Index.{Index}
 use Rattle.sqlite_schema.specs.Names.{same_name, table_named}
 use Rattle.sqlite_catalog.specs.Listing.{automatic}
 use Rattle.wb_sql.specs.Queries.{TableQuery, Asks}
-use Rattle.wb_sql.specs.Changes.{ReplacesInto, InsertsInto, DeletesFrom, never_acts}
+use Rattle.wb_sql.specs.Changes.{ReplacesInto, InsertsInto, DeletesFrom, does_nothing, never_acts_on}
 use Rattle.wb_schema.specs.Tables.{office, arch, builder, source_record, scratch_source, scratch_binary, office_schema}
 use Rattle.wb_schema.specs.Tables.{record_order, record_take, source_name, binary_source, binary_name}
 
@@ -22,12 +24,12 @@ table_at tree table = record table { tree = tree }
 abbrev pub query_at : ℕ → TableQuery → TableQuery
 query_at tree q = record q { tree = tree }
 
--- the schema has this table at a place, the table is the first with its name and the first in its tree, and the tree is stored
+-- the schema has this table at a place, the table is the first with its name and the only one in its tree, and the tree is stored
 pub record HasTable (schema : Schema) (table : Table) : Type 0 where
   pub at : ℕ
   pub named : table_named schema table.name ≡ Some at
   pub listed : slice_get schema.tables at ≡ Some table
-  pub in_tree : find (λ t. t.tree == table.tree) schema.tables ≡ Some table
+  pub in_tree : filter (λ t. t.tree == table.tree) schema.tables ≡ table ∷ []
   pub stored : nat_le (2 ^ 31) table.tree ≡ false
 
 -- the tree of the first table with this name; if there is none, 0
@@ -82,8 +84,16 @@ refers_to_none table = list_all (λ ref. not (names_office ref.parent)) table.re
 abbrev pub are_unreferred : Schema → Bool
 are_unreferred schema = list_all (λ table. names_office table.name || refers_to_none table) schema.tables
 
+-- each foreign key of the table that refers to one of the office's tables does nothing
+abbrev pub is_quiet : Table → Bool
+is_quiet table = list_all (λ ref. not (names_office ref.parent) || does_nothing ref) table.references
+
+-- each foreign key of the schema that refers to one of the office's tables does nothing
+abbrev pub are_quiet : Schema → Bool
+are_quiet schema = list_all is_quiet schema.tables
+
 -- the schema has the office's tables with their indexes, beside tables, indexes and views of others; no table of others refers to them, and no foreign
--- key of the schema does anything
+-- key that refers to one of them does anything
 pub record HasOffice (schema : Schema) : Type 0 where
   pub at : IndexTrees
   pub office_is : HasTable schema (table_in schema office)
@@ -101,20 +111,42 @@ pub record HasOffice (schema : Schema) : Type 0 where
       HasIndexes schema (tree_named schema scratch_binary.name)
       (index_at at.binary_source (tree_named schema scratch_binary.name) binary_source ∷ index_at at.binary_name (tree_named schema scratch_binary.name) binary_name ∷ [])
   pub unreferred : are_unreferred schema ≡ true
-  pub quiet : never_acts schema ≡ true
+  pub quiet : are_quiet schema ≡ true
+
+-- the name of one of the office's tables or of their indexes
+abbrev pub is_office_name : List ℕ → Bool
+is_office_name name = names_office name || list_any (λ index. same_name index.name name) office_schema.indexes
+
+-- no table, index or view of the schema has one of these names
+pub record HasFreeNames (schema : Schema) : Type 0 where
+  pub tables : list_any (λ table. is_office_name table.name) schema.tables ≡ false
+  pub indexes : list_any (λ index. is_office_name index.name) schema.indexes ≡ false
+  pub views : list_any (λ view. is_office_name view.name) schema.views ≡ false
+
+-- an office can be made in the schema: its names are free, no table refers to one of its tables, and if a table counts its rowids (AUTOINCREMENT), the
+-- table of these counts is there
+pub record LacksOffice (schema : Schema) : Type 0 where
+  pub free : HasFreeNames schema
+  pub unreferred : list_all refers_to_none schema.tables ≡ true
+  pub counted : lacks_sequence schema ≡ false
+
+-- the trees of the schema have numbers below 2^16, and each index is on a table of such a tree, as in the schema of every sound database
+pub record IsNumbered (schema : Schema) : Type 0 where
+  pub bounded : next_tree schema ≤ 2 ^ 16
+  pub indexes : AllByRecursion (λ index. index.table < next_tree schema) schema.indexes
 
 -- over each schema that has the table, in whatever tree and beside whatever else, the text asks this
 abbrev pub AsksAmong : Table → List ℕ → TableQuery → Type 0
 AsksAmong table sql q = (schema : Schema) (tree : ℕ) → HasTable schema (table_at tree table) → Asks schema sql (query_at tree q)
 
--- over each schema that has the table, and in which no foreign key does anything, the text is INSERT OR REPLACE INTO the table VALUES (terms)
+-- over each schema that has the table, and in which no foreign key that refers to it does anything, the text is INSERT OR REPLACE INTO the table VALUES (terms)
 abbrev pub ReplacesAmong : Table → List ℕ → List Term → Type 0
-ReplacesAmong table sql terms = (schema : Schema) (tree : ℕ) → HasTable schema (table_at tree table) → never_acts schema ≡ true → ReplacesInto schema sql (table_at tree table) terms
+ReplacesAmong table sql terms = (schema : Schema) (tree : ℕ) → HasTable schema (table_at tree table) → never_acts_on schema tree ≡ true → ReplacesInto schema sql (table_at tree table) terms
 
 -- over each such schema the text is INSERT INTO the table VALUES (terms)
 abbrev pub InsertsAmong : Table → List ℕ → List Term → Type 0
-InsertsAmong table sql terms = (schema : Schema) (tree : ℕ) → HasTable schema (table_at tree table) → never_acts schema ≡ true → InsertsInto schema sql (table_at tree table) terms
+InsertsAmong table sql terms = (schema : Schema) (tree : ℕ) → HasTable schema (table_at tree table) → never_acts_on schema tree ≡ true → InsertsInto schema sql (table_at tree table) terms
 
 -- over each such schema the text is DELETE FROM the table WHERE each of these tests
 abbrev pub DeletesAmong : Table → List ℕ → List Term → Type 0
-DeletesAmong table sql tests = (schema : Schema) (tree : ℕ) → HasTable schema (table_at tree table) → never_acts schema ≡ true → DeletesFrom schema sql (table_at tree table) tests
+DeletesAmong table sql tests = (schema : Schema) (tree : ℕ) → HasTable schema (table_at tree table) → never_acts_on schema tree ≡ true → DeletesFrom schema sql (table_at tree table) tests

@@ -1,6 +1,5 @@
 -- The parts of the office's schema, by which it is recognized.
-use Rattle.std.specs.Prelude.{◌≡◌, ℕ, ◌^◌, ◌==◌, nat_le, Bool, ◌&&◌, pos, true, false, Some, None, List, [], ◌∷◌, map, filter, find, slice_get}
-use Rattle.std.specs.List.{list_all, position_from}
+use Rattle.std.specs.Prelude.{◌≡◌, ℕ, ◌^◌, ◌==◌, nat_le, pos, true, false, Some, None, List, [], ◌∷◌, length, map, filter, slice_get}
 use Rattle.sqlite.specs.Collation.TheVariants.{Binary}
 use Rattle.sqlite.specs.Schema.{Schema}
 use Rattle.sqlite.specs.Table.{Table}
@@ -14,7 +13,6 @@ use Rattle.sqlite_schema.specs.Names.{table_named}
 use Rattle.sqlite_sql.specs.declared.ops.BinaryOp.TheVariants.{Compare}
 use Rattle.sqlite_sql.specs.declared.ops.CompareOp.TheVariants.{Eq}
 use Rattle.sqlite_value.specs.Keys.{plain}
-use Rattle.wb_sql.specs.Changes.{is_no_action}
 use Rattle.wb_schema.specs.declared.definitions.ColumnDefinition.{ColumnDefinition}
 use Rattle.wb_schema.specs.declared.definitions.IndexDefinition.{IndexDefinition}
 use Rattle.sqlite_catalog.specs.Listing.{automatic}
@@ -50,17 +48,17 @@ index_of table definition = record (index_on definition.name.now 0 table definit
 abbrev pub indexes_of : ℕ → List IndexDefinition → List Index
 indexes_of table = map (index_of table)
 
--- the first of the tables in this tree is at this place, and the tree is stored
-pub record IsFirstInTree (tables : List Table) (at tree : ℕ) : Type 0 where
-  pub first : position_from (λ t. t.tree == tree) 0 tables ≡ Some at
+-- one of the tables alone is in this tree, and the tree is stored
+pub record IsAlone (tables : List Table) (tree : ℕ) : Type 0 where
+  pub one : length (filter (λ t. t.tree == tree) tables) ≡ 1
   pub stored : nat_le (2 ^ 31) tree ≡ false
 
--- of the tables of the schema, the first with this name, if it is also the first in its tree, and the tree is stored
+-- of the tables of the schema, the first with this name, if it is also the only one in its tree, and the tree is stored
 pub record IsFound (schema : Schema) (name : List ℕ) (table : Table) : Type 0 where
   pub at : ℕ
   pub named : table_named schema name ≡ Some at
   pub listed : slice_get schema.tables at ≡ Some table
-  pub in_tree : find (λ t. t.tree == table.tree) schema.tables ≡ Some table
+  pub in_tree : filter (λ t. t.tree == table.tree) schema.tables ≡ table ∷ []
   pub stored : nat_le (2 ^ 31) table.tree ≡ false
 
 -- the schema has one of the office's tables, and on it these indexes, in whatever trees, and no other
@@ -76,10 +74,6 @@ pub record HasTables (schema : Schema) : Type 0 where
   pub records_are : HasIndexed schema source_record (automatic source_record 0 (1 ∷ 2 ∷ []) 6 ∷ record_order ∷ record_take ∷ [])
   pub sources_are : HasIndexed schema scratch_source (source_name ∷ [])
   pub binaries_are : HasIndexed schema scratch_binary (binary_source ∷ binary_name ∷ [])
-
--- no foreign key of the table does anything
-abbrev pub is_quiet : Table → Bool
-is_quiet table = list_all (λ ref. is_no_action ref.on_delete && is_no_action ref.on_update) table.references
 
 -- a table of this name and these columns, where no default is computed and no row is counted
 pub record IsTable (table : Table) (name : List ℕ) (columns : List Column) : Type 0 where

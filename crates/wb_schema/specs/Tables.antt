@@ -131,22 +131,6 @@ binary_name = index_on (codes "binary_name") 13 11 (2 ∷ 0 ∷ [])
 abbrev pub schema_of : List Table → List Index → Schema
 schema_of tables indexes = record { tables = tables; indexes = indexes; views = [] }
 
--- the schema without a table
-abbrev pub empty_schema : Schema
-empty_schema = schema_of [] []
-
--- after the first CREATE
-abbrev pub with_office : Schema
-with_office = schema_of (office ∷ []) []
-
--- after the second CREATE
-abbrev pub with_arch : Schema
-with_arch = schema_of (office ∷ arch ∷ []) (automatic arch 0 (1 ∷ []) 2 ∷ [])
-
--- after the third CREATE
-abbrev pub with_builder : Schema
-with_builder = schema_of (office ∷ arch ∷ builder ∷ []) (automatic arch 0 (1 ∷ []) 2 ∷ automatic builder 0 (1 ∷ 2 ∷ []) 4 ∷ [])
-
 -- the indexes of the keys of architectures, builders and records
 abbrev pub keys : List Index
 keys = automatic arch 0 (1 ∷ []) 2 ∷ automatic builder 0 (1 ∷ 2 ∷ []) 4 ∷ automatic source_record 0 (1 ∷ 2 ∷ []) 6 ∷ []
@@ -154,34 +138,6 @@ keys = automatic arch 0 (1 ∷ []) 2 ∷ automatic builder 0 (1 ∷ 2 ∷ []) 4 
 -- the tables without the scratch tables
 abbrev pub records : List Table
 records = office ∷ arch ∷ builder ∷ source_record ∷ []
-
--- after the fourth CREATE
-abbrev pub with_source_record : Schema
-with_source_record = schema_of records keys
-
--- after the first index of records
-abbrev pub with_record_order : Schema
-with_record_order = schema_of records (keys ++ record_order ∷ [])
-
--- after the second index of records
-abbrev pub with_record_take : Schema
-with_record_take = schema_of records (keys ++ record_order ∷ record_take ∷ [])
-
--- after the scratch table of source packages
-abbrev pub with_scratch_source : Schema
-with_scratch_source = schema_of (records ++ scratch_source ∷ []) (keys ++ record_order ∷ record_take ∷ [])
-
--- after its index
-abbrev pub with_source_name : Schema
-with_source_name = schema_of (records ++ scratch_source ∷ []) (keys ++ record_order ∷ record_take ∷ source_name ∷ [])
-
--- after the scratch table of binary packages
-abbrev pub with_scratch_binary : Schema
-with_scratch_binary = schema_of (records ++ scratch_source ∷ scratch_binary ∷ []) (keys ++ record_order ∷ record_take ∷ source_name ∷ [])
-
--- after its first index
-abbrev pub with_binary_source : Schema
-with_binary_source = schema_of (records ++ scratch_source ∷ scratch_binary ∷ []) (keys ++ record_order ∷ record_take ∷ source_name ∷ binary_source ∷ [])
 
 -- the schema of the office's tables, with no other table, index or view
 abbrev pub office_schema : Schema

@@ -11,4 +11,4 @@ mod recognition;
 pub mod texts;
 
 pub use making::{make_tables, prepare};
-pub use recognition::{has_office_tables, is_empty};
+pub use recognition::{has_office_tables, lacks_office};

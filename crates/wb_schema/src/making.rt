@@ -1,8 +1,11 @@
 //! The office's tables and indexes, made in a transaction.
 
-ghost use Rattle.std.specs.Prelude.{◌≡◌};
-ghost use Rattle.wb_schema.specs.Making.{Makes, MakesTables, MakesOffice};
-ghost use Rattle.wb_schema.specs.Tables.{empty_schema, with_builder, with_record_take, with_source_name, office_schema};
+ghost use Rattle.std.specs.Prelude.{◌≡◌, [], ◌∷◌};
+ghost use Rattle.sqlite.specs.Schema.{Schema};
+ghost use Rattle.wb_schema.specs.Among.{LacksOffice, IsNumbered};
+ghost use Rattle.wb_schema.specs.Making.{Makes, MakesTables, MakesOffice, tables_after_office};
+ghost use Rattle.wb_schema.specs.Making.{with_builder, with_record_take, with_source_name, with_tables};
+ghost use Rattle.wb_schema.specs.Tables.{office, arch, builder, source_record, scratch_source, scratch_binary};
 
 use crate::create;
 use sqlite::{Alter, Error};
@@ -11,7 +14,8 @@ use wb_sql::Writing;
 /// Makes the tables of the office, of architectures and of builders.
 fn make_people<S: Alter>(writing: &mut Writing<'_, S>) -> Result<(), Error>
     ensures same_reference { writing.new.conn.ghost_name ≡ writing.old.conn.ghost_name }
-    ensures makes { Makes S.Store empty_schema (MakesTables with_builder)
+    ensures makes { (base : Schema) → LacksOffice base → IsNumbered base
+        → Makes S.Store base [] (MakesTables base.tables (with_builder base) (office ∷ arch ∷ builder ∷ []))
         writing.old.conn.now writing.new.conn.now result }
 {
     writing.create_table(create::office())?;
@@ -22,7 +26,9 @@ fn make_people<S: Alter>(writing: &mut Writing<'_, S>) -> Result<(), Error>
 /// Makes the table of records and its indexes.
 fn make_records<S: Alter>(writing: &mut Writing<'_, S>) -> Result<(), Error>
     ensures same_reference { writing.new.conn.ghost_name ≡ writing.old.conn.ghost_name }
-    ensures makes { Makes S.Store with_builder (MakesTables with_record_take)
+    ensures makes { (base : Schema) → LacksOffice base → IsNumbered base
+        → Makes S.Store (with_builder base) (office ∷ arch ∷ builder ∷ [])
+        (MakesTables base.tables (with_record_take base) (office ∷ arch ∷ builder ∷ source_record ∷ []))
         writing.old.conn.now writing.new.conn.now result }
 {
     writing.create_table(create::source_record())?;
@@ -33,7 +39,9 @@ fn make_records<S: Alter>(writing: &mut Writing<'_, S>) -> Result<(), Error>
 /// Makes the scratch table of source packages and its index.
 fn make_sources<S: Alter>(writing: &mut Writing<'_, S>) -> Result<(), Error>
     ensures same_reference { writing.new.conn.ghost_name ≡ writing.old.conn.ghost_name }
-    ensures makes { Makes S.Store with_record_take (MakesTables with_source_name)
+    ensures makes { (base : Schema) → LacksOffice base → IsNumbered base
+        → Makes S.Store (with_record_take base) (office ∷ arch ∷ builder ∷ source_record ∷ [])
+        (MakesTables base.tables (with_source_name base) (office ∷ arch ∷ builder ∷ source_record ∷ scratch_source ∷ []))
         writing.old.conn.now writing.new.conn.now result }
 {
     writing.create_table(create::scratch_source())?;
@@ -43,7 +51,9 @@ fn make_sources<S: Alter>(writing: &mut Writing<'_, S>) -> Result<(), Error>
 /// Makes the scratch table of binary packages and its indexes.
 fn make_binaries<S: Alter>(writing: &mut Writing<'_, S>) -> Result<(), Error>
     ensures same_reference { writing.new.conn.ghost_name ≡ writing.old.conn.ghost_name }
-    ensures makes { Makes S.Store with_source_name (MakesTables office_schema)
+    ensures makes { (base : Schema) → LacksOffice base → IsNumbered base
+        → Makes S.Store (with_source_name base) (office ∷ arch ∷ builder ∷ source_record ∷ scratch_source ∷ [])
+        (MakesTables base.tables (with_tables base) (office ∷ tables_after_office))
         writing.old.conn.now writing.new.conn.now result }
 {
     writing.create_table(create::scratch_binary())?;
@@ -51,11 +61,12 @@ fn make_binaries<S: Alter>(writing: &mut Writing<'_, S>) -> Result<(), Error>
     writing.create_index(create::binary_name())
 }
 
-/// Makes all tables and indexes of the office in a database that has none. They have no row. It fails as
-/// `Writing::execute` does, and the caller then rolls back.
+/// Makes all tables and indexes of the office in a database that lacks them, as [`crate::lacks_office`] says. They have
+/// no row, and the tables of others keep theirs. It fails as `Writing::execute` does, and the caller then rolls back.
 pub fn make_tables<S: Alter>(writing: &mut Writing<'_, S>) -> Result<(), Error>
     ensures same_reference { writing.new.conn.ghost_name ≡ writing.old.conn.ghost_name }
-    ensures makes { Makes S.Store empty_schema (MakesTables office_schema)
+    ensures makes { (base : Schema) → LacksOffice base → IsNumbered base
+        → Makes S.Store base [] (MakesTables base.tables (with_tables base) (office ∷ tables_after_office))
         writing.old.conn.now writing.new.conn.now result }
 {
     make_people(writing)?;
@@ -67,7 +78,9 @@ pub fn make_tables<S: Alter>(writing: &mut Writing<'_, S>) -> Result<(), Error>
 /// Puts in the row of an empty office.
 fn put_first_row<S: Alter>(writing: &mut Writing<'_, S>) -> Result<(), Error>
     ensures same_reference { writing.new.conn.ghost_name ≡ writing.old.conn.ghost_name }
-    ensures makes { Makes S.Store office_schema MakesOffice writing.old.conn.now writing.new.conn.now result }
+    ensures makes { (base : Schema) → LacksOffice base → IsNumbered base
+        → Makes S.Store (with_tables base) (office ∷ tables_after_office) (MakesOffice base)
+        writing.old.conn.now writing.new.conn.now result }
 {
     writing.replace(
         "INSERT OR REPLACE INTO office(id, format, handed, accepted) VALUES (1, 2, 0, 0)",
@@ -75,11 +88,12 @@ fn put_first_row<S: Alter>(writing: &mut Writing<'_, S>) -> Result<(), Error>
     )
 }
 
-/// Makes the tables of an empty office, with its row, in a database without tables. It fails as `Writing::execute`
-/// does, and the caller then rolls back.
+/// Makes the tables of an empty office, with its row, in a database that lacks them, as [`crate::lacks_office`] says. The
+/// tables of others keep their rows. It fails as `Writing::execute` does, and the caller then rolls back.
 pub fn prepare<S: Alter>(writing: &mut Writing<'_, S>) -> Result<(), Error>
     ensures same_reference { writing.new.conn.ghost_name ≡ writing.old.conn.ghost_name }
-    ensures makes { Makes S.Store empty_schema MakesOffice writing.old.conn.now writing.new.conn.now result }
+    ensures makes { (base : Schema) → LacksOffice base → IsNumbered base
+        → Makes S.Store base [] (MakesOffice base) writing.old.conn.now writing.new.conn.now result }
 {
     make_tables(writing)?;
     put_first_row(writing)

@@ -2,11 +2,13 @@
 ghost use Rattle.std.specs.Prelude.{◌≡◌, ◌↔◌, IsTrue, [], ◌∷◌};
 ghost use Rattle.sqlite_catalog.specs.Listing.{automatic};
 ghost use Rattle.wb_schema.specs.Tables.{office, arch, builder, source_record, scratch_source, scratch_binary};
-ghost use Rattle.wb_schema.specs.Tables.{empty_schema, record_order, record_take, source_name, binary_source, binary_name};
-ghost use Rattle.wb_schema.specs.Among.{HasOffice, table_at};
+ghost use Rattle.wb_schema.specs.Tables.{record_order, record_take, source_name, binary_source, binary_name};
+ghost use Rattle.wb_schema.specs.Among.{HasOffice, LacksOffice, table_at};
 ghost use Rattle.wb_schema.specs.Recognition.{HasIndexed, HasTables};
 
-use crate::beside::{are_unreferred, find_table, never_acts};
+use crate::beside::{
+    are_quiet, are_unreferred, find_table, has_free_names, has_sequence, refers_nowhere,
+};
 use crate::comparison::{
     are_indexes, is_free, is_keyed_by, is_keyed_by_id, is_table, refers_to_arch,
 };
@@ -14,24 +16,25 @@ use crate::definitions::{index_on, key_on, number, optional, text};
 use crate::id_check::is_id_check;
 use sqlite_schema::schema::{Kind, Schema, Table};
 
-/// Whether the schema has no table, no index and no view, so that [`crate::prepare`] can make the office's tables. The
-/// schema of a connection is `Connection::schema` (this project's own).
-pub fn is_empty(schema: &Schema) -> bool
-    ensures value { IsTrue result ↔ (schema.now ≡ empty_schema) }
+/// Whether an office can be made in the schema by [`crate::prepare`]: it has no table, index or view of a name that the
+/// office's tables or their indexes have, where ASCII letters of either case are the same, and no table that refers to
+/// one of the office's. A schema with a table that counts its rowids (AUTOINCREMENT) must also have the table
+/// `sqlite_sequence`, as SQLite makes it. The schema of a connection is `Connection::schema` (this project's own).
+pub fn lacks_office(schema: &Schema) -> bool
+    ensures value { IsTrue result ↔ LacksOffice schema.now }
 {
-    schema.tables.is_empty() && schema.indexes.is_empty() && schema.views.is_empty()
+    has_free_names(schema) && refers_nowhere(schema) && has_sequence(schema)
 }
 
 /// Whether the schema has the office's six tables, `office`, `arch`, `builder`, `source_record`, `scratch_source` and
 /// `scratch_binary`, each as [`crate::prepare`] makes it and with the indexes that it makes. In which order and in which
 /// trees they are does not matter, nor what their rows are, and other tables, indexes and views may stand beside them.
-/// The answer is false where another index is on one of them, where a table of others refers to one of them, and where a
-/// foreign key of any table has an action (CASCADE, SET NULL, SET DEFAULT or RESTRICT). The schema of a connection is
-/// `Connection::schema` (this project's own).
+/// The answer is false where another index is on one of them, and where a table of others refers to one of them. The
+/// schema of a connection is `Connection::schema` (this project's own).
 pub fn has_office_tables(schema: &Schema) -> bool
     ensures value { IsTrue result ↔ HasOffice schema.now }
 {
-    has_tables(schema) && are_unreferred(schema) && never_acts(schema)
+    has_tables(schema) && are_unreferred(schema) && are_quiet(schema)
 }
 
 /// Whether the schema has each of the office's tables, with its indexes alone.

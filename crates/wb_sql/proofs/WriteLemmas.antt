@@ -1,6 +1,6 @@
 -- What INSERT, INSERT OR REPLACE and DELETE on one table do, level by level of the kit's meaning of a statement.
-use Rattle.std.proofs.Common.{◌≡◌, ◌≢◌, ◌⊎◌, inl, inr, ℕ, ◌/◌, ◌-◌, ℤ, Bool, true, false, not, ◌&&◌, cond, List, [], ◌∷◌, ◌++◌, length, drop, map, filter, flat_map, slice_get, Option, Some, None, Ok, Err, Result, IsTrue, refl, sym, ap, subst, ◌∙◌, append-nil}
-use Rattle.std.specs.List.{AllByRecursion, filter_map, list_all}
+use Rattle.std.proofs.Common.{◌≡◌, ◌≢◌, ◌⊎◌, inl, inr, ℕ, ◌/◌, ◌-◌, ℤ, Bool, true, false, not, ◌&&◌, ◌||◌, ◌==◌, cond, List, [], ◌∷◌, ◌++◌, length, drop, map, filter, flat_map, slice_get, option_map, unwrap_or, Option, Some, None, Ok, Err, Result, IsTrue, refl, sym, ap, subst, ◌∙◌, append-nil}
+use Rattle.std.specs.List.{AllByRecursion, filter_map, list_all, list_any}
 use Rattle.std.proofs.lemmas.Bool.{and_parts}
 use Rattle.sqlite.specs.Order.{Row}
 use Rattle.sqlite.specs.Tree.{Trees, rowid, put_row}
@@ -16,7 +16,9 @@ use Rattle.sqlite_schema.specs.declared.schema.Action.TheVariants.{NoAction, Res
 use Rattle.sqlite_schema.specs.declared.schema.Reference.{Reference}
 use Rattle.sqlite_schema.specs.declared.schema.Keys.TheVariants.{Enforced}
 use Rattle.sqlite_schema.specs.declared.command.Conflict.TheVariants.{Replace}
-use Rattle.sqlite_rules.specs.Action.{works, work_for, deed_for, deed_of}
+use Rattle.sqlite_schema.specs.Rules.{ParentKey, parent_key}
+use Rattle.sqlite_rules.specs.declared.action.Deed.{Deed}
+use Rattle.sqlite_rules.specs.Action.{works, work_for, work_by, deed_for, deed_of, loses, pairs}
 use Rattle.sqlite_rules.specs.Steps.{IsJudged}
 use Rattle.sqlite_rules.specs.Calls.{ids_of}
 use Rattle.sqlite.specs.Rowids.TheVariants.{Chosen, Above, Given}
@@ -49,7 +51,7 @@ use Rattle.sqlite_trees.specs.View.{is_int}
 use Rattle.sqlite_rules.specs.declared.error.Refusal.{Refusal}
 use Rattle.wb_sql.specs.Rows.{cells, cells_of, IsStored, IsTyped, with_next_rowid, meets, inserted, apart, upserted, without}
 use Rattle.wb_sql.proofs.SetLemmas.{taken_out, stored-filter, stored-put_row, cells_beside}
-use Rattle.wb_sql.specs.Changes.{is_no_action, never_acts, IsPlainTable, IsOneRow, ReplacesInto, InsertsInto, DeletesFrom, SetsTable, Deletes as DeletesRows}
+use Rattle.wb_sql.specs.Changes.{is_no_action, does_nothing, refers_to_tree, never_acts_on, IsPlainTable, IsOneRow, ReplacesInto, InsertsInto, DeletesFrom, SetsTable, Deletes as DeletesRows}
 
 -- a part that gave a value did not stop on the way
 pub went : {B E R : Type 0} {b : B} {Stops : E → Type 0} → ((stop : E) × Stops stop × (Ok b ≡ Err stop)) ⊎ R → R
@@ -68,25 +70,38 @@ no_action_is Cascade h = absurd (cc)
 no_action_is SetNull h = absurd (cc)
 no_action_is SetDefault h = absurd (cc)
 
-no_deed : (ref : Reference) (deletes : Bool) → (is_no_action ref.on_delete && is_no_action ref.on_update) ≡ true → deed_for Enforced deletes ref ≡ None
+no_deed : (ref : Reference) (deletes : Bool) → does_nothing ref ≡ true → deed_for Enforced deletes ref ≡ None
 no_deed ref true h = ap (deed_of Enforced true) (no_action_is ref.on_delete (and_parts _ _ h).0)
 no_deed ref false h = ap (deed_of Enforced false) (no_action_is ref.on_update (and_parts _ _ h).1)
 
+none_if : {W : Type 0} (same quiet moved : Bool) (deed : Deed) (work : W) → (not same || quiet) ≡ true → (quiet ≡ true → Some deed ≡ None) → cond (same && moved) (Some work) None ≡ None
+none_if true true moved deed work h none = absurd (let e = none refl in cc)
+none_if true false moved deed work h none = absurd (cc)
+none_if false quiet moved deed work h none = refl
+
+-- a foreign key sets nothing off if it refers to another tree, or does nothing
+no_work_by : (depth tree : ℕ) (moves : List (Row × Row)) (child : Table) (ref : Reference) (deed : Option Deed) (key : Option ParentKey) (quiet : Bool)
+    → (not (unwrap_or (option_map (λ key. key.0 == tree) key) false) || quiet) ≡ true → (quiet ≡ true → deed ≡ None) → work_by depth tree moves child ref deed key ≡ None
+no_work_by depth tree moves child ref None key quiet h none = refl
+no_work_by depth tree moves child ref (Some deed) None quiet h none = refl
+no_work_by depth tree moves child ref (Some deed) (Some key) quiet h none = none_if (key.0 == tree) quiet (list_any (loses key.2 key.1) moves) deed _ h none
+
 module _ (schema : Schema) (depth tree : ℕ) (olds news : List Row) where
-  no_works_of : (table : Table) (refs : List Reference) → list_all (λ ref. is_no_action ref.on_delete && is_no_action ref.on_update) refs ≡ true
+  no_works_of : (table : Table) (refs : List Reference) → list_all (λ ref. not (refers_to_tree schema tree ref) || does_nothing ref) refs ≡ true
       → filter_map (work_for schema Enforced depth tree olds news table) refs ≡ []
   no_works_of table [] h = refl
   no_works_of table (ref ∷ refs) h =
       let parts = and_parts _ _ h in
-      let deed = no_deed ref (Rattle.std.specs.Prelude.◌==◌ (length news) 0) parts.0 in
-      rw (deed, no_works_of table refs parts.1)
+      let none : work_for schema Enforced depth tree olds news table ref ≡ None =
+      no_work_by depth tree (pairs olds news) table ref (deed_for Enforced (length news == 0) ref) (parent_key schema.tables ref) (does_nothing ref) parts.0 (no_deed ref (length news == 0)) in
+      rw (none, no_works_of table refs parts.1)
 
-  no_works_in : (tables : List Table) → list_all (λ table. list_all (λ ref. is_no_action ref.on_delete && is_no_action ref.on_update) table.references) tables ≡ true
+  no_works_in : (tables : List Table) → list_all (λ table. list_all (λ ref. not (refers_to_tree schema tree ref) || does_nothing ref) table.references) tables ≡ true
       → flat_map (λ child. filter_map (work_for schema Enforced depth tree olds news child) child.references) tables ≡ []
   no_works_in [] h = refl
   no_works_in (table ∷ tables) h = let parts = and_parts _ _ h in rw (no_works_of table table.references parts.0, no_works_in tables parts.1)
 
-  pub no_works : never_acts schema ≡ true → works schema Enforced depth tree olds news ≡ []
+  pub no_works : never_acts_on schema tree ≡ true → works schema Enforced depth tree olds news ≡ []
   no_works quiet = no_works_in schema.tables quiet
 
 -- ---- one edit
@@ -111,9 +126,11 @@ spares_then schema table a b c p q = record { tables = spared_twice schema.table
 pub spares_same : (schema : Schema) (table : Table) (a : Trees) → Spares schema table a a
 spares_same schema table a = record { tables = spared_alone schema.tables table.tree a; others = λ t other plain. refl }
 
-module _ (task : Task) (keys_are : task.keys ≡ Enforced) (quiet : never_acts task.schema ≡ true) where
-  applied : (db next : Trees) (edit : Edit) → Edited task.schema task.keys db edit (Ok next) → Applies task.schema task.keys db edit next
-  applied db next edit h = one_step task.schema task.keys db next edit (subst (λ k. works task.schema k 0 edit.table.tree (taken_by db edit) edit.news ≡ []) (sym keys_are) (no_works task.schema 0 edit.table.tree _ _ quiet)) h
+module _ (task : Task) (keys_are : task.keys ≡ Enforced) (quiet : never_acts_on task.schema task.table.tree ≡ true) where
+  applied : (db next : Trees) (edit : Edit) → edit.table ≡ task.table → Edited task.schema task.keys db edit (Ok next) → Applies task.schema task.keys db edit next
+  applied db next edit is h =
+      let still : never_acts_on task.schema edit.table.tree ≡ true = subst (λ (t : Table). never_acts_on task.schema t.tree ≡ true) (sym is) quiet in
+      one_step task.schema task.keys db next edit (subst (λ k. works task.schema k 0 edit.table.tree (taken_by db edit) edit.news ≡ []) (sym keys_are) (no_works task.schema 0 edit.table.tree _ _ still)) h
 
   spared : (db next : Trees) (edit : Edit) → edit.table ≡ task.table → Applies task.schema task.keys db edit next → Spares task.schema task.table db next
   spared db next edit is a = subst (λ t. Spares task.schema t db next) is (record { tables = a.tables; others = a.others })
@@ -128,7 +145,7 @@ module _ (task : Task) (keys_are : task.keys ≡ Enforced) (quiet : never_acts t
   puts new db w kept h =
       let edit = edit_of db task.table [] Given 0 (new ∷ []) in
       let done = went h in
-      let a = applied db done.0 edit done.1 in
+      let a = applied db done.0 edit refl done.1 in
       let is : w.trees ≡ done.0 = ap (λ (x : Written). x.trees) (same_value done.2) in
       let put : IsPut new (db task.table.tree) db done.0 = record {
         rows_are = a.rows ∙ ap (λ r. put_row r (db task.table.tree)) kept;
@@ -144,7 +161,7 @@ module _ (task : Task) (keys_are : task.keys ≡ Enforced) (quiet : never_acts t
   clears new db (x ∷ more) w kept h =
       let edit = edit_of db task.table (ids_of (x ∷ more)) Given 0 [] in
       let done = went h in
-      let a = applied db done.0 edit done.1 in
+      let a = applied db done.0 edit refl done.1 in
       let put = subst (λ rows. IsPut new rows done.0 w.trees) a.rows (puts new done.0 w kept done.2) in
       record { rows_are = put.rows_are; spares = spares_then task.schema task.table db done.0 w.trees (spared db done.0 edit refl a) put.spares; free = put.free }
 
@@ -265,7 +282,7 @@ module _ (limit : Option ℕ) (schema : Schema) (at : ℕ) (table : Table) (para
         let how = rowids_for table (count_of counter.0) in
         let one_row = one_source params (stamped table params) terms width sourced.0 one unstamped sourced.1.1 in
         let edit : edit_of db table [] how 0 sourced.0 ≡ edit_of db table [] Chosen 0 (given ∷ []) = ap₂ (λ h rows. edit_of db table [] h 0 rows) (uncounted_rowids (count_of counter.0)) one_row in
-        let a = subst (λ e. Applies schema Enforced db e written.0) edit (applied task refl plain.quiet db written.0 (edit_of db table [] how 0 sourced.0) written.1) in
+        let a = subst (λ e. Applies schema Enforced db e written.0) edit (applied task refl plain.quiet db written.0 (edit_of db table [] how 0 sourced.0) refl written.1) in
         let row : with_next_rowid (db table.tree) (cast_row table given) ≡ new = ap (with_next_rowid (db table.tree)) (kept_row table given typed) in
         let end : w.trees ≡ written.0 = ap (λ (x : Written). x.trees) (same_value counted.2) ∙ uncounted written.0 counted.0 counter.0 _ counted.1 in
         subst (λ next. (next table.tree ≡ inserted given (db table.tree)) × Spares schema table db next × (is_int (rowid new) ≡ true) × (is_taken (db table.tree) new ≡ false)) (sym end) (
@@ -305,7 +322,7 @@ module _ (limit : Option ℕ) (schema : Schema) (at : ℕ) (table : Table) (para
         let found = went h in
         let done = went found.2 in
         let edit = edit_of db table (ids_of found.0) Given 0 [] in
-        let a = applied task refl plain.quiet db done.0 edit done.1 in
+        let a = applied task refl plain.quiet db done.0 edit refl done.1 in
         let is : w.trees ≡ done.0 = ap (λ (x : Written). x.trees) (same_value done.2) in
         let answer = answers_from (rowids_where table.tree tests) db params found.0 low (found.1.answer Null) in
         subst (λ next. (next table.tree ≡ without passes (db table.tree)) × Spares schema table db next) (sym is) (a.rows ∙ found_are found.0 answer, spared task refl plain.quiet db done.0 edit refl a)

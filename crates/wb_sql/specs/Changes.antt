@@ -1,5 +1,5 @@
 -- What INSERT, INSERT OR REPLACE and DELETE on one table change of a database.
-use Rattle.std.specs.Prelude.{◌≡◌, ◌≢◌, ℕ, ◌/◌, ◌^◌, nat_le, Bool, true, false, ◌&&◌, List, [], ◌∷◌, length, take, slice_get, Some, IsPermutation}
+use Rattle.std.specs.Prelude.{◌≡◌, ◌≢◌, ℕ, ◌/◌, ◌^◌, ◌==◌, nat_le, Bool, true, false, not, ◌&&◌, ◌||◌, List, [], ◌∷◌, length, take, slice_get, Some, option_map, unwrap_or, IsPermutation}
 use Rattle.std.specs.List.{AllByRecursion, list_all}
 use Rattle.sqlite.specs.Order.{Row}
 use Rattle.sqlite.specs.Schema.{Schema}
@@ -9,6 +9,8 @@ use Rattle.sqlite.specs.Source.TheVariants.{Values}
 use Rattle.sqlite.specs.Command.TheVariants.{Insert, InsertOr, Delete}
 use Rattle.sqlite_schema.specs.declared.schema.Action.{Action}
 use Rattle.sqlite_schema.specs.declared.schema.Action.TheVariants.{NoAction}
+use Rattle.sqlite_schema.specs.declared.schema.Reference.{Reference}
+use Rattle.sqlite_schema.specs.Rules.{parent_key}
 use Rattle.sqlite_schema.specs.declared.command.Conflict.TheVariants.{Replace}
 use Rattle.sqlite.specs.Edit.{IsNoIndex}
 use Rattle.sqlite.specs.State.{State, Shows}
@@ -16,21 +18,29 @@ use Rattle.wb_sql.specs.Queries.{query_of, rowids_where}
 use Rattle.wb_sql.specs.Rows.{cells, cells_of, IsStored, IsTyped, inserted, apart, upserted, without}
 use Rattle.wb_sql.specs.Statements.{Means}
 
--- a foreign key that does nothing (NO ACTION)
+-- the action of a foreign key that does nothing (NO ACTION)
 abbrev pub is_no_action : Action → Bool
 is_no_action NoAction = true
 is_no_action _ = false
 
--- no foreign key of the schema does anything if its parent is deleted or changed: the change is refused instead
-abbrev pub never_acts : Schema → Bool
-never_acts schema = list_all (λ table. list_all (λ ref. is_no_action ref.on_delete && is_no_action ref.on_update) table.references) schema.tables
+-- the foreign key does nothing if the row to which it refers is deleted or changed: the change is refused instead
+abbrev pub does_nothing : Reference → Bool
+does_nothing ref = is_no_action ref.on_delete && is_no_action ref.on_update
 
--- the table is that of the schema at this place, counts no rowids (AUTOINCREMENT) and reads no time
+-- the foreign key refers to the rows of the table in this tree
+abbrev pub refers_to_tree : Schema → ℕ → Reference → Bool
+refers_to_tree schema tree ref = unwrap_or (option_map (λ key. key.0 == tree) (parent_key schema.tables ref)) false
+
+-- each foreign key of the schema that refers to the rows of the table in this tree does nothing
+abbrev pub never_acts_on : Schema → ℕ → Bool
+never_acts_on schema tree = list_all (λ table. list_all (λ ref. not (refers_to_tree schema tree ref) || does_nothing ref) table.references) schema.tables
+
+-- the table is that of the schema at this place, counts no rowids (AUTOINCREMENT) and reads no time, and no foreign key that refers to it does anything
 pub record IsPlainTable (schema : Schema) (at : ℕ) (table : Table) : Type 0 where
   pub listed : slice_get schema.tables at ≡ Some table
   pub uncounted : table.is_counted ≡ false
   pub unstamped : table.stamps.terms ≡ []
-  pub quiet : never_acts schema ≡ true
+  pub quiet : never_acts_on schema table.tree ≡ true
 
 -- the terms are one row of VALUES of this width
 pub record IsOneRow (terms : List Term) (width : ℕ) : Type 0 where

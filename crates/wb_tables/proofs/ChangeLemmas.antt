@@ -29,6 +29,7 @@ use Rattle.wb_sql.specs.Statements.{IsWriting}
 use Rattle.wb_sql.specs.Transactions.{IsKeptOrUndone}
 use Rattle.wb_sql.proofs.CallLemmas.{on_ok}
 use Rattle.wb_sql.proofs.WriteLemmas.{replaces_writes, inserts_writes, deletes_writes}
+use Rattle.wb_schema.proofs.QuietLemmas.{office_quiet, arch_quiet, builder_quiet, record_quiet}
 use Rattle.wb_schema.specs.Tables.{office, arch, builder, source_record, scratch_source, scratch_binary}
 use Rattle.wb_schema.specs.Among.{HasTable, HasOffice, ReplacesAmong, InsertsAmong, DeletesAmong, table_in, tree_named, rows_in}
 use Rattle.wb_schema.specs.Statements.{office_row as office_terms, arch_row as arch_terms, builder_row as builder_terms, record_row as record_terms, has_record_key}
@@ -38,7 +39,7 @@ use Rattle.wb_tables.specs.Stands.{HoldsRows, StandsFor, office_row, record_rows
 use Rattle.wb_tables.specs.Calls.{Becomes, Changes, FailsToWrite}
 use Rattle.wb_tables.proofs.MapLemmas.{entries-insert, entries-added, items-added}
 use Rattle.wb_tables.proofs.ChangeRowLemmas.{begins_with, passes, cells_without, cells_apart, records_without, office_replaced, office_typed, entry_typed, typed_at}
-use Rattle.wb_tables.proofs.ApartLemmas.{other_rows, own_rows}
+use Rattle.wb_schema.proofs.ApartLemmas.{other_rows, own_rows}
 
 -- ---- any statement that writes
 
@@ -110,7 +111,7 @@ module _ (sql : List ℕ) (machine : Machine) (old new : State) (stands : Stands
       let stored : IsStored (rows_in old.now office) = subst IsStored (sym stands.counts) (record { whole = refl; rising = (tt, tt) }) in
       let tree = tree_named schema office.name in
       let typed = typed_at tree office (office_row after) (office_typed after) in
-      let made = (does (table_in schema office) office_terms (text schema tree stands.has.office_is stands.has.quiet) stored typed).0 in
+      let made = (does (table_in schema office) office_terms (text schema tree stands.has.office_is (office_quiet schema stands.has)) stored typed).0 in
       let rows = upserted schema (table_in schema office) (office_row after) (rows_in old.now office) in
       let row : rows ≡ office_row after ∷ [] = ap (upserted schema (table_in schema office) (office_row after)) stands.counts ∙ office_replaced schema stands.has machine after in
       record {
@@ -134,7 +135,7 @@ module _ (sql : List ℕ) (machine : Machine) (old new : State) (stands : Stands
   arch_put name words text unknown does =
       let tree = tree_named schema arch.name in
       let typed = typed_at tree arch (Null ∷ arch_cells (name, words)) (arch_typed name words.os words.cpu) in
-      let put = does (table_in schema arch) arch_terms (text schema tree stands.has.arch_is stands.has.quiet) stands.archs.stored typed in
+      let put = does (table_in schema arch) arch_terms (text schema tree stands.has.arch_is (arch_quiet schema stands.has)) stands.archs.stored typed in
       let made = put.0 in
       let after = finite.insert machine.archs name words in
       let holds : HoldsRows (map arch_cells (finite.entries after)) (new.now.trees tree) =
@@ -162,7 +163,7 @@ module _ (sql : List ℕ) (machine : Machine) (old new : State) (stands : Stands
       let after : Machine = record machine { builders = set.insert machine.builders (name, of) } in
       let tree = tree_named schema builder.name in
       let typed = typed_at tree builder (Null ∷ builder_cells (name, of)) (builder_typed name of) in
-      let put = does (table_in schema builder) builder_terms (text schema tree stands.has.builder_is stands.has.quiet) stands.builders.stored typed in
+      let put = does (table_in schema builder) builder_terms (text schema tree stands.has.builder_is (builder_quiet schema stands.has)) stands.builders.stored typed in
       let made = put.0 in
       let holds : HoldsRows (builder_rows after) (new.now.trees tree) =
       rows_beside builder_cells (name, of) (builder_pairs machine) (builder_pairs after) (cells_of (rows_in old.now builder)) (new.now.trees tree)
@@ -205,7 +206,7 @@ module _ (sql : List ℕ) (machine : Machine) (old new : State) (stands : Stands
   pub record_removed : (of source : List ℕ) → DeletesAmong source_record sql has_record_key → Deletes sql (Text of ∷ Text source ∷ []) old new
       → Becomes (record machine { records = finite.remove machine.records (of, source) }) old new
   record_removed of source text does =
-      let put = does (table_in schema source_record) has_record_key (text schema (tree_named schema source_record.name) stands.has.record_is stands.has.quiet) stands.records.stored in
+      let put = does (table_in schema source_record) has_record_key (text schema (tree_named schema source_record.name) stands.has.record_is (record_quiet schema stands.has)) stands.records.stored in
       let columns = map record_cells (finite.entries (finite.remove machine.records (of, source))) in
       let was = rows_in old.now source_record in
       let rows = without (passes of source) was in
@@ -220,7 +221,7 @@ module _ (sql : List ℕ) (machine : Machine) (old new : State) (stands : Stands
       let entry : Entry = ((of, source), current) in
       let tree = tree_named schema source_record.name in
       let typed = typed_at tree source_record (Null ∷ record_cells entry) (entry_typed entry) in
-      let put = does (table_in schema source_record) record_terms (text schema tree stands.has.record_is stands.has.quiet) stands.records.stored typed in
+      let put = does (table_in schema source_record) record_terms (text schema tree stands.has.record_is (record_quiet schema stands.has)) stands.records.stored typed in
       let rows = rows_in old.now source_record in
       let beside = filter (λ columns. not (begins_with of source columns)) (cells_of rows) in
       let apart_is : cells_of (apart schema (table_in schema source_record) (Null ∷ record_cells entry) rows) ≡ beside = cells_apart schema stands.has of source (drop 2 (record_cells entry)) rows stands.records.stored in
@@ -246,33 +247,33 @@ module _ {S A : Type 0} {g : Ghosts S} {sql : List ℕ} {params : Row} {old new 
       → (HasCleanDisk (state g new) → OnOk r (Replaces sql params (state g old) (state g new)))
       → Changes g (λ _. ⊤) (λ machine. record machine { handed = handed; accepted = accepted }) old new r
   counts_change handed accepted text is =
-      statement_changes (Replaces sql params) (λ schema has. replaces_writes schema sql (table_in schema office) office_terms (text schema (tree_named schema office.name) has.office_is has.quiet))
+      statement_changes (Replaces sql params) (λ schema has. replaces_writes schema sql (table_in schema office) office_terms (text schema (tree_named schema office.name) has.office_is (office_quiet schema has)))
       (λ machine stands allows does. counts_put sql machine (state g old) (state g new) stands handed accepted text (subst (λ p. Replaces sql p (state g old) (state g new)) is does))
 
   pub arch_change : (name : List ℕ) (words : OsCpu) → InsertsAmong arch sql arch_terms → params ≡ arch_cells (name, words) → RunsStatement g sql params old new r
       → (HasCleanDisk (state g new) → OnOk r (Inserts sql params (state g old) (state g new)))
       → Changes g (λ machine. finite.get machine.archs name ≡ None) (λ machine. record machine { archs = finite.insert machine.archs name words }) old new r
   arch_change name words text is =
-      statement_changes (Inserts sql params) (λ schema has. inserts_writes schema sql (table_in schema arch) arch_terms (text schema (tree_named schema arch.name) has.arch_is has.quiet))
+      statement_changes (Inserts sql params) (λ schema has. inserts_writes schema sql (table_in schema arch) arch_terms (text schema (tree_named schema arch.name) has.arch_is (arch_quiet schema has)))
       (λ machine stands unknown does. arch_put sql machine (state g old) (state g new) stands name words text unknown (subst (λ p. Inserts sql p (state g old) (state g new)) is does))
 
   pub builder_change : (name of : List ℕ) → InsertsAmong builder sql builder_terms → params ≡ builder_cells (name, of) → RunsStatement g sql params old new r
       → (HasCleanDisk (state g new) → OnOk r (Inserts sql params (state g old) (state g new)))
       → Changes g (λ machine. set.contains machine.builders (name, of) ≡ false) (λ machine. record machine { builders = set.insert machine.builders (name, of) }) old new r
   builder_change name of text is =
-      statement_changes (Inserts sql params) (λ schema has. inserts_writes schema sql (table_in schema builder) builder_terms (text schema (tree_named schema builder.name) has.builder_is has.quiet))
+      statement_changes (Inserts sql params) (λ schema has. inserts_writes schema sql (table_in schema builder) builder_terms (text schema (tree_named schema builder.name) has.builder_is (builder_quiet schema has)))
       (λ machine stands unknown does. builder_put sql machine (state g old) (state g new) stands name of text unknown (subst (λ p. Inserts sql p (state g old) (state g new)) is does))
 
   pub removal_change : (of source : List ℕ) → DeletesAmong source_record sql has_record_key → params ≡ Text of ∷ Text source ∷ [] → RunsStatement g sql params old new r
       → (HasCleanDisk (state g new) → OnOk r (Deletes sql params (state g old) (state g new)))
       → Changes g (λ _. ⊤) (λ machine. record machine { records = finite.remove machine.records (of, source) }) old new r
   removal_change of source text is =
-      statement_changes (Deletes sql params) (λ schema has. deletes_writes schema sql (table_in schema source_record) has_record_key (text schema (tree_named schema source_record.name) has.record_is has.quiet))
+      statement_changes (Deletes sql params) (λ schema has. deletes_writes schema sql (table_in schema source_record) has_record_key (text schema (tree_named schema source_record.name) has.record_is (record_quiet schema has)))
       (λ machine stands allows does. record_removed sql machine (state g old) (state g new) stands of source text (subst (λ p. Deletes sql p (state g old) (state g new)) is does))
 
   pub record_change : (of source : List ℕ) (current : Record) → ReplacesAmong source_record sql record_terms → params ≡ record_cells ((of, source), current) → RunsStatement g sql params old new r
       → (HasCleanDisk (state g new) → OnOk r (Replaces sql params (state g old) (state g new)))
       → Changes g (λ _. ⊤) (λ machine. record machine { records = finite.insert machine.records (of, source) current }) old new r
   record_change of source current text is =
-      statement_changes (Replaces sql params) (λ schema has. replaces_writes schema sql (table_in schema source_record) record_terms (text schema (tree_named schema source_record.name) has.record_is has.quiet))
+      statement_changes (Replaces sql params) (λ schema has. replaces_writes schema sql (table_in schema source_record) record_terms (text schema (tree_named schema source_record.name) has.record_is (record_quiet schema has)))
       (λ machine stands allows does. record_put sql machine (state g old) (state g new) stands of source current text (subst (λ p. Replaces sql p (state g old) (state g new)) is does))

@@ -1,4 +1,3 @@
-pub mod ApartLemmas
 pub mod ArchLemmas
 pub mod BuilderLemmas
 pub mod ChangeLemmas

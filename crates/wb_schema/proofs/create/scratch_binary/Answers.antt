@@ -1,9 +1,22 @@
 use Rattle.std.proofs.Common.{refl}
 use Rattle.sqlite_tied.specs.Compute.{everything}
-use Rattle.sqlite.specs.Listing.{understood}
+use Rattle.sqlite_resolve.specs.Compile.{first}
 use Rattle.wb_schema.specs.Tables.{scratch_binary}
+use Rattle.wb_schema.proofs.CreateLemmas.{table_among}
 use Rattle.wb_schema.proofs.create.scratch_binary.Goals as goal
 
 pub returns : goal.returns
-unfolding understood everything
-returns c = record { table = record scratch_binary { tree = 0 }; defines = record { means = record { is = refl; plain = (refl, refl) }; alone = refl; defines = refl; uncounted = refl }; makes = refl }
+unfolding first everything
+returns c = table_among scratch_binary _ (record {
+  def = _;
+  start = _;
+  stop = _;
+  tail = _;
+  first_is = refl;
+  name_is = refl;
+  own = refl;
+  defined = refl;
+  plain = refl;
+  alone = refl;
+  uncounted = refl;
+})

@@ -1,9 +1,22 @@
 use Rattle.std.proofs.Common.{refl}
 use Rattle.sqlite_tied.specs.Compute.{everything}
-use Rattle.sqlite.specs.Listing.{understood}
+use Rattle.sqlite_resolve.specs.Compile.{first}
 use Rattle.wb_schema.specs.Tables.{scratch_source, source_name}
+use Rattle.wb_schema.proofs.CreateLemmas.{index_among}
 use Rattle.wb_schema.proofs.create.source_name.Goals as goal
 
 pub returns : goal.returns
-unfolding understood everything
-returns c = record { table = scratch_source; index = record source_name { tree = 0 }; defines = record { at = 4; listed = refl; means = record { is = refl; plain = (refl, refl) }; alone = refl; defines = refl }; makes = refl }
+unfolding first everything
+returns c = index_among scratch_source source_name _ (record {
+  def = _;
+  start = _;
+  stop = _;
+  tail = _;
+  first_is = refl;
+  on = refl;
+  name_is = refl;
+  others = refl;
+  own = refl;
+  defined = λ tree. refl;
+  alone = refl;
+})

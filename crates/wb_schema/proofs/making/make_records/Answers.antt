@@ -1,12 +1,25 @@
-use Rattle.wb_schema.specs.Tables.{with_record_take}
+use Rattle.std.proofs.Common.{[], ◌∷◌}
+use Rattle.wb_schema.specs.Making.{with_record_take}
+use Rattle.wb_schema.specs.Tables.{office, arch, builder, source_record}
+use Rattle.wb_schema.specs.Tables.{record_order, record_take}
+use Rattle.wb_schema.proofs.GrowthLemmas.{builder_grown, record_grown, order_grown}
 use Rattle.wb_schema.proofs.MakingLemmas.{table_makes, index_makes, fails, tables_follow, makes_then}
+use Rattle.wb_schema.proofs.StepLemmas.{source_record_is, record_order_is, record_take_is}
 use Rattle.wb_schema.proofs.making.make_records.Goals as goal
 
 pub returns-in_err-create_table-clause-makes : goal.returns-in_err-create_table-clause-makes
-returns-in_err-create_table-clause-makes g c = fails c.from_residual.ensures (table_makes c.source_record.ensures c.in_err-create_table.ensures.runs c.in_err-create_table.ensures.ok)
+returns-in_err-create_table-clause-makes g c =
+    λ base lacks numbered. fails c.from_residual.ensures (table_makes source_record (builder_grown base lacks numbered) (source_record_is base) c.source_record.ensures c.in_err-create_table.ensures.runs c.in_err-create_table.ensures.ok)
 
 pub returns-in_err-create_index-clause-makes : goal.returns-in_err-create_index-clause-makes
-returns-in_err-create_index-clause-makes g c = makes_then (tables_follow with_record_take) (table_makes c.source_record.ensures c.in_ok-create_table.ensures.runs c.in_ok-create_table.ensures.ok) (fails c.from_residual-in_err-create_index.ensures (index_makes c.record_order.ensures c.in_err-create_index.ensures.runs c.in_err-create_index.ensures.ok))
+returns-in_err-create_index-clause-makes g c =
+    λ base lacks numbered. let follows = tables_follow base.tables (with_record_take base) (office ∷ arch ∷ builder ∷ source_record ∷ []) in
+    makes_then follows (table_makes source_record (builder_grown base lacks numbered) (source_record_is base) c.source_record.ensures c.in_ok-create_table.ensures.runs c.in_ok-create_table.ensures.ok)
+    (fails c.from_residual-in_err-create_index.ensures (index_makes source_record record_order (record_grown base lacks numbered) (record_grown base lacks numbered).has.1.1.1.0 (record_order_is base) c.record_order.ensures c.in_err-create_index.ensures.runs c.in_err-create_index.ensures.ok))
 
 pub returns-clause-makes : goal.returns-clause-makes
-returns-clause-makes g c = makes_then (tables_follow with_record_take) (table_makes c.source_record.ensures c.in_ok-create_table.ensures.runs c.in_ok-create_table.ensures.ok) (makes_then (tables_follow with_record_take) (index_makes c.record_order.ensures c.in_ok-create_index.ensures.runs c.in_ok-create_index.ensures.ok) (index_makes c.record_take.ensures c.create_index-2.ensures.runs c.create_index-2.ensures.ok))
+returns-clause-makes g c =
+    λ base lacks numbered. let follows = tables_follow base.tables (with_record_take base) (office ∷ arch ∷ builder ∷ source_record ∷ []) in
+    makes_then follows (table_makes source_record (builder_grown base lacks numbered) (source_record_is base) c.source_record.ensures c.in_ok-create_table.ensures.runs c.in_ok-create_table.ensures.ok)
+    (makes_then follows (index_makes source_record record_order (record_grown base lacks numbered) (record_grown base lacks numbered).has.1.1.1.0 (record_order_is base) c.record_order.ensures c.in_ok-create_index.ensures.runs c.in_ok-create_index.ensures.ok)
+    (index_makes source_record record_take (order_grown base lacks numbered) (order_grown base lacks numbered).has.1.1.1.0 (record_take_is base) c.record_take.ensures c.create_index-2.ensures.runs c.create_index-2.ensures.ok))

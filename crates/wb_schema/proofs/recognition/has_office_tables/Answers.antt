@@ -9,9 +9,9 @@ returns-then-are_unreferred c =
       value = (
         λ yes. elim c.if-has_tables.branch [
           | then-has_tables w ↦
-              office_of c.args.schema.now (c.has_tables.ensures.value.0 w.if-has_tables.true) (sym w.are_unreferred.ensures.value ∙ (sym w.value-is ∙ c.if-are_unreferred.true)) (sym c.never_acts.ensures.value ∙ yes)
+              office_of c.args.schema.now (c.has_tables.ensures.value.0 w.if-has_tables.true) (sym w.are_unreferred.ensures.value ∙ (sym w.value-is ∙ c.if-are_unreferred.true)) (sym c.are_quiet.ensures.value ∙ yes)
           | else-has_tables w ↦ absurd (cc)
         ],
-        λ h. c.never_acts.ensures.value ∙ h.quiet,
+        λ h. c.are_quiet.ensures.value ∙ h.quiet,
       );
     }

@@ -1,5 +1,5 @@
 -- Tables of one schema with different columns are in different trees, and what another table's change leaves of one.
-use Rattle.std.proofs.Common.{◌≡◌, ◌≢◌, ℕ, ◌==◌, List, find, length, Option, unwrap_or, option_map, sym, ap, ◌∙◌}
+use Rattle.std.proofs.Common.{◌≡◌, ◌≢◌, ℕ, ◌==◌, List, [], ◌∷◌, filter, length, sym, ap, ◌∙◌}
 use Rattle.sqlite.specs.Schema.{Schema}
 use Rattle.sqlite.specs.Table.{Table}
 use Rattle.sqlite.specs.Order.{Row}
@@ -8,14 +8,15 @@ use Rattle.sqlite_trees.proofs.ListLemmas.{all-slice_get}
 use Rattle.wb_sql.specs.Changes.{SetsTable}
 use Rattle.wb_schema.specs.Among.{HasTable, table_in, tree_named, rows_in}
 
--- how many columns a found table has
-abbrev width_of : Option Table → ℕ
-width_of found = unwrap_or (option_map (λ t. length t.columns) found) 0
+-- how many columns the first of these tables has
+abbrev width_of : List Table → ℕ
+width_of [] = 0
+width_of (t ∷ ts) = length t.columns
 
 -- two tables of a schema that differ in their columns are in different trees
 pub apart_trees : (schema : Schema) (a b : Table) → HasTable schema a → HasTable schema b → length a.columns ≢ length b.columns → a.tree ≢ b.tree
 apart_trees schema a b first second differ same =
-    differ (ap width_of (sym first.in_tree ∙ ap (λ tree. find (λ t. t.tree == tree) schema.tables) same ∙ second.in_tree))
+    differ (ap width_of (sym first.in_tree ∙ ap (λ tree. filter (λ t. t.tree == tree) schema.tables) same ∙ second.in_tree))
 
 -- a change of one table leaves the rows of another of the office's tables
 pub other_rows : (old new : State) (table : Table) (rows : List Row) (t : Table) → HasTable old.now.schema table → SetsTable table rows old new → HasTable old.now.schema (table_in old.now.schema t)
