@@ -10,6 +10,7 @@ use Rattle.wb_sql.specs.Transactions.{IsKeptOrUndone, LeavesNoMore}
 use Rattle.wb_schema.specs.Among.{HasOffice}
 use Rattle.wb_states.specs.declared.command.Command.{Command}
 use Rattle.wb_states.specs.declared.command.Command.TheVariants as of
+use Rattle.wb_states.specs.declared.counts.Counts.{Counts}
 use Rattle.wb_states.specs.declared.refusal.Refusal.{Refusal}
 use Rattle.wb_states.specs.declared.reply.Reply.{Reply}
 use Rattle.wb_states.specs.Machine.{Machine, Key, IsConsistent}
@@ -28,15 +29,20 @@ use Rattle.wb_office.proofs.NamedPartLemmas.{part_of_named, part_has_all_named}
 use Rattle.wb_tables.specs.Calls.{FailsToLookUp}
 use Rattle.wb_tables.specs.Settled.{IsSettled, IsBackAt}
 use Rattle.wb_tables.proofs.SettledLemmas.{settled_back, stays_settled, stays_back, goes_back_again, office_stands}
+use Rattle.wb_durable.specs.declared.answer.Answered.{Answered}
 use Rattle.wb_durable.specs.declared.answer.Failure.{Failure}
 use Rattle.wb_durable.specs.declared.answer.Failure.TheVariants.{Refused, Unread, Uncommitted}
-use Rattle.wb_durable.specs.Answers.{is_again, IsNamed, IsLeft, IsUncommitted, KeepsStep, Answers}
+use Rattle.wb_durable.specs.declared.known.Known.{Known}
+use Rattle.wb_durable.specs.Answers.{is_again, IsNamed, IsLeft, IsUncommitted, KeepsStep, Answers, Responds}
 use Rattle.wb_durable.specs.declared.carry.CarryError.{CarryError}
 use Rattle.wb_durable.specs.Carried.{CarriesOut}
 use Rattle.wb_durable.specs.Changed.{IsStepOf}
 use Rattle.wb_durable.specs.Finds.{StaysAs, FailsToFind, Finds}
 use Rattle.wb_durable.specs.Keys.{key_put}
+use Rattle.wb_durable.specs.Opening.{AreCountsOf}
+use Rattle.wb_durable.specs.Standing.{Knows}
 use Rattle.wb_durable.proofs.FindsLemmas.{unchanged_then, stays_then}
+use Rattle.wb_durable.proofs.StepOfLemmas.{same_counts}
 
 -- ---- look-ups over a settled connection
 
@@ -88,7 +94,7 @@ module _ {S : Type 0} (g : Ghosts S) (old new : Held S) where
       → FailsToFind g old new e × IsBackAt machine (state g new)
   not_found {e = e} finds clean settled =
       let schema = settled.holds.stands.has in
-      let failed : FailsToFind g old new e = finds.err clean schema in
+      let failed : FailsToFind g old new e = finds.err clean schema settled.is_open in
       let kept = undone_after failed.0 failed.1 (kept_or_undone_in_mid failed.0 failed.2) in
       (failed, back_by kept (fewer finds.survives schema clean) settled)
     where
@@ -144,6 +150,10 @@ pub told_again : (machine : Machine) (command : Command) (reply : Reply) → (st
 unfolding step
 told_again machine command reply is told = again_stays (first_refusal machine command) (again_of machine command) machine command reply (reply_is_new machine command) is told
 
+-- the counts of a state
+abbrev pub counts_at : Machine → Counts
+counts_at machine = record { handed = machine.handed; accepted = machine.accepted }
+
 -- ---- the whole command
 
 module _ (command : Command) (machine part : Machine) (consistent : IsConsistent machine) (single : (arguments_of command).merge ≡ None) (is : part ≡ part_named machine command) where
@@ -153,6 +163,16 @@ module _ (command : Command) (machine part : Machine) (consistent : IsConsistent
 
   part_answers : (step part command).0 ≡ (step machine command).0
   part_answers = same_answer command part machine part_looks_alike
+
+  -- a command that is answered with an assignment again leaves the counts
+  counts_again : {after : Machine} (reply : Reply) → (step machine command).0 ≡ Ok reply → is_again reply ≡ true → step part command ≡ (Ok reply, after)
+      → AreCountsOf (step machine command).1 (counts_at after)
+  counts_again {after} reply answers told stepped =
+      let stays : after ≡ part = sym (ap (λ (o : Outcome). o.1) stepped) ∙ told_again part command reply (ap (λ (o : Outcome). o.0) stepped) told in
+      let whole = told_again machine command reply answers told in (
+        ap (λ (m : Machine). m.handed) stays ∙ part_looks_alike.handed ∙ sym (ap (λ (m : Machine). m.handed) whole),
+        ap (λ (m : Machine). m.accepted) stays ∙ part_looks_alike.accepted ∙ sym (ap (λ (m : Machine). m.accepted) whole),
+      )
 
   module _ {key : Option Key} (named : key ≡ key_put machine command) {after : Machine} where
     -- an accepted command that is new is a step of the whole office
@@ -181,25 +201,32 @@ module _ {S : Type 0} (g : Ghosts S) (command : Command) (old new : Held S) (par
   }
 
   -- an assignment that is repeated changes nothing
-  pub repeated_in : (reply : Reply) → old ≡ new → Carries part after command (Ok reply) → HasUtf8Texts command → is_again reply ≡ true → Answers g (IsNamed command part key) command old new (Ok reply)
-  repeated_in reply same carries utf8 told = record {
+  pub repeated_in : (reply : Reply) (counts : Counts) → counts ≡ counts_at after → old ≡ new → Carries part after command (Ok reply) → HasUtf8Texts command → is_again reply ≡ true
+      → Answers g (IsNamed command part key) command old new (Ok (record { reply = reply; counts = counts }))
+  repeated_in reply counts counted same carries utf8 told = record {
     was_clean = λ clean. subst (λ h. HasCleanDisk (state g h)) (sym same) clean;
     ok = λ clean machine consistent settled named.
-        let answers = sym (part_answers command machine part consistent single named.0) ∙ ap (λ (o : Outcome). o.0) carries.reply in
-        (answers, subst (λ m. IsSettled m (state g new)) (sym (told_again machine command reply answers told)) (subst (λ h. IsSettled machine (state g h)) same settled));
+        let answers = sym (part_answers command machine part consistent single named.0) ∙ ap (λ (o : Outcome). o.0) carries.reply in (
+          answers,
+          subst (λ m. IsSettled m (state g new)) (sym (told_again machine command reply answers told)) (subst (λ h. IsSettled machine (state g h)) same settled),
+          subst (AreCountsOf (step machine command).1) (sym counted) (counts_again command machine part consistent single named.0 reply answers told carries.reply),
+        );
     err = λ clean machine consistent settled named. tt;
     utf8 = utf8;
   }
 
   -- what is new is kept, or it is not committed
-  pub kept_in : {A : Type 0} {x : A} (reply : Reply) → Carries part after command (Ok reply) → HasUtf8Texts command → is_again reply ≡ false → KeepsStep {A = A} g command key after old new (Ok x)
-      → Answers g (IsNamed command part key) command old new (Ok reply)
-  kept_in reply carries utf8 fresh keeps = record {
+  pub kept_in : {A : Type 0} {x : A} (reply : Reply) (counts : Counts) → counts ≡ counts_at after → Carries part after command (Ok reply) → HasUtf8Texts command → is_again reply ≡ false
+      → KeepsStep {A = A} g command key after old new (Ok x) → Answers g (IsNamed command part key) command old new (Ok (record { reply = reply; counts = counts }))
+  kept_in reply counts counted carries utf8 fresh keeps = record {
     was_clean = keeps.was_clean;
-    ok = λ clean machine consistent settled named. (
-      sym (part_answers command machine part consistent single named.0) ∙ ap (λ (o : Outcome). o.0) carries.reply,
-      keeps.ok clean machine settled (step_of_whole command machine part consistent single named.0 named.1 reply fresh carries.reply),
-    );
+    ok = λ clean machine consistent settled named.
+        let steps = step_of_whole command machine part consistent single named.0 named.1 reply fresh carries.reply in (
+          sym (part_answers command machine part consistent single named.0) ∙ ap (λ (o : Outcome). o.0) carries.reply,
+          keeps.ok clean machine settled steps,
+          subst (AreCountsOf (step machine command).1) (sym counted)
+              (ap (λ (m : Machine). m.handed) (same_counts command steps), ap (λ (m : Machine). m.accepted) (same_counts command steps)),
+        );
     err = λ clean machine consistent settled named. tt;
     utf8 = utf8;
   }
@@ -220,8 +247,14 @@ module _ {S : Type 0} (g : Ghosts S) (command : Command) (old new : Held S) (par
       left_by machine (Uncommitted e) left = left
 
 module _ {S : Type 0} (g : Ghosts S) (command : Command) (old mid new : Held S) where
+  -- a failure after look-ups that changed nothing
+  left_later : (machine : Machine) (failure : Failure) → StaysAs g old mid → IsLeft g machine command mid new failure → IsLeft g machine command old new failure
+  left_later machine (Refused refusal) same left = left
+  left_later machine (Unread e) same left = ((left.0.0, stays_then g old mid left.0.0 same left.0.1, left.0.2), left.1)
+  left_later machine (Uncommitted e) same left = left
+
   -- what the command names is read, and then it is answered in that part
-  pub answered_in : {A : Type 0} {Answer : Machine → A → Type 0} {First Given : Machine → Type 0} {x : A} (r : Result Reply Failure) → Finds g Answer old mid (Ok x)
+  pub answered_in : {A : Type 0} {Answer : Machine → A → Type 0} {First Given : Machine → Type 0} {x : A} (r : Result Answered Failure) → Finds g Answer old mid (Ok x)
       → ((machine : Machine) → First machine → Answer machine x → Given machine) → Answers g Given command mid new r → Answers g First command old new r
   answered_in {Answer = Answer} {Given = Given} {x = x} r finds gives answers = record {
     was_clean = λ clean. was_clean (state g old) (state g mid) finds.survives (answers.was_clean clean);
@@ -234,11 +267,9 @@ module _ {S : Type 0} (g : Ghosts S) (command : Command) (old mid new : Held S) 
     utf8 = answers.utf8;
   }
     where
-      fails_later : (machine : Machine) (r : Result Reply Failure) → StaysAs g old mid → IfErr r (IsLeft g machine command mid new) → IfErr r (IsLeft g machine command old new)
-      fails_later machine (Ok reply) same left = tt
-      fails_later machine (Err (Refused refusal)) same left = left
-      fails_later machine (Err (Unread e)) same left = ((left.0.0, stays_then g old mid left.0.0 same left.0.1, left.0.2), left.1)
-      fails_later machine (Err (Uncommitted e)) same left = left
+      fails_later : (machine : Machine) (r : Result Answered Failure) → StaysAs g old mid → IfErr r (IsLeft g machine command mid new) → IfErr r (IsLeft g machine command old new)
+      fails_later machine (Ok answered) same left = tt
+      fails_later machine (Err failure) same left = left_later machine failure same left
 
   -- what the command names could not be read
   pub unread : {A : Type 0} {Answer : Machine → A → Type 0} {Given : Machine → Type 0} {e : Error} → Finds {A = A} g Answer old new (Err e) → Answers g Given command old new (Err (Unread e))
@@ -248,6 +279,52 @@ module _ {S : Type 0} (g : Ghosts S) (command : Command) (old mid new : Held S) 
     err = λ clean machine consistent settled given. not_found g old new finds clean settled;
     utf8 = tt;
   }
+
+-- ---- what is known
+
+module _ {S : Type 0} (g : Ghosts S) (command : Command) (was_known mid_known : Known) (old mid new : Held S) where
+  -- the architectures are known, or read, and then the command is carried out, and what is known then is taken over
+  pub responded : {A : Type 0} {Answer : Machine → A → Type 0} {archs : A} (answered : Answered) (known : Known) → Finds g Answer old mid (Ok archs)
+      → ((machine : Machine) → Answer machine archs → Knows machine was_known → Knows machine mid_known)
+      → {Given : Machine → Type 0} → ((machine : Machine) → Answer machine archs → Knows machine was_known → Given machine)
+      → Answers g Given command mid new (Ok answered)
+      → ((machine : Machine) → Knows machine mid_known → AreCountsOf (step machine command).1 answered.counts → Knows (step machine command).1 known)
+      → Responds g command was_known old known new (Ok answered.reply)
+  responded answered known finds learns gives answers knows = record {
+    was_clean = λ clean. was_clean (state g old) (state g mid) finds.survives (answers.was_clean clean);
+    ok = λ clean machine consistent settled was.
+        let at = found g old mid finds (answers.was_clean clean) consistent settled in
+        let done = answers.ok clean machine consistent at.0 (gives machine at.1 was) in
+        (done.0, done.1, knows machine (learns machine at.1 was) done.2);
+    err = λ clean machine consistent settled was. tt;
+    utf8 = answers.utf8;
+  }
+
+  pub not_responded : {A : Type 0} {Answer : Machine → A → Type 0} {archs : A} (failure : Failure) → Finds g Answer old mid (Ok archs)
+      → ((machine : Machine) → Answer machine archs → Knows machine was_known → Knows machine mid_known)
+      → {Given : Machine → Type 0} → ((machine : Machine) → Answer machine archs → Knows machine was_known → Given machine)
+      → Answers g Given command mid new (Err failure) → Responds g command was_known old mid_known new (Err failure)
+  not_responded failure finds learns gives answers = record {
+    was_clean = λ clean. was_clean (state g old) (state g mid) finds.survives (answers.was_clean clean);
+    ok = λ clean machine consistent settled was. tt;
+    err = λ clean machine consistent settled was.
+        let at = found g old mid finds (answers.was_clean clean) consistent settled in (
+          left_later g command old mid new machine failure (finds.same (answers.was_clean clean) settled.holds.stands.has)
+              (answers.err clean machine consistent at.0 (gives machine at.1 was)),
+          learns machine at.1 was,
+        );
+    utf8 = tt;
+  }
+
+-- the architectures could not be read, and what is known stays
+pub archs_unread : {S A : Type 0} (g : Ghosts S) (command : Command) (was_known known : Known) (old new : Held S) {Answer : Machine → A → Type 0} {e : Error}
+    → Finds {A = A} g Answer old new (Err e) → known ≡ was_known → Responds g command was_known old known new (Err (Unread e))
+archs_unread g command was_known known old new finds same = record {
+  was_clean = was_clean (state g old) (state g new) finds.survives;
+  ok = λ clean machine consistent settled was. tt;
+  err = λ clean machine consistent settled was. (not_found g old new finds clean settled, subst (Knows machine) (sym same) was);
+  utf8 = tt;
+}
 
 -- a transaction that was not committed
 pub not_committed : {S A B : Type 0} {g : Ghosts S} {command : Command} {key : Option Key} {after : Machine} {old new : Held S} {e : CarryError} → CarriesOut {A = A} g command key after old new (Err e)

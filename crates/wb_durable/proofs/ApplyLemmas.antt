@@ -1,44 +1,32 @@
 -- What an office over tables answers after a failure, and how it stands then.
-use Rattle.std.proofs.Common.{◌≡◌, ◌≢◌, ◌⊎◌, inl, inr, true, false, not, Bool, ℕ, ◌+◌, Option, Some, None, Result, Ok, Err, IsTrue, IfErr, refl, sym, ap, subst, ◌∙◌}
+use Rattle.std.proofs.Common.{◌≡◌, ◌≢◌, ◌⊎◌, inl, inr, true, false, not, Bool, Result, Ok, Err, IsTrue, IfErr, refl, sym, ap, subst, ◌∙◌}
 use Rattle.std.proofs.lemmas.Bool.{both_ways}
 use Rattle.sqlite_trees.specs.declared.store.Store.{Ghosts}
-use Rattle.sqlite_disk.specs.declared.Disk.{Ghosts as DiskGhosts}
-use Rattle.sqlite_disk.specs.declared.Files.{Files}
-use Rattle.sqlite_wal.specs.Reads.{AreClean}
-use Rattle.sqlite_store.specs.declared.store.FileStore.{FileStore}
-use Rattle.sqlite.specs.Files.{file_state}
 use Rattle.sqlite.specs.declared.error.Error.{Error}
 use Rattle.sqlite.specs.Held.{Held, state}
 use Rattle.sqlite.specs.State.{State, HasCleanDisk, IsUnchanged, Survives}
 use Rattle.wb_sql.specs.Transactions.{IsKeptOrUndone, LeavesNoMore}
 use Rattle.wb_states.specs.declared.command.Command.{Command}
-use Rattle.wb_states.specs.declared.command.Command.TheVariants as of
 use Rattle.wb_states.specs.declared.refusal.Refusal.{Refusal}
 use Rattle.wb_states.specs.declared.refusal.Refusal.TheVariants.{Closed, Memory, Store}
 use Rattle.wb_states.specs.declared.reply.Reply.{Reply}
-use Rattle.wb_states.specs.declared.reply.Reply.TheVariants.{Again}
-use Rattle.wb_states.specs.Holds.{take_of}
-use Rattle.wb_states.specs.Queue.{Entry}
 use Rattle.wb_states.specs.Refusals.{IsOfMachine}
 use Rattle.wb_states.specs.declared.store_fault.StoreFault.{StoreFault}
 use Rattle.wb_states.specs.declared.store_fault.StoreFault.TheVariants as fault
 use Rattle.wb_states.specs.declared.store_fault.Table.TheVariants.{SourceRecord}
 use Rattle.wb_states.specs.Machine.{Machine}
 use Rattle.wb_office.specs.Ends.{is_of_store}
-use Rattle.wb_office.specs.Checks.{first_refusal}
-use Rattle.wb_office.specs.Step.{assignment_of, assignment_reply, outcome, reply_to, step}
-use Rattle.wb_office.specs.Targets.{again_of, target_of}
+use Rattle.wb_office.specs.Step.{step}
 use Rattle.wb_office.proofs.InvariantLemmas.{step-keeps}
 use Rattle.wb_tables.specs.Faults.{fault_of}
-use Rattle.wb_sql.specs.Settled.{AreSettled}
-use Rattle.wb_tables.specs.Settled.{IsSettled, IsBackAt, LeavesEither, AreSettledAt}
-use Rattle.wb_tables.proofs.FileLemmas.{files_settled}
+use Rattle.wb_tables.specs.Settled.{IsSettled, IsBackAt, LeavesEither}
 use Rattle.wb_tables.proofs.SettledLemmas.{settled_back, stays_back, goes_back_again}
 use Rattle.wb_durable.specs.declared.answer.Failure.{Failure}
 use Rattle.wb_durable.specs.declared.answer.Failure.TheVariants.{Refused, Unread, Uncommitted}
 use Rattle.wb_durable.specs.declared.carry.CarryError.TheVariants.{TakenBack, RollBackFailed, InDoubt}
-use Rattle.wb_durable.specs.Answers.{Answers, accepted_of}
-use Rattle.wb_durable.specs.Standing.{StandsAt, LeavesOne}
+use Rattle.wb_durable.specs.declared.known.Known.{Known}
+use Rattle.wb_durable.specs.Answers.{Responds}
+use Rattle.wb_durable.specs.Standing.{Knows, StandsAt, LeavesOne}
 use Rattle.wb_durable.specs.Applies.{refusal_for, doubt_for, CannotBeUsed, IsRefusedIn, Applies, Ends, EndsWith}
 use Rattle.wb_durable.proofs.AnswerLemmas.{was_clean}
 
@@ -207,63 +195,22 @@ ends_in_doubt g held e refusal told = record {
 
 -- ---- a command
 
-assigned_counts : (machine : Machine) (found : Option Entry) → accepted_of (assignment_reply machine found) ≡ machine.accepted + 1
-assigned_counts machine None = refl
-assigned_counts machine (Some entry) = refl
-
--- the accepted commands that a reply counts are those of the state after it
-counts_as : (machine : Machine) (command : Command) → accepted_of (reply_to machine command) ≡ machine.accepted + 1
-counts_as machine (of.AddArch fields) = refl
-counts_as machine (of.AddBuilder fields) = refl
-counts_as machine (of.Enter fields) = refl
-counts_as machine (of.Merge fields) = refl
-counts_as machine (of.Built fields) = refl
-counts_as machine (of.Uploaded fields) = refl
-counts_as machine (of.Waits fields) = refl
-counts_as machine (of.PutBack fields) = refl
-counts_as machine (of.Attempted fields) = refl
-counts_as machine (of.GiveBack fields) = refl
-counts_as machine (of.DepWait fields) = refl
-counts_as machine (of.Fail fields) = refl
-counts_as machine (of.NotForUs fields) = refl
-counts_as machine (of.Rebuild fields) = refl
-counts_as machine (of.BuildPriority fields) = refl
-counts_as machine (of.Next fields) = assigned_counts machine (target_of machine (of.Next fields))
-counts_as machine (of.Take fields) = assigned_counts machine (target_of machine (of.Take fields))
-
-told_counts : (a b : Reply) → ◌≡◌ {A = Result Reply Refusal} (Ok a) (Ok b) → accepted_of b ≡ accepted_of a
-told_counts a b is = ap accepted_of (sym (same_reply a b is))
-  where
-    same_reply : (a b : Reply) → ◌≡◌ {A = Result Reply Refusal} (Ok a) (Ok b) → a ≡ b
-    same_reply a b is = cc
-
-counted_by : (refused : Option Refusal) (again : Option Entry) (machine : Machine) (command : Command) (reply : Reply) → (outcome refused again machine command).0 ≡ Ok reply
-    → accepted_of reply ≡ (outcome refused again machine command).1.accepted
-counted_by (Some refusal) again machine command reply is = cc
-counted_by None (Some entry) machine command reply is = told_counts (Again machine.accepted (assignment_of entry (take_of entry))) reply is
-counted_by None None machine command reply is = told_counts (reply_to machine command) reply is ∙ counts_as machine command
-
-step_counts : (machine : Machine) (command : Command) (reply : Reply) → (step machine command).0 ≡ Ok reply → accepted_of reply ≡ (step machine command).1.accepted
-unfolding step
-step_counts machine command reply is = counted_by (first_refusal machine command) (again_of machine command) machine command reply is
-
 -- an office that is open is settled at its state
-pub settled_at : {machine : Machine} {was_closed : Bool} {counted : ℕ} {s : State} → StandsAt machine was_closed counted s → was_closed ≡ false → IsSettled machine s
+pub settled_at : {machine : Machine} {was_closed : Bool} {known : Known} {s : State} → StandsAt machine was_closed known s → was_closed ≡ false → IsSettled machine s
 settled_at stands opened = stands.back.settled (stands.is_open opened)
 
-module _ {S : Type 0} (g : Ghosts S) (command : Command) (was_closed : Bool) (counted : ℕ) (old : Held S) (opened : was_closed ≡ false) where
+module _ {S : Type 0} (g : Ghosts S) (command : Command) (was_closed : Bool) (was_known : Known) (old : Held S) (opened : was_closed ≡ false) where
   -- a reply leaves the office open at the state of the step
-  pub applied : (new : Held S) (counts : ℕ) (reply : Reply) → counts ≡ accepted_of reply → Answers g (λ _. Unit {0}) command old new (Ok reply)
-      → Applies g command was_closed counted old was_closed counts new (Ok reply)
-  applied new counts reply counts_are answers = record {
-    was_clean = answers.was_clean;
+  pub applied : (new : Held S) (known : Known) (reply : Reply) → Responds g command was_known old known new (Ok reply) → Applies g command was_closed was_known old was_closed known new (Ok reply)
+  applied new known reply responds = record {
+    was_clean = responds.was_clean;
     shut = λ closed. absurd (both_ways was_closed opened closed);
     reply = λ clean machine stands.
-        let done = answers.ok clean machine stands.consistent (settled_at stands opened) tt in (
+        let done = responds.ok clean machine stands.consistent (settled_at stands opened) stands.knows in (
           done.0,
           record {
-            consistent = step-keeps machine command answers.utf8 stands.consistent;
-            counted = counts_are ∙ step_counts machine command reply done.0;
+            consistent = step-keeps machine command responds.utf8 stands.consistent;
+            knows = done.2;
             back = settled_back (state g new) done.1;
             is_open = λ _. done.1.is_open;
           },
@@ -274,14 +221,17 @@ module _ {S : Type 0} (g : Ghosts S) (command : Command) (was_closed : Bool) (co
   }
 
   -- after a failure the office is left as the end of it says
-  pub not_applied : (at new : Held S) (is_closed : Bool) (failure : Failure) (refusal : Refusal) → Answers g (λ _. Unit {0}) command old at (Err failure) → Ends g failure at new refusal is_closed
-      → Applies g command was_closed counted old is_closed counted new (Err refusal)
-  not_applied at new is_closed failure refusal answers ends = record {
-    was_clean = λ clean. answers.was_clean (ends.was_clean clean);
+  pub not_applied : (at new : Held S) (is_closed : Bool) (known : Known) (failure : Failure) (refusal : Refusal) → Responds g command was_known old known at (Err failure)
+      → Ends g failure at new refusal is_closed → Applies g command was_closed was_known old is_closed known new (Err refusal)
+  not_applied at new is_closed known failure refusal responds ends = record {
+    was_clean = λ clean. responds.was_clean (ends.was_clean clean);
     shut = λ closed. absurd (both_ways was_closed opened closed);
     reply = λ clean machine stands. tt;
-    refused = λ clean machine stands _. (ends.refused clean machine command old (answers.err (ends.was_clean clean) machine stands.consistent (settled_at stands opened) tt), refl);
-    cause = λ clean machine stands _. (failure, at, answers.err (ends.was_clean clean) machine stands.consistent (settled_at stands opened) tt, ends.told, ends.closes clean);
+    refused = λ clean machine stands _.
+        let left = responds.err (ends.was_clean clean) machine stands.consistent (settled_at stands opened) stands.knows in
+        (ends.refused clean machine command old left.0, left.1);
+    cause = λ clean machine stands _.
+        (failure, at, (responds.err (ends.was_clean clean) machine stands.consistent (settled_at stands opened) stands.knows).0, ends.told, ends.closes clean);
   }
 
 -- ---- the office that carries out commands
@@ -293,28 +243,28 @@ if_err : {A E : Type 0} {P : E → Type 0} (r : Result A E) → ((e : E) → r �
 if_err (Ok x) h = tt
 if_err (Err e) h = h e refl
 
-module _ {S : Type 0} (g : Ghosts S) (command : Command) (was_closed : Bool) (counted : ℕ) (old : Held S) (is_closed : Bool) (counts : ℕ) (new : Held S) (r : Result Reply Refusal)
-    (h : Applies g command was_closed counted old is_closed counts new r) (machine : Machine) (clean : HasCleanDisk (state g new)) (stands : StandsAt machine was_closed counted (state g old)) where
+module _ {S : Type 0} (g : Ghosts S) (command : Command) (was_closed : Bool) (was_known : Known) (old : Held S) (is_closed : Bool) (known : Known) (new : Held S) (r : Result Reply Refusal)
+    (h : Applies g command was_closed was_known old is_closed known new r) (machine : Machine) (clean : HasCleanDisk (state g new)) (stands : StandsAt machine was_closed was_known (state g old)) where
   open_or_shut : {P : Type 0} → (was_closed ≡ true → P) → (was_closed ≡ false → P) → P
   open_or_shut {P = P} shut opened = (elim was_closed as (λ b. was_closed ≡ b → P) [ true ↦ shut | false ↦ opened ]) refl
 
-  stays_shut : was_closed ≡ true → StandsAt machine is_closed counts (state g new)
+  stays_shut : was_closed ≡ true → StandsAt machine is_closed known (state g new)
   stays_shut closed =
       let s = h.shut closed in
       record {
         consistent = stands.consistent;
-        counted = s.2 ∙ stands.counted;
+        knows = subst (Knows machine) (sym s.2) stands.knows;
         back = subst (λ (held : Held S). IsBackAt machine (state g held)) (sym s.3) stands.back;
         is_open = λ not_closed. absurd (both_ways is_closed not_closed s.1);
       }
 
-  refused_with : (refusal : Refusal) → r ≡ Err refusal → was_closed ≡ false → IsRefusedIn g machine command is_closed new refusal × (counts ≡ counted)
-  refused_with refusal is opened = at_err (λ refusal. IsRefusedIn g machine command is_closed new refusal × (counts ≡ counted)) r refusal is (h.refused clean machine stands opened)
+  refused_with : (refusal : Refusal) → r ≡ Err refusal → was_closed ≡ false → IsRefusedIn g machine command is_closed new refusal × Knows machine known
+  refused_with refusal is opened = at_err (λ refusal. IsRefusedIn g machine command is_closed new refusal × Knows machine known) r refusal is (h.refused clean machine stands opened)
 
-  stands_on : (refusal : Refusal) → IsRefusedIn g machine command is_closed new refusal × (counts ≡ counted) → IsBackAt machine (state g new) → StandsAt machine is_closed counts (state g new)
-  stands_on refusal left back = record { consistent = stands.consistent; counted = left.1 ∙ stands.counted; back = back; is_open = left.0.is_open }
+  stands_on : (refusal : Refusal) → IsRefusedIn g machine command is_closed new refusal × Knows machine known → IsBackAt machine (state g new) → StandsAt machine is_closed known (state g new)
+  stands_on refusal left back = record { consistent = stands.consistent; knows = left.1; back = back; is_open = left.0.is_open }
 
-  pub carried_refused : IfErr r (λ refusal. IsOfMachine refusal → is_of_store refusal ≡ false → ((step machine command).0 ≡ Err refusal) × StandsAt machine is_closed counts (state g new))
+  pub carried_refused : IfErr r (λ refusal. IsOfMachine refusal → is_of_store refusal ≡ false → ((step machine command).0 ≡ Err refusal) × StandsAt machine is_closed known (state g new))
   carried_refused = if_err r (λ refusal is of_machine no_store. open_or_shut
       (λ closed. absurd (both_ways (is_of_store refusal) no_store (ap is_of_store (same_err refusal Closed (sym is ∙ (h.shut closed).0)))))
       (λ opened. let left = refused_with refusal is opened in ((left.0.machines of_machine no_store).0, stands_on refusal left (left.0.back no_store))))
@@ -322,10 +272,10 @@ module _ {S : Type 0} (g : Ghosts S) (command : Command) (was_closed : Bool) (co
       same_err : (a b : Refusal) → ◌≡◌ {A = Result Reply Refusal} (Err a) (Err b) → a ≡ b
       same_err a b is = cc
 
-  pub carried_memory : r ≡ Err Memory → Unit {0} × StandsAt machine is_closed counts (state g new)
+  pub carried_memory : r ≡ Err Memory → Unit {0} × StandsAt machine is_closed known (state g new)
   carried_memory is = (tt, open_or_shut stays_shut (λ opened. let left = refused_with Memory is opened in stands_on Memory left (left.0.back refl)))
 
-  pub carried_closed : r ≡ Err Closed → (is_closed ≡ true) × StandsAt machine is_closed counts (state g new)
+  pub carried_closed : r ≡ Err Closed → (is_closed ≡ true) × StandsAt machine is_closed known (state g new)
   carried_closed is = open_or_shut (λ closed. ((h.shut closed).1, stays_shut closed))
       (λ opened. let left = refused_with Closed is opened in (left.0.ends refl, stands_on Closed left (left.0.shut refl)))
 
@@ -336,12 +286,3 @@ module _ {S : Type 0} (g : Ghosts S) (command : Command) (was_closed : Bool) (co
     where
       store_is_not_closed : {f : StoreFault} → ¬ ◌≡◌ {A = Result Reply Refusal} (Err (Store f)) (Err Closed)
       store_is_not_closed is = cc
-
--- ---- the files of an office
-
--- the files of a connection that is closed hold the state at which its office stands
-pub closed_files : {D : Type 0} {g : DiskGhosts D} (c : Held (FileStore D g)) {was_closed : Bool} {counted : ℕ} {at : Files D} (files : Files D) → at ≡ files
-    → (AreClean g files.log files.db → AreSettled g files (file_state c).committed.trees)
-    → AreClean g at.log at.db → (machine : Machine) → StandsAt machine was_closed counted (file_state c) → was_closed ≡ false → AreSettledAt g at machine
-closed_files {g = g} c files same settled clean machine stands opened =
-    subst (λ f. AreClean g f.log f.db → AreSettledAt g f machine) (sym same) (λ clean. files_settled g c files (settled_at stands opened) (settled clean)) clean

@@ -26,10 +26,11 @@ use Rattle.wb_office.proofs.QueryLemmas.{keyed-entries}
 use Rattle.wb_tables.specs.Faults.{fault_of}
 use Rattle.wb_tables.specs.Settled.{IsBackAt}
 use Rattle.wb_tables.proofs.SettledLemmas.{settled_back}
+use Rattle.wb_durable.specs.declared.known.Known.{Known}
 use Rattle.wb_durable.specs.Asks.{Asks, FailsByName, IsAskedAt, IsUnread}
 use Rattle.wb_durable.specs.Applies.{EndsWith}
 use Rattle.wb_durable.specs.Finds.{Finds}
-use Rattle.wb_durable.specs.Standing.{StandsAt, LeavesOne}
+use Rattle.wb_durable.specs.Standing.{Knows, StandsAt, LeavesOne}
 use Rattle.wb_durable.proofs.AnswerLemmas.{found, not_found, was_clean}
 use Rattle.wb_durable.proofs.ApplyLemmas.{either_of, not_closed_for, of_fault, settled_at}
 
@@ -58,9 +59,9 @@ has_form false is = cc
 
 -- ---- one query
 
-module _ {S : Type 0} {g : Ghosts S} {answer_of : Machine → Result Answer Refusal} {is_bad was_closed : Bool} {counted : ℕ} {old : Held S} where
+module _ {S : Type 0} {g : Ghosts S} {answer_of : Machine → Result Answer Refusal} {is_bad was_closed : Bool} {was_known : Known} {old : Held S} where
   -- a closed office says so
-  pub asked_shut : was_closed ≡ true → Asks g answer_of is_bad was_closed counted old was_closed counted old (Err Closed)
+  pub asked_shut : was_closed ≡ true → Asks g answer_of is_bad was_closed was_known old was_closed was_known old (Err Closed)
   asked_shut closed = record {
     was_clean = λ clean. clean;
     same = refl;
@@ -74,8 +75,8 @@ module _ {S : Type 0} {g : Ghosts S} {answer_of : Machine → Result Answer Refu
 
   -- a malformed name is refused, and out of memory nothing is done
   pub asked_by_name : {refusal : Refusal} {r : Result Answer Refusal} → was_closed ≡ false → ((machine : Machine) → is_bad ≡ true → answer_of machine ≡ Err BadName) → FailsByName is_bad refusal
-      → r ≡ Err refusal → Asks g answer_of is_bad was_closed counted old was_closed counted old r
-  asked_by_name {refusal} opened refuses fails is = subst (Asks g answer_of is_bad was_closed counted old was_closed counted old) (sym is) (record {
+      → r ≡ Err refusal → Asks g answer_of is_bad was_closed was_known old was_closed was_known old r
+  asked_by_name {refusal} opened refuses fails is = subst (Asks g answer_of is_bad was_closed was_known old was_closed was_known old) (sym is) (record {
     was_clean = λ clean. clean;
     same = refl;
     shut = λ closed. absurd (both_ways was_closed opened closed);
@@ -94,7 +95,7 @@ module _ {S : Type 0} {g : Ghosts S} {answer_of : Machine → Result Answer Refu
 
   -- the look-ups succeed
   pub asked_found : {answer_in : Machine → Result Answer Refusal} {new : Held S} {r : Result Answer Refusal} → was_closed ≡ false → is_bad ≡ false → ((machine : Machine) → answer_of machine ≡ answer_in machine)
-      → Finds g (λ machine answer. answer ≡ answer_in machine) old new (Ok r) → Asks g answer_of is_bad was_closed counted old was_closed counted new r
+      → Finds g (λ machine answer. answer ≡ answer_in machine) old new (Ok r) → Asks g answer_of is_bad was_closed was_known old was_closed was_known new r
   asked_found {new = new} opened is_good same finds = record {
     was_clean = was_clean (state g old) (state g new) finds.survives;
     same = refl;
@@ -107,7 +108,7 @@ module _ {S : Type 0} {g : Ghosts S} {answer_of : Machine → Result Answer Refu
 
   -- a look-up fails
   pub asked_unread : {Answers : Machine → Result Answer Refusal → Type 0} {at new : Held S} {is_closed : Bool} {e : Error} {refusal : Refusal} → was_closed ≡ false → is_bad ≡ false
-      → Finds g Answers old at (Err e) → EndsWith g (fault_of e SourceRecord) at new refusal is_closed → Asks g answer_of is_bad was_closed counted old is_closed counted new (Err refusal)
+      → Finds g Answers old at (Err e) → EndsWith g (fault_of e SourceRecord) at new refusal is_closed → Asks g answer_of is_bad was_closed was_known old is_closed was_known new (Err refusal)
   asked_unread {at = at} {e = e} {refusal = refusal} opened is_good finds ends = record {
     was_clean = λ clean. was_clean (state g old) (state g at) finds.survives (ends.was_clean clean);
     same = refl;
@@ -133,10 +134,10 @@ module _ {S : Type 0} {g : Ghosts S} {answer_of : Machine → Result Answer Refu
 
 -- ---- the office that answers queries
 
-module _ {S : Type 0} {g : Ghosts S} {answer_of : Machine → Result Answer Refusal} {is_bad : Bool} {was_closed : Bool} {counted : ℕ} {old : Held S} {is_closed : Bool} {counts : ℕ} {new : Held S}
-    {r : Result Answer Refusal} (h : Asks g answer_of is_bad was_closed counted old is_closed counts new r)
+module _ {S : Type 0} {g : Ghosts S} {answer_of : Machine → Result Answer Refusal} {is_bad : Bool} {was_closed : Bool} {was_known : Known} {old : Held S} {is_closed : Bool} {known : Known} {new : Held S}
+    {r : Result Answer Refusal} (h : Asks g answer_of is_bad was_closed was_known old is_closed known new r)
     (of_state : (machine : Machine) (refusal : Refusal) → is_of_store refusal ≡ true → ¬ (answer_of machine ≡ Err refusal))
-    (machine : Machine) (clean : HasCleanDisk (state g new)) (stands : StandsAt machine was_closed counted (state g old)) where
+    (machine : Machine) (clean : HasCleanDisk (state g new)) (stands : StandsAt machine was_closed was_known (state g old)) where
   open_or_shut : {P : Type 0} → (was_closed ≡ true → P) → (was_closed ≡ false → P) → P
   open_or_shut {P = P} shut opened = (elim was_closed as (λ b. was_closed ≡ b → P) [ true ↦ shut | false ↦ opened ]) refl
 
@@ -144,37 +145,37 @@ module _ {S : Type 0} {g : Ghosts S} {answer_of : Machine → Result Answer Refu
   told is = cc
 
   -- however it is answered, the office stands as it did
-  stays_shut : was_closed ≡ true → StandsAt machine is_closed counts (state g new)
+  stays_shut : was_closed ≡ true → StandsAt machine is_closed known (state g new)
   stays_shut closed =
       let s = h.shut closed in
       record {
         consistent = stands.consistent;
-        counted = h.same ∙ stands.counted;
+        knows = subst (Knows machine) (sym h.same) stands.knows;
         back = subst (λ (held : Held S). IsBackAt machine (state g held)) (sym s.2) stands.back;
         is_open = λ not_closed. absurd (both_ways is_closed not_closed s.1);
       }
 
-  stays_open : IsAskedAt g answer_of machine old is_closed new r → was_closed ≡ false → StandsAt machine is_closed counts (state g new)
+  stays_open : IsAskedAt g answer_of machine old is_closed new r → was_closed ≡ false → StandsAt machine is_closed known (state g new)
   stays_open (inl answered) opened = record {
     consistent = stands.consistent;
-    counted = h.same ∙ stands.counted;
+    knows = subst (Knows machine) (sym h.same) stands.knows;
     back = settled_back (state g new) answered.1;
     is_open = λ _. answered.1.is_open;
   }
   stays_open (inr (refusal, is, inl unread)) opened = record {
     consistent = stands.consistent;
-    counted = h.same ∙ stands.counted;
+    knows = subst (Knows machine) (sym h.same) stands.knows;
     back = unread.back;
     is_open = unread.is_open;
   }
   stays_open (inr (refusal, is, inr nothing)) opened = record {
     consistent = stands.consistent;
-    counted = h.same ∙ stands.counted;
+    knows = subst (Knows machine) (sym h.same) stands.knows;
     back = subst (λ (held : Held S). IsBackAt machine (state g held)) (sym nothing.1) stands.back;
     is_open = λ _. subst (λ (held : Held S). IsTrue (state g held).is_open) (sym nothing.1) (stands.is_open opened);
   }
 
-  stays : StandsAt machine is_closed counts (state g new)
+  stays : StandsAt machine is_closed known (state g new)
   stays = open_or_shut stays_shut (λ opened. stays_open (h.asked clean machine stands opened) opened)
 
   -- a refusal for an error of a look-up is no refusal of the state
@@ -200,22 +201,22 @@ module _ {S : Type 0} {g : Ghosts S} {answer_of : Machine → Result Answer Refu
           absurd (both_ways (is_of_store refusal) other.1 (unread_is unread other.0))
       at_answer (inr (refusal, failed, inr nothing)) = absurd ((plain_at failed).0 nothing.0)
 
-  pub asked_answer : IfOk r (λ answer. (answer_of machine ≡ Ok answer) × StandsAt machine is_closed counts (state g new))
+  pub asked_answer : IfOk r (λ answer. (answer_of machine ≡ Ok answer) × StandsAt machine is_closed known (state g new))
   asked_answer = at_ok r refl
     where
-      at_ok : (result : Result Answer Refusal) → r ≡ result → IfOk result (λ answer. (answer_of machine ≡ Ok answer) × StandsAt machine is_closed counts (state g new))
+      at_ok : (result : Result Answer Refusal) → r ≡ result → IfOk result (λ answer. (answer_of machine ≡ Ok answer) × StandsAt machine is_closed known (state g new))
       at_ok (Ok answer) is = (is_answer (Ok answer) is tt, stays)
       at_ok (Err refusal) is = tt
 
-  pub asked_refused : IfErr r (λ refusal. IsOfMachine refusal → is_of_store refusal ≡ false → (answer_of machine ≡ Err refusal) × StandsAt machine is_closed counts (state g new))
+  pub asked_refused : IfErr r (λ refusal. IsOfMachine refusal → is_of_store refusal ≡ false → (answer_of machine ≡ Err refusal) × StandsAt machine is_closed known (state g new))
   asked_refused = at_err r refl
     where
       at_err : (result : Result Answer Refusal) → r ≡ result
-          → IfErr result (λ refusal. IsOfMachine refusal → is_of_store refusal ≡ false → (answer_of machine ≡ Err refusal) × StandsAt machine is_closed counts (state g new))
+          → IfErr result (λ refusal. IsOfMachine refusal → is_of_store refusal ≡ false → (answer_of machine ≡ Err refusal) × StandsAt machine is_closed known (state g new))
       at_err (Ok answer) is = tt
       at_err (Err refusal) is = λ of_machine no_store. (is_answer (Err refusal) is (of_machine, no_store), stays)
 
-  pub asked_memory : r ≡ Err Memory → (is_bad ≡ false) × StandsAt machine is_closed counts (state g new)
+  pub asked_memory : r ≡ Err Memory → (is_bad ≡ false) × StandsAt machine is_closed known (state g new)
   asked_memory is = (h.memory is, stays)
 
   -- it says that it is closed only if it was
@@ -231,7 +232,7 @@ module _ {S : Type 0} {g : Ghosts S} {answer_of : Machine → Result Answer Refu
           no_memory : ¬ (Memory ≡ Closed)
           no_memory same = cc
 
-  pub asked_closed : r ≡ Err Closed → (is_closed ≡ true) × StandsAt machine is_closed counts (state g new)
+  pub asked_closed : r ≡ Err Closed → (is_closed ≡ true) × StandsAt machine is_closed known (state g new)
   asked_closed is = ((h.shut (asked_when_shut is)).1, stays)
 
   -- after a fault of the store it is closed, and nothing was changed

@@ -1,5 +1,5 @@
 -- An office over two files: what an opening finds in them, and what a close leaves of them.
-use Rattle.std.proofs.Common.{◌≡◌, ◌⊎◌, ℕ, Bool, inl, inr, Result, Ok, Err, IfOk, IfErr, refl, sym, ap, subst, ◌∙◌}
+use Rattle.std.proofs.Common.{◌≡◌, ◌⊎◌, Bool, inl, inr, Result, Ok, Err, IfOk, IfErr, refl, sym, ap, subst, ◌∙◌}
 use Rattle.std.proofs.Math.Logic.{∥∥₁_map}
 use Rattle.sqlite_disk.specs.declared.Disk.{Ghosts}
 use Rattle.sqlite_disk.specs.declared.Files.{Files}
@@ -29,6 +29,7 @@ use Rattle.wb_tables.specs.Opening.{HasGoodRows}
 use Rattle.wb_tables.specs.Settled.{AreSettledAt}
 use Rattle.wb_tables.proofs.FileLemmas.{files_settled, holds_settled}
 use Rattle.wb_tables.proofs.OpeningSoundLemmas.{good_rows_consistent}
+use Rattle.wb_durable.specs.declared.known.Known.{Known}
 use Rattle.wb_durable.specs.Files.{AreFoundAt, AreNew, FailsToOpen, IsOver, IsRefusedOver, LeaveOffice}
 use Rattle.wb_durable.specs.Opening.{IsRefusedFrom}
 use Rattle.wb_durable.specs.Preparing.{AreBlank, HoldOffice, IsBlank, IsFoundAt}
@@ -80,9 +81,9 @@ pub is_over : {D : Type 0} (g : Ghosts D) (c : Held (FileStore D g)) (files : Fi
 is_over g c files opened found alone clean = (opened clean, λ machine. found_over g c (opened clean) (alone clean) files (found clean))
 
 -- files that are closed hold the state at which their office stood
-pub closed_at : {D : Type 0} {g : Ghosts D} (c : Held (FileStore D g)) {was_closed : Bool} {counted : ℕ} (files : Files D)
+pub closed_at : {D : Type 0} {g : Ghosts D} (c : Held (FileStore D g)) {was_closed : Bool} {known : Known} (files : Files D)
     → (AreClean g files.log files.db → IsCopied c files)
-    → AreClean g files.log files.db → (machine : Machine) → StandsAt machine was_closed counted (file_state c) → AreSettledAt g files machine
+    → AreClean g files.log files.db → (machine : Machine) → StandsAt machine was_closed known (file_state c) → AreSettledAt g files machine
 closed_at {g = g} c files copied clean machine stands =
     let is = copied clean in
     files_settled g c files (stands.back.settled is.was_open) (settled_by_close c files is)

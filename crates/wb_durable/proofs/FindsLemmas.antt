@@ -1,5 +1,5 @@
 -- What look-ups, one after another, promise together: from one of them, and from those before and those after.
-use Rattle.std.proofs.Common.{◌≡◌, inl, inr, Result, Ok, Err, refl, sym, ap, subst, ◌∙◌, arith}
+use Rattle.std.proofs.Common.{◌≡◌, inl, inr, IsTrue, Result, Ok, Err, refl, sym, ap, subst, ◌∙◌, arith}
 use Rattle.sqlite_trees.specs.declared.store.Store.{Ghosts}
 use Rattle.sqlite.specs.declared.error.Error.{Error}
 use Rattle.sqlite.specs.declared.error.Error.TheVariants.{SqliteFailure}
@@ -29,17 +29,20 @@ unchanged_then a b c one two = (
   two.2 ∙ one.2,
 )
 
+-- a state stays that nothing was asked of
+unchanged_itself : (s : State) → IsTrue s.is_open → IsUnchanged s s
+unchanged_itself s is_open = (
+  record { was_open = is_open; is_open = is_open; now_is = refl; committed_is = refl; mode = refl },
+  record { changes = refl; last_rowid = refl },
+  refl,
+)
+
 module _ {S : Type 0} (g : Ghosts S) (old mid new : Held S) where
   -- two that stay, one after the other
   pub stays_then : StaysAs g old mid → StaysAs g mid new → StaysAs g old new
   stays_then (inl same) after = subst (λ x. StaysAs g x new) (sym same) after
   stays_then (inr kept) (inl same) = subst (λ x. StaysAs g old x) same (inr kept)
   stays_then (inr kept) (inr later) = inr (unchanged_then (state g old) (state g mid) (state g new) kept later)
-
-  -- one that asked, and then one that stays
-  pub unchanged_stays : IsUnchanged (state g old) (state g mid) → StaysAs g mid new → IsUnchanged (state g old) (state g new)
-  unchanged_stays kept (inl same) = subst (λ x. IsUnchanged (state g old) (state g x)) same kept
-  unchanged_stays kept (inr later) = unchanged_then (state g old) (state g mid) (state g new) kept later
 
 module _ {S : Type 0} (g : Ghosts S) (old new : Held S) where
   stays-now : StaysAs g old new → (state g new).now ≡ (state g old).now
@@ -53,6 +56,11 @@ module _ {S : Type 0} (g : Ghosts S) (old new : Held S) where
   pub stays-stands : {machine : Machine} → StaysAs g old new → StandsFor machine (state g old).now → StandsFor machine (state g new).now
   stays-stands {machine} stays = subst (StandsFor machine) (sym (stays-now stays))
 
+  -- what stays is open as it was
+  pub stays-open : StaysAs g old new → IsTrue (state g old).is_open → IsTrue (state g new).is_open
+  stays-open (inl same) is_open = subst (λ x. IsTrue (state g x).is_open) same is_open
+  stays-open (inr kept) is_open = kept.0.is_open
+
 -- ---- one look-up, or none
 
 module _ {S : Type 0} {g : Ghosts S} {old new : Held S} where
@@ -61,13 +69,13 @@ module _ {S : Type 0} {g : Ghosts S} {old new : Held S} where
   finds_looked_up (Ok x) one = record {
     value = λ clean office machine sound stands. one.value clean machine stands;
     same = λ clean office. inr (one.same clean office);
-    err = λ clean office. tt;
+    err = λ clean office is_open. tt;
     survives = one.survives;
   }
   finds_looked_up (Err e) one = record {
     value = λ clean office. tt;
     same = λ clean office. tt;
-    err = λ clean office. (old, inl refl, one.err clean office);
+    err = λ clean office is_open. (old, inl refl, one.err clean office);
     survives = one.survives;
   }
 
@@ -77,7 +85,7 @@ module _ {S : Type 0} {g : Ghosts S} {old new : Held S} where
   finds_from one follows = record {
     value = λ clean office machine sound stands. follows machine sound (one.value clean office machine sound stands);
     same = one.same;
-    err = λ clean office. tt;
+    err = λ clean office is_open. tt;
     survives = one.survives;
   }
 
@@ -102,14 +110,15 @@ module _ {S : Type 0} {g : Ghosts S} {old new : Held S} where
     survives = one.survives;
   })
 
-  -- memory ran out after look-ups that succeeded, one of which asked
+  -- memory ran out after look-ups that succeeded, or before one
   pub lacks_memory : {A B : Type 0} {Answer : Machine → A → Type 0} {Other : Machine → B → Type 0} {x : A} {r : Result B Error}
-      → Finds g Answer old new (Ok x) → (HasCleanDisk (state g new) → HasOffice old.schema → IsUnchanged (state g old) (state g new))
-      → r ≡ Err (SqliteFailure OutOfMemory) → Finds g Other old new r
-  lacks_memory {B = B} {Other = Other} one kept is = subst (λ (r : Result B Error). Finds g Other old new r) (sym is) (record {
+      → Finds g Answer old new (Ok x) → r ≡ Err (SqliteFailure OutOfMemory) → Finds g Other old new r
+  lacks_memory {B = B} {Other = Other} one is = subst (λ (r : Result B Error). Finds g Other old new r) (sym is) (record {
     value = λ clean office. tt;
     same = λ clean office. tt;
-    err = λ clean office. (old, inl refl, inr (inl (refl, kept clean office)));
+    err = λ clean office is_open.
+        let stays = one.same clean office in
+        (new, stays, inr (inl (refl, unchanged_itself (state g new) (stays-open g old new stays is_open))));
     survives = one.survives;
   })
 
@@ -119,7 +128,7 @@ pub finds_unasked : {S A : Type 0} {g : Ghosts S} {old : Held S} {Answer : Machi
 finds_unasked is = record {
   value = λ clean office machine sound stands. is machine sound;
   same = λ clean office. inl refl;
-  err = λ clean office. tt;
+  err = λ clean office is_open. tt;
   survives = record {
     clean = omega arith;
     shield = λ h. h;
@@ -157,7 +166,7 @@ module _ {S A : Type 0} {g : Ghosts S} {old mid : Held S} {First : Machine → A
         same = λ clean office.
             let stays = one.same (before clean) office in
             stays_then g old mid new stays (two.same clean (stays-schema g old mid stays office));
-        err = λ clean office. tt;
+        err = λ clean office is_open. tt;
         survives = then_survives new before two.survives;
       }
 
@@ -174,17 +183,8 @@ module _ {S A : Type 0} {g : Ghosts S} {old mid : Held S} {First : Machine → A
       record {
         value = λ clean office. tt;
         same = λ clean office. tt;
-        err = λ clean office.
+        err = λ clean office is_open.
             let stays = one.same (before clean) office in
-            later_fault new e stays (two.err clean (stays-schema g old mid stays office));
+            later_fault new e stays (two.err clean (stays-schema g old mid stays office) (stays-open g old mid stays is_open));
         survives = then_survives new before two.survives;
       })
-
-  -- one that asked, and then others, leave the database as it was
-  pub unchanged_after : {B : Type 0} {new : Held S} {Second : Machine → B → Type 0} {y : B}
-      → (HasCleanDisk (state g mid) → HasOffice old.schema → IsUnchanged (state g old) (state g mid))
-      → Finds g Second mid new (Ok y) → HasCleanDisk (state g new) → HasOffice old.schema → IsUnchanged (state g old) (state g new)
-  unchanged_after {new} kept two clean office =
-      let before : HasCleanDisk (state g new) → HasCleanDisk (state g mid) = λ clean. omega (arith, two.survives.clean, clean) in
-      unchanged_stays g old mid new (kept (before clean) office)
-      (two.same clean (stays-schema g old mid (one.same (before clean) office) office))

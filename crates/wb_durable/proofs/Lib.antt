@@ -4,6 +4,7 @@ pub mod AskLemmas
 pub mod CarryLemmas
 pub mod FileLemmas
 pub mod FindsLemmas
+pub mod KnownLemmas
 pub mod MergeAnswerLemmas
 pub mod MergeCarryLemmas
 pub mod MergePartLemmas

@@ -4,6 +4,7 @@ use Rattle.sqlite_trees.specs.declared.store.Store.{Ghosts}
 use Rattle.sqlite.specs.Held.{Held, state}
 use Rattle.sqlite.specs.State.{HasCleanDisk}
 use Rattle.wb_states.specs.declared.command.Part.{Part}
+use Rattle.wb_states.specs.declared.counts.Counts.{Counts}
 use Rattle.wb_states.specs.declared.refusal.Refusal.{Refusal}
 use Rattle.wb_states.specs.declared.reply.Reply.{Reply}
 use Rattle.wb_states.specs.Forms.{Merge}
@@ -19,7 +20,9 @@ use Rattle.wb_durable.specs.declared.carry.CarryError.{CarryError}
 use Rattle.wb_durable.specs.Answers.{AreParts, IsLeft, IsUncommitted, KeepsMerge, Answers}
 use Rattle.wb_durable.specs.MergeCarried.{CarriesMerge}
 use Rattle.wb_durable.specs.MergeWritten.{IsMergeIn}
-use Rattle.wb_durable.proofs.AnswerLemmas.{was_clean}
+use Rattle.wb_durable.specs.Opening.{AreCountsOf}
+use Rattle.wb_durable.proofs.AnswerLemmas.{counts_at, was_clean}
+use Rattle.wb_durable.proofs.MergeRecordLemmas.{merged_whole}
 
 module _ {S : Type 0} (g : Ghosts S) (sources : List ℕ) (parts : List Part) (old new : Held S) (before part after : Machine) where
   -- the part answers as the whole office
@@ -45,14 +48,17 @@ module _ {S : Type 0} (g : Ghosts S) (sources : List ℕ) (parts : List Part) (o
   }
 
   -- what a merge changed is kept, or it is not committed
-  pub kept_merge : {A : Type 0} {x : A} (reply : Reply) → Carries part after (Merge sources parts) (Ok reply) → HasUtf8Texts (Merge sources parts) → KeepsMerge {A = A} g sources parts before after old new (Ok x)
-      → Answers g (AreParts parts before part) (Merge sources parts) old new (Ok reply)
-  kept_merge reply carries utf8 keeps = record {
+  pub kept_merge : {A : Type 0} {x : A} (reply : Reply) (counts : Counts) → counts ≡ counts_at after → Carries part after (Merge sources parts) (Ok reply) → HasUtf8Texts (Merge sources parts)
+      → KeepsMerge {A = A} g sources parts before after old new (Ok x) → Answers g (AreParts parts before part) (Merge sources parts) old new (Ok (record { reply = reply; counts = counts }))
+  kept_merge reply counts counted carries utf8 keeps = record {
     was_clean = keeps.was_clean;
-    ok = λ clean machine consistent settled are. (
-      sym (answers_alike machine are) ∙ ap (λ (o : Outcome). o.0) carries.reply,
-      keeps.ok clean machine settled (merged_in machine reply are carries.reply),
-    );
+    ok = λ clean machine consistent settled are.
+        let merges = merged_in machine reply are carries.reply in (
+          sym (answers_alike machine are) ∙ ap (λ (o : Outcome). o.0) carries.reply,
+          keeps.ok clean machine settled merges,
+          subst (AreCountsOf (step machine (Merge sources parts)).1) (sym counted)
+              (ap (λ (m : Machine). m.handed) (merged_whole merges), ap (λ (m : Machine). m.accepted) (merged_whole merges)),
+        );
     err = λ clean machine consistent settled are. tt;
     utf8 = utf8;
   }

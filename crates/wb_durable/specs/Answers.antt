@@ -1,10 +1,13 @@
 -- What the office answers to a command that is carried out over its tables, and where it then stands.
 use Rattle.std.specs.Prelude.{◌≡◌, ◌⊎◌, ℕ, Bool, true, false, List, Option, Result, Ok, Err, IfOk, IfErr, OnOk}
+use Rattle.std.specs.FinMap as map
 use Rattle.sqlite_trees.specs.declared.store.Store.{Ghosts}
 use Rattle.sqlite.specs.Held.{Held, state}
 use Rattle.sqlite.specs.State.{HasCleanDisk}
+use Rattle.wb_states.specs.declared.arch.OsCpu.{OsCpu}
 use Rattle.wb_states.specs.declared.command.Command.{Command}
 use Rattle.wb_states.specs.declared.command.Part.{Part}
+use Rattle.wb_states.specs.declared.counts.Counts.{Counts}
 use Rattle.wb_states.specs.declared.reply.Reply.{Reply}
 use Rattle.wb_states.specs.declared.reply.Reply.TheVariants as is
 use Rattle.wb_states.specs.declared.refusal.Refusal.TheVariants.{Memory}
@@ -17,21 +20,18 @@ use Rattle.wb_office.specs.Named.{part_named}
 use Rattle.wb_office.specs.Step.{step}
 use Rattle.wb_office.specs.Utf8.{HasUtf8Texts}
 use Rattle.wb_tables.specs.Settled.{IsSettled, IsBackAt}
+use Rattle.wb_durable.specs.declared.answer.Answered.{Answered}
 use Rattle.wb_durable.specs.declared.answer.Failure.{Failure}
 use Rattle.wb_durable.specs.declared.answer.Failure.TheVariants.{Refused, Unread, Uncommitted}
+use Rattle.wb_durable.specs.declared.known.Known.{Known}
 use Rattle.wb_durable.specs.Carried.{LeavesAs, EndsFor}
 use Rattle.wb_durable.specs.Changed.{IsStepOf}
 use Rattle.wb_durable.specs.Finds.{FailsToFind}
 use Rattle.wb_durable.specs.Keys.{key_put}
 use Rattle.wb_durable.specs.MergeCarried.{MergeEndsFor}
 use Rattle.wb_durable.specs.MergeWritten.{IsMergeIn}
-
--- how many commands are accepted, as a reply says
-abbrev pub accepted_of : Reply → ℕ
-accepted_of (is.Done accepted) = accepted
-accepted_of (is.Job accepted given) = accepted
-accepted_of (is.Again accepted given) = accepted
-accepted_of (is.Merged accepted parts) = accepted
+use Rattle.wb_durable.specs.Opening.{AreCountsOf}
+use Rattle.wb_durable.specs.Standing.{Knows}
 
 -- whether a reply repeats an assignment, so that nothing is accepted
 abbrev pub is_again : Reply → Bool
@@ -39,6 +39,10 @@ is_again (is.Done accepted) = false
 is_again (is.Job accepted given) = false
 is_again (is.Again accepted given) = true
 is_again (is.Merged accepted parts) = false
+
+-- the state has these counts and these architectures
+abbrev pub AreOf : Counts → List (List ℕ × OsCpu) → Machine → Type 0
+AreOf counts archs machine = AreCountsOf machine counts × (archs ≡ map.entries machine.archs)
 
 -- this is the part of the office that the command names, and the key of the record that it puts
 abbrev pub IsNamed : Command → Machine → Option Key → Machine → Type 0
@@ -82,11 +86,23 @@ pub record KeepsMerge {S A : Type 0} (g : Ghosts S) (sources : List ℕ) (parts 
       → IfErr result (IsUncommitted g machine (Merge sources parts) old new)
 
 -- a command carried out over the tables of a consistent office of which this is true: the reply is that of the step, after which the tables are
--- settled at its state; or a failure leaves the office as above
-pub record Answers {S : Type 0} (g : Ghosts S) (Given : Machine → Type 0) (command : Command) (old new : Held S) (result : Result Reply Failure) : Type 0 where
+-- settled at its state, with these counts; or a failure leaves the office as above
+pub record Answers {S : Type 0} (g : Ghosts S) (Given : Machine → Type 0) (command : Command) (old new : Held S) (result : Result Answered Failure) : Type 0 where
   pub was_clean : HasCleanDisk (state g new) → HasCleanDisk (state g old)
   pub ok : HasCleanDisk (state g new) → (machine : Machine) → IsConsistent machine → IsSettled machine (state g old) → Given machine
-      → IfOk result (λ reply. ((step machine command).0 ≡ Ok reply) × IsSettled (step machine command).1 (state g new))
+      → IfOk result (λ answered. ((step machine command).0 ≡ Ok answered.reply) × IsSettled (step machine command).1 (state g new)
+      × AreCountsOf (step machine command).1 answered.counts)
   pub err : HasCleanDisk (state g new) → (machine : Machine) → IsConsistent machine → IsSettled machine (state g old) → Given machine
       → IfErr result (IsLeft g machine command old new)
+  pub utf8 : OnOk result (HasUtf8Texts command)
+
+-- a command carried out over the tables of a consistent office by what is known of them: the reply is that of the step, after which they are
+-- settled at its state, and what is known then is so there; or a failure leaves the office as above, and what is known is so as before
+pub record Responds {S : Type 0} (g : Ghosts S) (command : Command) (was_known : Known) (old : Held S) (known : Known) (new : Held S)
+    (result : Result Reply Failure) : Type 0 where
+  pub was_clean : HasCleanDisk (state g new) → HasCleanDisk (state g old)
+  pub ok : HasCleanDisk (state g new) → (machine : Machine) → IsConsistent machine → IsSettled machine (state g old) → Knows machine was_known
+      → IfOk result (λ reply. ((step machine command).0 ≡ Ok reply) × IsSettled (step machine command).1 (state g new) × Knows (step machine command).1 known)
+  pub err : HasCleanDisk (state g new) → (machine : Machine) → IsConsistent machine → IsSettled machine (state g old) → Knows machine was_known
+      → IfErr result (λ failure. IsLeft g machine command old new failure × Knows machine known)
   pub utf8 : OnOk result (HasUtf8Texts command)

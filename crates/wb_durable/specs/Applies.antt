@@ -1,5 +1,5 @@
 -- What an office over tables answers to a command, and how it stands then.
-use Rattle.std.specs.Prelude.{◌≡◌, ◌≢◌, ◌⊎◌, ℕ, Bool, true, false, [], Result, Ok, Err, IfOk, IfErr, IsTrue}
+use Rattle.std.specs.Prelude.{◌≡◌, ◌≢◌, ◌⊎◌, Bool, true, false, [], Result, Ok, Err, IfOk, IfErr, IsTrue}
 use Rattle.sqlite_trees.specs.declared.store.Store.{Ghosts}
 use Rattle.sqlite.specs.declared.error.Error.{Error}
 use Rattle.sqlite.specs.Held.{Held, state}
@@ -20,8 +20,9 @@ use Rattle.wb_tables.specs.Settled.{IsBackAt, LeavesEither}
 use Rattle.wb_durable.specs.declared.answer.Failure.{Failure}
 use Rattle.wb_durable.specs.declared.answer.Failure.TheVariants.{Refused, Unread, Uncommitted}
 use Rattle.wb_durable.specs.declared.carry.CarryError.TheVariants.{TakenBack, RollBackFailed, InDoubt}
+use Rattle.wb_durable.specs.declared.known.Known.{Known}
 use Rattle.wb_durable.specs.Answers.{IsLeft}
-use Rattle.wb_durable.specs.Standing.{StandsAt}
+use Rattle.wb_durable.specs.Standing.{Knows, StandsAt}
 
 -- the refusal for a fault of the store: out of memory is a refusal of its own
 abbrev pub refusal_for : StoreFault → Refusal
@@ -70,14 +71,15 @@ pub record Ends {S : Type 0} (g : Ghosts S) (failure : Failure) (old new : Held 
 -- changes nothing; out of memory, it stands as before, and is closed only if its connection cannot be used on, or the transaction could not be taken
 -- back; after a fault of the store it is closed, and the command stands whole or not at all; and a closed office, and no other, answers that it is
 -- closed
-pub record Applies {S : Type 0} (g : Ghosts S) (command : Command) (was_closed : Bool) (counted : ℕ) (old : Held S) (is_closed : Bool) (counts : ℕ) (new : Held S) (result : Result Reply Refusal) : Type 0 where
+pub record Applies {S : Type 0} (g : Ghosts S) (command : Command) (was_closed : Bool) (was_known : Known) (old : Held S) (is_closed : Bool) (known : Known) (new : Held S)
+    (result : Result Reply Refusal) : Type 0 where
   pub was_clean : HasCleanDisk (state g new) → HasCleanDisk (state g old)
-  pub shut : was_closed ≡ true → (result ≡ Err Closed) × (is_closed ≡ true) × (counts ≡ counted) × (new ≡ old)
-  pub reply : HasCleanDisk (state g new) → (machine : Machine) → StandsAt machine was_closed counted (state g old)
-      → IfOk result (λ reply. ((step machine command).0 ≡ Ok reply) × StandsAt (step machine command).1 is_closed counts (state g new) × (is_closed ≡ false))
-  pub refused : HasCleanDisk (state g new) → (machine : Machine) → StandsAt machine was_closed counted (state g old) → was_closed ≡ false
-      → IfErr result (λ refusal. IsRefusedIn g machine command is_closed new refusal × (counts ≡ counted))
-  pub cause : HasCleanDisk (state g new) → (machine : Machine) → StandsAt machine was_closed counted (state g old) → was_closed ≡ false
+  pub shut : was_closed ≡ true → (result ≡ Err Closed) × (is_closed ≡ true) × (known ≡ was_known) × (new ≡ old)
+  pub reply : HasCleanDisk (state g new) → (machine : Machine) → StandsAt machine was_closed was_known (state g old)
+      → IfOk result (λ reply. ((step machine command).0 ≡ Ok reply) × StandsAt (step machine command).1 is_closed known (state g new) × (is_closed ≡ false))
+  pub refused : HasCleanDisk (state g new) → (machine : Machine) → StandsAt machine was_closed was_known (state g old) → was_closed ≡ false
+      → IfErr result (λ refusal. IsRefusedIn g machine command is_closed new refusal × Knows machine known)
+  pub cause : HasCleanDisk (state g new) → (machine : Machine) → StandsAt machine was_closed was_known (state g old) → was_closed ≡ false
       → IfErr result (λ refusal. (failure : Failure) × (at : Held S) × IsLeft g machine command old at failure × (refusal ≡ refusal_of failure)
       × (refusal ≡ Memory → is_closed ≡ true → MustClose g failure at new))
 

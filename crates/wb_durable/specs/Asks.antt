@@ -1,5 +1,5 @@
 -- What an office over tables answers to a query, and how it stands then.
-use Rattle.std.specs.Prelude.{◌≡◌, ◌⊎◌, ℕ, Bool, true, false, Result, Err, IsTrue}
+use Rattle.std.specs.Prelude.{◌≡◌, ◌⊎◌, Bool, true, false, Result, Err, IsTrue}
 use Rattle.sqlite_trees.specs.declared.store.Store.{Ghosts}
 use Rattle.sqlite.specs.declared.error.Error.{Error}
 use Rattle.sqlite.specs.Held.{Held, state}
@@ -12,6 +12,7 @@ use Rattle.wb_office.specs.declared.query.Answer.{Answer}
 use Rattle.wb_office.specs.Ends.{is_of_store}
 use Rattle.wb_tables.specs.Faults.{fault_of}
 use Rattle.wb_tables.specs.Settled.{IsSettled, IsBackAt}
+use Rattle.wb_durable.specs.declared.known.Known.{Known}
 use Rattle.wb_durable.specs.Applies.{CannotBeUsed, refusal_for}
 use Rattle.wb_durable.specs.Finds.{FailsToFind}
 use Rattle.wb_durable.specs.Standing.{StandsAt}
@@ -46,11 +47,11 @@ IsAskedAt g answer_of machine old is_closed new result =
 
 -- an office over tables is asked a query with this answer of its state, by names of which one may be malformed: a closed office, and no other,
 -- answers that it is closed; and memory runs out for no malformed name
-pub record Asks {S : Type 0} (g : Ghosts S) (answer_of : Machine → Result Answer Refusal) (is_bad : Bool) (was_closed : Bool) (counted : ℕ) (old : Held S)
-    (is_closed : Bool) (counts : ℕ) (new : Held S) (result : Result Answer Refusal) : Type 0 where
+pub record Asks {S : Type 0} (g : Ghosts S) (answer_of : Machine → Result Answer Refusal) (is_bad : Bool) (was_closed : Bool) (was_known : Known) (old : Held S)
+    (is_closed : Bool) (known : Known) (new : Held S) (result : Result Answer Refusal) : Type 0 where
   pub was_clean : HasCleanDisk (state g new) → HasCleanDisk (state g old)
-  pub same : counts ≡ counted
+  pub same : known ≡ was_known
   pub shut : was_closed ≡ true → (result ≡ Err Closed) × (is_closed ≡ true) × (new ≡ old)
   pub memory : result ≡ Err Memory → is_bad ≡ false
-  pub asked : HasCleanDisk (state g new) → (machine : Machine) → StandsAt machine was_closed counted (state g old) → was_closed ≡ false
+  pub asked : HasCleanDisk (state g new) → (machine : Machine) → StandsAt machine was_closed was_known (state g old) → was_closed ≡ false
       → IsAskedAt g answer_of machine old is_closed new result

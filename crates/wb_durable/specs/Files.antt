@@ -1,5 +1,5 @@
 -- An office over two files, the database and its log: what is found in them, and why they are not opened or closed.
-use Rattle.std.specs.Prelude.{◌≡◌, ◌⊎◌, ℕ, Bool, []}
+use Rattle.std.specs.Prelude.{◌≡◌, ◌⊎◌, Bool, []}
 use Rattle.sqlite_disk.specs.declared.Disk.{Ghosts}
 use Rattle.sqlite_disk.specs.declared.Files.{Files}
 use Rattle.sqlite_store.specs.declared.store.FileStore.{FileStore}
@@ -19,6 +19,7 @@ use Rattle.wb_states.specs.declared.store_fault.StoreFault.TheVariants.{Device, 
 use Rattle.wb_states.specs.declared.store_fault.Table.TheVariants.{Office}
 use Rattle.wb_states.specs.Machine.{Machine}
 use Rattle.wb_tables.specs.Faults.{fault_of}
+use Rattle.wb_durable.specs.declared.known.Known.{Known}
 use Rattle.wb_durable.specs.Opening.{IsRefusedFrom}
 use Rattle.wb_durable.specs.Preparing.{HoldOffice, IsFoundAt}
 use Rattle.wb_durable.specs.Standing.{StandsAt}
@@ -47,8 +48,8 @@ abbrev pub AreNew : {D : Type 0} → Ghosts D → Files D → Type 0
 AreNew g files = g.seen files.db ≡ []
 
 -- an office stands at the one state or at the other
-abbrev pub StandsAtOne : Machine → Machine → Bool → ℕ → State → Type 0
-StandsAtOne one other is_closed accepted s = ∥ (StandsAt one is_closed accepted s ⊎ StandsAt other is_closed accepted s) ∥₁
+abbrev pub StandsAtOne : Machine → Machine → Bool → Known → State → Type 0
+StandsAtOne one other is_closed known s = ∥ (StandsAt one is_closed known s ⊎ StandsAt other is_closed known s) ∥₁
 
 -- the files were not opened as a database, because of the error that has this fault, and what they hold was left
 pub record FailsToOpen {D : Type 0} (g : Ghosts D) (files : Files D) (fault : StoreFault) : Type 0 where

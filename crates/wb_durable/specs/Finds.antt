@@ -1,5 +1,5 @@
 -- What several look-ups in the office's tables, one after another, promise together.
-use Rattle.std.specs.Prelude.{◌≡◌, ◌⊎◌, Result, IfOk, IfErr, OnOk}
+use Rattle.std.specs.Prelude.{◌≡◌, ◌⊎◌, Result, IfOk, IfErr, IsTrue, OnOk}
 use Rattle.sqlite_trees.specs.declared.store.Store.{Ghosts}
 use Rattle.sqlite.specs.declared.error.Error.{Error}
 use Rattle.sqlite.specs.Held.{Held, state}
@@ -18,10 +18,11 @@ abbrev pub FailsToFind : {S : Type 0} → Ghosts S → Held S → Held S → Err
 FailsToFind {S} g old new e = (mid : Held S) × StaysAs g old mid × FailsToLookUp (state g mid) (state g new) e
 
 -- look-ups, one after another: if they succeed, the answer is that of the state of a consistent office for which the database stands, and the
--- database stays as it is; if they fail, one of them did, after others that changed nothing; and a crash leaves no more than before
+-- database stays as it is; if they fail over an open connection, one of them did, after others that changed nothing; and a crash leaves no more
+-- than before
 pub record Finds {S A : Type 0} (g : Ghosts S) (Answer : Machine → A → Type 0) (old new : Held S) (result : Result A Error) : Type 0 where
   pub value : HasCleanDisk (state g new) → HasOffice old.schema
       → IfOk result (λ answer. (machine : Machine) → IsConsistent machine → StandsFor machine (state g old).now → Answer machine answer)
   pub same : HasCleanDisk (state g new) → HasOffice old.schema → OnOk result (StaysAs g old new)
-  pub err : HasCleanDisk (state g new) → HasOffice old.schema → IfErr result (FailsToFind g old new)
+  pub err : HasCleanDisk (state g new) → HasOffice old.schema → IsTrue (state g old).is_open → IfErr result (FailsToFind g old new)
   pub survives : Survives (state g old) (state g new) (λ _. ¬ HasOffice old.schema)

@@ -14,7 +14,7 @@ HasCleanFiles office = HasCleanDisk (file_state office.conn)
 
 -- the office stands at this state
 abbrev pub IsAt : {D : Type 0} {g : Ghosts D} → Office (FileStore D g) → Machine → Type 0
-IsAt office machine = StandsAt machine office.is_closed office.accepted (file_state office.conn)
+IsAt office machine = StandsAt machine office.is_closed office.known (file_state office.conn)
 
 -- the office answers commands: no fault of its store has closed it
 abbrev pub IsOpenOffice : {D : Type 0} {g : Ghosts D} → Office (FileStore D g) → Type 0

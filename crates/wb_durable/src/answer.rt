@@ -1,17 +1,18 @@
 //! What the office answers to one command over its tables: what the command names is read, the command is carried out
 //! on that part of the office in memory, and what it changed is written in one transaction.
-ghost use Rattle.std.specs.Prelude.{◌≡◌, ⊤, None, false};
+ghost use Rattle.std.specs.Prelude.{◌≡◌, None};
 ghost use Rattle.wb_office.specs.Arguments.{arguments_of};
-ghost use Rattle.wb_durable.specs.Answers.{Answers, IsNamed, KeepsStep, is_again};
+ghost use Rattle.wb_durable.specs.Answers.{AreOf, Answers, IsNamed, KeepsStep, Responds, is_again};
 
 use crate::carry::{CarryError, carry};
+use crate::known::{Known, find_archs, learn};
 use crate::merging::answer_merge;
 use crate::named::{Named, named_part};
 use deb_text::Text;
 use sqlite::{Alter, Connection, Error, ErrorCode};
 use std::alloc::Global;
 use wb_office::carry_out;
-use wb_states::{Command, Refusal, Reply};
+use wb_states::{Command, Counts, OsCpu, Refusal, Reply};
 use wb_store::Store;
 
 /// Why a command is not carried out.
@@ -25,30 +26,65 @@ pub(crate) enum Failure {
     Uncommitted(CarryError),
 }
 
-/// Carries out a command.
+/// The answer to a command that is carried out.
+#[derive(Drop)]
+pub(crate) struct Answered {
+    /// What is answered.
+    pub(crate) reply: Reply,
+    /// The two counts of the office then.
+    pub(crate) counts: Counts,
+}
+
+/// Carries out a command by what is known of the tables, and takes over what is known then.
 pub(crate) fn answer<S: Alter>(
     alloc: Global,
     conn: &mut Connection<S>,
+    known: &mut Known,
     command: &Command,
 ) -> Result<Reply, Failure>
-    ensures answers { Answers S.Store (λ _. ⊤) command.now conn.old conn.new result }
+    ensures responds { Responds S.Store command.now known.old conn.old known.new conn.new result }
+{
+    let archs = match find_archs(alloc, conn, known) {
+        Ok(archs) => archs,
+        Err(error) => return Err(Failure::Unread(error)),
+    };
+    match answer_of(alloc, conn, known.counts, archs, command) {
+        Ok(Answered { reply, counts }) => {
+            learn(known, command, counts);
+            Ok(reply)
+        }
+        Err(failure) => Err(failure),
+    }
+}
+
+/// Carries out a command in an office that has these counts and architectures.
+fn answer_of<S: Alter>(
+    alloc: Global,
+    conn: &mut Connection<S>,
+    counts: Counts,
+    archs: Vec<(Text, OsCpu)>,
+    command: &Command,
+) -> Result<Answered, Failure>
+    ensures answers { Answers S.Store (AreOf counts archs.items) command.now conn.old conn.new result }
 {
     match command {
-        Command::Merge(merge) => answer_merge(alloc, conn, command, merge),
-        _ => answer_one(alloc, conn, command),
+        Command::Merge(merge) => answer_merge(alloc, conn, counts, &archs, command, merge),
+        _ => answer_one(alloc, conn, counts, archs, command),
     }
 }
 
 /// Carries out a command that is no merge.
-pub(crate) fn answer_one<S: Alter>(
+fn answer_one<S: Alter>(
     alloc: Global,
     conn: &mut Connection<S>,
+    counts: Counts,
+    archs: Vec<(Text, OsCpu)>,
     command: &Command,
-) -> Result<Reply, Failure>
+) -> Result<Answered, Failure>
     requires single { (arguments_of command.now).merge ≡ None }
-    ensures answers { Answers S.Store (λ _. ⊤) command.now conn.old conn.new result }
+    ensures answers { Answers S.Store (AreOf counts archs.items) command.now conn.old conn.new result }
 {
-    match named_part(alloc, conn, command) {
+    match named_part(alloc, conn, counts, archs, command) {
         Ok(named) => answer_in(alloc, conn, command, named),
         Err(error) => Err(Failure::Unread(error)),
     }
@@ -60,7 +96,7 @@ fn answer_in<S: Alter>(
     conn: &mut Connection<S>,
     command: &Command,
     named: Named,
-) -> Result<Reply, Failure>
+) -> Result<Answered, Failure>
     requires single { (arguments_of command.now).merge ≡ None }
     ensures answers { Answers S.Store (IsNamed command.now named.part named.key) command.now conn.old conn.new result }
 {
@@ -69,12 +105,23 @@ fn answer_in<S: Alter>(
         Ok(reply) => reply,
         Err(refusal) => return Err(Failure::Refused(refusal)),
     };
+    let counts = counts_in(&part);
     if is_again(&reply) {
-        return Ok(reply);
+        return Ok(Answered { reply, counts });
     }
     match keep(conn, command, &key, &part) {
-        Ok(()) => Ok(reply),
+        Ok(()) => Ok(Answered { reply, counts }),
         Err(failure) => Err(failure),
+    }
+}
+
+/// The two counts of a part of the office, which are those of the whole one.
+pub(crate) fn counts_in(part: &Store) -> Counts
+    ensures value { result ≡ record { handed = part.now.handed; accepted = part.now.accepted } }
+{
+    match part.office_row() {
+        Ok(counts) => counts,
+        Err(_) => unreachable!(),
     }
 }
 

@@ -6,6 +6,7 @@ mod answer;
 mod carry;
 mod change;
 mod fault;
+mod known;
 mod merge;
 mod merge_part;
 mod merging;

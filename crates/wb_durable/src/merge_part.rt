@@ -1,17 +1,18 @@
 //! What a merge looks at of an office, read from its tables.
 ghost use Rattle.std.specs.Prelude.{◌≡◌, ◌++◌, OnOk, map as each};
-ghost use Rattle.sqlite.specs.Held.{state};
-ghost use Rattle.sqlite.specs.State.{HasCleanDisk, IsUnchanged};
-ghost use Rattle.wb_schema.specs.Among.{HasOffice};
 ghost use Rattle.wb_store.specs.Lookups.{entry_of};
 ghost use Rattle.wb_office.specs.MergedParts.{part_for_merge};
+ghost use Rattle.wb_durable.specs.Answers.{AreOf};
 ghost use Rattle.wb_durable.specs.Finds.{Finds};
 ghost use Rattle.wb_durable.specs.MergePart.{HasFoundParts, rows_of_parts};
 
+use crate::known::copied;
 use crate::named::{Found, part_of};
+use deb_text::Text;
 use sqlite::{Alter, Connection, Error, ErrorCode};
 use std::alloc::{AllocError, Global};
 use wb_states::command::Part;
+use wb_states::{Counts, OsCpu};
 use wb_store::{KeyedRecord, Store};
 
 /// Adds these records after the others. The only error is that there is no memory for it.
@@ -43,17 +44,21 @@ fn find_rows<S: Alter>(
     Ok(rows)
 }
 
-/// What a merge of these parts looks at, as it is found in the tables. The errors are those of the look-ups, and the
-/// database stays as it is, but for a transaction that a failed query takes back.
-fn find<S: Alter>(alloc: Global, conn: &mut Connection<S>, parts: &[Part]) -> Result<Found, Error>
-    ensures finds { Finds S.Store (λ machine found.
-        HasFoundParts machine parts.now found) conn.old conn.new result }
-    ensures same { HasCleanDisk (state S.Store conn.new) → HasOffice conn.old.schema
-        → OnOk result (IsUnchanged (state S.Store conn.old) (state S.Store conn.new)) }
+/// What a merge of these parts looks at of an office that has these counts and architectures, as it is found in the
+/// tables. The errors are those of the look-ups, and `OutOfMemory`, and the database stays as it is, but for a
+/// transaction that a failed query takes back.
+fn find<S: Alter>(
+    alloc: Global,
+    conn: &mut Connection<S>,
+    counts: Counts,
+    archs: &[(Text, OsCpu)],
+    parts: &[Part],
+) -> Result<Found, Error>
+    ensures finds { Finds S.Store (λ machine found. AreOf counts archs.now machine
+        → HasFoundParts machine parts.now found) conn.old conn.new result }
 {
-    let counts = wb_tables::counts(conn)?;
-    let archs = wb_tables::archs(conn)?;
     let others = find_rows(alloc, conn, parts)?;
+    let archs = copied(alloc, archs)?;
     Ok(Found {
         counts,
         archs,
@@ -63,20 +68,22 @@ fn find<S: Alter>(alloc: Global, conn: &mut Connection<S>, parts: &[Part]) -> Re
     })
 }
 
-/// The part of the office that a merge of these parts looks at, read from its tables: the counts, all architectures,
-/// the records of the architectures of the parts, and their holders. It fails if a query fails, with `OutOfMemory` if
-/// memory runs out, and with `DatabaseCorrupt` if a row is not what an office keeps. The database stays as it is; only
-/// a failed query may take a transaction back.
+/// The part that a merge of these parts looks at of an office that has these counts and architectures: they, and, read
+/// from the tables, the records of the architectures of the parts, and their holders. It fails if a query fails, with
+/// `OutOfMemory` if memory runs out, and with `DatabaseCorrupt` if a row is not what an office keeps. The database
+/// stays as it is; only a failed query may take a transaction back.
 /// Source: this project's own.
 pub(crate) fn part_for_merge<S: Alter>(
     alloc: Global,
     conn: &mut Connection<S>,
+    counts: Counts,
+    archs: &[(Text, OsCpu)],
     parts: &[Part],
 ) -> Result<Store, Error>
-    ensures finds { Finds S.Store (λ machine part.
-        part ≡ part_for_merge machine parts.now) conn.old conn.new result }
+    ensures finds { Finds S.Store (λ machine part. AreOf counts archs.now machine
+        → part ≡ part_for_merge machine parts.now) conn.old conn.new result }
 {
-    let found = find(alloc, conn, parts)?;
+    let found = find(alloc, conn, counts, archs, parts)?;
     match part_of(alloc, found) {
         Ok(part) => Ok(part),
         Err(_) => Err(Error::SqliteFailure(ErrorCode::OutOfMemory)),

@@ -1,32 +1,35 @@
 //! What the office answers to a merge over its tables: the part of the office that the merge looks at is read, the merge
 //! is carried out on it in memory, and what differs is written in one transaction.
-ghost use Rattle.std.specs.Prelude.{◌≡◌, ⊤};
+ghost use Rattle.std.specs.Prelude.{◌≡◌};
 ghost use Rattle.wb_states.specs.declared.command.Command.TheVariants as of;
 ghost use Rattle.wb_office.specs.MergedParts.{part_for_merge};
-ghost use Rattle.wb_durable.specs.Answers.{Answers, AreParts, KeepsMerge};
+ghost use Rattle.wb_durable.specs.Answers.{Answers, AreOf, AreParts, KeepsMerge};
 
-use crate::answer::Failure;
+use crate::answer::{Answered, Failure, counts_in};
 use crate::merge::carry_merge;
 use crate::merge_part::part_for_merge;
+use deb_text::Text;
 use sqlite::{Alter, Connection, Error, ErrorCode};
 use std::alloc::Global;
 use wb_office::carry_out;
 use wb_states::command::Merge;
-use wb_states::{Command, Reply};
+use wb_states::{Command, Counts, OsCpu};
 use wb_store::Store;
 
 /// Carries out a merge. The records of its architectures are read twice, to find afterwards which of them differ.
 pub(crate) fn answer_merge<S: Alter>(
     alloc: Global,
     conn: &mut Connection<S>,
+    counts: Counts,
+    archs: &[(Text, OsCpu)],
     command: &Command,
     merge: &Merge,
-) -> Result<Reply, Failure>
+) -> Result<Answered, Failure>
     requires same { command.now ≡ of.Merge merge.now }
-    ensures answers { Answers S.Store (λ _. ⊤) (of.Merge merge.now) conn.old conn.new result }
+    ensures answers { Answers S.Store (AreOf counts archs.now) (of.Merge merge.now) conn.old conn.new result }
 {
-    match part_for_merge(alloc, conn, merge.parts.as_slice()) {
-        Ok(before) => merge_beside(alloc, conn, command, merge, &before),
+    match part_for_merge(alloc, conn, counts, archs, merge.parts.as_slice()) {
+        Ok(before) => merge_beside(alloc, conn, counts, archs, command, merge, &before),
         Err(error) => Err(Failure::Unread(error)),
     }
 }
@@ -35,15 +38,17 @@ pub(crate) fn answer_merge<S: Alter>(
 fn merge_beside<S: Alter>(
     alloc: Global,
     conn: &mut Connection<S>,
+    counts: Counts,
+    archs: &[(Text, OsCpu)],
     command: &Command,
     merge: &Merge,
     before: &Store,
-) -> Result<Reply, Failure>
+) -> Result<Answered, Failure>
     requires same { command.now ≡ of.Merge merge.now }
-    ensures answers { Answers S.Store (λ machine. before.now ≡ part_for_merge machine merge.now.parts)
-        (of.Merge merge.now) conn.old conn.new result }
+    ensures answers { Answers S.Store (λ machine. AreOf counts archs.now machine
+        × (before.now ≡ part_for_merge machine merge.now.parts)) (of.Merge merge.now) conn.old conn.new result }
 {
-    match part_for_merge(alloc, conn, merge.parts.as_slice()) {
+    match part_for_merge(alloc, conn, counts, archs, merge.parts.as_slice()) {
         Ok(part) => merge_in(alloc, conn, command, merge, before, part),
         Err(error) => Err(Failure::Unread(error)),
     }
@@ -57,7 +62,7 @@ fn merge_in<S: Alter>(
     merge: &Merge,
     before: &Store,
     part: Store,
-) -> Result<Reply, Failure>
+) -> Result<Answered, Failure>
     requires same { command.now ≡ of.Merge merge.now }
     ensures answers { Answers S.Store (AreParts merge.now.parts before.now part)
         (of.Merge merge.now) conn.old conn.new result }
@@ -67,8 +72,9 @@ fn merge_in<S: Alter>(
         Ok(reply) => reply,
         Err(refusal) => return Err(Failure::Refused(refusal)),
     };
+    let counts = counts_in(&after);
     match keep_merge(alloc, conn, merge, before, &after) {
-        Ok(()) => Ok(reply),
+        Ok(()) => Ok(Answered { reply, counts }),
         Err(failure) => Err(failure),
     }
 }

@@ -2,10 +2,9 @@
 ghost use Rattle.std.specs.Prelude.{◌≡◌, IfOk, IfErr};
 ghost use Rattle.std.specs.Option.{option_map};
 ghost use Rattle.wb_states.specs.declared.store_fault.StoreFault.TheVariants.{Memory};
-ghost use Rattle.wb_office.specs.Named.{part_named};
 ghost use Rattle.wb_store.specs.Lookups.{entry_of};
+ghost use Rattle.wb_durable.specs.Answers.{AreOf, IsNamed};
 ghost use Rattle.wb_durable.specs.Finds.{Finds};
-ghost use Rattle.wb_durable.specs.Keys.{key_put};
 ghost use Rattle.wb_durable.specs.Sought.{key_named, office_of};
 
 mod found;
@@ -19,7 +18,7 @@ use names::{Names, key_of, names_of};
 pub(crate) use part::part_of;
 use sqlite::{Alter, Connection, Error, ErrorCode};
 use std::alloc::Global;
-use wb_states::{Command, StoreFault};
+use wb_states::{Command, Counts, OsCpu, StoreFault};
 use wb_store::Store;
 
 /// What a command names of an office: as much of it as decides the answer.
@@ -45,20 +44,23 @@ fn named_of(alloc: Global, names: &Names<'_>, found: Found) -> Result<Named, Sto
     })
 }
 
-/// What the command names of the office, read from its tables; for a merge that is the counts and the architectures
-/// alone. It fails if a query fails, with `OutOfMemory` if memory runs out, and with `DatabaseCorrupt` if a row is not
-/// what an office keeps. The database stays as it is; only a failed query may take a transaction back.
+/// What the command names of an office that has these counts and architectures: they, and what is read from the tables;
+/// for a merge that is nothing. It fails if a query fails, with `OutOfMemory` if memory runs out, and with
+/// `DatabaseCorrupt` if a row is not what an office keeps. The database stays as it is; only a failed query may take a
+/// transaction back.
 /// Source: this project's own.
 pub(crate) fn named_part<S: Alter>(
     alloc: Global,
     conn: &mut Connection<S>,
+    counts: Counts,
+    archs: Vec<(Text, OsCpu)>,
     command: &Command,
 ) -> Result<Named, Error>
-    ensures finds { Finds S.Store (λ machine named. (named.part ≡ part_named machine command.now)
-        × (named.key ≡ key_put machine command.now)) conn.old conn.new result }
+    ensures finds { Finds S.Store (λ machine named. AreOf counts archs.items machine
+        → IsNamed command.now named.part named.key machine) conn.old conn.new result }
 {
     let names = names_of(command);
-    let found = find(alloc, conn, command, &names)?;
+    let found = find(alloc, conn, counts, archs, command, &names)?;
     match named_of(alloc, &names, found) {
         Ok(named) => Ok(named),
         Err(_) => Err(Error::SqliteFailure(ErrorCode::OutOfMemory)),

@@ -16,7 +16,6 @@ ghost use Rattle.wb_durable.specs.Files.{AreFoundAt, AreNew, FailsToOpen, IsFaul
 ghost use Rattle.wb_durable.specs.Files.{LeaveOffice, StandsAtOne};
 ghost use Rattle.wb_durable.specs.Preparing.{IsFoundAt};
 ghost use Rattle.wb_durable.specs.declared.answer.Failure.TheVariants.{Uncommitted};
-ghost use Rattle.wb_durable.specs.Answers.{accepted_of};
 ghost use Rattle.wb_office.specs.Checks.{has_bad_key};
 ghost use Rattle.wb_office.specs.Ends.{is_of_store};
 ghost use Rattle.wb_office.specs.Queries.{item_of, mine_of};
@@ -27,6 +26,7 @@ ghost use Rattle.wb_durable.specs.Standing.{LeavesOne, StandsAt};
 use crate::answer::{Failure, answer};
 use crate::carry::CarryError;
 use crate::fault::opening_fault;
+use crate::known::Known;
 use crate::opening::find_office;
 use crate::query::{builder_of, find_item, find_mine, key_of};
 use sqlite::{Alter, Connection, FileStore, Files, Options};
@@ -42,7 +42,7 @@ use wb_tables::fault_of;
 pub struct Office<S: Alter + Drop> {
     alloc: Global,
     conn: Connection<S>,
-    accepted: u64,
+    known: Known,
     is_closed: bool,
 }
 
@@ -61,7 +61,7 @@ impl<S: Alter + Drop> Office<S> {
         ensures opened { IfOk result (λ office. office.is_closed ≡ false) }
         ensures found { IfOk result (λ office. HasCleanDisk (state S.Store office.conn)
             → (machine : Machine) → IsFoundAt machine (state S.Store conn)
-            → StandsAt machine office.is_closed office.accepted (state S.Store office.conn)) }
+            → StandsAt machine office.is_closed office.known (state S.Store office.conn)) }
         ensures good { IfOk result (λ office. HasCleanDisk (state S.Store office.conn)
             → HasOffice conn.schema
             → HasGoodRows (state S.Store conn).now × HasNoScratchRows (state S.Store conn).now) }
@@ -75,7 +75,10 @@ impl<S: Alter + Drop> Office<S> {
             Ok(counts) => Ok(Office {
                 alloc,
                 conn,
-                accepted: counts.accepted,
+                known: Known {
+                    counts,
+                    archs: None,
+                },
                 is_closed: false,
             }),
             Err(fault) => Err(fault),
@@ -97,17 +100,14 @@ impl<S: Alter + Drop> Office<S> {
     /// was too, but is closed if the transaction could not be taken back. After `Store` it is closed, and a crash
     /// leaves the command whole or not at all. A closed office answers `Closed` to each command (this project's own).
     pub fn apply(&mut self, command: &Command) -> Result<Reply, Refusal>
-        ensures applies { Applies S.Store command.now self.old.is_closed self.old.accepted self.old.conn
-            self.new.is_closed self.new.accepted self.new.conn result }
+        ensures applies { Applies S.Store command.now self.old.is_closed self.old.known self.old.conn
+            self.new.is_closed self.new.known self.new.conn result }
     {
         if self.is_closed {
             return Err(Refusal::Closed);
         }
-        match answer(self.alloc, &mut self.conn, command) {
-            Ok(reply) => {
-                self.accepted = accepted_in(&reply);
-                Ok(reply)
-            }
+        match answer(self.alloc, &mut self.conn, &mut self.known, command) {
+            Ok(reply) => Ok(reply),
             Err(failure) => {
                 let (refusal, is_closed) = end(&mut self.conn, failure);
                 self.is_closed = is_closed;
@@ -123,8 +123,8 @@ impl<S: Alter + Drop> Office<S> {
     /// office is then closed if its connection cannot be used on. After `Store` it is closed (this project's own).
     pub fn item(&mut self, arch: &str, source: &str) -> Result<Answer, Refusal>
         ensures asks { Asks S.Store (λ machine. item_of machine arch.now source.now)
-            (has_bad_key arch.now source.now) self.old.is_closed self.old.accepted self.old.conn
-            self.new.is_closed self.new.accepted self.new.conn result }
+            (has_bad_key arch.now source.now) self.old.is_closed self.old.known self.old.conn
+            self.new.is_closed self.new.known self.new.conn result }
     {
         if self.is_closed {
             return Err(Refusal::Closed);
@@ -150,8 +150,8 @@ impl<S: Alter + Drop> Office<S> {
     /// cannot be used on. After `Store` it is closed (this project's own).
     pub fn mine(&mut self, builder: &str) -> Result<Answer, Refusal>
         ensures asks { Asks S.Store (λ machine. mine_of machine builder.now)
-            (not (is_builder_name builder.now)) self.old.is_closed self.old.accepted self.old.conn
-            self.new.is_closed self.new.accepted self.new.conn result }
+            (not (is_builder_name builder.now)) self.old.is_closed self.old.known self.old.conn
+            self.new.is_closed self.new.known self.new.conn result }
     {
         if self.is_closed {
             return Err(Refusal::Closed);
@@ -185,12 +185,12 @@ impl<D: Disk + Drop> Office<FileStore<D>> {
         ensures opened { IfOk result (λ office. office.is_closed ≡ false) }
         ensures found { IfOk result (λ office. HasCleanDisk (file_state office.conn)
             → (machine : Machine) → AreFoundAt D.Disk files machine
-            → StandsAt machine office.is_closed office.accepted (file_state office.conn)) }
+            → StandsAt machine office.is_closed office.known (file_state office.conn)) }
         ensures left { IfOk result (λ office. HasCleanDisk (file_state office.conn)
             → (one other : Machine) → LeaveOffice D.Disk files one other
-            → StandsAtOne one other office.is_closed office.accepted (file_state office.conn)) }
+            → StandsAtOne one other office.is_closed office.known (file_state office.conn)) }
         ensures new { IfOk result (λ office. HasCleanDisk (file_state office.conn) → AreNew D.Disk files
-            → StandsAt empty_office office.is_closed office.accepted (file_state office.conn)) }
+            → StandsAt empty_office office.is_closed office.known (file_state office.conn)) }
         ensures clean { IfOk result (λ office. HasCleanDisk (file_state office.conn)
             → AreClean D.Disk files.log files.db) }
         ensures refused { IfErr result (λ fault. FailsToOpen D.Disk files fault ⊎ IsRefusedOver D.Disk files fault) }
@@ -206,7 +206,7 @@ impl<D: Disk + Drop> Office<FileStore<D>> {
     /// before (this project's own).
     pub fn close(self) -> Result<Files<D>, StoreFault>
         ensures settled { IfOk result (λ files. AreClean D.Disk files.log files.db → (machine : Machine)
-            → StandsAt machine self.is_closed self.accepted (file_state self.conn)
+            → StandsAt machine self.is_closed self.known (file_state self.conn)
             → AreSettledAt D.Disk files machine) }
         ensures either { IfOk result (λ files. AreClean D.Disk files.log files.db → (before after : Machine)
             → LeavesOne before after self.is_closed (file_state self.conn)
@@ -217,7 +217,7 @@ impl<D: Disk + Drop> Office<FileStore<D>> {
         let Office {
             alloc: _,
             conn,
-            accepted: _,
+            known: _,
             is_closed: _,
         } = self;
         match conn.close_files() {
@@ -232,7 +232,7 @@ impl<D: Disk + Drop> Office<FileStore<D>> {
         ensures left { AreClean D.Disk result.log result.db → LeaveOnly D.Disk result (file_state self.conn).may_leave }
         ensures clean { AreClean D.Disk result.log result.db → HasCleanDisk (file_state self.conn) }
         ensures stands { AreClean D.Disk result.log result.db → (machine : Machine)
-            → StandsAt machine self.is_closed self.accepted (file_state self.conn)
+            → StandsAt machine self.is_closed self.known (file_state self.conn)
             → LeaveOnly D.Disk result (StandsForTrees machine) }
         ensures either { AreClean D.Disk result.log result.db → (before after : Machine)
             → LeavesOne before after self.is_closed (file_state self.conn)
@@ -245,7 +245,7 @@ impl<D: Disk + Drop> Office<FileStore<D>> {
 impl<S: Alter + Drop> CarryOut for Office<S> {
     ghost is_clean = { λ office. HasCleanDisk (state S.Store office.conn) };
 
-    ghost stands_at = { λ office machine. StandsAt machine office.is_closed office.accepted (state S.Store office.conn) };
+    ghost stands_at = { λ office machine. StandsAt machine office.is_closed office.known (state S.Store office.conn) };
 
     ghost is_closed = { λ office. office.is_closed ≡ true };
 
@@ -254,7 +254,7 @@ impl<S: Alter + Drop> CarryOut for Office<S> {
     ghost may_want_memory = { λ _. ⊤ };
 
     fn accepted_count(&self) -> u64 {
-        self.accepted
+        self.known.counts.accepted
     }
 
     fn carry_out(&mut self, command: &Command) -> Result<Reply, Refusal> {
@@ -270,18 +270,6 @@ impl<S: Alter + Drop> CarryOut for Office<S> {
     }
 
     ghost consistent = { λ office machine stands. stands.consistent };
-}
-
-/// How many commands are accepted, as a reply tells it.
-fn accepted_in(reply: &Reply) -> u64
-    ensures value { result ≡ accepted_of reply.now }
-{
-    match *reply {
-        Reply::Done { accepted } => accepted,
-        Reply::Job { accepted, .. } => accepted,
-        Reply::Again { accepted, .. } => accepted,
-        Reply::Merged { accepted, .. } => accepted,
-    }
 }
 
 /// What is answered after a failure, and whether the office is closed then.

@@ -1,14 +1,12 @@
 //! What a command names, as it is found in the tables.
-ghost use Rattle.std.specs.Prelude.{◌≡◌, [], ◌∷◌, IfOk, OnOk, cond, map as each};
+ghost use Rattle.std.specs.Prelude.{◌≡◌, [], ◌∷◌, IfOk, cond, map as each};
 ghost use Rattle.std.specs.FinSet as set;
 ghost use Rattle.std.specs.Option.{option_map};
-ghost use Rattle.sqlite.specs.Held.{state};
-ghost use Rattle.sqlite.specs.State.{HasCleanDisk, IsUnchanged};
-ghost use Rattle.wb_schema.specs.Among.{HasOffice};
 ghost use Rattle.wb_states.specs.Machine.{archs_of};
 ghost use Rattle.wb_store.specs.Lookups.{entry_of};
 ghost use Rattle.wb_office.specs.Named.{pairs_named};
 ghost use Rattle.wb_office.specs.Targets.{record_named};
+ghost use Rattle.wb_durable.specs.Answers.{AreOf};
 ghost use Rattle.wb_durable.specs.Finds.{Finds};
 ghost use Rattle.wb_durable.specs.Sought.{HasFound, first_named, others_named};
 
@@ -18,9 +16,9 @@ use sqlite::{Alter, Connection, Error};
 use std::alloc::{AllocError, Global};
 use wb_states::{Command, Counts, OsCpu, Record, command};
 use wb_store::KeyedRecord;
-use wb_tables::{archs, archs_of, by_take, counts, get, has_builder, head, held_by};
+use wb_tables::{archs_of, by_take, get, has_builder, head, held_by};
 
-/// What a command names of an office, as it was found in the tables.
+/// What a command names of an office, as it is known or was found in the tables.
 #[derive(Drop)]
 pub(crate) struct Found {
     /// The two counts of the office.
@@ -179,21 +177,20 @@ fn find_pairs<S: Alter>(
     }
 }
 
-/// What a command that names these records names of the office. The errors are those of the look-ups, and
-/// `OutOfMemory`. The database stays as it is; only a failed query may take a transaction back.
+/// What a command that names these records names of an office that has these counts and architectures. The errors are
+/// those of the look-ups, and `OutOfMemory`. The database stays as it is; only a failed query may take a transaction
+/// back.
 pub(crate) fn find<S: Alter>(
     alloc: Global,
     conn: &mut Connection<S>,
+    counts: Counts,
+    archs: Vec<(Text, OsCpu)>,
     command: &Command,
     names: &Names<'_>,
 ) -> Result<Found, Error>
-    ensures finds { Finds S.Store (λ machine found.
-        HasFound machine command.now names.now found) conn.old conn.new result }
-    ensures same { HasCleanDisk (state S.Store conn.new) → HasOffice conn.old.schema
-        → OnOk result (IsUnchanged (state S.Store conn.old) (state S.Store conn.new)) }
+    ensures finds { Finds S.Store (λ machine found. AreOf counts archs.items machine
+        → HasFound machine command.now names.now found) conn.old conn.new result }
 {
-    let counts = counts(conn)?;
-    let archs = archs(conn)?;
     let first = find_first(conn, names)?;
     let others = find_others(alloc, conn, names)?;
     let pairs = find_pairs(alloc, conn, command)?;

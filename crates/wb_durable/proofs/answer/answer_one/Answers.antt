@@ -1,19 +1,18 @@
-use Rattle.std.proofs.Common.{◌≡◌, subst}
-use Rattle.wb_office.specs.Named.{part_named}
+use Rattle.std.proofs.Common.{subst}
+use Rattle.wb_durable.specs.Answers.{AreOf, IsNamed}
 use Rattle.wb_durable.specs.Finds.{Finds}
-use Rattle.wb_durable.specs.Keys.{key_put}
 use Rattle.wb_durable.proofs.AnswerLemmas.{answered_in, unread}
 use Rattle.wb_durable.proofs.answer.answer_one.Goals as goal
 
 pub returns-in-Ok : goal.returns-in-Ok
 returns-in-Ok g c = record {
   answers = answered_in g.S.Store c.args.command.now c.args.conn.now c.named_part.new.conn c.answer_in.new.conn c.answer_in.result
-      (subst (Finds g.S.Store (λ machine named. (named.part ≡ part_named machine c.args.command.now) × (named.key ≡ key_put machine c.args.command.now)) c.args.conn.now c.named_part.new.conn) c.in-Ok.is c.named_part.ensures.finds)
-      (λ machine first named. named) c.answer_in.ensures.answers;
+      (subst (Finds g.S.Store (λ machine named. AreOf c.args.counts c.args.archs.items machine → IsNamed c.args.command.now named.part named.key machine) c.args.conn.now c.named_part.new.conn) c.in-Ok.is c.named_part.ensures.finds)
+      (λ machine own named. named own) c.answer_in.ensures.answers;
 }
 
 pub returns-in-Err : goal.returns-in-Err
 returns-in-Err g c = record {
   answers = unread g.S.Store c.args.command.now c.args.conn.now c.named_part.new.conn c.named_part.new.conn
-      (subst (Finds g.S.Store (λ machine named. (named.part ≡ part_named machine c.args.command.now) × (named.key ≡ key_put machine c.args.command.now)) c.args.conn.now c.named_part.new.conn) c.in-Err.is c.named_part.ensures.finds);
+      (subst (Finds g.S.Store (λ machine named. AreOf c.args.counts c.args.archs.items machine → IsNamed c.args.command.now named.part named.key machine) c.args.conn.now c.named_part.new.conn) c.in-Err.is c.named_part.ensures.finds);
 }

@@ -17,7 +17,7 @@ pub returns-in_err-push_all : goal.returns-in_err-push_all
 returns-in_err-push_all g c =
     let full : Result (Unit {0}) Error = Err (SqliteFailure OutOfMemory) in
     let lacks : Finds g.S.Store (λ machine (x : Unit {0}). Unit {0}) c.loop-part.conn c.all_of.new.conn full =
-    lacks_memory (finds_looked_up (Ok _) c.in_ok-found.ensures.looks_up) c.in_ok-found.ensures.looks_up.same refl in
+    lacks_memory (finds_looked_up (Ok _) c.in_ok-found.ensures.looks_up) refl in
     record { finds = then_fails c.loop-part.invariant lacks (handed_on c.from_residual-in_err-push_all.result c.from_residual-in_err-push_all.ensures.1) }
 
 pub loop-part-preserved : goal.loop-part-preserved

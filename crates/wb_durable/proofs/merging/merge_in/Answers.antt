@@ -13,7 +13,7 @@ returns-in-Err g c = record {
 
 pub returns-in-Ok-keep_merge : goal.returns-in-Ok-keep_merge
 returns-in-Ok-keep_merge g c = record {
-  answers = kept_merge g.S.Store c.args.merge.now.sources c.args.merge.now.parts c.args.conn.now c.keep_merge.new.conn c.args.before.now c.args.part c.carry_out.new.store c.in-Ok.reply
+  answers = kept_merge g.S.Store c.args.merge.now.sources c.args.merge.now.parts c.args.conn.now c.keep_merge.new.conn c.args.before.now c.args.part c.carry_out.new.store c.in-Ok.reply c.counts_in-counts.result c.counts_in-counts.ensures.value
       (subst (λ command. Carries c.args.part c.carry_out.new.store command (Ok c.in-Ok.reply)) c.requires.same (subst (Carries c.args.part c.carry_out.new.store c.args.command.now) c.in-Ok.is c.carry_out.ensures.carries))
       (subst HasUtf8Texts c.requires.same c.in-Ok.ensures.utf8)
       (subst (KeepsMerge g.S.Store c.args.merge.now.sources c.args.merge.now.parts c.args.before.now c.carry_out.new.store c.args.conn.now c.keep_merge.new.conn) c.in-Ok-keep_merge.is c.keep_merge.ensures.keeps);

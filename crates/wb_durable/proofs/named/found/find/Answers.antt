@@ -1,50 +1,29 @@
-use Rattle.std.proofs.Common.{Ok, Err}
 use Rattle.wb_tables.proofs.ReadLemmas.{handed_on}
-use Rattle.wb_durable.proofs.FindsLemmas.{fails_to_find, finds_both, finds_from, finds_looked_up, then_fails, unchanged_after}
+use Rattle.wb_durable.proofs.FindsLemmas.{fails_to_find, finds_both, finds_from, then_fails}
 use Rattle.wb_durable.proofs.named.found.find.Goals as goal
 
-pub returns-in_err-counts-clause-finds : goal.returns-in_err-counts-clause-finds
-returns-in_err-counts-clause-finds g c =
-    fails_to_find (finds_looked_up (Err _) c.in_err-counts.ensures.looks_up) (handed_on c.from_residual.result c.from_residual.ensures.1)
+pub returns-in_err-first : goal.returns-in_err-first
+returns-in_err-first g c = record { finds = fails_to_find c.in_err-first.ensures.finds (handed_on c.from_residual.result c.from_residual.ensures.1) }
 
-pub returns-in_err-archs-clause-finds : goal.returns-in_err-archs-clause-finds
-returns-in_err-archs-clause-finds g c =
-    then_fails (finds_looked_up (Ok _) c.in_ok-counts.ensures.looks_up) (finds_looked_up (Err _) c.in_err-archs.ensures.looks_up)
-    (handed_on c.from_residual-in_err-archs.result c.from_residual-in_err-archs.ensures.1)
+pub returns-in_err-others : goal.returns-in_err-others
+returns-in_err-others g c = record {
+  finds = then_fails c.in_ok-first.ensures.finds c.in_err-others.ensures.finds (handed_on c.from_residual-in_err-others.result c.from_residual-in_err-others.ensures.1);
+}
 
-pub returns-in_err-first-clause-finds : goal.returns-in_err-first-clause-finds
-returns-in_err-first-clause-finds g c =
-    let two = finds_both (finds_looked_up (Ok _) c.in_ok-counts.ensures.looks_up) (finds_looked_up (Ok _) c.in_ok-archs.ensures.looks_up) in
-    then_fails two c.in_err-first.ensures.finds (handed_on c.from_residual-in_err-first.result c.from_residual-in_err-first.ensures.1)
+pub returns-in_err-pairs : goal.returns-in_err-pairs
+returns-in_err-pairs g c = record {
+  finds = then_fails (finds_both c.in_ok-first.ensures.finds c.in_ok-others.ensures.finds) c.in_err-pairs.ensures.finds
+      (handed_on c.from_residual-in_err-pairs.result c.from_residual-in_err-pairs.ensures.1);
+}
 
-pub returns-in_err-others-clause-finds : goal.returns-in_err-others-clause-finds
-returns-in_err-others-clause-finds g c =
-    let two = finds_both (finds_looked_up (Ok _) c.in_ok-counts.ensures.looks_up) (finds_looked_up (Ok _) c.in_ok-archs.ensures.looks_up) in
-    then_fails (finds_both two c.in_ok-first.ensures.finds) c.in_err-others.ensures.finds
-    (handed_on c.from_residual-in_err-others.result c.from_residual-in_err-others.ensures.1)
-
-pub returns-in_err-pairs-clause-finds : goal.returns-in_err-pairs-clause-finds
-returns-in_err-pairs-clause-finds g c =
-    let two = finds_both (finds_looked_up (Ok _) c.in_ok-counts.ensures.looks_up) (finds_looked_up (Ok _) c.in_ok-archs.ensures.looks_up) in
-    then_fails (finds_both (finds_both two c.in_ok-first.ensures.finds) c.in_ok-others.ensures.finds) c.in_err-pairs.ensures.finds
-    (handed_on c.from_residual-in_err-pairs.result c.from_residual-in_err-pairs.ensures.1)
-
-pub returns-clause-finds : goal.returns-clause-finds
-returns-clause-finds g c =
-    let two = finds_both (finds_looked_up (Ok _) c.in_ok-counts.ensures.looks_up) (finds_looked_up (Ok _) c.in_ok-archs.ensures.looks_up) in
-    let four = finds_both (finds_both two c.in_ok-first.ensures.finds) c.in_ok-others.ensures.finds in
-    finds_from (finds_both four c.in_ok-pairs.ensures.finds) (λ machine sound is. record {
-      handed = is.0.0.0.0.0;
-      accepted = is.0.0.0.0.1;
-      archs = is.0.0.0.1;
-      first = is.0.0.1;
-      others = is.0.1;
-      pairs = is.1;
-    })
-
-pub returns-clause-same : goal.returns-clause-same
-returns-clause-same g c =
-    let counts = c.in_ok-counts.ensures.looks_up in
-    let archs = finds_looked_up (Ok _) c.in_ok-archs.ensures.looks_up in
-    let later = finds_both (finds_both (finds_both archs c.in_ok-first.ensures.finds) c.in_ok-others.ensures.finds) c.in_ok-pairs.ensures.finds in
-    unchanged_after (finds_looked_up (Ok _) counts) counts.same later
+pub returns : goal.returns
+returns g c = record {
+  finds = finds_from (finds_both (finds_both c.in_ok-first.ensures.finds c.in_ok-others.ensures.finds) c.in_ok-pairs.ensures.finds) (λ machine sound is own. record {
+    handed = own.0.0;
+    accepted = own.0.1;
+    archs = own.1;
+    first = is.0.0;
+    others = is.0.1;
+    pairs = is.1;
+  });
+}

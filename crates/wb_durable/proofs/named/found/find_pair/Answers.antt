@@ -9,9 +9,7 @@ returns-in_err-is_there g c = record {
 }
 
 pub returns-in_err-pair_if : goal.returns-in_err-pair_if
-returns-in_err-pair_if g c =
-    let found = c.in_ok-is_there.ensures.looks_up in
-    record {
-      finds = lacks_memory (finds_looked_up (Ok _) found) found.same
-          (handed_on c.from_residual-in_err-pair_if.result c.from_residual-in_err-pair_if.ensures.1);
-    }
+returns-in_err-pair_if g c = record {
+  finds = lacks_memory (finds_looked_up (Ok _) c.in_ok-is_there.ensures.looks_up)
+      (handed_on c.from_residual-in_err-pair_if.result c.from_residual-in_err-pair_if.ensures.1);
+}

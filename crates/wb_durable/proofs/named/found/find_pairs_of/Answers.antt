@@ -9,9 +9,7 @@ returns-in_err-archs g c = record {
 }
 
 pub returns-in_err-pairs_with : goal.returns-in_err-pairs_with
-returns-in_err-pairs_with g c =
-    let found = c.in_ok-archs.ensures.looks_up in
-    record {
-      finds = lacks_memory (finds_looked_up (Ok _) found) found.same
-          (handed_on c.from_residual-in_err-pairs_with.result c.from_residual-in_err-pairs_with.ensures.1);
-    }
+returns-in_err-pairs_with g c = record {
+  finds = lacks_memory (finds_looked_up (Ok _) c.in_ok-archs.ensures.looks_up)
+      (handed_on c.from_residual-in_err-pairs_with.result c.from_residual-in_err-pairs_with.ensures.1);
+}

@@ -10,12 +10,10 @@ returns-in_err-found g c = record {
 }
 
 pub returns-in_err-keyed : goal.returns-in_err-keyed
-returns-in_err-keyed g c =
-    let found = c.in_ok-found.ensures.looks_up in
-    record {
-      finds = lacks_memory (finds_looked_up (Ok _) found) found.same
-          (handed_on c.from_residual-in_err-keyed.result c.from_residual-in_err-keyed.ensures.1);
-    }
+returns-in_err-keyed g c = record {
+  finds = lacks_memory (finds_looked_up (Ok _) c.in_ok-found.ensures.looks_up)
+      (handed_on c.from_residual-in_err-keyed.result c.from_residual-in_err-keyed.ensures.1);
+}
 
 pub returns : goal.returns
 returns g c =

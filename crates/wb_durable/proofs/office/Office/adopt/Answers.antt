@@ -9,7 +9,7 @@ returns-in-Ok-clause-found g c = λ clean machine is.
     let found = c.in-Ok.ensures.finds.found clean machine consistent is in
     record {
       consistent = consistent;
-      counted = found.0.1;
+      knows = record { counts = found.0; archs = tt };
       back = settled_back (state g.S.Store c.find_office.new.conn) found.1;
       is_open = λ _. found.1.is_open;
     }
