@@ -1,7 +1,7 @@
 -- What is answered to a request over HTTP, and what the request does to the office.
 use Rattle.std.specs.Prelude.{◌≡◌, ◌⊎◌, ℕ, Bool, true, false, List, Option, IfSome, Result, Ok, Err}
 use Rattle.std.specs.Cow.{cow_str_bytes}
-use Rattle.std.specs.Io.KnownBytes.{Appends}
+use Rattle.std.specs.Io.KnownBytes.{Appends, Consumes}
 use Rattle.wb_states.specs.Commands.{name_of_command}
 use Rattle.wb_states.specs.Machine.{Machine}
 use Rattle.wb_states.specs.declared.command.Command.{Command}
@@ -19,7 +19,7 @@ use Rattle.wb_api.specs.Encoding.{is_plain, memory_text, refusal_text, reply_tex
 use Rattle.wb_api.specs.Memory.{MayLackMemory}
 use Rattle.wb_api.specs.Queries.{query_text}
 use Rattle.wb_http.specs.Answers.{answer_bytes, AppendsFront, fault_text, status_of_fault}
-use Rattle.wb_http.specs.Requests.{Means, is_failed}
+use Rattle.wb_http.specs.Requests.{IsRequestFront, IsWithinRequest, Means, is_failed}
 use Rattle.wb_http.specs.declared.fault.Fault.{Fault}
 use Rattle.wb_http.specs.declared.request.Received.{Received}
 use Rattle.wb_http.specs.declared.request.Received.TheVariants as received
@@ -179,9 +179,13 @@ is_asked received.Memory = false
 is_asked (received.Refused fault) = false
 is_asked (received.Asked request) = true
 
--- what was received is what the bytes of the reader mean, if they are known; the flag of the reader is set if the reader failed
-abbrev pub Receives : Stream → Stream → Received → Type 0
-Receives old new received = IfSome old.bytes (λ input. Means input received) × Flags (is_failed received) old new
+-- what was received is what the bytes of the reader mean, if they are known; the flag of the reader is set if the reader failed, and then what was
+-- read before was the front of a request, and not all of one; and no more is read than a request, with what the reads of its head may take
+pub record Receives (old new : Stream) (came : Received) : Type 0 where
+  pub value : IfSome old.bytes (λ input. Means input came)
+  pub failed : Flags (is_failed came) old new
+  pub front : came ≡ received.Failed → (seen : List ℕ) × Consumes old.bytes new.bytes seen × IsRequestFront seen
+  pub bound : (seen : List ℕ) × Consumes old.bytes new.bytes seen × IsWithinRequest seen
 
 -- whether an exchange ended without an answer
 abbrev pub is_silent : Served → Bool

@@ -9,7 +9,7 @@ use Rattle.wb_serve.proofs.serve.serve_one.Goals as goal
 pub returns-clause-acknowledged : goal.returns-clause-acknowledged
 returns-clause-acknowledged g c = λ before input command clean stands known asks tells.
     let served = c.exchange.ensures.value in
-    let means = subst (λ bytes. IfSome bytes (λ all. Means all served.0)) known served.1.0 in
+    let means = subst (λ bytes. IfSome bytes (λ all. Means all served.0)) known served.1.value in
     let decided = head_decides input asks.0 asks.1 served.0 asks.2 means in
     let answers = subst (λ what. Answers what served.0) asks.3 decided in
     let did = served.3 before clean stands in
