@@ -173,8 +173,8 @@ impl<S: Alter + Drop> Office<S> {
 
 impl<D: Disk + Drop> Office<FileStore<D>> {
     /// Opens the office that two files hold, a database and its log; a database that lacks the office's tables becomes
-    /// that of an empty office. Each row is tested. The faults are those of [`opening_fault`] if the files cannot be opened as a
-    /// database, and those of [`adopt`](Office::adopt) (this project's own).
+    /// that of an empty office. Each row is tested. The faults are those of [`opening_fault`] if the files cannot be
+    /// opened as a database, and those of [`adopt`](Office::adopt) (this project's own).
     pub fn open(
         alloc: Global,
         files: Files<D>,
