@@ -48,7 +48,9 @@ static const char *const TEXTS[KINDS] = {
     [BY_TAKE] = "SELECT " COLUMNS " FROM source_record WHERE take = ?1",
     [OF_ARCH] = "SELECT " COLUMNS " FROM source_record WHERE arch = ?1 ORDER BY source",
     [ALL] = "SELECT " COLUMNS " FROM source_record ORDER BY arch, source",
-    [PUT] = "INSERT OR REPLACE INTO source_record(" COLUMNS ") VALUES (?1, ?2, ?3, ?4, ?5, ?6, ?7, ?8, ?9, ?10, ?11, ?12, ?13, ?14, ?15, ?16)",
+    [PUT] = "INSERT INTO source_record(" COLUMNS ") VALUES (?1, ?2, ?3, ?4, ?5, ?6, ?7, ?8, ?9, ?10, ?11, ?12, ?13, ?14, ?15, ?16)"
+            " ON CONFLICT(arch, source) DO UPDATE SET state = ?3, version = ?4, priority = ?5, section = ?6, earlier = ?7, number = ?8, holder = ?9,"
+            " take = ?10, waits = ?11, depends = ?12, note = ?13, message = ?14, build_priority = ?15, rank = ?16",
 };
 
 static sqlite3 *db;
@@ -400,8 +402,6 @@ static int check(void) {
 }
 
 static int carry_out(char **words) {
-    read_counts();
-    rows_of(ready(ARCHS));
     if (same(words[0], "add-arch")) return add_arch(words);
     if (same(words[0], "add-builder")) return add_builder(words);
     if (same(words[0], "enter")) return enter(words);
@@ -421,8 +421,9 @@ int main(int count, char **arguments) {
     if (sqlite3_prepare_v2(db, "SELECT name FROM sqlite_schema", -1, &tables, NULL) != SQLITE_OK) fail("sqlite_schema");
     if (!rows_of(tables)) run(SCHEMA);
     sqlite3_finalize(tables);
-    const enum statement opening[] = {COUNTS, ARCHS, ALL_PAIRS, ALL};
-    for (int k = 0; k < 4; k++) rows_of(ready(opening[k]));
+    read_counts();
+    const enum statement opening[] = {ARCHS, ALL_PAIRS, ALL};
+    for (int k = 0; k < 3; k++) rows_of(ready(opening[k]));
     while (getline(&line, &size, stdin) > 0) {
         int at = 0;
         for (char *word = strtok(line, " \n"); word && at < 63; word = strtok(NULL, " \n")) words[at++] = word;

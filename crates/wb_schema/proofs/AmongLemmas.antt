@@ -104,7 +104,8 @@ pub record IsDelete (table : Table) (sql : List ℕ) (terms : List Term) : Type 
   pub terms_are : (tree : ℕ) → map (term_of (table_at tree table)) tests ≡ terms
   pub still : IsStill table
 
-plain_table : (schema : Schema) (table : Table) (tree : ℕ) (has : HasTable schema (table_at tree table)) → never_acts_on schema tree ≡ true → IsStill table → IsPlainTable schema has.at (table_at tree table)
+-- the table is plain, wherever it is
+pub plain_table : (schema : Schema) (table : Table) (tree : ℕ) (has : HasTable schema (table_at tree table)) → never_acts_on schema tree ≡ true → IsStill table → IsPlainTable schema has.at (table_at tree table)
 plain_table schema table tree has quiet still = record { listed = has.listed; uncounted = still.uncounted; unstamped = still.unstamped; quiet = quiet }
 
 pub inserts_among : (table : Table) (sql : List ℕ) (terms : List Term) → IsInsert conflict.Abort table sql terms → InsertsAmong table sql terms
@@ -112,8 +113,8 @@ inserts_among table sql terms is schema tree has quiet =
     let c : Command = does.Insert has.at (Values terms is.width) in
     let all : compiled schema sql ≡ Ok (compiled_of c is.names is.start is.stop is.tail) =
     change_is schema sql (written.Insert conflict.Abort table.name is.columns is.rows [] []) is.names is.start is.stop is.tail c is.first_is
-    (insert_returns schema (base_of is.names) table.name is.columns is.rows conflict.Abort)
-    (insert_timed schema (table_at tree table) is.columns is.rows conflict.Abort has is.still.untimed)
+    (insert_returns schema (base_of is.names) table.name is.columns is.rows conflict.Abort [])
+    (insert_timed schema (table_at tree table) is.columns is.rows conflict.Abort [] has is.still.untimed)
     (insert_is schema (table_at tree table) (base_of is.names) is.columns is.rows (Values terms is.width) has (is.rows_are schema tree)) in
     record {
       at = has.at;
@@ -128,8 +129,8 @@ replaces_among table sql terms is schema tree has quiet =
     let c : Command = does.InsertOr has.at how.Replace (Values terms is.width) [] in
     let all : compiled schema sql ≡ Ok (compiled_of c is.names is.start is.stop is.tail) =
     change_is schema sql (written.Insert conflict.Replace table.name is.columns is.rows [] []) is.names is.start is.stop is.tail c is.first_is
-    (insert_returns schema (base_of is.names) table.name is.columns is.rows conflict.Replace)
-    (insert_timed schema (table_at tree table) is.columns is.rows conflict.Replace has is.still.untimed)
+    (insert_returns schema (base_of is.names) table.name is.columns is.rows conflict.Replace [])
+    (insert_timed schema (table_at tree table) is.columns is.rows conflict.Replace [] has is.still.untimed)
     (replace_is schema (table_at tree table) (base_of is.names) is.columns is.rows (Values terms is.width) has (is.rows_are schema tree)) in
     record {
       at = has.at;

@@ -28,6 +28,7 @@ use Rattle.sqlite_ast.specs.declared.Conflict.{Conflict}
 use Rattle.sqlite_ast.specs.declared.Conflict.TheVariants as conflict
 use Rattle.sqlite_ast.specs.declared.Statement.{Statement}
 use Rattle.sqlite_ast.specs.declared.Statement.TheVariants as written
+use Rattle.sqlite_ast.specs.declared.Upsert.{Upsert}
 use Rattle.wb_schema.specs.Among.{HasTable}
 use Rattle.wb_schema.proofs.AloneLemmas.{found_in_tree}
 use Rattle.wb_schema.proofs.SelectForm.{Name, where_of, parsed}
@@ -57,15 +58,15 @@ on_table_is : (schema : Schema) (table : Table) (f : ℕ → Table → Checked C
 on_table_is schema table f has = rw (has.named, has.listed) refl
 
 -- nothing of the time stands in the table
-pub insert_timed : (schema : Schema) (table : Table) (columns : List Name) (rows : Rows) (way : Conflict) → HasTable schema table → table.stamps.formats ≡ []
-    → compile.timed schema [] (written.Insert way table.name columns rows [] []) ≡ []
+pub insert_timed : (schema : Schema) (table : Table) (columns : List Name) (rows : Rows) (way : Conflict) (clauses : List Upsert) → HasTable schema table → table.stamps.formats ≡ []
+    → compile.timed schema [] (written.Insert way table.name columns rows clauses []) ≡ []
 unfolding compile.timed
-insert_timed schema table columns rows way has none = rw (has.named, has.listed, none) refl
+insert_timed schema table columns rows way clauses has none = rw (has.named, has.listed, none) refl
 
-pub insert_returns : (schema : Schema) (base : ℕ) (name : Name) (columns : List Name) (rows : Rows) (way : Conflict)
-    → compile.returning schema base (written.Insert way name columns rows [] []) ≡ Ok None
+pub insert_returns : (schema : Schema) (base : ℕ) (name : Name) (columns : List Name) (rows : Rows) (way : Conflict) (clauses : List Upsert)
+    → compile.returning schema base (written.Insert way name columns rows clauses []) ≡ Ok None
 unfolding compile.returning compile.shows
-insert_returns schema base name columns rows way = refl
+insert_returns schema base name columns rows way clauses = refl
 
 pub insert_is : (schema : Schema) (table : Table) (base : ℕ) (columns : List Name) (rows : Rows) (source : Source) (has : HasTable schema table)
     → compile.new_rows schema table base columns rows ≡ Ok source → compile.command schema [] base (written.Insert conflict.Abort table.name columns rows [] []) ≡ Ok (does.Insert has.at source)
@@ -99,11 +100,13 @@ deleted_is schema table at tests listed are enough =
     rw (picked_is (over schema at table.name [] false) table (col 1 0 ∷ []) (map (term_of table) tests) (where_of (map test_of tests)) (at_budget 2 max_budget nothing)
     2 (left_by max_budget tests) (carried_by nothing tests) (tests_are schema table at 2 max_budget table.name [] nothing listed tests are enough)) refl
 
-rowids_accepted : (schema : Schema) (table : Table) (filter : List Term) → HasTable schema table
-    → (accepts_after [] (query_of (rowids table filter)) (Some (row_classes table ∷ [])) && (is_count [] (lit (Int (negsuc 0))) && is_count [] (number 0))) ≡ true
-    → accepts_program schema [] (query_of (rowids table filter)) [] ≡ true
-rowids_accepted schema table filter has typed =
-    subst (λ slots. (accepts_after [] (query_of (rowids table filter)) slots && (is_count [] (lit (Int (negsuc 0))) && is_count [] (number 0))) ≡ true) (sym (filled_is schema table has.stored (found_in_tree schema table has))) typed
+-- what is asked of the table's rows has the right types, whatever else the schema has
+pub simple_accepted : (schema : Schema) (table : Table) (filter project : List Term) → HasTable schema table
+    → (accepts_after [] (query_of (simple (Inner table.tree ∷ []) filter project)) (Some (row_classes table ∷ [])) && (is_count [] (lit (Int (negsuc 0))) && is_count [] (number 0))) ≡ true
+    → accepts_program schema [] (query_of (simple (Inner table.tree ∷ []) filter project)) [] ≡ true
+simple_accepted schema table filter project has typed =
+    subst (λ slots. (accepts_after [] (query_of (simple (Inner table.tree ∷ []) filter project)) slots && (is_count [] (lit (Int (negsuc 0))) && is_count [] (number 0))) ≡ true)
+    (sym (filled_is schema table has.stored (found_in_tree schema table has))) typed
 
 pub delete_is : (schema : Schema) (table : Table) (base : ℕ) (tests : List Test) (has : HasTable schema table) → AreTests table tests → suffices_for max_budget tests ≡ true
     → (accepts_after [] (query_of (rowids table (map (term_of table) tests))) (Some (row_classes table ∷ [])) && (is_count [] (lit (Int (negsuc 0))) && is_count [] (number 0))) ≡ true
@@ -115,7 +118,7 @@ delete_is schema table base tests has are enough typed =
       has.named,
       has.listed,
       deleted_is schema table has.at tests has.listed are enough,
-      program_is schema (rowids table (map (term_of table) tests)) (rowids_accepted schema table (map (term_of table) tests) has typed),
+      program_is schema (rowids table (map (term_of table) tests)) (simple_accepted schema table (map (term_of table) tests) (col 1 0 ∷ []) has typed),
     ) refl
 
 pub delete_returns : (schema : Schema) (base : ℕ) (name : Name) (test : Option Expr) → compile.returning schema base (written.Delete name test []) ≡ Ok None

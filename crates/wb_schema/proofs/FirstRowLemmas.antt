@@ -12,7 +12,7 @@ use Rattle.sqlite.specs.declared.error.Error.{Error}
 use Rattle.sqlite.specs.Held.{Held, state}
 use Rattle.sqlite.specs.State.{State, HasCleanDisk}
 use Rattle.wb_sql.specs.Calls.{RunsStatement}
-use Rattle.wb_sql.specs.Rows.{IsStored, IsTyped, upserted}
+use Rattle.wb_sql.specs.Rows.{IsStored, IsTyped, replaced}
 use Rattle.wb_sql.specs.Changes.{Replaces}
 use Rattle.wb_sql.proofs.WriteLemmas.{cast_int, cast_null, replaces_writes}
 use Rattle.wb_schema.specs.Among.{HasOffice, HasTable, LacksOffice, IsNumbered, is_office_name, table_at, table_in, tree_named, rows_in}
@@ -85,7 +85,7 @@ first_row_made base lacks numbered old new was h =
           ),
         );
       };
-      office_row = own_rows old new office _ set ∙ ap (upserted schema (table_in schema office) first_row) was.empty.0;
+      office_row = own_rows old new office _ set ∙ ap (replaced schema (table_in schema office) first_row) was.empty.0;
       kept = kept_but tree base.tables grown.more old.now.trees new.now.trees
           (subst (AllByRecursion (λ t. t.tree ≢ tree → new.now.trees t.tree ≡ old.now.trees t.tree)) tables set.tables)
           (not_in tree base.tables grown.more (table_in schema office) (subst (λ ts. filter (λ t. t.tree == tree) ts ≡ table_in schema office ∷ []) tables has.office_is.in_tree) refl lacks.free.tables);

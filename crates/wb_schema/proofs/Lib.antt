@@ -25,3 +25,4 @@ pub mod ShownLemmas
 pub mod StageLemmas
 pub mod StepLemmas
 pub mod TestLemmas
+pub mod UpsertLemmas

@@ -12,8 +12,9 @@ use Rattle.sqlite_schema.specs.declared.schema.Index.{Index}
 use Rattle.sqlite_schema.specs.Names.{same_name, table_named}
 use Rattle.sqlite_catalog.specs.Listing.{automatic}
 use Rattle.wb_sql.specs.Queries.{TableQuery, Asks}
-use Rattle.wb_sql.specs.Changes.{ReplacesInto, InsertsInto, DeletesFrom, does_nothing, never_acts_on}
+use Rattle.wb_sql.specs.Changes.{ReplacesInto, InsertsInto, UpsertsInto, DeletesFrom, does_nothing, never_acts_on}
 use Rattle.wb_schema.specs.Tables.{office, arch, builder, source_record, scratch_source, scratch_binary, office_schema}
+use Rattle.wb_schema.specs.Statements.{record_row, record_sets, record_key}
 use Rattle.wb_schema.specs.Tables.{record_order, record_take, source_name, binary_source, binary_name}
 
 -- a table whose rows are in another tree
@@ -146,6 +147,13 @@ ReplacesAmong table sql terms = (schema : Schema) (tree : ℕ) → HasTable sche
 -- over each such schema the text is INSERT INTO the table VALUES (terms)
 abbrev pub InsertsAmong : Table → List ℕ → List Term → Type 0
 InsertsAmong table sql terms = (schema : Schema) (tree : ℕ) → HasTable schema (table_at tree table) → never_acts_on schema tree ≡ true → InsertsInto schema sql (table_at tree table) terms
+
+-- over each such schema that has the table of records with its indexes, the text is INSERT INTO the table VALUES (a record) ON CONFLICT (its key) DO UPDATE SET
+-- each column that is not of the key
+abbrev pub UpsertsRecords : List ℕ → Type 0
+UpsertsRecords sql =
+    (schema : Schema) (tree : ℕ) (at : IndexTrees) → HasTable schema (table_at tree source_record) → HasIndexes schema tree (record_indexes at tree) → never_acts_on schema tree ≡ true
+    → UpsertsInto schema sql (table_at tree source_record) record_row record_sets record_key 16
 
 -- over each such schema the text is DELETE FROM the table WHERE each of these tests
 abbrev pub DeletesAmong : Table → List ℕ → List Term → Type 0

@@ -39,6 +39,16 @@ record_row =
     lit Null ∷ parameter 0 ∷ parameter 1 ∷ parameter 2 ∷ parameter 3 ∷ parameter 4 ∷ parameter 5 ∷ parameter 6 ∷ parameter 7 ∷ parameter 8 ∷ parameter 9 ∷ parameter 10 ∷ parameter 11 ∷ parameter 12
     ∷ parameter 13 ∷ parameter 14 ∷ parameter 15 ∷ []
 
+-- the same columns as those of a record that is there: all but its key, which it has, are parameters
+abbrev pub record_sets : List Term
+record_sets =
+    cell 1 ∷ cell 2 ∷ parameter 2 ∷ parameter 3 ∷ parameter 4 ∷ parameter 5 ∷ parameter 6 ∷ parameter 7 ∷ parameter 8 ∷ parameter 9 ∷ parameter 10 ∷ parameter 11 ∷ parameter 12 ∷ parameter 13
+    ∷ parameter 14 ∷ parameter 15 ∷ []
+
+-- the places of a record's key: its architecture and its source package
+abbrev pub record_key : List ℕ
+record_key = 1 ∷ 2 ∷ []
+
 -- the columns of a record
 abbrev pub record_cells : List Term
 record_cells =

@@ -1,19 +1,22 @@
 //! The SQL texts that work on the office's tables, with what each means over every schema that has its table.
 
 ghost use Rattle.wb_schema.specs.Tables.{office, arch, builder, source_record, scratch_source, scratch_binary};
-ghost use Rattle.wb_schema.specs.Among.{AsksAmong, ReplacesAmong, InsertsAmong, DeletesAmong};
-ghost use Rattle.wb_schema.specs.Statements.{record_row, has_record_key, record_of_key, queue_of, head_of};
+ghost use Rattle.wb_schema.specs.Among.{AsksAmong, ReplacesAmong, InsertsAmong, UpsertsRecords, DeletesAmong};
+ghost use Rattle.wb_schema.specs.Statements.{has_record_key, record_of_key, queue_of, head_of};
 ghost use Rattle.wb_schema.specs.Statements.{record_of_take, held_by, records_of_arch, all_records};
 ghost use Rattle.wb_schema.specs.Statements.{arch_row, arch_of_name, all_archs, office_row, office_counts};
 ghost use Rattle.wb_schema.specs.Statements.{builder_row, pair_of_builder, pairs_of_builder, all_builders, first_source, first_binary};
 
-/// Puts a record in place of the one with its key. The parameters are its 16 columns.
+/// Puts a record in, or writes it over the one with its key. The parameters are its 16 columns.
 pub fn put_record() -> &'static str
-    ensures { ReplacesAmong source_record result.now record_row }
+    ensures { UpsertsRecords result.now }
 {
-    "INSERT OR REPLACE INTO source_record(arch, source, state, version, priority, section, earlier, number, \
+    "INSERT INTO source_record(arch, source, state, version, priority, section, earlier, number, \
      holder, take, waits, depends, note, message, build_priority, rank) \
-     VALUES (?1, ?2, ?3, ?4, ?5, ?6, ?7, ?8, ?9, ?10, ?11, ?12, ?13, ?14, ?15, ?16)"
+     VALUES (?1, ?2, ?3, ?4, ?5, ?6, ?7, ?8, ?9, ?10, ?11, ?12, ?13, ?14, ?15, ?16) \
+     ON CONFLICT(arch, source) DO UPDATE SET state = ?3, version = ?4, priority = ?5, section = ?6, earlier = ?7, \
+     number = ?8, holder = ?9, take = ?10, waits = ?11, depends = ?12, note = ?13, message = ?14, \
+     build_priority = ?15, rank = ?16"
 }
 
 /// Takes out the record of an architecture and a source package.

@@ -5,4 +5,5 @@ pub mod EndingLemmas
 pub mod ReadingLemmas
 pub mod SetLemmas
 pub mod SettledLemmas
+pub mod UpsertLemmas
 pub mod WriteLemmas

@@ -23,7 +23,7 @@ use Rattle.sqlite_rules.proofs.PlaceLemmas.{tied_same}
 use Rattle.sqlite_keyed.proofs.ListLemmas.{ascending-filter, IsPermutation-flat_map}
 use Rattle.wb_sql.specs.Rows.{cells, cells_of, IsStored, with_next_rowid}
 
-filter_same_on : {X : Type 0} (p q : X → Bool) (xs : List X) → ((x : X) → Has xs x → p x ≡ q x) → filter p xs ≡ filter q xs
+pub filter_same_on : {X : Type 0} (p q : X → Bool) (xs : List X) → ((x : X) → Has xs x → p x ≡ q x) → filter p xs ≡ filter q xs
 filter_same_on p q [] each = refl
 filter_same_on p q (x ∷ xs) each = rw (each x (inl refl), filter_same_on p q xs (λ y h. each y (inr h)))
 
@@ -58,25 +58,28 @@ equal_is Equal h = refl
 equal_is Greater h = absurd (cc)
 
 module _ (rows : List Row) (stored : IsStored rows) where
-  int_at : (r : Row) → Has rows r → rowid r ≡ Int (id_in (rowid r))
+  pub int_at : (r : Row) → Has rows r → rowid r ≡ Int (id_in (rowid r))
   int_at r h = int_is (rowid r) (test_has (λ x. is_int (rowid x)) rows r stored.whole h)
+
+  -- a row has its own rowid, and no other row has it
+  pub has_own : (row : Row) → Has rows row → has_rowid (id_in (rowid row)) row ≡ true
+  has_own row h = ap (λ v. is_eq (value_cmp v (Int (id_in (rowid row))))) (int_at row h) ∙ ap is_eq (tied_itself value_cmp_total (Int (id_in (rowid row))))
+
+  pub same_by_rowid : (row r : Row) → Has rows row → Has rows r → has_rowid (id_in (rowid r)) row ≡ true → row ≡ r
+  same_by_rowid row r h there own = tied_same rows row r stored.rising h there (ap (value_cmp (rowid row)) (int_at r there) ∙ equal_is _ own)
 
   -- rows are taken out by the rowids of those that pass a test, and all of these
   pub taken_out : (found : List Row) (p : Row → Bool) → ((x : Row) → Has found x → (r : Row) × Has rows r × (p r ≡ true) × (rowid x ≡ rowid r))
       → ((r : Row) → Has rows r → p r ≡ true → (x : Row) × Has found x × (rowid x ≡ rowid r)) → without_all rows (ids_of found) ≡ filter (λ row. not (p row)) rows
   taken_out found p sound complete = without_all_is (ids_of found) rows ∙ filter_same_on _ _ rows (λ row h. ap not (same row h))
     where
-      has_own : (row : Row) → Has rows row → has_rowid (id_in (rowid row)) row ≡ true
-      has_own row h = ap (λ v. is_eq (value_cmp v (Int (id_in (rowid row))))) (int_at row h) ∙ ap is_eq (tied_itself value_cmp_total (Int (id_in (rowid row))))
-
       one_of : (row : Row) → Has rows row → has_any (ids_of found) row ≡ true → p row ≡ true
       one_of row h any =
           let id = some_has (λ i. has_rowid i row) (ids_of found) any in
           let x = has_mapped (λ (r : Row). id_in (rowid r)) found id.0 id.1 in
           let r = sound x.0 x.1 in
           let is : id.0 ≡ id_in (rowid r.0) = x.2 ∙ ap id_in r.3 in
-          let tie : value_cmp (rowid row) (rowid r.0) ≡ Equal = ap (value_cmp (rowid row)) (int_at r.0 r.1) ∙ equal_is _ (subst (λ i. has_rowid i row ≡ true) is id.2) in
-          ap p (tied_same rows row r.0 stored.rising h r.1 tie) ∙ r.2
+          ap p (same_by_rowid row r.0 h r.1 (subst (λ i. has_rowid i row ≡ true) is id.2)) ∙ r.2
 
       all_of : (row : Row) → Has rows row → p row ≡ true → has_any (ids_of found) row ≡ true
       all_of row h passes =
@@ -119,7 +122,7 @@ pub IsPermutation-map : {A B : Type 0} (f : A → B) (xs ys : List A) → IsPerm
 IsPermutation-map f xs ys same = subst (λ l. IsPermutation l (map f ys)) (sym (one_each f xs)) (subst (IsPermutation (flat_map (λ x. f x ∷ []) xs)) (sym (one_each f ys)) (IsPermutation-flat_map (λ x. f x ∷ []) xs ys same))
 
 -- the rowid that is chosen changes no cell
-cells_numbered : (given : Row) (rows : List Row) → cells (with_next_rowid rows given) ≡ cells given
+pub cells_numbered : (given : Row) (rows : List Row) → cells (with_next_rowid rows given) ≡ cells given
 cells_numbered given rows = go (is_null (rowid given))
   where
     go : (b : Bool) → cells (cond b (Int (next_rowid rows) ∷ cells given) given) ≡ cells given
@@ -127,8 +130,11 @@ cells_numbered given rows = go (is_null (rowid given))
     go false = refl
 
 -- the cells of a row that is put beside others
+pub cells_put : (row : Row) (left : List Row) → is_taken left row ≡ false → IsPermutation (cells row ∷ cells_of left) (cells_of (put_row row left))
+cells_put row left free = IsPermutation-map cells (row ∷ left) (put_row row left) (put_beside row left free)
+
+-- and of one whose rowid is chosen
 pub cells_beside : (given : Row) (rows left : List Row) → is_taken left (with_next_rowid rows given) ≡ false
     → IsPermutation (cells given ∷ cells_of left) (cells_of (put_row (with_next_rowid rows given) left))
 cells_beside given rows left free =
-    subst (λ c. IsPermutation (c ∷ cells_of left) (cells_of (put_row (with_next_rowid rows given) left))) (cells_numbered given rows)
-    (IsPermutation-map cells (with_next_rowid rows given ∷ left) (put_row (with_next_rowid rows given) left) (put_beside (with_next_rowid rows given) left free))
+    subst (λ c. IsPermutation (c ∷ cells_of left) (cells_of (put_row (with_next_rowid rows given) left))) (cells_numbered given rows) (cells_put (with_next_rowid rows given) left free)

@@ -15,7 +15,9 @@ use Rattle.sqlite_schema.specs.declared.schema.Action.{Action}
 use Rattle.sqlite_schema.specs.declared.schema.Action.TheVariants.{NoAction, Restrict, Cascade, SetNull, SetDefault}
 use Rattle.sqlite_schema.specs.declared.schema.Reference.{Reference}
 use Rattle.sqlite_schema.specs.declared.schema.Keys.TheVariants.{Enforced}
+use Rattle.sqlite_schema.specs.declared.command.Conflict.{Conflict}
 use Rattle.sqlite_schema.specs.declared.command.Conflict.TheVariants.{Replace}
+use Rattle.sqlite_schema.specs.declared.command.Upsert.{Upsert}
 use Rattle.sqlite_schema.specs.Rules.{ParentKey, parent_key}
 use Rattle.sqlite_rules.specs.declared.action.Deed.{Deed}
 use Rattle.sqlite_rules.specs.Action.{works, work_for, work_by, deed_for, deed_of, loses, pairs}
@@ -25,7 +27,7 @@ use Rattle.sqlite.specs.Rowids.TheVariants.{Chosen, Above, Given}
 use Rattle.sqlite.specs.Edit.{Edit, edit_of, taken_by, Applies, IsNoIndex, without_all, with_rowid}
 use Rattle.sqlite.specs.Cast.{cast_row}
 use Rattle.sqlite.specs.Effect.{Database, value_rows}
-use Rattle.sqlite.specs.Rows.{Edited, Written, Task, Puts, Clears, Upserts, Judged, Tries, TriesEach, InsertsOr, Inserts, nothing, mended, stamped, rowids_for, count_of, Counts}
+use Rattle.sqlite.specs.Rows.{Edited, Written, Task, Puts, Clears, Upserts, Judged, Tries, TriesEach, InsertsOr, Inserts, nothing, mended, passes_over, stamped, rowids_for, count_of, Counts}
 use Rattle.sqlite.specs.Does.{Tally, AtPlace, OnRows, WritesRows}
 use Rattle.sqlite_schema.specs.declared.command.Returning.{Returning}
 use Rattle.sqlite.specs.State.{State, Shows, Writes, mode_of}
@@ -49,7 +51,7 @@ use Rattle.sqlite.specs.Cast.{cast}
 use Rattle.sqlite.specs.Edit.{is_taken, next_rowid}
 use Rattle.sqlite_trees.specs.View.{is_int}
 use Rattle.sqlite_rules.specs.declared.error.Refusal.{Refusal}
-use Rattle.wb_sql.specs.Rows.{cells, cells_of, IsStored, IsTyped, with_next_rowid, meets, inserted, apart, upserted, without}
+use Rattle.wb_sql.specs.Rows.{cells, cells_of, IsStored, IsTyped, with_next_rowid, meets, inserted, apart, replaced, without}
 use Rattle.wb_sql.proofs.SetLemmas.{taken_out, stored-filter, stored-put_row, cells_beside}
 use Rattle.wb_sql.specs.Changes.{is_no_action, does_nothing, refers_to_tree, never_acts_on, IsPlainTable, IsOneRow, ReplacesInto, InsertsInto, DeletesFrom, SetsTable, Deletes as DeletesRows}
 
@@ -127,12 +129,12 @@ pub spares_same : (schema : Schema) (table : Table) (a : Trees) → Spares schem
 spares_same schema table a = record { tables = spared_alone schema.tables table.tree a; others = λ t other plain. refl }
 
 module _ (task : Task) (keys_are : task.keys ≡ Enforced) (quiet : never_acts_on task.schema task.table.tree ≡ true) where
-  applied : (db next : Trees) (edit : Edit) → edit.table ≡ task.table → Edited task.schema task.keys db edit (Ok next) → Applies task.schema task.keys db edit next
+  pub applied : (db next : Trees) (edit : Edit) → edit.table ≡ task.table → Edited task.schema task.keys db edit (Ok next) → Applies task.schema task.keys db edit next
   applied db next edit is h =
       let still : never_acts_on task.schema edit.table.tree ≡ true = subst (λ (t : Table). never_acts_on task.schema t.tree ≡ true) (sym is) quiet in
       one_step task.schema task.keys db next edit (subst (λ k. works task.schema k 0 edit.table.tree (taken_by db edit) edit.news ≡ []) (sym keys_are) (no_works task.schema 0 edit.table.tree _ _ still)) h
 
-  spared : (db next : Trees) (edit : Edit) → edit.table ≡ task.table → Applies task.schema task.keys db edit next → Spares task.schema task.table db next
+  pub spared : (db next : Trees) (edit : Edit) → edit.table ≡ task.table → Applies task.schema task.keys db edit next → Spares task.schema task.table db next
   spared db next edit is a = subst (λ t. Spares task.schema t db next) is (record { tables = a.tables; others = a.others })
 
   -- the row is put in, at its own rowid
@@ -141,7 +143,7 @@ module _ (task : Task) (keys_are : task.keys ≡ Enforced) (quiet : never_acts_o
     pub spares : Spares task.schema task.table db next
     pub free : is_taken rows new ≡ false
 
-  puts : (new : Row) (db : Trees) (w : Written) → cast_row task.table new ≡ new → Puts task new db (Ok w) → IsPut new (db task.table.tree) db w.trees
+  pub puts : (new : Row) (db : Trees) (w : Written) → cast_row task.table new ≡ new → Puts task new db (Ok w) → IsPut new (db task.table.tree) db w.trees
   puts new db w kept h =
       let edit = edit_of db task.table [] Given 0 (new ∷ []) in
       let done = went h in
@@ -174,14 +176,15 @@ module _ (task : Task) (keys_are : task.keys ≡ Enforced) (quiet : never_acts_o
       (λ r there meet. (rowid r ∷ [], h.1.complete r there meet, refl)) in
       subst (λ left. IsPut new left db w.trees) same (clears new db h.0 w kept h.2)
 
-  judged : (new : Row) (db : Trees) (w : Written) (verdict : Option Refusal) → IsJudged task.table new verdict → Judged task Replace [] new db verdict (Ok w)
-      → (is_int (rowid new) ≡ true) × Upserts task Replace new db [] (Ok w)
-  judged new db w None told h = (told.0, h)
-  judged new db w (Some why) told h = absurd (cc)
+  -- a row that is judged sound is written, whatever OR says but IGNORE
+  module _ (way : Conflict) (clauses : List Upsert) (strict : (why : Refusal) → passes_over way why ≡ false) (new : Row) (db : Trees) (w : Written) where
+    judged : (verdict : Option Refusal) → IsJudged task.table new verdict → Judged task way clauses new db verdict (Ok w) → (is_int (rowid new) ≡ true) × Upserts task way new db clauses (Ok w)
+    judged None told h = (told.0, h)
+    judged (Some why) told h = absurd (let e = rw (strict why) at h in cc)
 
-  tries : (new : Row) (db : Trees) (w : Written) → Tries task Replace [] new db (Ok w) → (is_int (rowid new) ≡ true) × Upserts task Replace new db [] (Ok w)
-  tries new db w (inl refused) = absurd (let e = refused.1 in cc)
-  tries new db w (inr told) = judged new db w told.0 told.1 told.2
+    pub tries : Tries task way clauses new db (Ok w) → (is_int (rowid new) ≡ true) × Upserts task way new db clauses (Ok w)
+    tries (inl refused) = absurd (let e = refused.1 in cc)
+    tries (inr told) = judged told.0 told.1 told.2
 
 -- ---- the row that is written
 
@@ -222,7 +225,7 @@ one_source params full terms width rows one same h =
     subst (λ n. rows ≡ value_rows full width n terms) one.count h ∙ ap (λ ts. eval_all ts (full ∷ []) ∷ []) one.all ∙ ap (λ p. eval_all terms (p ∷ []) ∷ []) same
 
 module _ (limit : Option ℕ) (schema : Schema) (at : ℕ) (table : Table) (params : Row) (plain : IsPlainTable schema at table) where
-  abbrev task : Task
+  abbrev pub task : Task
   task = record { limit = limit; keys = Enforced; schema = schema; table = table; params = params }
 
   unstamped : stamped table params ≡ params
@@ -235,8 +238,8 @@ module _ (limit : Option ℕ) (schema : Schema) (at : ℕ) (table : Table) (para
   uncounted db next counter top h = same_value (rw plain.uncounted at h)
 
   -- what a row of VALUES comes to in the table
-  pub record IsUpserted (given : Row) (db next : Trees) : Type 0 where
-    pub rows_are : next table.tree ≡ upserted schema table given (db table.tree)
+  pub record IsReplaced (given : Row) (db next : Trees) : Type 0 where
+    pub rows_are : next table.tree ≡ replaced schema table given (db table.tree)
     pub spares : Spares schema table db next
     pub whole : is_int (rowid (with_next_rowid (db table.tree) given)) ≡ true
     pub free : is_taken (filter (λ row. not (meets schema table (with_next_rowid (db table.tree) given) row)) (db table.tree)) (with_next_rowid (db table.tree) given) ≡ false
@@ -248,28 +251,31 @@ module _ (limit : Option ℕ) (schema : Schema) (at : ℕ) (table : Table) (para
     abbrev new : Row
     new = with_next_rowid (db table.tree) given
 
-    tries_each : (rows : List Row) (top : ℤ) (done : Written × ℤ) → rows ≡ given ∷ [] → TriesEach task Replace [] rows top (nothing db) (Ok done)
-        → (is_int (rowid new) ≡ true) × IsPut task refl plain.quiet new (filter (λ row. not (meets schema table new row)) (db table.tree)) db done.0.trees
-    tries_each rows top done is h =
-        let each = went (subst (λ rs. TriesEach task Replace [] rs top (nothing db) (Ok done)) is h) in
-        let row : with_rowid (rowids_for table top) (db table.tree) (cast_row table (mended Replace table given)) ≡ new =
-        ap (λ how. with_rowid how (db table.tree) (cast_row table (mended Replace table given))) (uncounted_rowids top) ∙ ap (with_next_rowid (db table.tree)) (kept_source table given typed) in
-        let tried = tries task refl plain.quiet new db each.0 (subst (λ r. Tries task Replace [] r db (Ok each.0)) row each.1) in
-        let end : done.0.trees ≡ each.0.trees = ap (λ (p : Written × ℤ). p.0.trees) (same_value each.2) in (
-          tried.0,
-          subst (IsPut task refl plain.quiet new (filter (λ row. not (meets schema table new row)) (db table.tree)) db) (sym end)
-              (upserts task refl plain.quiet new db each.0 stored (kept_new table given typed (db table.tree)) tried.1),
-        )
+    -- the one row is tried as the row with its rowid
+    module _ (way : Conflict) (clauses : List Upsert) (kept : cast_row table (mended way table given) ≡ given) where
+      tries_each : (rows : List Row) (top : ℤ) (done : Written × ℤ) → rows ≡ given ∷ [] → TriesEach task way clauses rows top (nothing db) (Ok done)
+          → (w : Written) × Tries task way clauses new db (Ok w) × (done.0.trees ≡ w.trees)
+      tries_each rows top done is h =
+          let each = went (subst (λ rs. TriesEach task way clauses rs top (nothing db) (Ok done)) is h) in
+          let row : with_rowid (rowids_for table top) (db table.tree) (cast_row table (mended way table given)) ≡ new =
+          ap (λ how. with_rowid how (db table.tree) (cast_row table (mended way table given))) (uncounted_rowids top) ∙ ap (with_next_rowid (db table.tree)) kept in
+          (each.0, subst (λ r. Tries task way clauses r db (Ok each.0)) row each.1, ap (λ (p : Written × ℤ). p.0.trees) (same_value each.2))
 
-    pub inserts_or : (w : Written) → InsertsOr task Replace [] (Values terms width) db (Ok w) → IsUpserted given db w.trees
+      pub tries_one : (w : Written) → InsertsOr task way clauses (Values terms width) db (Ok w) → (x : Written) × Tries task way clauses new db (Ok x) × (w.trees ≡ x.trees)
+      tries_one w h =
+          let sourced = went h in
+          let counter = went sourced.2 in
+          let tried = went counter.2 in
+          let counted = went tried.2 in
+          let each = tries_each sourced.0 (count_of counter.0) tried.0 (one_source params (stamped table params) terms width sourced.0 one unstamped sourced.1.1) tried.1 in
+          (each.0, each.1, ap (λ (x : Written). x.trees) (same_value counted.2) ∙ uncounted tried.0.0.trees counted.0 counter.0 tried.0.1 counted.1 ∙ each.2)
+
+    pub inserts_or : (w : Written) → InsertsOr task Replace [] (Values terms width) db (Ok w) → IsReplaced given db w.trees
     inserts_or w h =
-        let sourced = went h in
-        let counter = went sourced.2 in
-        let tried = went counter.2 in
-        let counted = went tried.2 in
-        let put = tries_each sourced.0 (count_of counter.0) tried.0 (one_source params (stamped table params) terms width sourced.0 one unstamped sourced.1.1) tried.1 in
-        let end : w.trees ≡ tried.0.0.trees = ap (λ (x : Written). x.trees) (same_value counted.2) ∙ uncounted tried.0.0.trees counted.0 counter.0 tried.0.1 counted.1 in
-        subst (IsUpserted given db) (sym end) (record { rows_are = put.1.rows_are; spares = put.1.spares; whole = put.0; free = put.1.free })
+        let x = tries_one Replace [] (kept_source table given typed) w h in
+        let tried = tries task refl plain.quiet Replace [] (λ why. refl) new db x.0 x.1 in
+        let put = upserts task refl plain.quiet new db x.0 stored (kept_new table given typed (db table.tree)) tried.1 in
+        subst (IsReplaced given db) (sym x.2) (record { rows_are = put.rows_are; spares = put.spares; whole = tried.0; free = put.free })
 
     -- INSERT of one row
     pub inserts : (w : Written) → Inserts task (Values terms width) db (Ok w)
@@ -344,7 +350,7 @@ module _ (params : Row) (old new : State) (at : ℕ) (table : Table) (plain : Is
   abbrev own_task : Task
   own_task = record { limit = old.step_limit; keys = Enforced; schema = old.now.schema; table = table; params = params }
 
-  row_step : (command : Command) (tally : Tally)
+  pub row_step : (command : Command) (tally : Tally)
       → AtPlace (λ t. OnRows (record { limit = old.step_limit; keys = Enforced; schema = old.now.schema; table = t; params = params }) (mode_of old) None command old.now.trees) (slice_get old.now.schema.tables at)
       (Ok (tally, new.now))
       → (w : Written) × WritesRows own_task old.now.trees command (Ok w) × (new.now ≡ record { schema = old.now.schema; trees = w.trees })
@@ -355,7 +361,7 @@ module _ (params : Row) (old new : State) (at : ℕ) (table : Table) (plain : Is
       let ends = went (went wrote.2).2 in
       (wrote.0, wrote.1, ap (λ (p : Tally × Database). p.1) (same_value ends.2))
 
-  sets : (rows : List Row) (next : Trees) → next table.tree ≡ rows → Spares old.now.schema table old.now.trees next → new.now ≡ record { schema = old.now.schema; trees = next }
+  pub sets : (rows : List Row) (next : Trees) → next table.tree ≡ rows → Spares old.now.schema table old.now.trees next → new.now ≡ record { schema = old.now.schema; trees = next }
       → Shows old new new.now old.committed true → new.marks ≡ old.marks → SetsTable table rows old new
   sets rows next rows_are spares now shown marks =
       let trees : new.now.trees ≡ next = ap (λ (d : Database). d.trees) now in
@@ -371,7 +377,7 @@ module _ (sql : List ℕ) (params : Row) (old new : State) (ran : RanInside sql 
 
   -- INSERT OR REPLACE of one row, in a transaction
   pub replaces : ReplacesInto old.now.schema sql table terms → IsStored rows → IsTyped table source
-      → SetsTable table (upserted old.now.schema table source rows) old new × IsStored (new.now.trees table.tree)
+      → SetsTable table (replaced old.now.schema table source rows) old new × IsStored (new.now.trees table.tree)
       × IsPermutation (cells source ∷ cells_of (apart old.now.schema table source rows)) (cells_of (new.now.trees table.tree))
   replaces text stored typed =
       let plain = text.table_is in
@@ -379,7 +385,7 @@ module _ (sql : List ℕ) (params : Row) (old new : State) (ran : RanInside sql 
       let w = runs_as sql params old new old.now.schema refl command (means_as old.now.schema sql command text.means) text.means.plain ran.1.0 ran.1.1 in
       let step = row_step params old new text.at table plain command w.tally w.changed in
       let is = inserts_or old.step_limit old.now.schema text.at table params plain terms text.width text.one_row typed old.now.trees stored step.0 step.1 in
-      let set = sets params old new text.at table plain (upserted old.now.schema table source rows) step.0.trees is.rows_are is.spares step.2
+      let set = sets params old new text.at table plain (replaced old.now.schema table source rows) step.0.trees is.rows_are is.spares step.2
       (shown_inside old new None command _ params ran.1.0 ran.0 w) w.marks in (
         set,
         subst IsStored (sym set.rows_are) (stored-put_row _ (stored-filter rows stored _) _ is.whole),

@@ -1,21 +1,30 @@
--- What INSERT, INSERT OR REPLACE and DELETE on one table change of a database.
-use Rattle.std.specs.Prelude.{◌≡◌, ◌≢◌, ℕ, ◌/◌, ◌^◌, ◌==◌, nat_le, Bool, true, false, not, ◌&&◌, ◌||◌, List, [], ◌∷◌, length, take, slice_get, Some, option_map, unwrap_or, IsPermutation}
+-- What INSERT, INSERT OR REPLACE, INSERT ON CONFLICT and DELETE on one table change of a database.
+use Rattle.std.specs.Prelude.{◌≡◌, ◌≢◌, ℕ, ◌/◌, ◌^◌, ◌==◌, nat_le, pos, negsuc, Bool, true, false, not, ◌&&◌, ◌||◌, List, [], ◌∷◌, ◌++◌, length, take, slice_get, Some, option_map, unwrap_or, IsPermutation}
 use Rattle.std.specs.List.{AllByRecursion, list_all}
 use Rattle.sqlite.specs.Order.{Row}
 use Rattle.sqlite.specs.Schema.{Schema}
 use Rattle.sqlite.specs.Table.{Table}
-use Rattle.sqlite.specs.Term.{Term, eval_all, holds}
+use Rattle.sqlite.specs.Term.{Term, lit, col, op2, eval_all, holds}
+use Rattle.sqlite.specs.declared.types.Value.TheVariants.{Int}
+use Rattle.sqlite.specs.Collation.TheVariants.{Binary}
+use Rattle.sqlite_sql.specs.declared.ops.BinaryOp.TheVariants.{Compare}
+use Rattle.sqlite_sql.specs.declared.ops.CompareOp.TheVariants.{Eq}
+use Rattle.sqlite.specs.Tree.{rowid}
+use Rattle.sqlite.specs.Rows.{shown}
+use Rattle.sqlite_rules.specs.Keys.{conflicts}
+use Rattle.sqlite_rules.specs.Lists.{Has}
 use Rattle.sqlite.specs.Source.TheVariants.{Values}
 use Rattle.sqlite.specs.Command.TheVariants.{Insert, InsertOr, Delete}
 use Rattle.sqlite_schema.specs.declared.schema.Action.{Action}
 use Rattle.sqlite_schema.specs.declared.schema.Action.TheVariants.{NoAction}
 use Rattle.sqlite_schema.specs.declared.schema.Reference.{Reference}
 use Rattle.sqlite_schema.specs.Rules.{parent_key}
-use Rattle.sqlite_schema.specs.declared.command.Conflict.TheVariants.{Replace}
+use Rattle.sqlite_schema.specs.declared.command.Conflict.TheVariants.{Abort, Replace}
+use Rattle.sqlite_schema.specs.declared.command.Upsert.{Upsert}
 use Rattle.sqlite.specs.Edit.{IsNoIndex}
 use Rattle.sqlite.specs.State.{State, Shows}
-use Rattle.wb_sql.specs.Queries.{query_of, rowids_where}
-use Rattle.wb_sql.specs.Rows.{cells, cells_of, IsStored, IsTyped, inserted, apart, upserted, without}
+use Rattle.wb_sql.specs.Queries.{TableQuery, query_of, rowids_where}
+use Rattle.wb_sql.specs.Rows.{cells, cells_of, IsStored, IsTyped, inserted, apart, replaced, without, with_next_rowid, meets}
 use Rattle.wb_sql.specs.Statements.{Means}
 
 -- the action of a foreign key that does nothing (NO ACTION)
@@ -63,6 +72,45 @@ pub record InsertsInto (schema : Schema) (sql : List ℕ) (table : Table) (terms
   pub one_row : IsOneRow terms width
   pub means : Means schema sql (Insert at (Values terms width))
 
+-- SELECT rowid, rowid, terms FROM the table WHERE rowid = the parameter at this place: the row with this rowid, and what it is to be
+abbrev pub row_of_rowid : ℕ → ℕ → List Term → TableQuery
+row_of_rowid tree place terms = record {
+  tree = tree;
+  filter = op2 (Compare Eq Binary) (col 1 0) (col 0 place) ∷ [];
+  project = col 1 0 ∷ col 1 0 ∷ terms;
+  order = [];
+  collations = [];
+  limit = lit (Int (negsuc 0));
+  offset = lit (Int (pos 0));
+}
+
+-- ON CONFLICT (the columns of the key) DO UPDATE SET each column to its term: the row that is there keeps its rowid, which is read after the
+-- parameters, of which there are so many
+abbrev pub renewal : ℕ → List ℕ → ℕ → List Term → Upsert
+renewal tree key count sets = record { target = Some key; update = Some (record { lets = []; body = query_of (row_of_rowid tree count sets) }) }
+
+-- over this schema the text, which has so many parameters, is INSERT INTO the table VALUES (terms) ON CONFLICT (key) DO UPDATE SET each column to its
+-- term; no column of the key is the rowid
+pub record UpsertsInto (schema : Schema) (sql : List ℕ) (table : Table) (terms sets : List Term) (key : List ℕ) (count : ℕ) : Type 0 where
+  pub at : ℕ
+  pub width : ℕ
+  pub table_is : IsPlainTable schema at table
+  pub stored : nat_le (2 ^ 31) table.tree ≡ false
+  pub one_row : IsOneRow terms width
+  pub columns : list_all (λ place. not (place == 0)) key ≡ true
+  pub means : Means schema sql (InsertOr at Abort (Values terms width) (renewal table.tree key count sets ∷ []))
+
+-- a row of the table has the key of the new one
+abbrev pub has_key : Schema → Table → List ℕ → Row → Row → Bool
+has_key schema table key new row = conflicts (Some key) schema.indexes table new row
+
+-- the new row, which is given or written over one that is there, is decided by its key: a row that meets it has the key, and of one that has the key
+-- each column is set to that of the new row
+pub record IsDecidedBy (schema : Schema) (table : Table) (key : List ℕ) (params given : Row) (sets : List Term) (rows : List Row) : Type 0 where
+  pub by_key : (row : Row) → Has rows row → meets schema table (with_next_rowid rows given) row ≡ true → has_key schema table key (with_next_rowid rows given) row ≡ true
+  pub cells_are : (row : Row) → Has rows row → has_key schema table key (with_next_rowid rows given) row ≡ true
+      → eval_all sets ((params ++ rowid row ∷ shown table (with_next_rowid rows given)) ∷ row ∷ []) ≡ cells given
+
 -- a table's rows are these now, and nothing else of the database, its schema and the transaction is changed
 pub record SetsTable (table : Table) (rows : List Row) (old new : State) : Type 0 where
   pub rows_are : new.now.trees table.tree ≡ rows
@@ -84,7 +132,16 @@ pub record DeletesFrom (schema : Schema) (sql : List ℕ) (table : Table) (tests
 abbrev pub Replaces : List ℕ → Row → State → State → Type 0
 Replaces sql params old new =
     (table : Table) (terms : List Term) → ReplacesInto old.now.schema sql table terms → IsStored (old.now.trees table.tree) → IsTyped table (eval_all terms (params ∷ []))
-    → SetsTable table (upserted old.now.schema table (eval_all terms (params ∷ [])) (old.now.trees table.tree)) old new × IsStored (new.now.trees table.tree)
+    → SetsTable table (replaced old.now.schema table (eval_all terms (params ∷ [])) (old.now.trees table.tree)) old new × IsStored (new.now.trees table.tree)
+    × IsPermutation (cells (eval_all terms (params ∷ [])) ∷ cells_of (apart old.now.schema table (eval_all terms (params ∷ [])) (old.now.trees table.tree))) (cells_of (new.now.trees table.tree))
+
+-- an INSERT ON CONFLICT of one row leaves this, where its key decides: the row that is given, with the rowid of the one that has its key if there is one,
+-- and those that do not meet it
+abbrev pub Upserts : List ℕ → Row → State → State → Type 0
+Upserts sql params old new =
+    (table : Table) (terms sets : List Term) (key : List ℕ) → UpsertsInto old.now.schema sql table terms sets key (length params) → IsStored (old.now.trees table.tree)
+    → IsTyped table (eval_all terms (params ∷ [])) → IsDecidedBy old.now.schema table key params (eval_all terms (params ∷ [])) sets (old.now.trees table.tree)
+    → SetsTable table (new.now.trees table.tree) old new × IsStored (new.now.trees table.tree)
     × IsPermutation (cells (eval_all terms (params ∷ [])) ∷ cells_of (apart old.now.schema table (eval_all terms (params ∷ [])) (old.now.trees table.tree))) (cells_of (new.now.trees table.tree))
 
 -- an INSERT of one row leaves this

@@ -49,8 +49,8 @@ abbrev pub apart : Schema → Table → Row → List Row → List Row
 apart schema table given rows = filter (λ row. not (meets schema table (with_next_rowid rows given) row)) rows
 
 -- what INSERT OR REPLACE leaves: the new row, and the old ones that do not meet it
-abbrev pub upserted : Schema → Table → Row → List Row → List Row
-upserted schema table given rows = put_row (with_next_rowid rows given) (apart schema table given rows)
+abbrev pub replaced : Schema → Table → Row → List Row → List Row
+replaced schema table given rows = put_row (with_next_rowid rows given) (apart schema table given rows)
 
 -- what DELETE leaves
 abbrev pub without : (Row → Bool) → List Row → List Row

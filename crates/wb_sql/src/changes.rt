@@ -5,7 +5,7 @@ ghost use Rattle.sqlite.specs.Held.{state};
 ghost use Rattle.sqlite.specs.State.{HasCleanDisk};
 ghost use Rattle.sqlite.specs.Values.{bound};
 ghost use Rattle.wb_sql.specs.Calls.{RunsStatement};
-ghost use Rattle.wb_sql.specs.Changes.{Replaces, Inserts, Deletes};
+ghost use Rattle.wb_sql.specs.Changes.{Replaces, Inserts, Upserts, Deletes};
 
 use crate::writing::Writing;
 use sqlite::types::ValueRef;
@@ -27,6 +27,17 @@ impl<S: Alter> Writing<'_, S> {
         ensures same_reference { self.new.conn.ghost_name ≡ self.old.conn.ghost_name }
         ensures runs { RunsStatement S.Store sql.now (bound params.now) self.old.conn.now self.new.conn.now result }
         ensures ok { HasCleanDisk (state S.Store self.new.conn.now) → OnOk result (Inserts sql.now (bound params.now)
+            (state S.Store self.old.conn.now) (state S.Store self.new.conn.now)) }
+    {
+        self.run(sql, params)
+    }
+
+    /// Puts one row in, or writes it over the row that has its key (INSERT ON CONFLICT of the key DO UPDATE), which keeps its
+    /// rowid. A row that meets another in any other way is refused.
+    pub fn upsert(&mut self, sql: &str, params: &[ValueRef<'_>]) -> Result<(), Error>
+        ensures same_reference { self.new.conn.ghost_name ≡ self.old.conn.ghost_name }
+        ensures runs { RunsStatement S.Store sql.now (bound params.now) self.old.conn.now self.new.conn.now result }
+        ensures ok { HasCleanDisk (state S.Store self.new.conn.now) → OnOk result (Upserts sql.now (bound params.now)
             (state S.Store self.old.conn.now) (state S.Store self.new.conn.now)) }
     {
         self.run(sql, params)

@@ -23,22 +23,23 @@ use Rattle.wb_states.specs.declared.record.Record.{Record}
 use Rattle.wb_states.specs.Machine.{Machine}
 use Rattle.wb_states.specs.Queue.{Entry}
 use Rattle.wb_sql.specs.Calls.{RunsStatement}
-use Rattle.wb_sql.specs.Changes.{Replaces, Inserts, Deletes, SetsTable}
-use Rattle.wb_sql.specs.Rows.{cells_of, apart, upserted, without, IsStored}
+use Rattle.wb_sql.specs.Changes.{Replaces, Inserts, Upserts, Deletes, SetsTable}
+use Rattle.wb_sql.specs.Rows.{cells_of, apart, replaced, without, IsStored}
 use Rattle.wb_sql.specs.Statements.{IsWriting}
 use Rattle.wb_sql.specs.Transactions.{IsKeptOrUndone}
 use Rattle.wb_sql.proofs.CallLemmas.{on_ok}
 use Rattle.wb_sql.proofs.WriteLemmas.{replaces_writes, inserts_writes, deletes_writes}
+use Rattle.wb_sql.proofs.UpsertLemmas.{upserts_writes}
 use Rattle.wb_schema.proofs.QuietLemmas.{office_quiet, arch_quiet, builder_quiet, record_quiet}
 use Rattle.wb_schema.specs.Tables.{office, arch, builder, source_record, scratch_source, scratch_binary}
-use Rattle.wb_schema.specs.Among.{HasTable, HasOffice, ReplacesAmong, InsertsAmong, DeletesAmong, table_in, tree_named, rows_in}
-use Rattle.wb_schema.specs.Statements.{office_row as office_terms, arch_row as arch_terms, builder_row as builder_terms, record_row as record_terms, has_record_key}
+use Rattle.wb_schema.specs.Among.{HasTable, HasOffice, ReplacesAmong, InsertsAmong, UpsertsRecords, DeletesAmong, table_in, tree_named, rows_in}
+use Rattle.wb_schema.specs.Statements.{office_row as office_terms, arch_row as arch_terms, builder_row as builder_terms, record_row as record_terms, record_sets, record_key, has_record_key}
 use Rattle.wb_schema.proofs.RecordLemmas.{arch_typed, builder_typed}
 use Rattle.wb_rows.specs.Cells.{record_cells, arch_cells, builder_cells, number}
 use Rattle.wb_tables.specs.Stands.{HoldsRows, StandsFor, office_row, record_rows, arch_rows, builder_rows, builder_pairs}
 use Rattle.wb_tables.specs.Calls.{Becomes, Changes, FailsToWrite}
 use Rattle.wb_tables.proofs.MapLemmas.{entries-insert, entries-added, items-added}
-use Rattle.wb_tables.proofs.ChangeRowLemmas.{begins_with, passes, cells_without, cells_apart, records_without, office_replaced, office_typed, entry_typed, typed_at}
+use Rattle.wb_tables.proofs.ChangeRowLemmas.{begins_with, passes, cells_without, cells_apart, records_without, record_decides, office_replaced, office_typed, entry_typed, typed_at}
 use Rattle.wb_schema.proofs.ApartLemmas.{other_rows, own_rows}
 
 -- ---- any statement that writes
@@ -112,8 +113,8 @@ module _ (sql : List ℕ) (machine : Machine) (old new : State) (stands : Stands
       let tree = tree_named schema office.name in
       let typed = typed_at tree office (office_row after) (office_typed after) in
       let made = (does (table_in schema office) office_terms (text schema tree stands.has.office_is (office_quiet schema stands.has)) stored typed).0 in
-      let rows = upserted schema (table_in schema office) (office_row after) (rows_in old.now office) in
-      let row : rows ≡ office_row after ∷ [] = ap (upserted schema (table_in schema office) (office_row after)) stands.counts ∙ office_replaced schema stands.has machine after in
+      let rows = replaced schema (table_in schema office) (office_row after) (rows_in old.now office) in
+      let row : rows ≡ office_row after ∷ [] = ap (replaced schema (table_in schema office) (office_row after)) stands.counts ∙ office_replaced schema stands.has machine after in
       record {
         stands = record {
           has = still_has stands (table_in schema office) rows stands.has.office_is made;
@@ -215,14 +216,15 @@ module _ (sql : List ℕ) (machine : Machine) (old new : State) (stands : Stands
       (record { stored = put.1; same = subst (λ all. IsPermutation columns (cells_of all)) (sym put.0.rows_are) same })
 
   -- a record in place of the one with its key
-  pub record_put : (of source : List ℕ) (current : Record) → ReplacesAmong source_record sql record_terms → Replaces sql (record_cells ((of, source), current)) old new
+  pub record_put : (of source : List ℕ) (current : Record) → UpsertsRecords sql → Upserts sql (record_cells ((of, source), current)) old new
       → Becomes (record machine { records = finite.insert machine.records (of, source) current }) old new
   record_put of source current text does =
       let entry : Entry = ((of, source), current) in
       let tree = tree_named schema source_record.name in
       let typed = typed_at tree source_record (Null ∷ record_cells entry) (entry_typed entry) in
-      let put = does (table_in schema source_record) record_terms (text schema tree stands.has.record_is (record_quiet schema stands.has)) stands.records.stored typed in
       let rows = rows_in old.now source_record in
+      let put = does (table_in schema source_record) record_terms record_sets record_key (text schema tree stands.has.at stands.has.record_is stands.has.records_indexed (record_quiet schema stands.has))
+      stands.records.stored typed (record_decides schema stands.has entry rows stands.records.stored) in
       let beside = filter (λ columns. not (begins_with of source columns)) (cells_of rows) in
       let apart_is : cells_of (apart schema (table_in schema source_record) (Null ∷ record_cells entry) rows) ≡ beside = cells_apart schema stands.has of source (drop 2 (record_cells entry)) rows stands.records.stored in
       records_made (finite.insert machine.records (of, source) current) _ put.0
@@ -271,9 +273,10 @@ module _ {S A : Type 0} {g : Ghosts S} {sql : List ℕ} {params : Row} {old new 
       statement_changes (Deletes sql params) (λ schema has. deletes_writes schema sql (table_in schema source_record) has_record_key (text schema (tree_named schema source_record.name) has.record_is (record_quiet schema has)))
       (λ machine stands allows does. record_removed sql machine (state g old) (state g new) stands of source text (subst (λ p. Deletes sql p (state g old) (state g new)) is does))
 
-  pub record_change : (of source : List ℕ) (current : Record) → ReplacesAmong source_record sql record_terms → params ≡ record_cells ((of, source), current) → RunsStatement g sql params old new r
-      → (HasCleanDisk (state g new) → OnOk r (Replaces sql params (state g old) (state g new)))
+  pub record_change : (of source : List ℕ) (current : Record) → UpsertsRecords sql → params ≡ record_cells ((of, source), current) → RunsStatement g sql params old new r
+      → (HasCleanDisk (state g new) → OnOk r (Upserts sql params (state g old) (state g new)))
       → Changes g (λ _. ⊤) (λ machine. record machine { records = finite.insert machine.records (of, source) current }) old new r
   record_change of source current text is =
-      statement_changes (Replaces sql params) (λ schema has. replaces_writes schema sql (table_in schema source_record) record_terms (text schema (tree_named schema source_record.name) has.record_is (record_quiet schema has)))
-      (λ machine stands allows does. record_put sql machine (state g old) (state g new) stands of source current text (subst (λ p. Replaces sql p (state g old) (state g new)) is does))
+      statement_changes (Upserts sql params) (λ schema has. upserts_writes schema sql (table_in schema source_record) record_terms record_sets record_key 16
+      (text schema (tree_named schema source_record.name) has.at has.record_is has.records_indexed (record_quiet schema has)))
+      (λ machine stands allows does. record_put sql machine (state g old) (state g new) stands of source current text (subst (λ p. Upserts sql p (state g old) (state g new)) is does))

@@ -1,5 +1,5 @@
 -- The rows of the office's tables by their keys: which rows a statement takes out, and which stay.
-use Rattle.std.proofs.Common.{◌≡◌, inr, ℕ, ℤ, pos, Bool, true, false, not, ◌&&◌, ◌||◌, cond, List, [], ◌∷◌, map, filter, Option, Some, None, IsTrue, Ordering, Less, Equal, Greater, refl, sym, ap, ap₂, subst, ◌∙◌, IsPermutation}
+use Rattle.std.proofs.Common.{◌≡◌, inr, ℕ, ℤ, pos, Bool, true, false, not, ◌&&◌, ◌||◌, cond, List, [], ◌∷◌, drop, map, filter, Option, Some, None, IsTrue, Ordering, Less, Equal, Greater, refl, sym, ap, ap₂, subst, ◌∙◌, IsPermutation}
 use Rattle.std.specs.List.{AllByRecursion, list_any, list_all}
 use Rattle.std.specs.Ordering.{is_eq, eq_by_cmp, ordering_then}
 use Rattle.std.specs.Cmp.{eq_by_cmp_equiv}
@@ -16,26 +16,30 @@ use Rattle.sqlite.specs.Term.{holds}
 use Rattle.sqlite.specs.Rowids.TheVariants.{Chosen}
 use Rattle.sqlite.specs.Cast.{cast}
 use Rattle.sqlite.specs.Kind.TheVariants.{Integer, Text as OfText}
-use Rattle.sqlite.specs.declared.types.Value.TheVariants.{Null, Int, Text}
-use Rattle.sqlite_sql.specs.Ops.{binary, is_true, from_truth}
+use Rattle.sqlite.specs.declared.types.Value.TheVariants.{Null, Int, Real, Text, Blob}
+use Rattle.sqlite_value.specs.declared.value.Value.{Value}
+use Rattle.sqlite_sql.specs.Ops.{binary}
 use Rattle.sqlite_value.specs.Keys.{first_key}
 use Rattle.sqlite_value.specs.Order.{value_cmp}
 use Rattle.sqlite_value.proofs.OrderLemmas.{value_cmp_total, value_cmp-Text}
 use Rattle.sqlite_schema.specs.Rules.{equal}
 use Rattle.sqlite_trees.specs.View.{is_int}
 use Rattle.sqlite_trees.proofs.ListLemmas.{filter-map, IsPermutation-filter}
+use Rattle.sqlite_rules.proofs.ListLemmas.{all_has}
 use Rattle.sqlite_rules.proofs.TableLemmas.{int_is}
 use Rattle.sqlite_rules.proofs.PlaceLemmas.{next_is_free}
 use Rattle.deb_text.specs.Text.{text_cmp, pair_cmp}
-use Rattle.deb_text.proofs.KeyLemmas.{pair_cmp_total, pair_cmp-same}
+use Rattle.deb_text.proofs.KeyLemmas.{text_cmp-same, pair_cmp_total, pair_cmp-same, eq_by_cmp-same}
 use Rattle.wb_states.specs.Machine.{Machine}
 use Rattle.wb_states.specs.Queue.{Entry}
-use Rattle.wb_sql.specs.Rows.{cells, cells_of, IsStored, IsTyped, meets, apart, upserted, without}
+use Rattle.wb_sql.specs.Changes.{has_key, IsDecidedBy}
+use Rattle.wb_sql.specs.Rows.{cells, cells_of, IsStored, IsTyped, meets, apart, replaced, without}
 use Rattle.wb_sql.proofs.WriteLemmas.{cast_int, cast_null}
+use Rattle.wb_sql.proofs.UpsertLemmas.{true_of, equal_int}
 use Rattle.wb_schema.specs.Tables.{office, source_record}
 use Rattle.wb_schema.specs.Among.{HasOffice, HasIndexes, table_at, table_in, tree_named}
-use Rattle.wb_schema.specs.Statements.{has_record_key}
-use Rattle.wb_schema.proofs.MeetingLemmas.{meets_by, meets_record_among}
+use Rattle.wb_schema.specs.Statements.{record_key, record_sets, has_record_key}
+use Rattle.wb_schema.proofs.MeetingLemmas.{conflicts_by, meets_record_among, has_key_among}
 use Rattle.wb_schema.proofs.RecordLemmas.{record_typed}
 use Rattle.wb_rows.specs.Cells.{record_cells, text_or_null, number_or_null}
 use Rattle.wb_tables.specs.Stands.{office_row, record_rows}
@@ -43,17 +47,18 @@ use Rattle.wb_tables.proofs.MapLemmas.{entries-remove}
 
 -- ---- what SQL finds equal
 
-truth_is : (b : Bool) → is_true (from_truth (Some b)) ≡ b
-truth_is true = refl
-truth_is false = refl
-
 equal_texts : (s t : List ℕ) → equal Binary (Text s) (Text t) ≡ eq_by_cmp text_cmp s t
 unfolding binary
-equal_texts s t = truth_is (is_eq (value_cmp (Text s) (Text t))) ∙ ap is_eq (value_cmp-Text s t)
+equal_texts s t = true_of (is_eq (value_cmp (Text s) (Text t))) ∙ ap is_eq (value_cmp-Text s t)
 
-equal_numbers : (m n : ℤ) → equal Binary (Int m) (Int n) ≡ is_eq (value_cmp (Int m) (Int n))
-unfolding binary
-equal_numbers m n = truth_is (is_eq (value_cmp (Int m) (Int n)))
+-- what equals a text is that text
+text_equal : (value : Value) (t : List ℕ) → equal Binary value (Text t) ≡ true → value ≡ Text t
+unfolding binary value_cmp
+text_equal Null t h = absurd (cc)
+text_equal (Int n) t h = absurd (cc)
+text_equal (Real x) t h = absurd (cc)
+text_equal (Text s) t h = ap Text (eq_by_cmp-same text_cmp-same s t (sym (equal_texts s t) ∙ h))
+text_equal (Blob b) t h = absurd (cc)
 
 both_tied : (r s : Ordering) → (is_eq r && is_eq s) ≡ is_eq (ordering_then r s)
 both_tied Less s = refl
@@ -119,7 +124,7 @@ cells_without arch source rows = left_rows (passes arch source) arch source rows
 other_rowid : (id : ℤ) (row : Row) → is_int (rowid row) ≡ true → is_eq (value_cmp (rowid row) (Int id)) ≡ false → equal Binary (rowid row) (Int id) ≡ false
 other_rowid id row whole free =
     let is = int_is (rowid row) whole in
-    ap (λ v. equal Binary v (Int id)) is ∙ equal_numbers (id_in (rowid row)) id ∙ ap (λ v. is_eq (value_cmp v (Int id))) (sym is) ∙ free
+    ap (λ v. equal Binary v (Int id)) is ∙ equal_int (id_in (rowid row)) id ∙ ap (λ v. is_eq (value_cmp v (Int id))) (sym is) ∙ free
 
 module _ (schema : Schema) (has : HasOffice schema) (id : ℤ) (arch source : List ℕ) (more : Row) where
   abbrev new : Row
@@ -153,6 +158,26 @@ cells_apart schema has arch source more rows stored =
     let free = next_is_free Chosen rows (Text arch ∷ Text source ∷ more) stored.rising (each_whole rows stored.whole) in
     left_rows (meets schema (table_in schema source_record) (Int id ∷ Text arch ∷ Text source ∷ more)) arch source rows (each_meets schema has id arch source more rows stored.whole free)
 
+-- a record's key decides where it is put: it meets, with a new rowid, the one that has its key, and of that one each column is set to its own
+pub record_decides : (schema : Schema) (has : HasOffice schema) (entry : Entry) (rows : List Row) → IsStored rows
+    → IsDecidedBy schema (table_in schema source_record) record_key (record_cells entry) (Null ∷ record_cells entry) record_sets rows
+record_decides schema has entry rows stored = record {
+  by_key = λ row there met. keyed row ∙ sym (all_has (λ r. meets schema (table_in schema source_record) (Int (next_rowid rows) ∷ record_cells entry) r ≡ begins_with entry.0.0 entry.0.1 (cells r)) rows row each there) ∙ met;
+  cells_are = λ row there met.
+      let same = and_parts _ _ (sym (by_columns row) ∙ met) in
+      ap₂ (λ a b. a ∷ b ∷ drop 2 (record_cells entry)) (text_equal _ _ same.0) (text_equal _ _ same.1);
+}
+  where
+    by_columns : (row : Row) → has_key schema (table_in schema source_record) record_key (Int (next_rowid rows) ∷ record_cells entry) row ≡ (equal Binary (column row 1) (Text entry.0.0) && equal Binary (column row 2) (Text entry.0.1))
+    by_columns row = has_key_among schema (tree_named schema source_record.name) has.at.record_key has.at.record_order has.at.record_take (Int (next_rowid rows) ∷ record_cells entry) row has.records_indexed
+
+    keyed : (row : Row) → has_key schema (table_in schema source_record) record_key (Int (next_rowid rows) ∷ record_cells entry) row ≡ begins_with entry.0.0 entry.0.1 (cells row)
+    keyed row = by_columns row ∙ (λ i. equal Binary (first_cell row i) (Text entry.0.0) && equal Binary (second_cell row i) (Text entry.0.1))
+
+    each : AllByRecursion (λ row. meets schema (table_in schema source_record) (Int (next_rowid rows) ∷ record_cells entry) row ≡ begins_with entry.0.0 entry.0.1 (cells row)) rows
+    each = each_meets schema has (next_rowid rows) entry.0.0 entry.0.1 (drop 2 (record_cells entry)) rows stored.whole
+        (next_is_free Chosen rows (record_cells entry) stored.rising (each_whole rows stored.whole))
+
 -- the records without that of one key
 pub records_without : (machine : Machine) (arch source : List ℕ) (columns : List Row) → IsPermutation (record_rows machine) columns
     → IsPermutation (map record_cells (finite.entries (finite.remove machine.records (arch, source)))) (filter (λ c. not (begins_with arch source c)) columns)
@@ -174,12 +199,12 @@ rowid_test false = refl
 -- a row of the office meets another with its id
 meets_office_among : (schema : Schema) (tree : ℕ) (new row : Row) → HasIndexes schema tree [] → meets schema (table_at tree office) new row ≡ equal Binary (column row 0) (column new 0)
 unfolding first_key
-meets_office_among schema tree new row has = meets_by schema (table_at tree office) [] new row has ∙ rowid_test (equal Binary (column row 0) (column new 0))
+meets_office_among schema tree new row has = conflicts_by None schema (table_at tree office) [] new row has ∙ rowid_test (equal Binary (column row 0) (column new 0))
 
 -- a new row of the office comes in place of the old one
-pub office_replaced : (schema : Schema) (has : HasOffice schema) (old new : Machine) → upserted schema (table_in schema office) (office_row new) (office_row old ∷ []) ≡ office_row new ∷ []
+pub office_replaced : (schema : Schema) (has : HasOffice schema) (old new : Machine) → replaced schema (table_in schema office) (office_row new) (office_row old ∷ []) ≡ office_row new ∷ []
 office_replaced schema has old new =
-    let one = equal_numbers (pos 1) (pos 1) ∙ ap is_eq (tied_itself value_cmp_total (Int (pos 1))) in
+    let one = equal_int (pos 1) (pos 1) ∙ ap is_eq (tied_itself value_cmp_total (Int (pos 1))) in
     ap (λ b. put_row (office_row new) (cond (not b) (office_row old ∷ []) []))
     (meets_office_among schema (tree_named schema office.name) (office_row new) (office_row old) has.office_indexes ∙ one)
 

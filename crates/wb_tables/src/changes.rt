@@ -97,5 +97,5 @@ pub fn put<S: Alter>(
         })
         writing.old.conn.now writing.new.conn.now result }
 {
-    writing.replace(texts::put_record(), &record_values(arch, source, current))
+    writing.upsert(texts::put_record(), &record_values(arch, source, current))
 }
