@@ -14,7 +14,7 @@ width_of [] = 0
 width_of (t ∷ ts) = length t.columns
 
 -- two tables of a schema that differ in their columns are in different trees
-pub apart_trees : (schema : Schema) (a b : Table) → HasTable schema a → HasTable schema b → length a.columns ≢ length b.columns → a.tree ≢ b.tree
+apart_trees : (schema : Schema) (a b : Table) → HasTable schema a → HasTable schema b → length a.columns ≢ length b.columns → a.tree ≢ b.tree
 apart_trees schema a b first second differ same =
     differ (ap width_of (sym first.in_tree ∙ ap (λ tree. filter (λ t. t.tree == tree) schema.tables) same ∙ second.in_tree))
 

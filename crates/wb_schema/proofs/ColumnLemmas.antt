@@ -39,7 +39,7 @@ pub find_is : (schema : Schema) (table : Table) (at k : ℕ) (alias name : Name)
 unfolding find in_level only hit column_in is_among
 find_is schema table at k alias name shown aggregates listed named = rw (listed, named) refl
 
-pub column_at_is : (schema : Schema) (table : Table) (c : Column) (at k : ℕ)
+column_at_is : (schema : Schema) (table : Table) (c : Column) (at k : ℕ)
     → slice_get schema.tables at ≡ Some table → slice_get table.columns k ≡ Some c → column_at schema 1 at k ≡ Ok (col 1 (place_of table k), declared table k c)
 unfolding column_at
 column_at_is schema table c at k listed is = rw (listed, is) refl
@@ -90,7 +90,7 @@ converted_right affinity.Blob n p = refl
 converted_right affinity.Loose n p = search p
 converted_right affinity.None n p = refl
 
-pub of_column_is : (schema : Schema) (table : Table) (c : Column) (at k : ℕ) (alias : Name) (shown : List Output) (aggregates : Bool)
+of_column_is : (schema : Schema) (table : Table) (c : Column) (at k : ℕ) (alias : Name) (shown : List Output) (aggregates : Bool)
     → slice_get schema.tables at ≡ Some table → slice_get table.columns k ≡ Some c → of_column (over schema at alias shown aggregates) 1 (suc k) ≡ of_declared c
 unfolding of_column
 of_column_is schema table c at k alias shown aggregates listed is = rw (listed, is) refl
@@ -99,7 +99,7 @@ either_way : (b : Bool) → cond b affinity.None affinity.None ≡ affinity.None
 either_way true = refl
 either_way false = refl
 
-pub parameter_is : (schema : Schema) (at n : ℕ) (alias : Name) (shown : List Output) (aggregates : Bool) → of_column (over schema at alias shown aggregates) 0 n ≡ affinity.None
+parameter_is : (schema : Schema) (at n : ℕ) (alias : Name) (shown : List Output) (aggregates : Bool) → of_column (over schema at alias shown aggregates) 0 n ≡ affinity.None
 unfolding of_column
 parameter_is schema at n alias shown aggregates = either_way (n == 0)
 

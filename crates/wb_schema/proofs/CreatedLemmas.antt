@@ -1,5 +1,5 @@
 -- What a CREATE TABLE and a CREATE INDEX keep of a schema, and what they add.
-use Rattle.std.proofs.Common.{◌≡◌, ◌≢◌, ℕ, ◌+◌, ◌<◌, ◌≤◌, ◌^◌, ◌==◌, not, Bool, true, false, List, [], ◌∷◌, ◌++◌, None, Some, refl, sym, ap, ap₂, ◌∙◌, inl, inr, arith, max, fold, filter, slice_get, append-nil, codes}
+use Rattle.std.proofs.Common.{◌≡◌, ◌≢◌, ℕ, ◌+◌, ◌<◌, ◌≤◌, ◌^◌, ◌==◌, not, Bool, true, false, List, [], ◌∷◌, ◌++◌, None, Some, refl, sym, ap, ap₂, ◌∙◌, inl, inr, arith, max, fold, filter, append-nil, codes}
 use Rattle.std.specs.List.{AllByRecursion, list_any}
 use Rattle.std.proofs.lemmas.Bool.{and_left, and_right, and_cases, eq-eqb, ne_eqb, lt-leb, not_from_true}
 use Rattle.std.proofs.lemmas.List.Elements.{filter-append}
@@ -14,6 +14,7 @@ use Rattle.sqlite_catalog.proofs.StepLemmas.{no_table, no_index, no_view, table_
 use Rattle.sqlite_schema.specs.declared.schema.Index.{Index}
 use Rattle.sqlite_schema.specs.Names.{same_name, table_named, index_named, view_named}
 use Rattle.wb_schema.specs.Among.{HasTable, HasIndexes, table_at, tree_named, table_in}
+use Rattle.wb_schema.proofs.AloneLemmas.{tree_is}
 use Rattle.wb_schema.proofs.AppendLemmas.{IsLast, all_so, listed_before, placed_before, none_after, placed_last, found_before, filter_none, filter_whole, any_last, past_from, past_within}
 
 -- ---- trees
@@ -36,11 +37,6 @@ next_within schema m views tables indexes = past_within (λ i. i.tree) _ m schem
 -- a table that the schema has is below the next tree
 pub has_below : (schema : Schema) (table : Table) → HasTable schema table → table.tree < next_tree schema
 has_below schema table h = table_below schema table (has_got schema.tables h.at table h.listed)
-
--- the tree of a name is that of the first table with it
-tree_is : (schema : Schema) (name : List ℕ) (table : Table) (at : ℕ) → table_named schema name ≡ Some at → slice_get schema.tables at ≡ Some table
-    → tree_named schema name ≡ table.tree
-tree_is schema name table at named listed = rw (named, listed)
 
 -- ---- what stands stays
 

@@ -4,10 +4,8 @@ use Rattle.std.specs.List.{AllByRecursion, list_any}
 use Rattle.std.proofs.lemmas.Bool.{both_ways, eq-eqb, or_parts}
 use Rattle.sqlite_schema.specs.Names.{same_name}
 use Rattle.sqlite_trees.specs.declared.store.Store.{Ghosts}
-use Rattle.sqlite.specs.Change.{KeepsRows}
 use Rattle.sqlite.specs.Schema.{Schema}
 use Rattle.sqlite.specs.Table.{Table}
-use Rattle.sqlite.specs.Tree.{Trees}
 use Rattle.sqlite.specs.declared.error.Error.{Error}
 use Rattle.sqlite.specs.Held.{Held, state}
 use Rattle.sqlite.specs.State.{State, HasCleanDisk}
@@ -20,9 +18,10 @@ use Rattle.wb_schema.specs.Making.{with_tables, tables_after_office, HasEmptyTab
 use Rattle.wb_schema.specs.Statements.{first_office_row}
 use Rattle.wb_schema.specs.Tables.{office, arch, builder, source_record, scratch_source, scratch_binary}
 use Rattle.wb_schema.proofs.ApartLemmas.{other_rows, own_rows}
+use Rattle.wb_schema.proofs.AppendLemmas.{all_split, all_both}
 use Rattle.wb_schema.proofs.CreateLemmas.{first_row_among}
 use Rattle.wb_schema.proofs.GrowthLemmas.{tables_grown, office_made}
-use Rattle.wb_schema.proofs.MakingLemmas.{kept_twice, statement_makes, Follows}
+use Rattle.wb_schema.proofs.MakingLemmas.{statement_makes, Follows}
 use Rattle.wb_schema.proofs.QuietLemmas.{office_quiet}
 
 abbrev first_row_text : List ℕ
@@ -49,12 +48,6 @@ not_in tree (t ∷ tables) more own alone named free = by (t.tree == tree) refl 
         → (filter (λ t. t.tree == tree) (tables ++ more) ≡ own ∷ [] → AllByRecursion (λ t. t.tree ≢ tree) tables) → AllByRecursion (λ t. t.tree ≢ tree) (t ∷ tables)
     by true here alone rest = absurd (both_ways (is_office_name t.name) parts.0 (ap (λ (u : Table). is_office_name u.name) (let same : t ≡ own = cc in same) ∙ named))
     by false here alone rest = (λ same. both_ways (t.tree == tree) here (eq-eqb t.tree tree same), rest alone)
-
--- the rows of the first of some tables are kept, if those of all that are in other trees are, and none of the first is in this tree
-kept_but : (tree : ℕ) (tables more : List Table) (old new : Trees) → AllByRecursion (λ t. t.tree ≢ tree → new t.tree ≡ old t.tree) (tables ++ more)
-    → AllByRecursion (λ t. t.tree ≢ tree) tables → KeepsRows tables old new
-kept_but tree [] more old new kept others = tt
-kept_but tree (t ∷ tables) more old new kept others = (kept.0 others.0, kept_but tree tables more old new kept.1 others.1)
 
 first_row_made : (base : Schema) → LacksOffice base → IsNumbered base → (old new : State) → HasEmptyTables (with_tables base) (office ∷ tables_after_office) old
     → Replaces first_row_text [] old new → MakesOffice base old new
@@ -86,8 +79,8 @@ first_row_made base lacks numbered old new was h =
         );
       };
       office_row = own_rows old new office _ set ∙ ap (replaced schema (table_in schema office) first_row) was.empty.0;
-      kept = kept_but tree base.tables grown.more old.now.trees new.now.trees
-          (subst (AllByRecursion (λ t. t.tree ≢ tree → new.now.trees t.tree ≡ old.now.trees t.tree)) tables set.tables)
+      kept = all_both _ _ _ (λ t kept apart. kept apart) base.tables
+          (all_split _ base.tables grown.more (subst (AllByRecursion (λ t. t.tree ≢ tree → new.now.trees t.tree ≡ old.now.trees t.tree)) tables set.tables)).0
           (not_in tree base.tables grown.more (table_in schema office) (subst (λ ts. filter (λ t. t.tree == tree) ts ≡ table_in schema office ∷ []) tables has.office_is.in_tree) refl lacks.free.tables);
       shown = set.shown;
       marks = set.marks;
@@ -107,7 +100,7 @@ pub office_follows : (base : Schema) → Follows base.tables (MakesOffice base)
 office_follows base mid tables a b c p q = record {
   made = q.made;
   office_row = q.office_row;
-  kept = kept_twice base.tables a.now.trees b.now.trees c.now.trees p.kept q.kept;
+  kept = all_both _ _ _ (λ t one two. two ∙ one) base.tables p.kept q.kept;
   shown = record { was_open = p.shown.was_open; is_open = q.shown.is_open; now_is = refl; committed_is = q.shown.committed_is ∙ p.shown.committed_is; mode = q.shown.mode };
   marks = q.marks ∙ p.marks;
 }

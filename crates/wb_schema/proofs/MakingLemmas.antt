@@ -22,24 +22,10 @@ use Rattle.wb_sql.proofs.CallLemmas.{on_ok}
 use Rattle.wb_sql.proofs.DefinitionLemmas.{defines_table_writes, defines_index_writes}
 use Rattle.wb_schema.specs.Among.{HasTable, table_at, table_in, index_at, rows_in, tree_named}
 use Rattle.wb_schema.specs.Making.{CreatesAmong, IndexesAmong, with_index, HasEmptyTables, MakesTables, FailsAt, Makes}
+use Rattle.wb_schema.proofs.AppendLemmas.{all_append, all_split, all_both}
 use Rattle.wb_schema.proofs.GrowthLemmas.{IsGrown, new_tree, same_tree}
 
 -- ---- rows that are kept
-
--- the rows of the first of some tables are kept if those of all are
-pub kept_front : (tables more : List Table) (old new : Trees) → KeepsRows (tables ++ more) old new → KeepsRows tables old new
-kept_front [] more old new kept = tt
-kept_front (table ∷ tables) more old new kept = (kept.0, kept_front tables more old new kept.1)
-
--- twice
-pub kept_twice : (tables : List Table) (a b c : Trees) → KeepsRows tables a b → KeepsRows tables b c → KeepsRows tables a c
-kept_twice [] a b c p q = tt
-kept_twice (table ∷ tables) a b c p q = (q.0 ∙ p.0, kept_twice tables a b c p.1 q.1)
-
--- one more after some
-one_more : (P : Table → Type 0) (tables : List Table) (last : Table) → AllByRecursion P tables → P last → AllByRecursion P (tables ++ last ∷ [])
-one_more P [] last all here = (here, tt)
-one_more P (table ∷ tables) last all here = (all.0, one_more P tables last all.1 here)
 
 module _ (old new : State) (from to : Schema) (was : old.now.schema ≡ from) (is : new.now.schema ≡ to) (kept : KeepsRows from.tables old.now.trees new.now.trees) where
   -- one of the office's tables that has no row has none after it either, in the tree that it had
@@ -82,8 +68,8 @@ module _ (base from to : Schema) (tables : List Table) (sql : List ℕ) (old new
       ∙ (ap new.now.trees (new_tree from table grown.free.0) ∙ subst (λ s. new.now.trees (next_tree s) ≡ []) was.schema_is set.1) in
       let others = all_empty old new from (created from table) was.schema_is now rows tables grown.has (same_trees from table tables grown.has) was.empty in
       record {
-        made = record { schema_is = now ∙ sym is; empty = one_more (λ t. rows_in new.now t ≡ []) tables table others last };
-        kept = kept_front base.tables grown.more old.now.trees new.now.trees (subst (λ ts. KeepsRows ts old.now.trees new.now.trees) grown.tables_are rows);
+        made = record { schema_is = now ∙ sym is; empty = all_append (λ t. rows_in new.now t ≡ []) tables (table ∷ []) others (last, tt) };
+        kept = (all_split _ base.tables grown.more (subst (λ ts. KeepsRows ts old.now.trees new.now.trees) grown.tables_are rows)).0;
         shown = set.0.shown;
         marks = set.0.marks;
       }
@@ -101,7 +87,7 @@ module _ (base from to : Schema) (tables : List Table) (sql : List ℕ) (old new
           schema_is = now ∙ sym is;
           empty = all_empty old new from (with_index from table index) was.schema_is now rows tables grown.has (same_indexed from on index tables) was.empty;
         };
-        kept = kept_front base.tables grown.more old.now.trees new.now.trees (subst (λ ts. KeepsRows ts old.now.trees new.now.trees) grown.tables_are rows);
+        kept = (all_split _ base.tables grown.more (subst (λ ts. KeepsRows ts old.now.trees new.now.trees) grown.tables_are rows)).0;
         shown = set.shown;
         marks = set.marks;
       }
@@ -170,7 +156,7 @@ Follows others Made = (mid : Schema) (tables : List Table) (a b c : State) → M
 pub tables_follow : (others : List Table) (to : Schema) (made : List Table) → Follows others (MakesTables others to made)
 tables_follow others to made mid tables a b c p q = record {
   made = q.made;
-  kept = kept_twice others a.now.trees b.now.trees c.now.trees p.kept q.kept;
+  kept = all_both _ _ _ (λ t one two. two ∙ one) others p.kept q.kept;
   shown = record {
     was_open = p.shown.was_open;
     is_open = q.shown.is_open;

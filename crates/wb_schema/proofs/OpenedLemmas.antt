@@ -7,8 +7,7 @@ use Rattle.sqlite_ast.specs.declared.Binary.{Binary}
 use Rattle.sqlite_ast.specs.declared.Shown.{out-Shown, roll-Shown}
 use Rattle.sqlite_ast.specs.declared.Source.{out-Source}
 use Rattle.sqlite_ast.specs.declared.Origin.TheVariants as origin
-use Rattle.sqlite_ast.specs.declared.Sort.{out-Sort}
-use Rattle.wb_schema.proofs.SelectForm.{Name, column, source, sort}
+use Rattle.wb_schema.proofs.SelectForm.{Name, column, source}
 
 pub out_column : (name : Name) → out-Expr (column name) ≡ Expr-F.Column None name
 unfolding everything
@@ -29,7 +28,3 @@ out_shown e text = refl
 pub out_source : (name : Name) → out-Source (source name) ≡ record { is_left = false; origin = origin.Table name; alias = None; on = None; using = [] }
 unfolding everything
 out_source name = refl
-
-pub out_sort : (name : Name) → out-Sort (sort name) ≡ record { key = column name; descending = false; nulls_first = None }
-unfolding everything
-out_sort name = refl

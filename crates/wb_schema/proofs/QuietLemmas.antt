@@ -50,6 +50,7 @@ module _ (schema : Schema) (table : Table) (has : HasTable schema table) (named 
   quiet_by ref None found quiet = refl
   quiet_by ref (Some key) found quiet = quiet_if ref (key.0 == table.tree) quiet (parent_named ref key found)
 
+  -- a foreign key of a quiet schema that refers to the table does nothing
   quiet_in : are_quiet schema ≡ true → never_acts_on schema table.tree ≡ true
   quiet_in quiet =
       test_from (λ (t : Table). list_all (λ ref. not (refers_to_tree schema table.tree ref) || does_nothing ref) t.references) schema.tables (λ t there.
@@ -57,23 +58,19 @@ module _ (schema : Schema) (table : Table) (has : HasTable schema table) (named 
       quiet_by ref (parent_key schema.tables ref) refl
       (test_has (λ ref. not (names_office ref.parent) || does_nothing ref) t.references ref (test_has is_quiet schema.tables t quiet there) among)))
 
--- a foreign key of a quiet schema that refers to one of the office's tables does nothing
-pub quiet_on : (schema : Schema) (table : Table) → HasTable schema table → names_office table.name ≡ true → are_quiet schema ≡ true → never_acts_on schema table.tree ≡ true
-quiet_on schema table has named quiet = quiet_in schema table has named quiet
-
 -- so it is with each of the office's tables that a command changes
 pub office_quiet : (schema : Schema) → HasOffice schema → never_acts_on schema (tree_named schema office.name) ≡ true
 unfolding same_name
-office_quiet schema has = quiet_on schema (table_in schema office) has.office_is refl has.quiet
+office_quiet schema has = quiet_in schema (table_in schema office) has.office_is refl has.quiet
 
 pub arch_quiet : (schema : Schema) → HasOffice schema → never_acts_on schema (tree_named schema arch.name) ≡ true
 unfolding same_name
-arch_quiet schema has = quiet_on schema (table_in schema arch) has.arch_is refl has.quiet
+arch_quiet schema has = quiet_in schema (table_in schema arch) has.arch_is refl has.quiet
 
 pub builder_quiet : (schema : Schema) → HasOffice schema → never_acts_on schema (tree_named schema builder.name) ≡ true
 unfolding same_name
-builder_quiet schema has = quiet_on schema (table_in schema builder) has.builder_is refl has.quiet
+builder_quiet schema has = quiet_in schema (table_in schema builder) has.builder_is refl has.quiet
 
 pub record_quiet : (schema : Schema) → HasOffice schema → never_acts_on schema (tree_named schema source_record.name) ≡ true
 unfolding same_name
-record_quiet schema has = quiet_on schema (table_in schema source_record) has.record_is refl has.quiet
+record_quiet schema has = quiet_in schema (table_in schema source_record) has.record_is refl has.quiet

@@ -5,8 +5,8 @@ use Rattle.sqlite.specs.Schema.{Schema}
 use Rattle.sqlite.specs.Table.{Table}
 use Rattle.sqlite_schema.specs.declared.schema.Index.{Index}
 use Rattle.sqlite_schema.specs.Names.{table_named}
-use Rattle.wb_schema.specs.Among.{HasTable, HasOffice, table_at, table_in, tree_named, index_at, are_unreferred, are_quiet}
-use Rattle.wb_schema.proofs.AloneLemmas.{alone_is}
+use Rattle.wb_schema.specs.Among.{HasTable, HasOffice, table_at, table_in, index_at, are_unreferred, are_quiet}
+use Rattle.wb_schema.proofs.AloneLemmas.{alone_is, tree_is}
 use Rattle.wb_schema.specs.Recognition.{IsFound, IsAlone, HasIndexed, HasTables, treeless, indexes_on}
 
 -- a tree below 2^31 is stored
@@ -37,20 +37,10 @@ alone_if_found schema name at table other named listed f =
       stored = subst (λ u. nat_le (2 ^ 31) u.tree ≡ false) same f.stored;
     }
 
--- the tree of what is found with a name
-pub tree_is : (schema : Schema) (name : List ℕ) (table : Table) → IsFound schema name table → tree_named schema name ≡ table.tree
-tree_is schema name table f = rw (f.named, f.listed) refl
-
--- two that are found with one name are one table
-pub one_found : (schema : Schema) (name : List ℕ) (table other : Table) → IsFound schema name table → IsFound schema name other → table ≡ other
-one_found schema name table other f g =
-    let place : f.at ≡ g.at = some_is _ _ (sym f.named ∙ g.named) in
-    some_is _ _ (sym f.listed ∙ (ap (slice_get schema.tables) place ∙ g.listed))
-
 -- the schema has what is found with the name of one of the office's tables, and is that table
-pub has_of : (schema : Schema) (table t : Table) → IsFound schema table.name t → t ≡ table_at t.tree table → HasTable schema (table_in schema table)
+has_of : (schema : Schema) (table t : Table) → IsFound schema table.name t → t ≡ table_at t.tree table → HasTable schema (table_in schema table)
 has_of schema table t f is =
-    let e : t ≡ table_in schema table = is ∙ ap (λ tree. table_at tree table) (sym (tree_is schema table.name t f)) in
+    let e : t ≡ table_in schema table = is ∙ ap (λ tree. table_at tree table) (sym (tree_is schema table.name t f.at f.named f.listed)) in
     record {
       at = f.at;
       named = f.named;
@@ -68,13 +58,13 @@ pub indexed_by : (schema : Schema) (table t : Table) (indexes : List Index)
     → IsFound schema table.name t → t ≡ table_at t.tree table → map treeless (indexes_on t.tree schema.indexes) ≡ map (index_at 0 t.tree) indexes → HasIndexed schema table indexes
 indexed_by schema table t indexes f is these = record {
   has = has_of schema table t f is;
-  indexed = subst (λ tree. map treeless (indexes_on tree schema.indexes) ≡ map (index_at 0 tree) indexes) (sym (tree_is schema table.name t f)) these;
+  indexed = subst (λ tree. map treeless (indexes_on tree schema.indexes) ≡ map (index_at 0 tree) indexes) (sym (tree_is schema table.name t f.at f.named f.listed)) these;
 }
 
 -- the indexes of what is found are those of the office's table
 pub indexes_of_found : (schema : Schema) (table t : Table) (indexes : List Index)
     → IsFound schema table.name t → HasIndexed schema table indexes → map treeless (indexes_on t.tree schema.indexes) ≡ map (index_at 0 t.tree) indexes
-indexes_of_found schema table t indexes f h = subst (λ tree. map treeless (indexes_on tree schema.indexes) ≡ map (index_at 0 tree) indexes) (tree_is schema table.name t f) h.indexed
+indexes_of_found schema table t indexes f h = subst (λ tree. map treeless (indexes_on tree schema.indexes) ≡ map (index_at 0 tree) indexes) (tree_is schema table.name t f.at f.named f.listed) h.indexed
 
 -- the indexes, but for their trees, are none
 unindexed : (indexes : List Index) → map treeless indexes ≡ [] → indexes ≡ []
@@ -145,14 +135,3 @@ office_of schema h unreferred quiet =
       unreferred = unreferred;
       quiet = quiet;
     }
-
--- a schema that has the office's tables has each of them and its indexes
-pub tables_of : (schema : Schema) → HasOffice schema → HasTables schema
-tables_of schema h = record {
-  office_is = record { has = h.office_is; indexed = ap (map treeless) h.office_indexes };
-  archs_are = record { has = h.arch_is; indexed = ap (map treeless) h.arch_indexes };
-  builders_are = record { has = h.builder_is; indexed = ap (map treeless) h.builder_indexes };
-  records_are = record { has = h.record_is; indexed = ap (map treeless) h.records_indexed };
-  sources_are = record { has = h.source_is; indexed = ap (map treeless) h.source_indexes };
-  binaries_are = record { has = h.binary_is; indexed = ap (map treeless) h.binary_indexes };
-}

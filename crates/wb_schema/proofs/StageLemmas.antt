@@ -79,7 +79,7 @@ unfolding body.result body.outputs
 result_is lower schema at name core columns s s1 is = is
 
 -- the table, the columns of the result and WHERE
-pub body_is : (lower : Context → Expr → Lowering Term) (schema : Schema) (table : Table) (at n : ℕ) (name : Name) (core : Core) (columns : List Output) (filter : List Term) (last : Carried) (s1 s2 : State)
+body_is : (lower : Context → Expr → Lowering Term) (schema : Schema) (table : Table) (at n : ℕ) (name : Name) (core : Core) (columns : List Output) (filter : List Term) (last : Carried) (s1 s2 : State)
     → table_named schema name ≡ Some at → slice_get schema.tables at ≡ Some table → (out-Core core).from ≡ source name ∷ []
     → body.outputs_from lower (over schema at name [] true) (bound_at at name ∷ []) [] (out-Core core).shown (at_budget 2 n last) ≡ Ok (columns, s1)
     → body.tests lower (over schema at name columns false) [] (out-Core core).filter s1 ≡ Ok (filter, s2)

@@ -1,9 +1,9 @@
 -- The texts that put a record in, or write it over the one with its key (INSERT ON CONFLICT DO UPDATE), over a schema that may have tables, indexes and
 -- views of others.
-use Rattle.std.proofs.Common.{◌≡◌, refl, ap, ◌∙◌, ℕ, ◌==◌, negsuc, Bool, true, false, not, ◌&&◌, cond, List, [], ◌∷◌, length, filter, find, Ok, None, Some}
+use Rattle.std.proofs.Common.{◌≡◌, refl, sym, ap, ◌∙◌, ℕ, ◌==◌, negsuc, true, false, not, ◌&&◌, List, [], ◌∷◌, length, find, Ok, None, Some}
 use Rattle.std.specs.List.{list_all}
 use Rattle.std.specs.Str.{bytes_eq}
-use Rattle.std.proofs.lemmas.Bool.{and_parts, eq-eqb}
+use Rattle.std.proofs.lemmas.Bool.{and_left, and_right, eq-eqb}
 use Rattle.sqlite.specs.Schema.{Schema}
 use Rattle.sqlite.specs.Table.{Table}
 use Rattle.sqlite.specs.Term.{Term, lit, col}
@@ -19,6 +19,7 @@ use Rattle.sqlite_schema.specs.declared.command.Upsert as found
 use Rattle.sqlite_schema.specs.declared.program.Program.{Program}
 use Rattle.sqlite_typing.specs.Types.{accepts_program, accepts_after, row_classes, is_count}
 use Rattle.sqlite_catalog.specs.Listing.{automatic}
+use Rattle.sqlite_catalog.proofs.ListFacts.{find_within}
 use Rattle.sqlite_draft.specs.declared.query.Draft.{Draft}
 use Rattle.sqlite_draft.specs.declared.join.Step.TheVariants.{Inner}
 use Rattle.sqlite_draft.specs.Query.{query_of as drafted}
@@ -42,30 +43,17 @@ use Rattle.wb_schema.proofs.AmongLemmas.{IsStill, means_is, plain_table}
 
 -- ---- the key
 
--- one more in front of a list that is filtered
-found_at : {X : Type 0} (test p : X → Bool) (x : X) (rest : List X) (b c : Bool) → test x ≡ b → (b ≡ true → c ≡ true) → find test rest ≡ find test (filter p rest)
-    → cond b (Some x) (find test rest) ≡ find test (cond c (x ∷ filter p rest) (filter p rest))
-found_at test p x rest true true is keeps same = rw is refl
-found_at test p x rest true false is keeps same = absurd (let e : false ≡ true = keeps refl in cc)
-found_at test p x rest false true is keeps same = rw is same
-found_at test p x rest false false is keeps same = same
-
--- a filter that keeps all that a test finds leaves the first of these the first
-find-filter_same : {X : Type 0} (test p : X → Bool) → ((x : X) → test x ≡ true → p x ≡ true) → (xs : List X) → find test xs ≡ find test (filter p xs)
-find-filter_same test p keeps [] = refl
-find-filter_same test p keeps (x ∷ xs) = found_at test p x xs (test x) (p x) refl (keeps x) (find-filter_same test p keeps xs)
-
--- an index that is the key guards the table
-guarded : (table : Table) (key : List ℕ) (index : Index) → is_key_at table key index ≡ true → (index.table == table.tree) ≡ true
+-- an index of another table is not the key
+unguarded : (table : Table) (key : List ℕ) (index : Index) → (index.table == table.tree) ≡ false → is_key_at table key index ≡ false
 unfolding is_key_at
-guarded table key index e = (and_parts _ _ (and_parts _ _ (and_parts _ _ (and_parts _ _ e).0).0).0).1
+unguarded table key index other = and_left _ _ (and_left _ _ (and_left _ _ (and_right _ _ other)))
 
 -- the first index on the table is the key, and it stands for it
 found_first : (schema : Schema) (table : Table) (key : List ℕ) (index : Index) (more : List Index) → HasIndexes schema table.tree (index ∷ more) → is_key_at table key index ≡ true
     → find (is_key_at table key) schema.indexes ≡ Some index
 found_first schema table key index more has is =
     let first : find (is_key_at table key) (index ∷ more) ≡ Some index = rw is refl in
-    find-filter_same (is_key_at table key) (λ i. i.table == table.tree) (guarded table key) schema.indexes ∙ ap (find (is_key_at table key)) has ∙ first
+    sym (find_within (is_key_at table key) (λ i. i.table == table.tree) schema.indexes (λ i there other. unguarded table key i other)) ∙ ap (find (is_key_at table key)) has ∙ first
 
 key_is : (schema : Schema) (table : Table) (names : List Name) (key : List ℕ) (index : Index) (more : List Index)
     → (length names == 0) ≡ false → places table names ≡ Ok key → bytes_eq key (0 ∷ []) ≡ false
@@ -127,7 +115,7 @@ pub record IsUpsert (table : Table) (sql : List ℕ) (terms sets : List Term) (k
   pub one_row : IsOneRow terms width
   pub still : IsStill table
 
-pub upserts_among : (table : Table) (sql : List ℕ) (terms sets : List Term) (key : List ℕ) (count : ℕ) → IsUpsert table sql terms sets key count
+upserts_among : (table : Table) (sql : List ℕ) (terms sets : List Term) (key : List ℕ) (count : ℕ) → IsUpsert table sql terms sets key count
     → (schema : Schema) (tree : ℕ) (index : Index) (more : List Index) → HasTable schema (table_at tree table) → HasIndexes schema tree (index ∷ more)
     → is_key_at (table_at tree table) key index ≡ true → index.columns ≡ key → never_acts_on schema tree ≡ true
     → UpsertsInto schema sql (table_at tree table) terms sets key count

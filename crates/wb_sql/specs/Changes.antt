@@ -104,8 +104,7 @@ pub record UpsertsInto (schema : Schema) (sql : List ℕ) (table : Table) (terms
 abbrev pub has_key : Schema → Table → List ℕ → Row → Row → Bool
 has_key schema table key new row = conflicts (Some key) schema.indexes table new row
 
--- the new row, which is given or written over one that is there, is decided by its key: a row that meets it has the key, and of one that has the key
--- each column is set to that of the new row
+-- what becomes of a new row is decided by its key: only a row with that key meets it, and each column of such a row is set to that of the new one
 pub record IsDecidedBy (schema : Schema) (table : Table) (key : List ℕ) (params given : Row) (sets : List Term) (rows : List Row) : Type 0 where
   pub by_key : (row : Row) → Has rows row → meets schema table (with_next_rowid rows given) row ≡ true → has_key schema table key (with_next_rowid rows given) row ≡ true
   pub cells_are : (row : Row) → Has rows row → has_key schema table key (with_next_rowid rows given) row ≡ true
@@ -135,8 +134,8 @@ Replaces sql params old new =
     → SetsTable table (replaced old.now.schema table (eval_all terms (params ∷ [])) (old.now.trees table.tree)) old new × IsStored (new.now.trees table.tree)
     × IsPermutation (cells (eval_all terms (params ∷ [])) ∷ cells_of (apart old.now.schema table (eval_all terms (params ∷ [])) (old.now.trees table.tree))) (cells_of (new.now.trees table.tree))
 
--- an INSERT ON CONFLICT of one row leaves this, where its key decides: the row that is given, with the rowid of the one that has its key if there is one,
--- and those that do not meet it
+-- an INSERT ON CONFLICT of one row whose key decides leaves this: the row that is given, with the rowid of the one that has its key or a new one, and
+-- those that do not meet it
 abbrev pub Upserts : List ℕ → Row → State → State → Type 0
 Upserts sql params old new =
     (table : Table) (terms sets : List Term) (key : List ℕ) → UpsertsInto old.now.schema sql table terms sets key (length params) → IsStored (old.now.trees table.tree)
