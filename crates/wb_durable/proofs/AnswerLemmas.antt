@@ -7,6 +7,7 @@ use Rattle.sqlite.specs.Tree.{Trees}
 use Rattle.sqlite.specs.Held.{Held, state}
 use Rattle.sqlite.specs.State.{State, HasCleanDisk, IsUnchanged, IsRolledBack, Survives}
 use Rattle.wb_sql.specs.Transactions.{IsKeptOrUndone, LeavesNoMore}
+use Rattle.wb_sql.proofs.CallLemmas.{on_ok}
 use Rattle.wb_schema.specs.Among.{HasOffice}
 use Rattle.wb_states.specs.declared.command.Command.{Command}
 use Rattle.wb_states.specs.declared.command.Command.TheVariants as of
@@ -27,7 +28,9 @@ use Rattle.wb_office.proofs.LocalityLemmas.{same_answer}
 use Rattle.wb_office.proofs.PartOfLemmas.{part_alike}
 use Rattle.wb_office.proofs.NamedPartLemmas.{part_of_named, part_has_all_named}
 use Rattle.wb_tables.specs.Calls.{FailsToLookUp}
+use Rattle.wb_tables.specs.Others.{KeepsOthers}
 use Rattle.wb_tables.specs.Settled.{IsSettled, IsBackAt}
+use Rattle.wb_tables.proofs.OthersLemmas.{others_equal, others_then}
 use Rattle.wb_tables.proofs.SettledLemmas.{settled_back, stays_settled, stays_back, goes_back_again, office_stands}
 use Rattle.wb_durable.specs.declared.answer.Answered.{Answered}
 use Rattle.wb_durable.specs.declared.answer.Failure.{Failure}
@@ -81,6 +84,11 @@ module _ {S : Type 0} (g : Ghosts S) (old new : Held S) where
   undone_after mid (inl same) failed = subst (λ h. IsKeptOrUndone (state g h) (state g new)) (sym same) failed
   undone_after mid (inr kept) (inl same) = inl (unchanged_then (state g old) (state g mid) (state g new) kept same)
   undone_after mid (inr kept) (inr undone) = inr (rolled_back_then (state g old) (state g mid) (state g new) kept undone)
+
+  -- what stays as it was keeps the tables of others
+  stays_others : StaysAs g old new → KeepsOthers (state g old).now (state g new).now
+  stays_others (inl same) = others_equal (state g old).now (state g new).now (ap (λ (h : Held S). (state g h).now) (sym same))
+  stays_others (inr kept) = others_equal (state g old).now (state g new).now kept.0.now_is
 
   -- look-ups that succeed leave the connection settled, with the answer of its state
   pub found : {A : Type 0} {Answer : Machine → A → Type 0} {machine : Machine} {x : A} → Finds g Answer old new (Ok x) → HasCleanDisk (state g new) → IsConsistent machine → IsSettled machine (state g old)
@@ -197,6 +205,7 @@ module _ {S : Type 0} (g : Ghosts S) (command : Command) (old new : Held S) (par
       λ of_machine. sym (part_answers command machine part consistent single named.0) ∙ ap (λ (o : Outcome). o.0) (carries.refused of_machine),
       (carries.memory, subst (λ h. IsSettled machine (state g h)) same settled),
     );
+    others = λ clean machine consistent settled named. tt;
     utf8 = tt;
   }
 
@@ -212,6 +221,7 @@ module _ {S : Type 0} (g : Ghosts S) (command : Command) (old new : Held S) (par
           subst (AreCountsOf (step machine command).1) (sym counted) (counts_again command machine part consistent single named.0 reply answers told carries.reply),
         );
     err = λ clean machine consistent settled named. tt;
+    others = λ clean machine consistent settled named. stays_others g old new (inl same);
     utf8 = utf8;
   }
 
@@ -228,6 +238,8 @@ module _ {S : Type 0} (g : Ghosts S) (command : Command) (old new : Held S) (par
               (ap (λ (m : Machine). m.handed) (same_counts command steps), ap (λ (m : Machine). m.accepted) (same_counts command steps)),
         );
     err = λ clean machine consistent settled named. tt;
+    others = λ clean machine consistent settled named.
+        keeps.others clean machine settled (step_of_whole command machine part consistent single named.0 named.1 reply fresh carries.reply);
     utf8 = utf8;
   }
 
@@ -238,6 +250,7 @@ module _ {S : Type 0} (g : Ghosts S) (command : Command) (old new : Held S) (par
     ok = λ clean machine consistent settled named. tt;
     err = λ clean machine consistent settled named.
         left_by machine failure (keeps.err clean machine settled (step_of_whole command machine part consistent single named.0 named.1 reply fresh carries.reply));
+    others = λ clean machine consistent settled named. tt;
     utf8 = tt;
   }
     where
@@ -264,6 +277,11 @@ module _ {S : Type 0} (g : Ghosts S) (command : Command) (old mid new : Held S) 
     err = λ clean machine consistent settled first.
         let at = found g old mid finds (answers.was_clean clean) consistent settled in
         fails_later machine r (finds.same (answers.was_clean clean) settled.holds.stands.has) (answers.err clean machine consistent at.0 (gives machine first at.1));
+    others = λ clean machine consistent settled first.
+        let at = found g old mid finds (answers.was_clean clean) consistent settled in
+        on_ok {P = KeepsOthers (state g mid).now (state g new).now} r
+        (λ kept. others_then (state g old).now (state g mid).now (state g new).now (stays_others g old mid (finds.same (answers.was_clean clean) settled.holds.stands.has)) kept)
+        (answers.others clean machine consistent at.0 (gives machine first at.1));
     utf8 = answers.utf8;
   }
     where
@@ -277,6 +295,7 @@ module _ {S : Type 0} (g : Ghosts S) (command : Command) (old mid new : Held S) 
     was_clean = was_clean (state g old) (state g new) finds.survives;
     ok = λ clean machine consistent settled given. tt;
     err = λ clean machine consistent settled given. not_found g old new finds clean settled;
+    others = λ clean machine consistent settled given. tt;
     utf8 = tt;
   }
 
@@ -297,6 +316,10 @@ module _ {S : Type 0} (g : Ghosts S) (command : Command) (was_known mid_known : 
         let done = answers.ok clean machine consistent at.0 (gives machine at.1 was) in
         (done.0, done.1, knows machine (learns machine at.1 was) done.2);
     err = λ clean machine consistent settled was. tt;
+    others = λ clean machine consistent settled was.
+        let at = found g old mid finds (answers.was_clean clean) consistent settled in
+        others_then (state g old).now (state g mid).now (state g new).now (stays_others g old mid (finds.same (answers.was_clean clean) settled.holds.stands.has))
+        (answers.others clean machine consistent at.0 (gives machine at.1 was));
     utf8 = answers.utf8;
   }
 
@@ -313,6 +336,7 @@ module _ {S : Type 0} (g : Ghosts S) (command : Command) (was_known mid_known : 
               (answers.err clean machine consistent at.0 (gives machine at.1 was)),
           learns machine at.1 was,
         );
+    others = λ clean machine consistent settled was. tt;
     utf8 = tt;
   }
 
@@ -323,6 +347,7 @@ archs_unread g command was_known known old new finds same = record {
   was_clean = was_clean (state g old) (state g new) finds.survives;
   ok = λ clean machine consistent settled was. tt;
   err = λ clean machine consistent settled was. (not_found g old new finds clean settled, subst (Knows machine) (sym same) was);
+  others = λ clean machine consistent settled was. tt;
   utf8 = tt;
 }
 
@@ -333,4 +358,5 @@ not_committed {g = g} {key = key} {after = after} {old = old} {new = new} carrie
   was_clean = was_clean (state g old) (state g new) carries.survives;
   ok = λ clean machine settled steps. tt;
   err = λ clean machine settled steps. (carries.err clean machine settled steps, inl (old, key, after, carries.cause clean machine settled steps));
+  others = λ clean machine settled steps. tt;
 }

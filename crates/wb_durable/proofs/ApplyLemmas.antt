@@ -216,6 +216,7 @@ module _ {S : Type 0} (g : Ghosts S) (command : Command) (was_closed : Bool) (wa
           },
           opened,
         );
+    others = λ clean machine stands. responds.others clean machine stands.consistent (settled_at stands opened) stands.knows;
     refused = λ clean machine stands _. tt;
     cause = λ clean machine stands _. tt;
   }
@@ -227,6 +228,7 @@ module _ {S : Type 0} (g : Ghosts S) (command : Command) (was_closed : Bool) (wa
     was_clean = λ clean. responds.was_clean (ends.was_clean clean);
     shut = λ closed. absurd (both_ways was_closed opened closed);
     reply = λ clean machine stands. tt;
+    others = λ clean machine stands. tt;
     refused = λ clean machine stands _.
         let left = responds.err (ends.was_clean clean) machine stands.consistent (settled_at stands opened) stands.knows in
         (ends.refused clean machine command old left.0, left.1);

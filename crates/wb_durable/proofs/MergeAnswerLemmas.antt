@@ -44,6 +44,7 @@ module _ {S : Type 0} (g : Ghosts S) (sources : List ℕ) (parts : List Part) (o
       λ of_machine. sym (answers_alike machine are) ∙ ap (λ (o : Outcome). o.0) (carries.refused of_machine),
       (carries.memory, subst (λ h. IsSettled machine (state g h)) same settled),
     );
+    others = λ clean machine consistent settled are. tt;
     utf8 = tt;
   }
 
@@ -60,6 +61,7 @@ module _ {S : Type 0} (g : Ghosts S) (sources : List ℕ) (parts : List Part) (o
               (ap (λ (m : Machine). m.handed) (merged_whole merges), ap (λ (m : Machine). m.accepted) (merged_whole merges)),
         );
     err = λ clean machine consistent settled are. tt;
+    others = λ clean machine consistent settled are. keeps.others clean machine settled (merged_in machine reply are carries.reply);
     utf8 = utf8;
   }
 
@@ -69,6 +71,7 @@ module _ {S : Type 0} (g : Ghosts S) (sources : List ℕ) (parts : List Part) (o
     was_clean = keeps.was_clean;
     ok = λ clean machine consistent settled are. tt;
     err = λ clean machine consistent settled are. left_by machine failure (keeps.err clean machine settled (merged_in machine reply are carries.reply));
+    others = λ clean machine consistent settled are. tt;
     utf8 = tt;
   }
     where
@@ -84,4 +87,5 @@ merge_not_committed {g = g} {after = after} {old = old} {new = new} carries = re
   was_clean = was_clean (state g old) (state g new) carries.survives;
   ok = λ clean machine settled is. tt;
   err = λ clean machine settled is. (carries.err clean machine settled is, inr (old, after, carries.cause clean machine settled is));
+  others = λ clean machine settled is. tt;
 }

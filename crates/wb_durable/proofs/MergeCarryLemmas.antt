@@ -19,6 +19,7 @@ use Rattle.wb_office.specs.Step.{step}
 use Rattle.wb_tables.specs.Stands.{StandsFor}
 use Rattle.wb_tables.specs.Calls.{Becomes}
 use Rattle.wb_tables.specs.Settled.{IsSettled, IsUnderWay, SettlesBy, TakesBack}
+use Rattle.wb_tables.proofs.OthersLemmas.{others_still}
 use Rattle.wb_tables.proofs.SettledLemmas.{begins, office_stands}
 use Rattle.wb_durable.specs.declared.carry.CarryError.{CarryError}
 use Rattle.wb_durable.specs.declared.carry.CarryError.TheVariants.{TakenBack, RollBackFailed, InDoubt}
@@ -74,6 +75,7 @@ module _ {S : Type 0} (g : Ghosts S) (sources : List ℕ) (parts : List Part) (b
             ]));
         cause = λ clean whole settled made. subst (MergeEndsFor g after (step whole (Merge sources parts)).1 old new) (sym is)
             (ends_for whole at new e ended (why (cleaner clean) whole settled made) (rolled clean) (failed clean));
+        others = λ clean whole settled made. tt;
         survives = survives_begin g old (state g new) _
             (survives_then (state g (begun old)) (state g at) (state g new) _ _ _ (λ clean db made. made) (λ clean db none. absurd none) one two);
       }
@@ -131,6 +133,9 @@ module _ {S : Type 0} (g : Ghosts S) (sources : List ℕ) (parts : List Part) (b
           (settles.ok clean whole (step whole (Merge sources parts)).1 (under_way (cleaner clean) settled made));
       err = λ clean whole settled made. tt;
       cause = λ clean whole settled made. tt;
+      others = λ clean whole settled made. others_still (state g at).now (written (cleaner clean) settled made).others
+          (subst (λ r. OnOk r ((state g at).now ≡ (state g mid).now)) is
+          (settles.shows clean whole (step whole (Merge sources parts)).1 (under_way (cleaner clean) settled made)));
       survives = survives_begin g old (state g at) _ commit_survives;
     }
 
@@ -140,6 +145,7 @@ module _ {S : Type 0} (g : Ghosts S) (sources : List ℕ) (parts : List Part) (b
       ok = λ clean whole settled made. tt;
       err = λ clean whole settled made. settles.crash clean whole (step whole (Merge sources parts)).1 (under_way (cleaner clean) settled made);
       cause = λ clean whole settled made. failed_at (commit.InDoubt e) is clean settled made;
+      others = λ clean whole settled made. tt;
       survives = survives_begin g old (state g at) _ commit_survives;
     }
 

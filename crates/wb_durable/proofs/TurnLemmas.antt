@@ -12,6 +12,7 @@ use Rattle.wb_states.specs.Machine.{Machine}
 use Rattle.wb_tables.specs.Stands.{StandsFor}
 use Rattle.wb_tables.specs.Calls.{Becomes, Changes, FailsToWrite}
 use Rattle.wb_tables.specs.Settled.{IsOffice, IsUnderWay, IsBackAt}
+use Rattle.wb_tables.proofs.OthersLemmas.{others_then}
 use Rattle.wb_tables.proofs.SettledLemmas.{not_changed}
 use Rattle.wb_durable.specs.Changed.{Reaches}
 use Rattle.wb_durable.specs.Turns.{FailsToGoOn, StopsWith, IsNoOffice, ChangesInTurn}
@@ -42,12 +43,13 @@ module _ {S : Type 0} (g : Ghosts S) where
     shown = record { was_open = one.shown.was_open; is_open = two.shown.is_open; now_is = refl; committed_is = two.shown.committed_is ∙ one.shown.committed_is; mode = two.shown.mode };
     schema_is = two.schema_is ∙ one.schema_is;
     marks = two.marks ∙ one.marks;
+    others = others_then (state g old).now (state g mid).now (state g new).now one.others two.others;
   }
 
   comes_then : {between machine : Machine} (old mid new : Held S) → Reaches g between old mid → Reaches g machine mid new → Reaches g machine old new
   comes_then {machine = machine} old mid new (inl nothing) two = subst (λ held. Reaches g machine held new) (sym nothing.0) two
   comes_then {machine = machine} old mid new (inr one) (inl nothing) =
-      inr (subst (λ held. Becomes machine (state g old) (state g held)) nothing.0 (record { stands = subst (λ (held : Held S). StandsFor machine (state g held).now) (sym nothing.0) nothing.1; shown = one.shown; schema_is = one.schema_is; marks = one.marks }))
+      inr (subst (λ held. Becomes machine (state g old) (state g held)) nothing.0 (record { stands = subst (λ (held : Held S). StandsFor machine (state g held).now) (sym nothing.0) nothing.1; shown = one.shown; schema_is = one.schema_is; marks = one.marks; others = one.others }))
   comes_then old mid new (inr one) (inr two) = inr (comes_becomes old mid new (inr one) two)
 
   comes_inside : {machine : Machine} (old new : Held S) → Reaches g machine old new → IsTrue old.in_transaction → IsTrue new.in_transaction

@@ -26,6 +26,7 @@ use Rattle.wb_tables.specs.Stands.{StandsFor}
 use Rattle.wb_tables.specs.Calls.{Becomes, Changes, FailsToWrite}
 use Rattle.wb_tables.specs.Lookups.{IsReadFault}
 use Rattle.wb_tables.specs.Settled.{IsOffice, IsUnderWay, IsBackAt}
+use Rattle.wb_tables.proofs.OthersLemmas.{others_then}
 use Rattle.wb_tables.proofs.SettledLemmas.{not_changed, stays_or_goes_back}
 use Rattle.wb_durable.specs.Changed.{HasFittingTake, HasFittingCounts, HasFittingNumbers, found_at, IsStepOf, before_counts, Reaches, FailsAtOnce, Writes, IsLeftOrBack, ChangesBy}
 use Rattle.wb_durable.proofs.StepOfLemmas.{same_counts}
@@ -131,6 +132,7 @@ module _ {S : Type 0} (g : Ghosts S) (old mid new : Held S) where
     };
     schema_is = two.schema_is ∙ one.schema_is;
     marks = two.marks ∙ one.marks;
+    others = others_then (state g old).now (state g mid).now (state g new).now one.others two.others;
   }
 
 reached_inside : {S : Type 0} (g : Ghosts S) (old mid : Held S) {between : Machine} → Reaches g between old mid → IsTrue old.in_transaction → IsTrue mid.in_transaction

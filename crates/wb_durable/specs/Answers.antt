@@ -19,6 +19,7 @@ use Rattle.wb_office.specs.MergedParts.{part_for_merge}
 use Rattle.wb_office.specs.Named.{part_named}
 use Rattle.wb_office.specs.Step.{step}
 use Rattle.wb_office.specs.Utf8.{HasUtf8Texts}
+use Rattle.wb_tables.specs.Others.{KeepsOthers}
 use Rattle.wb_tables.specs.Settled.{IsSettled, IsBackAt}
 use Rattle.wb_durable.specs.declared.answer.Answered.{Answered}
 use Rattle.wb_durable.specs.declared.answer.Failure.{Failure}
@@ -65,28 +66,33 @@ IsLeft g machine command old new (Refused refusal) =
 IsLeft g machine command old new (Unread e) = FailsToFind g old new e × IsBackAt machine (state g new)
 IsLeft g machine command old new (Uncommitted e) = IsUncommitted g machine command old new (Uncommitted e)
 
--- what a step in a part of the office changed, written to the tables of the whole office
+-- what a step in a part of the office changed, written to the tables of the whole office; if it succeeds, the tables of others keep their rows
 pub record KeepsStep {S A : Type 0} (g : Ghosts S) (command : Command) (key : Option Key) (after : Machine) (old new : Held S) (result : Result A Failure) : Type 0 where
   pub was_clean : HasCleanDisk (state g new) → HasCleanDisk (state g old)
   pub ok : HasCleanDisk (state g new) → (machine : Machine) → IsSettled machine (state g old) → IsStepOf machine command key after
       → OnOk result (IsSettled (step machine command).1 (state g new))
   pub err : HasCleanDisk (state g new) → (machine : Machine) → IsSettled machine (state g old) → IsStepOf machine command key after
       → IfErr result (IsUncommitted g machine command old new)
+  pub others : HasCleanDisk (state g new) → (machine : Machine) → IsSettled machine (state g old) → IsStepOf machine command key after
+      → OnOk result (KeepsOthers (state g old).now (state g new).now)
 
 -- both of these are the part of the office that a merge looks at
 abbrev pub AreParts : List Part → Machine → Machine → Machine → Type 0
 AreParts parts before part machine = (before ≡ part_for_merge machine parts) × (part ≡ part_for_merge machine parts)
 
--- what a merge changed, from the one part of the office to the other, written to the tables of the whole office
+-- what a merge changed, from the one part of the office to the other, written to the tables of the whole office; if it succeeds, the tables of
+-- others keep their rows
 pub record KeepsMerge {S A : Type 0} (g : Ghosts S) (sources : List ℕ) (parts : List Part) (before after : Machine) (old new : Held S) (result : Result A Failure) : Type 0 where
   pub was_clean : HasCleanDisk (state g new) → HasCleanDisk (state g old)
   pub ok : HasCleanDisk (state g new) → (machine : Machine) → IsSettled machine (state g old) → IsMergeIn machine sources parts before after
       → OnOk result (IsSettled (step machine (Merge sources parts)).1 (state g new))
   pub err : HasCleanDisk (state g new) → (machine : Machine) → IsSettled machine (state g old) → IsMergeIn machine sources parts before after
       → IfErr result (IsUncommitted g machine (Merge sources parts) old new)
+  pub others : HasCleanDisk (state g new) → (machine : Machine) → IsSettled machine (state g old) → IsMergeIn machine sources parts before after
+      → OnOk result (KeepsOthers (state g old).now (state g new).now)
 
 -- a command carried out over the tables of a consistent office of which this is true: the reply is that of the step, after which the tables are
--- settled at its state, with these counts; or a failure leaves the office as above
+-- settled at its state, with these counts, and the tables of others keep their rows; or a failure leaves the office as above
 pub record Answers {S : Type 0} (g : Ghosts S) (Given : Machine → Type 0) (command : Command) (old new : Held S) (result : Result Answered Failure) : Type 0 where
   pub was_clean : HasCleanDisk (state g new) → HasCleanDisk (state g old)
   pub ok : HasCleanDisk (state g new) → (machine : Machine) → IsConsistent machine → IsSettled machine (state g old) → Given machine
@@ -94,10 +100,13 @@ pub record Answers {S : Type 0} (g : Ghosts S) (Given : Machine → Type 0) (com
       × AreCountsOf (step machine command).1 answered.counts)
   pub err : HasCleanDisk (state g new) → (machine : Machine) → IsConsistent machine → IsSettled machine (state g old) → Given machine
       → IfErr result (IsLeft g machine command old new)
+  pub others : HasCleanDisk (state g new) → (machine : Machine) → IsConsistent machine → IsSettled machine (state g old) → Given machine
+      → OnOk result (KeepsOthers (state g old).now (state g new).now)
   pub utf8 : OnOk result (HasUtf8Texts command)
 
 -- a command carried out over the tables of a consistent office by what is known of them: the reply is that of the step, after which they are
--- settled at its state, and what is known then is so there; or a failure leaves the office as above, and what is known is so as before
+-- settled at its state, what is known then is so there, and the tables of others keep their rows; or a failure leaves the office as above, and
+-- what is known is so as before
 pub record Responds {S : Type 0} (g : Ghosts S) (command : Command) (was_known : Known) (old : Held S) (known : Known) (new : Held S)
     (result : Result Reply Failure) : Type 0 where
   pub was_clean : HasCleanDisk (state g new) → HasCleanDisk (state g old)
@@ -105,4 +114,6 @@ pub record Responds {S : Type 0} (g : Ghosts S) (command : Command) (was_known :
       → IfOk result (λ reply. ((step machine command).0 ≡ Ok reply) × IsSettled (step machine command).1 (state g new) × Knows (step machine command).1 known)
   pub err : HasCleanDisk (state g new) → (machine : Machine) → IsConsistent machine → IsSettled machine (state g old) → Knows machine was_known
       → IfErr result (λ failure. IsLeft g machine command old new failure × Knows machine known)
+  pub others : HasCleanDisk (state g new) → (machine : Machine) → IsConsistent machine → IsSettled machine (state g old) → Knows machine was_known
+      → OnOk result (KeepsOthers (state g old).now (state g new).now)
   pub utf8 : OnOk result (HasUtf8Texts command)

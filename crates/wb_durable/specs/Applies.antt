@@ -1,5 +1,5 @@
 -- What an office over tables answers to a command, and how it stands then.
-use Rattle.std.specs.Prelude.{◌≡◌, ◌≢◌, ◌⊎◌, Bool, true, false, [], Result, Ok, Err, IfOk, IfErr, IsTrue}
+use Rattle.std.specs.Prelude.{◌≡◌, ◌≢◌, ◌⊎◌, Bool, true, false, [], Result, Ok, Err, IfOk, IfErr, IsTrue, OnOk}
 use Rattle.sqlite_trees.specs.declared.store.Store.{Ghosts}
 use Rattle.sqlite.specs.declared.error.Error.{Error}
 use Rattle.sqlite.specs.Held.{Held, state}
@@ -16,6 +16,7 @@ use Rattle.wb_states.specs.Machine.{Machine}
 use Rattle.wb_office.specs.Ends.{is_of_store}
 use Rattle.wb_office.specs.Step.{step}
 use Rattle.wb_tables.specs.Faults.{fault_of}
+use Rattle.wb_tables.specs.Others.{KeepsOthers}
 use Rattle.wb_tables.specs.Settled.{IsBackAt, LeavesEither}
 use Rattle.wb_durable.specs.declared.answer.Failure.{Failure}
 use Rattle.wb_durable.specs.declared.answer.Failure.TheVariants.{Refused, Unread, Uncommitted}
@@ -67,16 +68,18 @@ pub record Ends {S : Type 0} (g : Ghosts S) (failure : Failure) (old new : Held 
   pub told : refusal ≡ refusal_of failure
   pub closes : HasCleanDisk (state g new) → refusal ≡ Memory → is_closed ≡ true → MustClose g failure old new
 
--- an office over tables carries out a command: the reply is that of the step, and the office stands at the state after it; a refusal of the state
--- changes nothing; out of memory, it stands as before, and is closed only if its connection cannot be used on, or the transaction could not be taken
--- back; after a fault of the store it is closed, and the command stands whole or not at all; and a closed office, and no other, answers that it is
--- closed
+-- an office over tables carries out a command: the reply is that of the step, the office stands at the state after it, and the tables of others
+-- keep their rows; a refusal of the state changes nothing; out of memory, it stands as before, and is closed only if its connection cannot be used
+-- on, or the transaction could not be taken back; after a fault of the store it is closed, and the command stands whole or not at all; and a closed
+-- office, and no other, answers that it is closed
 pub record Applies {S : Type 0} (g : Ghosts S) (command : Command) (was_closed : Bool) (was_known : Known) (old : Held S) (is_closed : Bool) (known : Known) (new : Held S)
     (result : Result Reply Refusal) : Type 0 where
   pub was_clean : HasCleanDisk (state g new) → HasCleanDisk (state g old)
   pub shut : was_closed ≡ true → (result ≡ Err Closed) × (is_closed ≡ true) × (known ≡ was_known) × (new ≡ old)
   pub reply : HasCleanDisk (state g new) → (machine : Machine) → StandsAt machine was_closed was_known (state g old)
       → IfOk result (λ reply. ((step machine command).0 ≡ Ok reply) × StandsAt (step machine command).1 is_closed known (state g new) × (is_closed ≡ false))
+  pub others : HasCleanDisk (state g new) → (machine : Machine) → StandsAt machine was_closed was_known (state g old)
+      → OnOk result (KeepsOthers (state g old).now (state g new).now)
   pub refused : HasCleanDisk (state g new) → (machine : Machine) → StandsAt machine was_closed was_known (state g old) → was_closed ≡ false
       → IfErr result (λ refusal. IsRefusedIn g machine command is_closed new refusal × Knows machine known)
   pub cause : HasCleanDisk (state g new) → (machine : Machine) → StandsAt machine was_closed was_known (state g old) → was_closed ≡ false

@@ -13,6 +13,7 @@ use Rattle.wb_states.specs.Machine.{Machine, Key}
 use Rattle.wb_office.specs.Step.{step}
 use Rattle.wb_tables.specs.Stands.{StandsFor}
 use Rattle.wb_tables.specs.Calls.{Becomes}
+use Rattle.wb_tables.specs.Others.{KeepsOthers}
 use Rattle.wb_tables.specs.Settled.{IsSettled, IsBackAt, LeavesEither}
 use Rattle.wb_durable.specs.declared.carry.CarryError.{CarryError}
 use Rattle.wb_durable.specs.declared.carry.CarryError.TheVariants.{TakenBack, RollBackFailed, InDoubt}
@@ -74,8 +75,8 @@ HoldsStep g command key after old db =
     (whole : Machine) → StandsFor whole (state g old).now → IsStepOf whole command key after → StandsFor (step whole command).1 (record { schema = old.schema; trees = db })
 
 -- the change of an accepted command in a transaction of its own, over a connection that is settled at the whole office: if it succeeds, the
--- connection is settled at the office after the command; if it fails, the office is as before, but if the commit is in doubt a crash leaves
--- the one or the other; and a crash after it leaves no third
+-- connection is settled at the office after the command, and the tables of others keep their rows; if it fails, the office is as before, but
+-- if the commit is in doubt a crash leaves the one or the other; and a crash after it leaves no third
 pub record CarriesOut {S A : Type 0} (g : Ghosts S) (command : Command) (key : Option Key) (after : Machine) (old new : Held S) (result : Result A CarryError) : Type 0 where
   pub ok : HasCleanDisk (state g new) → (whole : Machine) → IsSettled whole (state g old) → IsStepOf whole command key after
       → OnOk result (IsSettled (step whole command).1 (state g new))
@@ -83,4 +84,6 @@ pub record CarriesOut {S A : Type 0} (g : Ghosts S) (command : Command) (key : O
       → IfErr result (LeavesAs whole (step whole command).1 (state g new))
   pub cause : HasCleanDisk (state g new) → (whole : Machine) → IsSettled whole (state g old) → IsStepOf whole command key after
       → IfErr result (EndsFor g command key after whole old new)
+  pub others : HasCleanDisk (state g new) → (whole : Machine) → IsSettled whole (state g old) → IsStepOf whole command key after
+      → OnOk result (KeepsOthers (state g old).now (state g new).now)
   pub survives : Survives (state g old) (state g new) (HoldsStep g command key after old)

@@ -10,6 +10,7 @@ use Rattle.wb_states.specs.Forms.{Merge}
 use Rattle.wb_states.specs.Machine.{Machine}
 use Rattle.wb_office.specs.Step.{step}
 use Rattle.wb_tables.specs.Stands.{StandsFor}
+use Rattle.wb_tables.specs.Others.{KeepsOthers}
 use Rattle.wb_tables.specs.Settled.{IsSettled}
 use Rattle.wb_durable.specs.declared.carry.CarryError.{CarryError}
 use Rattle.wb_durable.specs.declared.carry.CarryError.TheVariants.{TakenBack, RollBackFailed, InDoubt}
@@ -34,8 +35,8 @@ HoldsMerge g sources parts before after old db =
     → StandsFor (step whole (Merge sources parts)).1 (record { schema = old.schema; trees = db })
 
 -- what a merge changed, in a transaction of its own, over a connection that is settled at the whole office: if it succeeds, the connection is
--- settled at the office after the merge; if it fails, the office is as before, but if the commit is in doubt a crash leaves the one or the
--- other; and a crash after it leaves no third
+-- settled at the office after the merge, and the tables of others keep their rows; if it fails, the office is as before, but if the commit is
+-- in doubt a crash leaves the one or the other; and a crash after it leaves no third
 pub record CarriesMerge {S A : Type 0} (g : Ghosts S) (sources : List ℕ) (parts : List Part) (before after : Machine) (old new : Held S)
     (result : Result A CarryError) : Type 0 where
   pub ok : HasCleanDisk (state g new) → (whole : Machine) → IsSettled whole (state g old) → IsMergeIn whole sources parts before after
@@ -44,4 +45,6 @@ pub record CarriesMerge {S A : Type 0} (g : Ghosts S) (sources : List ℕ) (part
       → IfErr result (LeavesAs whole (step whole (Merge sources parts)).1 (state g new))
   pub cause : HasCleanDisk (state g new) → (whole : Machine) → IsSettled whole (state g old) → IsMergeIn whole sources parts before after
       → IfErr result (MergeEndsFor g after (step whole (Merge sources parts)).1 old new)
+  pub others : HasCleanDisk (state g new) → (whole : Machine) → IsSettled whole (state g old) → IsMergeIn whole sources parts before after
+      → OnOk result (KeepsOthers (state g old).now (state g new).now)
   pub survives : Survives (state g old) (state g new) (HoldsMerge g sources parts before after old)

@@ -38,6 +38,7 @@ use Rattle.wb_schema.proofs.RecordLemmas.{arch_typed, builder_typed}
 use Rattle.wb_rows.specs.Cells.{record_cells, arch_cells, builder_cells, number}
 use Rattle.wb_tables.specs.Stands.{HoldsRows, StandsFor, office_row, record_rows, arch_rows, builder_rows, builder_pairs}
 use Rattle.wb_tables.specs.Calls.{Becomes, Changes, FailsToWrite}
+use Rattle.wb_tables.proofs.OthersLemmas.{others_kept, office_named, arch_named, builder_named, record_named}
 use Rattle.wb_tables.proofs.MapLemmas.{entries-insert, entries-added, items-added}
 use Rattle.wb_tables.proofs.ChangeRowLemmas.{begins_with, passes, cells_without, cells_apart, records_without, record_decides, office_replaced, office_typed, entry_typed, typed_at}
 use Rattle.wb_schema.proofs.ApartLemmas.{other_rows, own_rows}
@@ -128,6 +129,7 @@ module _ (sql : List ℕ) (machine : Machine) (old new : State) (stands : Stands
         schema_is = made.schema;
         shown = made.shown;
         marks = made.marks;
+        others = others_kept old new (table_in schema office) rows stands.has.office_is (office_named schema) made;
       }
 
   -- one more architecture
@@ -155,6 +157,7 @@ module _ (sql : List ℕ) (machine : Machine) (old new : State) (stands : Stands
         schema_is = made.schema;
         shown = made.shown;
         marks = made.marks;
+        others = others_kept old new (table_in schema arch) _ stands.has.arch_is (arch_named schema) made;
       }
 
   -- one more pair of a builder and an architecture
@@ -182,6 +185,7 @@ module _ (sql : List ℕ) (machine : Machine) (old new : State) (stands : Stands
         schema_is = made.schema;
         shown = made.shown;
         marks = made.marks;
+        others = others_kept old new (table_in schema builder) _ stands.has.builder_is (builder_named schema) made;
       }
 
   -- other rows of records
@@ -201,6 +205,7 @@ module _ (sql : List ℕ) (machine : Machine) (old new : State) (stands : Stands
         schema_is = made.schema;
         shown = made.shown;
         marks = made.marks;
+        others = others_kept old new (table_in schema source_record) rows stands.has.record_is (record_named schema) made;
       }
 
   -- a record less

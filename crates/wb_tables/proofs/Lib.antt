@@ -18,6 +18,7 @@ pub mod OpeningSoundLemmas
 pub mod OpeningStreamLemmas
 pub mod OpeningWaitLemmas
 pub mod OrderLemmas
+pub mod OthersLemmas
 pub mod ReadLemmas
 pub mod ScratchLemmas
 pub mod SettledLemmas

@@ -147,6 +147,7 @@ module _ {S A : Type 0} (g : Ghosts S) (old new : Held S) where
       → IsLive (state g old) → Survives (state g old) (state g new) (λ db. db ≡ (state g old).now.trees) → SettlesBy g old new r
   settles r ok alone memory err live survives = record {
     ok = λ clean before now h. settled_by r (ok clean) (alone clean) before now h;
+    shows = λ clean before now h. on_ok {P = Commits (state g old) (state g new)} r (λ made. made.shown.now_is) (ok clean);
     memory = λ clean before now h is. stays_or_goes_back (state g old) (state g new) (subst (λ x. OnErr x (IsKeptOrUndone (state g old) (state g new))) is (err clean)) (memory clean is) h;
     crash = λ clean before now h db may. elim (survives.crash clean db may) [
       | inl was ↦ inl (only_of (state g old) (state g old).committed h.alone h.began db was)

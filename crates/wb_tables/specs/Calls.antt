@@ -11,13 +11,16 @@ use Rattle.wb_sql.specs.Transactions.{IsKeptOrUndone}
 use Rattle.wb_schema.specs.Among.{HasOffice}
 use Rattle.wb_states.specs.Machine.{Machine, IsConsistent}
 use Rattle.wb_tables.specs.Stands.{StandsFor}
+use Rattle.wb_tables.specs.Others.{KeepsOthers}
 
--- in a transaction the database stands for this state now, with the schema that it had, and what was committed stays
+-- in a transaction the database stands for this state now, with the schema that it had; the tables of others keep their rows, and what was
+-- committed stays
 pub record Becomes (machine : Machine) (old new : State) : Type 0 where
   pub stands : StandsFor machine new.now
   pub schema_is : new.now.schema ≡ old.now.schema
   pub shown : Shows old new new.now old.committed true
   pub marks : new.marks ≡ old.marks
+  pub others : KeepsOthers old.now new.now
 
 -- a statement failed with this error, and nothing was written, or the whole transaction is taken back
 abbrev pub FailsToWrite : State → State → Error → Type 0

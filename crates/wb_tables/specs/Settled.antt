@@ -57,10 +57,11 @@ pub record IsBackAt (before : Machine) (s : State) : Type 0 where
   pub left : LeavesOnly before s
   pub settled : IsTrue s.is_open → IsSettled before s
 
--- a commit settles what the transaction sees; if memory runs out, nothing is committed, and the transaction stays or is taken back; and whatever
--- it answers, a crash leaves the state before it or the state that it saw
+-- a commit settles what the transaction sees, and the connection shows the same after it; if memory runs out, nothing is committed, and the
+-- transaction stays or is taken back; and whatever it answers, a crash leaves the state before it or the state that it saw
 pub record SettlesBy {S A : Type 0} (g : Ghosts S) (old new : Held S) (result : Result A CommitError) : Type 0 where
   pub ok : HasCleanDisk (state g new) → (before now : Machine) → IsUnderWay before now (state g old) → OnOk result (IsSettled now (state g new))
+  pub shows : HasCleanDisk (state g new) → (before now : Machine) → IsUnderWay before now (state g old) → OnOk result ((state g new).now ≡ (state g old).now)
   pub memory : HasCleanDisk (state g new) → (before now : Machine) → IsUnderWay before now (state g old) → result ≡ Err Memory
       → IsUnderWay before now (state g new) ⊎ IsBackAt before (state g new)
   pub crash : HasCleanDisk (state g new) → (before now : Machine) → IsUnderWay before now (state g old) → LeavesEither before now (state g new)
