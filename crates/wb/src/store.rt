@@ -1,12 +1,12 @@
 //! The office over records that a file keeps.
 
+use crate::files::{connect, names_no_file, refuse};
 use crate::{Work, act, said};
-use sqlite::Connection;
 use std::alloc::AllocError;
 use std::fs::{self, File, OpenOptions, TryLockError};
 use std::io::{self, Read};
 use wb_daemon::status;
-use wb_durable::{Office, opening_fault};
+use wb_durable::Office;
 use wb_schema::lacks_office;
 use wb_states::StoreFault;
 
@@ -26,7 +26,7 @@ const SUM_SIZE: u8 = 8;
 enum LockRefusal {
     /// Another program holds it.
     InUse,
-    /// It cannot be taken for this fault: `Device` if the file of the lock cannot be opened or locked.
+    /// It cannot be taken for this fault, and why was said: `Device` if the file of the lock cannot be opened or locked.
     Fault(StoreFault),
 }
 
@@ -35,10 +35,14 @@ enum LockRefusal {
 /// on the file with this name and `.lock` after it. A new office is reported on standard error: its name may be a slip.
 /// None begins in a database whose pages have no checksums, as another program makes it.
 pub(crate) fn open_for(rt: &HostRuntime, file: &str, work: Work) -> u8 {
+    if names_no_file(file) {
+        let fault = refuse(rt, file, StoreFault::Device, "SQLite takes the name for no file");
+        return said_store(rt, fault.name());
+    }
     let _lock = match lock_of(rt, file) {
         Ok(lock) => lock,
         Err(LockRefusal::InUse) => return refuse_held(rt, file),
-        Err(LockRefusal::Fault(fault)) => return refuse_fault(rt, file, fault),
+        Err(LockRefusal::Fault(fault)) => return said_store(rt, fault.name()),
     };
     match is_lost_beside_its_log(rt, file) {
         Ok(false) => {}
@@ -47,9 +51,9 @@ pub(crate) fn open_for(rt: &HostRuntime, file: &str, work: Work) -> u8 {
     }
     let was_empty = size_of(rt, file) == 0;
     let is_of_others = lacks_sums(rt, file);
-    let conn = match Connection::open_with_sums(rt, file) {
+    let conn = match connect(rt, file) {
         Ok(conn) => conn,
-        Err(error) => return refuse_fault(rt, file, opening_fault(error)),
+        Err(fault) => return said_store(rt, fault.name()),
     };
     let is_new = lacks_office(conn.schema());
     if is_new && is_of_others {
@@ -88,8 +92,12 @@ fn is_lost_beside_its_log(rt: &HostRuntime, file: &str) -> Result<bool, AllocErr
 }
 
 /// Whether the file is a database whose pages have no room for checksums. It is read before it is opened as a database,
-/// since the end of a later read would let go of the locks on it.
+/// since the end of a later read would let go of the locks on it. What is no regular file is not read: a pipe would be
+/// waited for.
 fn lacks_sums(rt: &HostRuntime, file: &str) -> bool {
+    if !is_regular(rt, file) {
+        return false;
+    }
     let mut header = [0u8; RESERVED_AT + 1];
     match File::open(rt, file) {
         Ok(mut data) => {
@@ -97,6 +105,14 @@ fn lacks_sums(rt: &HostRuntime, file: &str) -> bool {
                 && header.starts_with(MAGIC)
                 && header[RESERVED_AT] != SUM_SIZE
         }
+        Err(_) => false,
+    }
+}
+
+/// Whether the file is there and is no folder, pipe or device.
+fn is_regular(rt: &HostRuntime, name: &str) -> bool {
+    match fs::metadata(rt, name) {
+        Ok(found) => found.is_file(),
         Err(_) => false,
     }
 }
@@ -112,7 +128,8 @@ fn size_of(rt: &HostRuntime, name: &str) -> u64 {
 /// The lock of a program on the file of an office, which ends with the program.
 fn lock_of(rt: &HostRuntime, file: &str) -> Result<File, LockRefusal> {
     let Ok(name) = format!(in rt.alloc(); "{file}.lock") else {
-        return Err(LockRefusal::Fault(StoreFault::Memory));
+        let fault = StoreFault::Memory;
+        return Err(LockRefusal::Fault(refuse(rt, file, fault, fault)));
     };
     let mut how = OpenOptions::new();
     how.write(true).create(true);
@@ -135,8 +152,7 @@ fn refuse_lock(rt: &HostRuntime, name: &str, error: io::Error) -> LockRefusal {
 
 /// Says that the store cannot be opened, for this fault.
 fn refuse_fault(rt: &HostRuntime, file: &str, fault: StoreFault) -> u8 {
-    let _ = eprintln!(rt; "wb: {file} cannot be opened: {fault}");
-    said_store(rt, fault.name())
+    said_store(rt, refuse(rt, file, fault, fault).name())
 }
 
 /// Says that the store cannot be opened, since its file is lost and its log is not.

@@ -1,0 +1,92 @@
+//! The files of an office as a database: the pages, and the log of the last commits.
+
+ghost use Rattle.std.specs.Prelude.{IfOk};
+ghost use Rattle.sqlite.specs.Held.{IsNew};
+
+use sqlite::{Connection, File, FileStore, Options, Unknown};
+use sqlite_std_file::OpenError;
+use std::fmt::Display;
+use std::hash::{BuildHasher, RandomState};
+use std::io;
+use wb_durable::opening_fault;
+use wb_states::StoreFault;
+
+/// How many pages of 4,096 bytes are kept in memory after they were read, and how many that a command wrote before they
+/// go to the log.
+const PAGES_IN_MEMORY: usize = 2_000;
+
+/// How many pages the log has before it is copied into the database and begun anew: 33 MB. Each of these copies has the
+/// disk write five times, so a longer log makes commands quicker, and a start after a kill slower by the reading of it.
+const PAGES_IN_LOG: usize = 8_000;
+
+/// Whether SQLite takes the name for no file: for a database in memory, or for a URI.
+pub(crate) fn names_no_file(name: &str) -> bool {
+    name == ":memory:" || name.starts_with("file:")
+}
+
+/// Opens the database of this name and its log, which are made if they are not there, with a sum of each page. Says why
+/// they cannot be opened, and answers what that is to the store: `Memory` if memory ran out, `NotOffice` if they are
+/// there and hold no database, and else `Device`.
+pub(crate) fn connect(
+    rt: &HostRuntime,
+    file: &str,
+) -> Result<Connection<FileStore<File>>, StoreFault>
+    ensures fresh { IfOk result IsNew }
+{
+    let files = match sqlite_std_file::open(rt, file, Unknown) {
+        Ok(files) => files,
+        Err(error) => return Err(refuse_files(rt, file, error)),
+    };
+    let seed = match RandomState::new(rt) {
+        Ok(state) => state.hash_one(&0u8),
+        Err(error) => return Err(refuse_system(rt, file, error)),
+    };
+    let options = Options {
+        cache_pages: PAGES_IN_MEMORY,
+        spill_pages: PAGES_IN_MEMORY,
+        checkpoint_frames: PAGES_IN_LOG,
+        seed,
+    };
+    match Connection::open_files_with(rt.alloc(), files, options, true) {
+        Ok(conn) => Ok(conn),
+        Err((error, _)) => {
+            let fault = opening_fault(error);
+            Err(refuse(rt, file, fault, fault))
+        }
+    }
+}
+
+/// Says why the files are not opened, and answers what that is to the store.
+fn refuse_files(rt: &HostRuntime, file: &str, error: OpenError) -> StoreFault {
+    match error {
+        OpenError::OutOfMemory => refuse(rt, file, StoreFault::Memory, error),
+        OpenError::Io(error) => refuse_system(rt, file, error),
+        OpenError::Busy => refuse(rt, file, StoreFault::Device, "another program has it open"),
+        OpenError::HotJournal => refuse(rt, file, StoreFault::Device, error),
+    }
+}
+
+/// Says for which reason of the system the files are not opened, and answers what that is to the store.
+fn refuse_system(rt: &HostRuntime, file: &str, error: io::Error) -> StoreFault {
+    match error.kind() {
+        io::ErrorKind::OutOfMemory => refuse(rt, file, StoreFault::Memory, StoreFault::Memory),
+        io::ErrorKind::Unsupported => refuse(
+            rt,
+            file,
+            StoreFault::Device,
+            "it or its log is no regular file, or has a second name",
+        ),
+        _ => refuse(rt, file, StoreFault::Device, error),
+    }
+}
+
+/// Says why the store cannot be opened, and answers the fault.
+pub(crate) fn refuse<R: Display + Drop>(
+    rt: &HostRuntime,
+    file: &str,
+    fault: StoreFault,
+    reason: R,
+) -> StoreFault {
+    let _ = eprintln!(rt; "wb: {file} cannot be opened: {reason}");
+    fault
+}
