@@ -5,5 +5,6 @@ pub mod EndingLemmas
 pub mod ReadingLemmas
 pub mod SetLemmas
 pub mod SettledLemmas
+pub mod UpdateLemmas
 pub mod UpsertLemmas
 pub mod WriteLemmas

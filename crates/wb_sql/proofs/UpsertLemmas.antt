@@ -1,55 +1,50 @@
 -- What INSERT ON CONFLICT of one row does: it puts the row in, or writes it over the one that has its key.
-use Rattle.std.proofs.Common.{bytes_eq, ◌≡◌, inl, inr, ℕ, zero, suc, ◌^◌, nat_le, ℤ, Bool, true, false, not, ◌&&◌, ◌==◌, cond, List, [], ◌∷◌, ◌++◌, length, map, filter, Option, Some, None, Ok, Ordering, Less, Equal, Greater, IsPermutation, refl, sym, ap, ap₂, subst, ◌∙◌}
+use Rattle.std.proofs.Common.{bytes_eq, ◌≡◌, inl, inr, ℕ, zero, suc, ◌^◌, nat_le, ℤ, Bool, true, false, not, ◌&&◌, ◌==◌, cond, List, [], ◌∷◌, ◌++◌, length, Option, Some, None, Ok, Ordering, Less, Equal, Greater, IsPermutation, refl, sym, ap, ap₂, subst, ◌∙◌}
 use Rattle.std.specs.List.{list_all}
 use Rattle.std.specs.Ordering.{is_eq, is_ne}
 use Rattle.std.proofs.lemmas.Bool.{and_parts, and_from, or_cases, or_right, not-true, both_ways, cases_Bool, false_from_ne_true}
-use Rattle.std.proofs.lemmas.Cmp.{tied_itself}
 use Rattle.std.proofs.lemmas.Slice.Eq.{bytes_eq-Decides}
 use Rattle.sqlite.specs.Order.{Row}
 use Rattle.sqlite_value.specs.Order.{column, value_cmp}
-use Rattle.sqlite_value.proofs.OrderLemmas.{value_cmp_total}
 use Rattle.sqlite.specs.Collation.TheVariants.{Binary}
 use Rattle.sqlite.specs.declared.types.Value.{Value}
-use Rattle.sqlite.specs.declared.types.Value.TheVariants.{Null, Int}
-use Rattle.sqlite.specs.Tree.{Trees, IsTable, rowid, has_rowid, put_row, without_rowid}
+use Rattle.sqlite.specs.declared.types.Value.TheVariants.{Int}
+use Rattle.sqlite.specs.Tree.{Trees, rowid, has_rowid, put_row, without_rowid}
 use Rattle.sqlite_trees.specs.View.{is_int}
 use Rattle.sqlite.specs.Schema.{Schema}
 use Rattle.sqlite.specs.Table.{Table}
 use Rattle.sqlite_schema.specs.declared.schema.Index.{Index}
-use Rattle.sqlite_schema.specs.declared.schema.Keys.TheVariants.{Enforced}
 use Rattle.sqlite_schema.specs.declared.schema.Constraint.TheVariants.{Unique}
 use Rattle.sqlite_schema.specs.declared.command.Conflict.TheVariants.{Abort}
 use Rattle.sqlite_schema.specs.Rules.{equal, differ, agree, guards, Fits}
 use Rattle.sqlite.specs.Ops.{binary, is_null, is_true, from_truth}
 use Rattle.sqlite.specs.Term.{Term, eval_all, holds}
-use Rattle.sqlite.specs.Query.{Output, output}
 use Rattle.sqlite.specs.Source.TheVariants.{Values}
 use Rattle.sqlite.specs.Command.TheVariants.{InsertOr}
 use Rattle.sqlite.specs.Kind.TheVariants.{Integer}
 use Rattle.sqlite.specs.Cast.{cast, cast_row}
-use Rattle.sqlite.specs.Rowids.TheVariants.{Given}
-use Rattle.sqlite.specs.Edit.{Applies, edit_of, id_in, is_taken, next_rowid}
+use Rattle.sqlite.specs.Edit.{id_in, is_taken, next_rowid}
 use Rattle.sqlite.specs.Effect.{Database}
 use Rattle.sqlite.specs.Rows.{Written, Task, Clears, Puts, Meets, Upserts, Updates, shown}
 use Rattle.sqlite.specs.State.{State}
-use Rattle.sqlite.proofs.Callers.{runs_as, one_permutation}
+use Rattle.sqlite.proofs.Callers.{runs_as}
 use Rattle.sqlite_rules.specs.Lists.{Has}
-use Rattle.sqlite_rules.specs.Calls.{ids_of}
 use Rattle.sqlite_rules.specs.InPlace.{AgreeAt}
 use Rattle.sqlite_rules.specs.Keys.{shares, AreConflicts}
-use Rattle.sqlite_rules.proofs.ListLemmas.{all_has, all_from, test_has, some_has, some_from, has_kept, has_got}
+use Rattle.sqlite_rules.proofs.ListLemmas.{all_from, test_has, some_has, some_from, has_kept, has_got}
 use Rattle.sqlite_rules.proofs.PlaceLemmas.{agree_same, agrees_itself}
 use Rattle.sqlite_rules.proofs.RuleLemmas.{keeps_at}
 use Rattle.sqlite_rules.proofs.TableLemmas.{put_all_adds, put_all_keeps}
-use Rattle.sqlite_keyed.proofs.ListLemmas.{filter_all, filter_none}
+use Rattle.sqlite_keyed.proofs.ListLemmas.{filter_all}
 use Rattle.wb_sql.specs.Calls.{RanInside}
-use Rattle.wb_sql.specs.Queries.{query_of, chosen, outputs, Answers}
+use Rattle.wb_sql.specs.Queries.{query_of, chosen}
 use Rattle.wb_sql.specs.Rows.{cells, cells_of, IsStored, IsTyped, with_next_rowid, meets, apart}
 use Rattle.wb_sql.specs.Statements.{IsWriting, changes}
 use Rattle.wb_sql.specs.Changes.{IsPlainTable, UpsertsInto, IsDecidedBy, row_of_rowid, renewal, has_key, Upserts as UpsertsRows}
-use Rattle.wb_sql.proofs.ReadingLemmas.{means_as, answers_from}
+use Rattle.wb_sql.proofs.ReadingLemmas.{means_as}
 use Rattle.wb_sql.proofs.SetLemmas.{filter_same_on, int_at, has_own, same_by_rowid, stored-filter, stored-put_row, cells_numbered, cells_put}
-use Rattle.wb_sql.proofs.WriteLemmas.{went, same_value, Spares, applied, spared, puts, tries, cast_int, kept_row, kept_new, task, tries_one, shown_inside, row_step, sets as sets_table}
+use Rattle.wb_sql.proofs.UpdateLemmas.{alone_left, IsWrittenOver, updates_one}
+use Rattle.wb_sql.proofs.WriteLemmas.{Spares, puts, tries, cast_int, kept_row, kept_new, task, tries_one, shown_inside, row_step, sets as sets_table}
 
 -- ---- rowids as SQL compares them
 
@@ -80,24 +75,6 @@ value_after : (xs : Row) (v : Value) (more : Row) → column (xs ++ v ∷ more) 
 value_after [] v more = refl
 value_after (x ∷ xs) v more = value_after xs v more
 
--- a test that one row of a table passes alone leaves that row
-alone_left : (p : Row → Bool) (rows : List Row) (r : Row) → IsTable rows → Has rows r → p r ≡ true → ((x : Row) → Has rows x → p x ≡ true → x ≡ r) → filter p rows ≡ r ∷ []
-alone_left p [] r up h passes alone = absurd h
-alone_left p (y ∷ rows) r up h passes alone = elim (cases_Bool (p y)) [
-  | inl here ↦
-      let is : y ≡ r = alone y (inl refl) here in
-      let none : filter p rows ≡ [] = filter_none p rows (all_from _ rows (λ x there. false_from_ne_true _ (λ again.
-      let lower : value_cmp (rowid y) (rowid x) ≡ Less = all_has _ rows x up.0 there in
-      let same = ap (λ (z : Row). value_cmp (rowid y) (rowid z)) (alone x (inr there) again ∙ sym is) in
-      let tie = tied_itself value_cmp_total (rowid y) in
-      cc))) in
-      rw (here, none) (ap (λ (x : Row). x ∷ []) is)
-  | inr other ↦ elim h [
-    | inl same ↦ absurd (both_ways _ other (ap p (sym same) ∙ passes))
-    | inr later ↦ rw other (alone_left p rows r up.1 later passes (λ x there. alone x (inr there)))
-  ]
-]
-
 module _ (tree : ℕ) (params more : Row) (terms : List Term) (rows : List Row) (stored : IsStored rows) (r : Row) (there : Has rows r) where
   abbrev full : Row
   full = params ++ rowid r ∷ more
@@ -111,15 +88,9 @@ module _ (tree : ℕ) (params more : Row) (terms : List Term) (rows : List Row) 
       ap (λ v. equal Binary (rowid row) v && true) rowid_given ∙ and_true (equal Binary (rowid row) (Int id)) ∙ ap (λ v. equal Binary v (Int id)) (int_at rows stored row h)
       ∙ equal_int (id_in (rowid row)) id ∙ sym (ap (λ v. is_eq (value_cmp v (Int id))) (int_at rows stored row h))
 
-  -- its answer is the row's rowid, twice, and then the terms
-  finds_one : (answer : List Row) → Answers (row_of_rowid tree (length params) terms) full rows answer → answer ≡ (rowid r ∷ rowid r ∷ eval_all terms (full ∷ r ∷ [])) ∷ []
-  finds_one answer a =
-      let q = row_of_rowid tree (length params) terms in
-      let one : chosen q full rows ≡ r ∷ [] =
-      filter_same_on _ _ rows has_it ∙ alone_left (has_rowid (id_in (rowid r))) rows r stored.rising there (has_own rows stored r there) (λ x h. same_by_rowid rows stored x r h there) in
-      let outs : outputs q full rows ≡ output (query_of q) (full ∷ r ∷ []) ∷ [] = ap (map (λ (row : Row). output (query_of q) (full ∷ row ∷ []))) one in
-      let ordered = one_permutation (output (query_of q) (full ∷ r ∷ [])) a.ordered (subst (λ l. IsPermutation l a.ordered) outs a.same) in
-      a.shown ∙ ap (map (λ (o : Output). o.1)) ordered
+  -- it finds that row alone
+  chosen_one : chosen (row_of_rowid tree (length params) terms) full rows ≡ r ∷ []
+  chosen_one = filter_same_on _ _ rows has_it ∙ alone_left (has_rowid (id_in (rowid r))) rows r stored.rising there (has_own rows stored r there) (λ x h. same_by_rowid rows stored x r h there)
 
 -- ---- the rows that have the key
 
@@ -227,55 +198,42 @@ module _ (limit : Option ℕ) (schema : Schema) (at : ℕ) (table : Table) (para
     kept_it : cast_row table it ≡ it
     kept_it = let is = int_at rows stored r there in ap₂ ◌∷◌ (ap (cast Integer) is ∙ cast_int (id_in (rowid r)) ∙ sym is) typed.cast
 
-    abbrev IsWrittenOver : Trees → Type 0
-    IsWrittenOver next = Applies schema Enforced db (edit_of db table (id_in (rowid r) ∷ []) Given 1 ((rowid r ∷ it) ∷ [])) next
-
-    module _ (next : Trees) (a : IsWrittenOver next) where
-      rows_next : next table.tree ≡ put_row it left
-      rows_next = a.rows ∙ ap (λ x. put_row x left) kept_it
-
-      fresh : (not (is_taken left it) && true) ≡ true
-      fresh = subst (λ x. (not (is_taken left x) && true) ≡ true) kept_it a.fresh
-
+    module _ (next : Trees) (over : IsWrittenOver schema table db r (cells given) next) where
+      -- only that row meets the new one: any other with the key would have it still
       meets_it : (row : Row) → Has rows row → meets schema table new row ≡ has_rowid (id_in (rowid r)) row
       meets_it row was = elim (cases_Bool (has_rowid (id_in (rowid r)) row)) [
         | inl same ↦ subst (λ x. meets schema table new x ≡ true) (sym (same_by_rowid rows stored row r was there same)) (meets_by_key schema table key columns new r h) ∙ sym same
         | inr other ↦
             let id = id_in (rowid r) in
-            let here : Has (next table.tree) it = subst (λ l. Has l it) (sym rows_next) (put_all_adds (it ∷ []) left it fresh (inl refl)) in
+            let here : Has (next table.tree) it = subst (λ l. Has l it) (sym over.rows_are) (put_all_adds (it ∷ []) left it over.fresh (inl refl)) in
             let beside : Has (next table.tree) row =
-            subst (λ l. Has l row) (sym rows_next) (put_all_keeps (it ∷ []) left row fresh (has_kept (λ x. not (has_rowid id x)) rows row was (ap not other))) in
+            subst (λ l. Has l row) (sym over.rows_are) (put_all_keeps (it ∷ []) left row over.fresh (has_kept (λ x. not (has_rowid id x)) rows row was (ap not other))) in
             let differs : differ (rowid row) (rowid r) ≡ true =
             ap₂ differ (int_at rows stored row was) (int_at rows stored r there) ∙ differ_int (id_in (rowid row)) id
             ∙ ap not (sym (ap (λ v. is_eq (value_cmp v (Int id))) (int_at rows stored row was)) ∙ other) in
             false_from_ne_true _ (λ meet.
             no_other schema table key columns new it (λ place. ap (λ (x : Row). column x (suc place)) (numbered_is table given rows typed)) next row
-            (has_got schema.tables at table plain.listed) a.fits here beside differs (decided.by_key row was meet)) ∙ sym other
+            (has_got schema.tables at table plain.listed) over.fits here beside differs (decided.by_key row was meet)) ∙ sym other
       ]
 
-      written_over : IsPutApart next
-      written_over =
+      put_over : IsPutApart next
+      put_over =
           let rest : apart schema table given rows ≡ left = filter_same_on _ _ rows (λ row was. ap not (meets_it row was)) in
           record {
             row = it;
             cells_are = refl;
-            rows_are = rows_next ∙ ap (put_row it) (sym rest);
-            spares = spared own refl plain.quiet db next (edit_of db table (id_in (rowid r) ∷ []) Given 1 ((rowid r ∷ it) ∷ [])) refl a;
-            whole = test_has (λ x. is_int (rowid x)) rows r stored.whole there;
-            free = subst (λ l. is_taken l it ≡ false) (sym rest) (not-true _ (and_parts _ _ fresh).0);
+            rows_are = over.rows_are ∙ ap (put_row it) (sym rest);
+            spares = over.spares;
+            whole = over.whole;
+            free = subst (λ l. is_taken l it ≡ false) (sym rest) (not-true _ (and_parts _ _ over.fresh).0);
           }
 
+    -- DO UPDATE writes the new cells over that row
     updates_it : (w : Written) → Updates own (record { lets = []; body = query_of (row_of_rowid table.tree (length params) sets) }) (params ++ rowid r ∷ shown table new) db (Ok w) → IsPutApart w.trees
     updates_it w u =
-        let answered = went u in
-        let done = went answered.2 in
-        let answer = answers_from (row_of_rowid table.tree (length params) sets) db (params ++ rowid r ∷ shown table new) answered.0 low (answered.1.answer Null) in
-        let found : answered.0 ≡ (rowid r ∷ it) ∷ [] =
-        finds_one table.tree params (shown table new) sets rows stored r there answered.0 answer ∙ ap (λ cs. (rowid r ∷ rowid r ∷ cs) ∷ []) (decided.cells_are r there h) in
-        let is : w.trees ≡ done.0 = ap (λ (x : Written). x.trees) (same_value done.2) in
-        let a : IsWrittenOver done.0 = subst (λ rs. Applies schema Enforced db (edit_of db table (ids_of rs) Given 1 rs) done.0) found
-        (applied own refl plain.quiet db done.0 (edit_of db table (ids_of answered.0) Given 1 answered.0) refl done.1) in
-        subst IsPutApart (sym is) (written_over done.0 a)
+        let tests = (row_of_rowid table.tree (length params) sets).filter in
+        let one = chosen_one table.tree params (shown table new) sets rows stored r there in
+        put_over w.trees (updates_one limit schema at table params plain low db stored r there (cells given) kept_it tests sets (params ++ rowid r ∷ shown table new) one (decided.cells_are r there h) w u)
 
   upserts : (w : Written) → is_int (rowid new) ≡ true → Upserts own Abort new db (renewal table.tree key (length params) sets ∷ []) (Ok w) → IsPutApart w.trees
   upserts w whole h = go h.0 h.1 h.2

@@ -1,4 +1,4 @@
--- What INSERT, INSERT OR REPLACE, INSERT ON CONFLICT and DELETE on one table change of a database.
+-- What INSERT, INSERT OR REPLACE, INSERT ON CONFLICT, UPDATE and DELETE on one table change of a database.
 use Rattle.std.specs.Prelude.{◌≡◌, ◌≢◌, ℕ, ◌/◌, ◌^◌, ◌==◌, nat_le, pos, negsuc, Bool, true, false, not, ◌&&◌, ◌||◌, List, [], ◌∷◌, ◌++◌, length, take, slice_get, Some, option_map, unwrap_or, IsPermutation}
 use Rattle.std.specs.List.{AllByRecursion, list_all}
 use Rattle.sqlite.specs.Order.{Row}
@@ -9,12 +9,12 @@ use Rattle.sqlite.specs.declared.types.Value.TheVariants.{Int}
 use Rattle.sqlite.specs.Collation.TheVariants.{Binary}
 use Rattle.sqlite_sql.specs.declared.ops.BinaryOp.TheVariants.{Compare}
 use Rattle.sqlite_sql.specs.declared.ops.CompareOp.TheVariants.{Eq}
-use Rattle.sqlite.specs.Tree.{rowid}
+use Rattle.sqlite.specs.Tree.{rowid, put_row}
 use Rattle.sqlite.specs.Rows.{shown}
 use Rattle.sqlite_rules.specs.Keys.{conflicts}
 use Rattle.sqlite_rules.specs.Lists.{Has}
 use Rattle.sqlite.specs.Source.TheVariants.{Values}
-use Rattle.sqlite.specs.Command.TheVariants.{Insert, InsertOr, Delete}
+use Rattle.sqlite.specs.Command.TheVariants.{Insert, InsertOr, Update, Delete}
 use Rattle.sqlite_schema.specs.declared.schema.Action.{Action}
 use Rattle.sqlite_schema.specs.declared.schema.Action.TheVariants.{NoAction}
 use Rattle.sqlite_schema.specs.declared.schema.Reference.{Reference}
@@ -126,6 +126,31 @@ pub record DeletesFrom (schema : Schema) (sql : List ℕ) (table : Table) (tests
   pub stored : nat_le (2 ^ 31) table.tree ≡ false
   pub means : Means schema sql (Delete at (record { lets = []; body = query_of (rowids_where table.tree tests) }))
 
+-- SELECT rowid, rowid, terms FROM the table WHERE each of these tests: each row that passes, and what it is to be
+abbrev pub rows_renewed : ℕ → List Term → List Term → TableQuery
+rows_renewed tree tests terms = record {
+  tree = tree;
+  filter = tests;
+  project = col 1 0 ∷ col 1 0 ∷ terms;
+  order = [];
+  collations = [];
+  limit = lit (Int (negsuc 0));
+  offset = lit (Int (pos 0));
+}
+
+-- over this schema the text is UPDATE the table SET each column to its term WHERE each of these tests
+pub record UpdatesIn (schema : Schema) (sql : List ℕ) (table : Table) (tests sets : List Term) : Type 0 where
+  pub at : ℕ
+  pub table_is : IsPlainTable schema at table
+  pub stored : nat_le (2 ^ 31) table.tree ≡ false
+  pub means : Means schema sql (Update at (record { lets = []; body = query_of (rows_renewed table.tree tests sets) }))
+
+-- one row of the table, and no other, passes the tests
+pub record IsOnlyOne (tests : List Term) (params : Row) (rows : List Row) (row : Row) : Type 0 where
+  pub there : Has rows row
+  pub passes : list_all (holds (params ∷ row ∷ [])) tests ≡ true
+  pub alone : (other : Row) → Has rows other → list_all (holds (params ∷ other ∷ [])) tests ≡ true → other ≡ row
+
 -- an INSERT OR REPLACE of one row leaves this, for each table that the text is a statement on: the row that is given and those
 -- that do not meet it, all without rowids
 abbrev pub Replaces : List ℕ → Row → State → State → Type 0
@@ -155,3 +180,12 @@ abbrev pub Deletes : List ℕ → Row → State → State → Type 0
 Deletes sql params old new =
     (table : Table) (tests : List Term) → DeletesFrom old.now.schema sql table tests → IsStored (old.now.trees table.tree)
     → SetsTable table (without (λ row. list_all (holds (params ∷ row ∷ [])) tests) (old.now.trees table.tree)) old new × IsStored (new.now.trees table.tree)
+
+-- an UPDATE whose tests one row passes leaves this: that row, with its rowid and what each of its columns is set to, and the others
+abbrev pub Updates : List ℕ → Row → State → State → Type 0
+Updates sql params old new =
+    (table : Table) (tests sets : List Term) (row : Row) → UpdatesIn old.now.schema sql table tests sets → IsStored (old.now.trees table.tree)
+    → IsOnlyOne tests params (old.now.trees table.tree) row → IsTyped table (rowid row ∷ eval_all sets (params ∷ row ∷ []))
+    → SetsTable table (put_row (rowid row ∷ eval_all sets (params ∷ row ∷ [])) (without (λ other. list_all (holds (params ∷ other ∷ [])) tests) (old.now.trees table.tree))) old new
+    × IsStored (new.now.trees table.tree)
+    × IsPermutation (eval_all sets (params ∷ row ∷ []) ∷ cells_of (without (λ other. list_all (holds (params ∷ other ∷ [])) tests) (old.now.trees table.tree))) (cells_of (new.now.trees table.tree))

@@ -5,7 +5,7 @@ ghost use Rattle.sqlite.specs.Held.{state};
 ghost use Rattle.sqlite.specs.State.{HasCleanDisk};
 ghost use Rattle.sqlite.specs.Values.{bound};
 ghost use Rattle.wb_sql.specs.Calls.{RunsStatement};
-ghost use Rattle.wb_sql.specs.Changes.{Replaces, Inserts, Upserts, Deletes};
+ghost use Rattle.wb_sql.specs.Changes.{Replaces, Inserts, Upserts, Updates, Deletes};
 
 use crate::writing::Writing;
 use sqlite::types::ValueRef;
@@ -38,6 +38,16 @@ impl<S: Alter> Writing<'_, S> {
         ensures same_reference { self.new.conn.ghost_name ≡ self.old.conn.ghost_name }
         ensures runs { RunsStatement S.Store sql.now (bound params.now) self.old.conn.now self.new.conn.now result }
         ensures ok { HasCleanDisk (state S.Store self.new.conn.now) → OnOk result (Upserts sql.now (bound params.now)
+            (state S.Store self.old.conn.now) (state S.Store self.new.conn.now)) }
+    {
+        self.run(sql, params)
+    }
+
+    /// Sets columns of the one row that passes the tests of the statement (UPDATE), which keeps its rowid.
+    pub fn update(&mut self, sql: &str, params: &[ValueRef<'_>]) -> Result<(), Error>
+        ensures same_reference { self.new.conn.ghost_name ≡ self.old.conn.ghost_name }
+        ensures runs { RunsStatement S.Store sql.now (bound params.now) self.old.conn.now self.new.conn.now result }
+        ensures ok { HasCleanDisk (state S.Store self.new.conn.now) → OnOk result (Updates sql.now (bound params.now)
             (state S.Store self.old.conn.now) (state S.Store self.new.conn.now)) }
     {
         self.run(sql, params)
