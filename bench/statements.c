@@ -13,6 +13,9 @@ enum { NEEDS_BUILD = 0, BUILDING = 1, BUILT = 2, UPLOADED = 3, INSTALLED = 4 };
 
 #define COLUMNS "arch, source, state, version, priority, section, earlier, number, holder, take, waits, depends, note, message, build_priority, rank"
 
+#define SETS "SET state = ?3, version = ?4, priority = ?5, section = ?6, earlier = ?7, number = ?8, holder = ?9, take = ?10, waits = ?11," \
+    " depends = ?12, note = ?13, message = ?14, build_priority = ?15, rank = ?16"
+
 static const char *const PRAGMAS =
     "PRAGMA page_size=4096; PRAGMA journal_mode=WAL; PRAGMA synchronous=FULL; PRAGMA wal_autocheckpoint=1000; PRAGMA foreign_keys=ON;"
     "PRAGMA cache_size=2000; PRAGMA locking_mode=EXCLUSIVE;";
@@ -31,13 +34,13 @@ static const char *const SCHEMA =
     "INSERT INTO office VALUES (1, 2, 0, 0);"
     "COMMIT;";
 
-enum statement { BEGIN, COMMIT, COUNTS, PUT_OFFICE, ARCHS, ADD_ARCH, PAIR, PAIRS, ALL_PAIRS, ADD_BUILDER, RECORD, HEAD, BY_TAKE, OF_ARCH, ALL, PUT, KINDS };
+enum statement { BEGIN, COMMIT, COUNTS, SET_COUNTS, ARCHS, ADD_ARCH, PAIR, PAIRS, ALL_PAIRS, ADD_BUILDER, RECORD, HEAD, BY_TAKE, OF_ARCH, ALL, PUT, REPLACE, KINDS };
 
 static const char *const TEXTS[KINDS] = {
     [BEGIN] = "BEGIN",
     [COMMIT] = "COMMIT",
     [COUNTS] = "SELECT format, handed, accepted FROM office",
-    [PUT_OFFICE] = "INSERT OR REPLACE INTO office(id, format, handed, accepted) VALUES (1, 2, ?1, ?2)",
+    [SET_COUNTS] = "UPDATE office SET handed = ?1, accepted = ?2",
     [ARCHS] = "SELECT name, os, cpu FROM arch ORDER BY name",
     [ADD_ARCH] = "INSERT INTO arch(name, os, cpu) VALUES (?1, ?2, ?3)",
     [PAIR] = "SELECT name, arch FROM builder WHERE name = ?1 AND arch = ?2",
@@ -50,8 +53,8 @@ static const char *const TEXTS[KINDS] = {
     [OF_ARCH] = "SELECT " COLUMNS " FROM source_record WHERE arch = ?1 ORDER BY source",
     [ALL] = "SELECT " COLUMNS " FROM source_record ORDER BY arch, source",
     [PUT] = "INSERT INTO source_record(" COLUMNS ") VALUES (?1, ?2, ?3, ?4, ?5, ?6, ?7, ?8, ?9, ?10, ?11, ?12, ?13, ?14, ?15, ?16)"
-            " ON CONFLICT(arch, source) DO UPDATE SET state = ?3, version = ?4, priority = ?5, section = ?6, earlier = ?7, number = ?8, holder = ?9,"
-            " take = ?10, waits = ?11, depends = ?12, note = ?13, message = ?14, build_priority = ?15, rank = ?16",
+            " ON CONFLICT(arch, source) DO UPDATE " SETS,
+    [REPLACE] = "UPDATE source_record " SETS " WHERE arch = ?1 AND source = ?2",
 };
 
 static sqlite3 *db;
@@ -150,8 +153,9 @@ static sqlite3_int64 rank_of(const struct record *of) {
     return (1000 - of->build_priority) * 348 + (!of->earlier * 6 + priority) * 29 + section;
 }
 
-static void put(const struct record *new) {
-    sqlite3_stmt *at = ready(PUT);
+/* Writes the record by this statement, PUT or REPLACE. */
+static void put(enum statement by, const struct record *new) {
+    sqlite3_stmt *at = ready(by);
     const char *first[] = {new->arch, new->source}, *middle[] = {new->version, new->priority, new->section};
     for (int k = 0; k < 2; k++) text(at, k + 1, first[k]);
     sqlite3_bind_int64(at, 3, new->state);
@@ -174,7 +178,7 @@ static void begin(void) { write_by(ready(BEGIN)); }
 
 /* Ends the transaction of an accepted command. */
 static void commit(void) {
-    sqlite3_stmt *at = ready(PUT_OFFICE);
+    sqlite3_stmt *at = ready(SET_COUNTS);
     accepted++;
     sqlite3_bind_int64(at, 1, handed);
     sqlite3_bind_int64(at, 2, accepted);
@@ -219,7 +223,7 @@ static int enter(char **words) {
         return 0;
     }
     begin();
-    put(&(struct record){.arch = words[1], .source = words[2], .version = words[3], .priority = words[4], .section = words[5], .waits = "", .note = "", .message = ""});
+    put(PUT, &(struct record){.arch = words[1], .source = words[2], .version = words[3], .priority = words[4], .section = words[5], .waits = "", .note = "", .message = ""});
     commit();
     return 1;
 }
@@ -235,7 +239,7 @@ static int next(char **words) {
     begin();
     free(head.holder);
     head.state = BUILDING, head.holder = copy(words[2]), head.take = ++handed;
-    put(&head);
+    put(REPLACE, &head);
     commit();
     printf("%s %s %lld ", head.source, head.version, (long long)head.take);
     drop(&head);
@@ -249,7 +253,7 @@ static int report(char **words, int state) {
     if (!found(at, &held)) return 0;
     begin();
     held.state = state;
-    put(&held);
+    put(REPLACE, &held);
     commit();
     drop(&held);
     return 1;
@@ -354,7 +358,7 @@ static void merge_one(const struct record *old, const struct listed *by) {
     if (new.state == old->state && same(new.version, old->version) && new.earlier == old->earlier && new.take == old->take
         && same(new.priority, old->priority) && same(new.section, old->section) && same(new.depends, old->depends))
         return;
-    put(&new);
+    put(PUT, &new);
 }
 
 /* Carries out a part, whose records are read twice, as the office reads them. */

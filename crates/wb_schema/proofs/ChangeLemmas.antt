@@ -88,7 +88,7 @@ replace_is schema table base columns rows source has new = rw (has.named, has.li
 abbrev pub rowids : Table → List Term → Draft
 rowids table filter = simple (Inner table.tree ∷ []) filter (col 1 0 ∷ [])
 
-picked_is : (cx : Context) (table : Table) (project filter : List Term) (test : Option Expr) (s : State) (next n : ℕ) (last : Carried)
+pub picked_is : (cx : Context) (table : Table) (project filter : List Term) (test : Option Expr) (s : State) (next n : ℕ) (last : Carried)
     → body.tests lower cx [] test s ≡ Ok (filter, at_budget next n last) → picked cx table project test s ≡ Ok (simple (Inner table.tree ∷ []) filter project, at_budget next n last)
 unfolding picked
 picked_is cx table project filter test s next n last is = rw is refl

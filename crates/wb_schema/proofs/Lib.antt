@@ -25,4 +25,5 @@ pub mod ShownLemmas
 pub mod StageLemmas
 pub mod StepLemmas
 pub mod TestLemmas
+pub mod UpdateLemmas
 pub mod UpsertLemmas

@@ -12,7 +12,7 @@ use Rattle.sqlite_schema.specs.declared.schema.Index.{Index}
 use Rattle.sqlite_schema.specs.Names.{same_name, table_named}
 use Rattle.sqlite_catalog.specs.Listing.{automatic}
 use Rattle.wb_sql.specs.Queries.{TableQuery, Asks}
-use Rattle.wb_sql.specs.Changes.{ReplacesInto, InsertsInto, UpsertsInto, DeletesFrom, does_nothing, never_acts_on}
+use Rattle.wb_sql.specs.Changes.{ReplacesInto, InsertsInto, UpsertsInto, UpdatesIn, DeletesFrom, does_nothing, never_acts_on}
 use Rattle.wb_schema.specs.Tables.{office, arch, builder, source_record, scratch_source, scratch_binary, office_schema}
 use Rattle.wb_schema.specs.Statements.{record_row, record_sets, record_key}
 use Rattle.wb_schema.specs.Tables.{record_order, record_take, source_name, binary_source, binary_name}
@@ -158,3 +158,8 @@ UpsertsRecords sql =
 -- over each such schema the text is DELETE FROM the table WHERE each of these tests
 abbrev pub DeletesAmong : Table → List ℕ → List Term → Type 0
 DeletesAmong table sql tests = (schema : Schema) (tree : ℕ) → HasTable schema (table_at tree table) → never_acts_on schema tree ≡ true → DeletesFrom schema sql (table_at tree table) tests
+
+-- over each such schema the text is UPDATE the table SET each column to its term WHERE each of these tests
+abbrev pub UpdatesAmong : Table → List ℕ → List Term → List Term → Type 0
+UpdatesAmong table sql tests sets =
+    (schema : Schema) (tree : ℕ) → HasTable schema (table_at tree table) → never_acts_on schema tree ≡ true → UpdatesIn schema sql (table_at tree table) tests sets

@@ -130,11 +130,11 @@ pairs_of_builder = pairs_where (equals 1 0 ∷ []) (rising 2 ∷ [])
 abbrev pub all_builders : TableQuery
 all_builders = pairs_where [] (rising 1 ∷ rising 2 ∷ [])
 
--- the office's row: its id is 1, the format 2, and the two counts are parameters
-abbrev pub office_row : List Term
-office_row = lit (Int (pos 1)) ∷ lit Null ∷ lit (Int (pos 2)) ∷ parameter 0 ∷ parameter 1 ∷ []
+-- what the columns of the office's row are set to: the id and the format stay, and the two counts are parameters
+abbrev pub office_sets : List Term
+office_sets = lit Null ∷ cell 2 ∷ parameter 0 ∷ parameter 1 ∷ []
 
--- the same for an office that has handed out and accepted nothing
+-- the row of an office that has handed out and accepted nothing: its id is 1, and the format 2
 abbrev pub first_office_row : List Term
 first_office_row = lit (Int (pos 1)) ∷ lit Null ∷ lit (Int (pos 2)) ∷ lit (Int (pos 0)) ∷ lit (Int (pos 0)) ∷ []
 

@@ -1,10 +1,11 @@
 //! The SQL texts that work on the office's tables, with what each means over every schema that has its table.
 
+ghost use Rattle.std.specs.Prelude.{[]};
 ghost use Rattle.wb_schema.specs.Tables.{office, arch, builder, source_record, scratch_source, scratch_binary};
-ghost use Rattle.wb_schema.specs.Among.{AsksAmong, ReplacesAmong, InsertsAmong, UpsertsRecords, DeletesAmong};
-ghost use Rattle.wb_schema.specs.Statements.{has_record_key, record_of_key, queue_of, head_of};
+ghost use Rattle.wb_schema.specs.Among.{AsksAmong, InsertsAmong, UpsertsRecords, UpdatesAmong, DeletesAmong};
+ghost use Rattle.wb_schema.specs.Statements.{has_record_key, record_sets, record_of_key, queue_of, head_of};
 ghost use Rattle.wb_schema.specs.Statements.{record_of_take, held_by, records_of_arch, all_records};
-ghost use Rattle.wb_schema.specs.Statements.{arch_row, arch_of_name, all_archs, office_row, office_counts};
+ghost use Rattle.wb_schema.specs.Statements.{arch_row, arch_of_name, all_archs, office_sets, office_counts};
 ghost use Rattle.wb_schema.specs.Statements.{builder_row, pair_of_builder, pairs_of_builder, all_builders, first_source, first_binary};
 
 /// Puts a record in, or writes it over the one with its key. The parameters are its 16 columns.
@@ -17,6 +18,15 @@ pub fn put_record() -> &'static str
      ON CONFLICT(arch, source) DO UPDATE SET state = ?3, version = ?4, priority = ?5, section = ?6, earlier = ?7, \
      number = ?8, holder = ?9, take = ?10, waits = ?11, depends = ?12, note = ?13, message = ?14, \
      build_priority = ?15, rank = ?16"
+}
+
+/// Writes a record over the one with its key, which is there. The parameters are its 16 columns.
+pub fn replace_record() -> &'static str
+    ensures { UpdatesAmong source_record result.now has_record_key record_sets }
+{
+    "UPDATE source_record SET state = ?3, version = ?4, priority = ?5, section = ?6, earlier = ?7, number = ?8, \
+     holder = ?9, take = ?10, waits = ?11, depends = ?12, note = ?13, message = ?14, build_priority = ?15, rank = ?16 \
+     WHERE arch = ?1 AND source = ?2"
 }
 
 /// Takes out the record of an architecture and a source package.
@@ -159,9 +169,9 @@ pub fn add_builder() -> &'static str
     "INSERT INTO builder(name, arch) VALUES (?1, ?2)"
 }
 
-/// Puts the office's row in place of the one that is there. The parameters are its two counts.
-pub fn put_office() -> &'static str
-    ensures { ReplacesAmong office result.now office_row }
+/// Sets the two counts of the office, which are the parameters: take numbers handed out, and commands accepted.
+pub fn set_counts() -> &'static str
+    ensures { UpdatesAmong office result.now [] office_sets }
 {
-    "INSERT OR REPLACE INTO office(id, format, handed, accepted) VALUES (1, 2, ?1, ?2)"
+    "UPDATE office SET handed = ?1, accepted = ?2"
 }

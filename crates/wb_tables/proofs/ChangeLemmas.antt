@@ -1,8 +1,9 @@
 -- What a statement on one of the office's tables makes of the state for which the database stands.
 use Rattle.std.specs.Prelude.{⊤}
-use Rattle.std.proofs.Common.{◌≡◌, ◌≢◌, ℕ, ℤ, pos, false, not, List, [], ◌∷◌, length, map, filter, drop, None, Result, Ok, Err, IfErr, OnOk, refl, arith, sym, ap, subst, ◌∙◌, IsPermutation}
+use Rattle.std.proofs.Common.{◌≡◌, ◌≢◌, ℕ, ℤ, pos, true, false, not, List, [], ◌∷◌, length, map, filter, drop, None, Result, Ok, Err, IfErr, OnOk, refl, arith, sym, ap, ap₂, subst, ◌∙◌, IsPermutation}
 use Rattle.std.specs.FinMap as finite
 use Rattle.std.specs.FinSet as set
+use Rattle.std.specs.Option.{IsSome}
 use Rattle.std.proofs.lemmas.List.Sorted.{IsPermutation-sym, IsPermutation-cons, IsPermutation-trans, IsPermutation-map}
 use Rattle.sqlite_trees.specs.declared.store.Store.{Ghosts}
 use Rattle.sqlite.specs.declared.error.Error.{Error}
@@ -12,6 +13,7 @@ use Rattle.sqlite.specs.Value.{owned}
 use Rattle.sqlite.specs.Values.{bound_value}
 use Rattle.sqlite_value.specs.declared.value.ValueRef.{ValueRef}
 use Rattle.sqlite.specs.Order.{Row}
+use Rattle.sqlite.specs.Tree.{put_row}
 use Rattle.sqlite.specs.Schema.{Schema}
 use Rattle.sqlite.specs.Table.{Table}
 use Rattle.sqlite.specs.State.{State, HasCleanDisk, Executes}
@@ -23,24 +25,26 @@ use Rattle.wb_states.specs.declared.record.Record.{Record}
 use Rattle.wb_states.specs.Machine.{Machine}
 use Rattle.wb_states.specs.Queue.{Entry}
 use Rattle.wb_sql.specs.Calls.{RunsStatement}
-use Rattle.wb_sql.specs.Changes.{Replaces, Inserts, Upserts, Deletes, SetsTable}
-use Rattle.wb_sql.specs.Rows.{cells_of, apart, replaced, without, IsStored}
+use Rattle.wb_sql.specs.Changes.{Inserts, Upserts, Updates, Deletes, SetsTable, IsOnlyOne}
+use Rattle.wb_sql.specs.Rows.{cells_of, apart, without, IsStored}
 use Rattle.wb_sql.specs.Statements.{IsWriting}
 use Rattle.wb_sql.specs.Transactions.{IsKeptOrUndone}
 use Rattle.wb_sql.proofs.CallLemmas.{on_ok}
-use Rattle.wb_sql.proofs.WriteLemmas.{replaces_writes, inserts_writes, deletes_writes}
+use Rattle.wb_sql.proofs.WriteLemmas.{inserts_writes, deletes_writes}
 use Rattle.wb_sql.proofs.UpsertLemmas.{upserts_writes}
+use Rattle.wb_sql.proofs.UpdateLemmas.{updates_writes}
 use Rattle.wb_schema.proofs.QuietLemmas.{office_quiet, arch_quiet, builder_quiet, record_quiet}
 use Rattle.wb_schema.specs.Tables.{office, arch, builder, source_record, scratch_source, scratch_binary}
-use Rattle.wb_schema.specs.Among.{HasTable, HasOffice, ReplacesAmong, InsertsAmong, UpsertsRecords, DeletesAmong, table_in, tree_named, rows_in}
-use Rattle.wb_schema.specs.Statements.{office_row as office_terms, arch_row as arch_terms, builder_row as builder_terms, record_row as record_terms, record_sets, record_key, has_record_key}
+use Rattle.wb_schema.specs.Among.{HasTable, HasOffice, InsertsAmong, UpsertsRecords, UpdatesAmong, DeletesAmong, table_in, tree_named, rows_in}
+use Rattle.wb_schema.specs.Statements.{office_sets, arch_row as arch_terms, builder_row as builder_terms, record_row as record_terms, record_sets, record_key, has_record_key}
 use Rattle.wb_schema.proofs.RecordLemmas.{arch_typed, builder_typed}
 use Rattle.wb_rows.specs.Cells.{record_cells, arch_cells, builder_cells, number}
 use Rattle.wb_tables.specs.Stands.{HoldsRows, StandsFor, office_row, record_rows, arch_rows, builder_rows, builder_pairs}
 use Rattle.wb_tables.specs.Calls.{Becomes, Changes, FailsToWrite}
 use Rattle.wb_tables.proofs.OthersLemmas.{others_kept, office_named, arch_named, builder_named, record_named}
 use Rattle.wb_tables.proofs.MapLemmas.{entries-insert, entries-added, items-added}
-use Rattle.wb_tables.proofs.ChangeRowLemmas.{begins_with, passes, cells_without, cells_apart, records_without, record_decides, office_replaced, office_typed, entry_typed, typed_at}
+use Rattle.wb_tables.proofs.ChangeRowLemmas.{begins_with, passes, cells_without, cells_apart, records_without, record_decides, office_typed, entry_typed, typed_at}
+use Rattle.wb_tables.proofs.RenewalLemmas.{only_row, row_renewed}
 use Rattle.wb_schema.proofs.ApartLemmas.{other_rows, own_rows}
 
 -- ---- any statement that writes
@@ -105,17 +109,19 @@ module _ (sql : List ℕ) (machine : Machine) (old new : State) (stands : Stands
   abbrev schema : Schema
   schema = old.now.schema
 
-  -- the office's row with these counts
-  pub counts_put : (handed accepted : ℕ) → ReplacesAmong office sql office_terms → Replaces sql (number handed ∷ number accepted ∷ []) old new
+  -- the office's row with these counts, under the same rowid
+  pub counts_set : (handed accepted : ℕ) → UpdatesAmong office sql [] office_sets → Updates sql (number handed ∷ number accepted ∷ []) old new
       → Becomes (record machine { handed = handed; accepted = accepted }) old new
-  counts_put handed accepted text does =
+  counts_set handed accepted text does =
       let after : Machine = record machine { handed = handed; accepted = accepted } in
+      let params : Row = number handed ∷ number accepted ∷ [] in
       let stored : IsStored (rows_in old.now office) = subst IsStored (sym stands.counts) (record { whole = refl; rising = (tt, tt) }) in
+      let only : IsOnlyOne [] params (rows_in old.now office) (office_row machine) = subst (λ all. IsOnlyOne [] params all (office_row machine)) (sym stands.counts) (only_row params (office_row machine)) in
       let tree = tree_named schema office.name in
       let typed = typed_at tree office (office_row after) (office_typed after) in
-      let made = (does (table_in schema office) office_terms (text schema tree stands.has.office_is (office_quiet schema stands.has)) stored typed).0 in
-      let rows = replaced schema (table_in schema office) (office_row after) (rows_in old.now office) in
-      let row : rows ≡ office_row after ∷ [] = ap (replaced schema (table_in schema office) (office_row after)) stands.counts ∙ office_replaced schema stands.has machine after in
+      let made = (does (table_in schema office) [] office_sets (office_row machine) (text schema tree stands.has.office_is (office_quiet schema stands.has)) stored only typed).0 in
+      let rows = put_row (office_row after) (without (λ other. true) (rows_in old.now office)) in
+      let row : rows ≡ office_row after ∷ [] = ap (λ all. put_row (office_row after) (without (λ other. true) all)) stands.counts in
       record {
         stands = record {
           has = still_has stands (table_in schema office) rows stands.has.office_is made;
@@ -220,6 +226,19 @@ module _ (sql : List ℕ) (machine : Machine) (old new : State) (stands : Stands
       records_made (finite.remove machine.records (of, source)) rows put.0
       (record { stored = put.1; same = subst (λ all. IsPermutation columns (cells_of all)) (sym put.0.rows_are) same })
 
+  -- a record beside those that have other keys
+  record_beside : (of source : List ℕ) (current : Record) (rows : List Row) → SetsTable (table_in schema source_record) rows old new → IsStored (new.now.trees (tree_named schema source_record.name))
+      → IsPermutation (record_cells ((of, source), current) ∷ filter (λ columns. not (begins_with of source columns)) (cells_of (rows_in old.now source_record)))
+      (cells_of (new.now.trees (tree_named schema source_record.name)))
+      → Becomes (record machine { records = finite.insert machine.records (of, source) current }) old new
+  record_beside of source current rows made stored put =
+      let was = cells_of (rows_in old.now source_record) in
+      let after = finite.insert machine.records (of, source) current in
+      records_made after rows made
+      (rows_beside record_cells ((of, source), current) (finite.entries (finite.remove machine.records (of, source))) (finite.entries after) (filter (λ columns. not (begins_with of source columns)) was)
+      (new.now.trees (tree_named schema source_record.name)) (entries-insert pair_cmp_total pair_cmp-same machine.records (of, source) current)
+      (records_without machine of source was stands.records.same) stored put)
+
   -- a record in place of the one with its key
   pub record_put : (of source : List ℕ) (current : Record) → UpsertsRecords sql → Upserts sql (record_cells ((of, source), current)) old new
       → Becomes (record machine { records = finite.insert machine.records (of, source) current }) old new
@@ -230,12 +249,22 @@ module _ (sql : List ℕ) (machine : Machine) (old new : State) (stands : Stands
       let rows = rows_in old.now source_record in
       let put = does (table_in schema source_record) record_terms record_sets record_key (text schema tree stands.has.at stands.has.record_is stands.has.records_indexed (record_quiet schema stands.has))
       stands.records.stored typed (record_decides schema stands.has entry rows stands.records.stored) in
-      let beside = filter (λ columns. not (begins_with of source columns)) (cells_of rows) in
-      let apart_is : cells_of (apart schema (table_in schema source_record) (Null ∷ record_cells entry) rows) ≡ beside = cells_apart schema stands.has of source (drop 2 (record_cells entry)) rows stands.records.stored in
-      records_made (finite.insert machine.records (of, source) current) _ put.0
-      (rows_beside record_cells entry (finite.entries (finite.remove machine.records (of, source))) (finite.entries (finite.insert machine.records (of, source) current)) beside (new.now.trees tree)
-      (entries-insert pair_cmp_total pair_cmp-same machine.records (of, source) current) (records_without machine of source (cells_of rows) stands.records.same) put.1
-      (subst (λ left. IsPermutation (record_cells entry ∷ left) (cells_of (new.now.trees tree))) apart_is put.2))
+      let apart_is : cells_of (apart schema (table_in schema source_record) (Null ∷ record_cells entry) rows) ≡ filter (λ columns. not (begins_with of source columns)) (cells_of rows) =
+      cells_apart schema stands.has of source (drop 2 (record_cells entry)) rows stands.records.stored in
+      record_beside of source current _ put.0 put.1 (subst (λ left. IsPermutation (record_cells entry ∷ left) (cells_of (new.now.trees tree))) apart_is put.2)
+
+  -- another record in place of the one that has its key
+  pub record_renewed : (of source : List ℕ) (current : Record) → UpdatesAmong source_record sql has_record_key record_sets → IsSome (finite.get machine.records (of, source))
+      → Updates sql (record_cells ((of, source), current)) old new → Becomes (record machine { records = finite.insert machine.records (of, source) current }) old new
+  record_renewed of source current text there does =
+      let tree = tree_named schema source_record.name in
+      let rows = rows_in old.now source_record in
+      let found = row_renewed machine of source rows stands.records current there in
+      let is = found.1 in
+      let put = does (table_in schema source_record) has_record_key record_sets found.0 (text schema tree stands.has.record_is (record_quiet schema stands.has)) stands.records.stored
+      is.only (typed_at tree source_record _ is.typed) in
+      let made = subst (λ all. SetsTable (table_in schema source_record) all old new) (sym put.0.rows_are) put.0 in
+      record_beside of source current _ made put.1 (subst (λ columns. IsPermutation columns (cells_of (new.now.trees tree))) (ap₂ ◌∷◌ is.sets (cells_without of source rows)) put.2)
 
 -- ---- the parameters
 
@@ -250,12 +279,12 @@ number_bound value cast kept is same = ap bound_value is ∙ ap Int same
 -- ---- each call
 
 module _ {S A : Type 0} {g : Ghosts S} {sql : List ℕ} {params : Row} {old new : Held S} {r : Result A Error} where
-  pub counts_change : (handed accepted : ℕ) → ReplacesAmong office sql office_terms → params ≡ number handed ∷ number accepted ∷ [] → RunsStatement g sql params old new r
-      → (HasCleanDisk (state g new) → OnOk r (Replaces sql params (state g old) (state g new)))
+  pub counts_change : (handed accepted : ℕ) → UpdatesAmong office sql [] office_sets → params ≡ number handed ∷ number accepted ∷ [] → RunsStatement g sql params old new r
+      → (HasCleanDisk (state g new) → OnOk r (Updates sql params (state g old) (state g new)))
       → Changes g (λ _. ⊤) (λ machine. record machine { handed = handed; accepted = accepted }) old new r
   counts_change handed accepted text is =
-      statement_changes (Replaces sql params) (λ schema has. replaces_writes schema sql (table_in schema office) office_terms (text schema (tree_named schema office.name) has.office_is (office_quiet schema has)))
-      (λ machine stands allows does. counts_put sql machine (state g old) (state g new) stands handed accepted text (subst (λ p. Replaces sql p (state g old) (state g new)) is does))
+      statement_changes (Updates sql params) (λ schema has. updates_writes schema sql (table_in schema office) [] office_sets (text schema (tree_named schema office.name) has.office_is (office_quiet schema has)))
+      (λ machine stands allows does. counts_set sql machine (state g old) (state g new) stands handed accepted text (subst (λ p. Updates sql p (state g old) (state g new)) is does))
 
   pub arch_change : (name : List ℕ) (words : OsCpu) → InsertsAmong arch sql arch_terms → params ≡ arch_cells (name, words) → RunsStatement g sql params old new r
       → (HasCleanDisk (state g new) → OnOk r (Inserts sql params (state g old) (state g new)))
@@ -285,3 +314,11 @@ module _ {S A : Type 0} {g : Ghosts S} {sql : List ℕ} {params : Row} {old new 
       statement_changes (Upserts sql params) (λ schema has. upserts_writes schema sql (table_in schema source_record) record_terms record_sets record_key 16
       (text schema (tree_named schema source_record.name) has.at has.record_is has.records_indexed (record_quiet schema has)))
       (λ machine stands allows does. record_put sql machine (state g old) (state g new) stands of source current text (subst (λ p. Upserts sql p (state g old) (state g new)) is does))
+
+  pub renewal_change : (of source : List ℕ) (current : Record) → UpdatesAmong source_record sql has_record_key record_sets → params ≡ record_cells ((of, source), current) → RunsStatement g sql params old new r
+      → (HasCleanDisk (state g new) → OnOk r (Updates sql params (state g old) (state g new)))
+      → Changes g (λ machine. IsSome (finite.get machine.records (of, source))) (λ machine. record machine { records = finite.insert machine.records (of, source) current }) old new r
+  renewal_change of source current text is =
+      statement_changes (Updates sql params) (λ schema has. updates_writes schema sql (table_in schema source_record) has_record_key record_sets
+      (text schema (tree_named schema source_record.name) has.record_is (record_quiet schema has)))
+      (λ machine stands there does. record_renewed sql machine (state g old) (state g new) stands of source current text there (subst (λ p. Updates sql p (state g old) (state g new)) is does))

@@ -5,13 +5,12 @@ use Rattle.std.specs.Ordering.{is_eq, eq_by_cmp, ordering_then}
 use Rattle.std.specs.Cmp.{eq_by_cmp_equiv}
 use Rattle.std.specs.FinMap as finite
 use Rattle.std.proofs.lemmas.Bool.{and_parts, or_parts}
-use Rattle.std.proofs.lemmas.Cmp.{tied_itself}
 use Rattle.sqlite.specs.Collation.TheVariants.{Binary}
 use Rattle.sqlite.specs.Edit.{have_rowids, id_in, next_rowid}
 use Rattle.sqlite.specs.Order.{Row, column}
 use Rattle.sqlite.specs.Schema.{Schema}
 use Rattle.sqlite.specs.Table.{Table}
-use Rattle.sqlite.specs.Tree.{rowid, put_row}
+use Rattle.sqlite.specs.Tree.{rowid}
 use Rattle.sqlite.specs.Term.{holds}
 use Rattle.sqlite.specs.Rowids.TheVariants.{Chosen}
 use Rattle.sqlite.specs.Cast.{cast}
@@ -19,9 +18,8 @@ use Rattle.sqlite.specs.Kind.TheVariants.{Integer, Text as OfText}
 use Rattle.sqlite.specs.declared.types.Value.TheVariants.{Null, Int, Real, Text, Blob}
 use Rattle.sqlite_value.specs.declared.value.Value.{Value}
 use Rattle.sqlite_sql.specs.Ops.{binary}
-use Rattle.sqlite_value.specs.Keys.{first_key}
 use Rattle.sqlite_value.specs.Order.{value_cmp}
-use Rattle.sqlite_value.proofs.OrderLemmas.{value_cmp_total, value_cmp-Text}
+use Rattle.sqlite_value.proofs.OrderLemmas.{value_cmp-Text}
 use Rattle.sqlite_schema.specs.Rules.{equal}
 use Rattle.sqlite_trees.specs.View.{is_int}
 use Rattle.sqlite_trees.proofs.ListLemmas.{filter-map, IsPermutation-filter}
@@ -33,13 +31,13 @@ use Rattle.deb_text.proofs.KeyLemmas.{text_cmp-same, pair_cmp_total, pair_cmp-sa
 use Rattle.wb_states.specs.Machine.{Machine}
 use Rattle.wb_states.specs.Queue.{Entry}
 use Rattle.wb_sql.specs.Changes.{has_key, IsDecidedBy}
-use Rattle.wb_sql.specs.Rows.{cells, cells_of, IsStored, IsTyped, meets, apart, replaced, without}
+use Rattle.wb_sql.specs.Rows.{cells, cells_of, IsStored, IsTyped, meets, apart, without}
 use Rattle.wb_sql.proofs.WriteLemmas.{cast_int, cast_null}
 use Rattle.wb_sql.proofs.UpsertLemmas.{true_of, equal_int}
 use Rattle.wb_schema.specs.Tables.{office, source_record}
-use Rattle.wb_schema.specs.Among.{HasOffice, HasIndexes, table_at, table_in, tree_named}
+use Rattle.wb_schema.specs.Among.{HasOffice, table_at, table_in, tree_named}
 use Rattle.wb_schema.specs.Statements.{record_key, record_sets, has_record_key}
-use Rattle.wb_schema.proofs.MeetingLemmas.{conflicts_by, meets_record_among, has_key_among}
+use Rattle.wb_schema.proofs.MeetingLemmas.{meets_record_among, has_key_among}
 use Rattle.wb_schema.proofs.RecordLemmas.{record_typed}
 use Rattle.wb_rows.specs.Cells.{record_cells, text_or_null, number_or_null}
 use Rattle.wb_tables.specs.Stands.{office_row, record_rows}
@@ -70,16 +68,16 @@ abbrev pub begins_with : List ℕ → List ℕ → Row → Bool
 begins_with first second columns = equal Binary (column columns 0) (Text first) && equal Binary (column columns 1) (Text second)
 
 -- the columns of a record begin with its key
-begins_with-record : (arch source : List ℕ) (entry : Entry) → begins_with arch source (record_cells entry) ≡ eq_by_cmp pair_cmp (arch, source) entry.0
+pub begins_with-record : (arch source : List ℕ) (entry : Entry) → begins_with arch source (record_cells entry) ≡ eq_by_cmp pair_cmp (arch, source) entry.0
 begins_with-record arch source entry =
     (λ i. equal_texts entry.0.0 arch i && equal_texts entry.0.1 source i) ∙ both_tied (text_cmp entry.0.0 arch) (text_cmp entry.0.1 source)
     ∙ (eq_by_cmp_equiv pair_cmp_total).symm entry.0 (arch, source)
 
-first_cell : (row : Row) → column row 1 ≡ column (cells row) 0
+pub first_cell : (row : Row) → column row 1 ≡ column (cells row) 0
 first_cell [] = refl
 first_cell (id ∷ row) = refl
 
-second_cell : (row : Row) → column row 2 ≡ column (cells row) 1
+pub second_cell : (row : Row) → column row 2 ≡ column (cells row) 1
 second_cell [] = refl
 second_cell (id ∷ row) = refl
 
@@ -106,7 +104,7 @@ and_true false b = refl
 abbrev pub passes : List ℕ → List ℕ → Row → Bool
 passes arch source row = list_all (holds ((Text arch ∷ Text source ∷ []) ∷ row ∷ [])) has_record_key
 
-passes_is : (arch source : List ℕ) (row : Row) → passes arch source row ≡ begins_with arch source (cells row)
+pub passes_is : (arch source : List ℕ) (row : Row) → passes arch source row ≡ begins_with arch source (cells row)
 passes_is arch source row =
     and_true (equal Binary (column row 1) (Text arch)) (equal Binary (column row 2) (Text source))
     ∙ (λ i. equal Binary (first_cell row i) (Text arch) && equal Binary (second_cell row i) (Text source))
@@ -191,22 +189,6 @@ records_without machine arch source columns same =
     (IsPermutation-filter (λ c. not (begins_with arch source c)) (record_rows machine) columns same)
 
 -- ---- the office's row
-
-rowid_test : (a : Bool) → ((a && true) || false) ≡ a
-rowid_test true = refl
-rowid_test false = refl
-
--- a row of the office meets another with its id
-meets_office_among : (schema : Schema) (tree : ℕ) (new row : Row) → HasIndexes schema tree [] → meets schema (table_at tree office) new row ≡ equal Binary (column row 0) (column new 0)
-unfolding first_key
-meets_office_among schema tree new row has = conflicts_by None schema (table_at tree office) [] new row has ∙ rowid_test (equal Binary (column row 0) (column new 0))
-
--- a new row of the office comes in place of the old one
-pub office_replaced : (schema : Schema) (has : HasOffice schema) (old new : Machine) → replaced schema (table_in schema office) (office_row new) (office_row old ∷ []) ≡ office_row new ∷ []
-office_replaced schema has old new =
-    let one = equal_int (pos 1) (pos 1) ∙ ap is_eq (tied_itself value_cmp_total (Int (pos 1))) in
-    ap (λ b. put_row (office_row new) (cond (not b) (office_row old ∷ []) []))
-    (meets_office_among schema (tree_named schema office.name) (office_row new) (office_row old) has.office_indexes ∙ one)
 
 -- a row is typed in whatever tree its table is
 pub typed_at : (tree : ℕ) (table : Table) (given : Row) → IsTyped table given → IsTyped (table_at tree table) given

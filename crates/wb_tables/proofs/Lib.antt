@@ -20,6 +20,7 @@ pub mod OpeningWaitLemmas
 pub mod OrderLemmas
 pub mod OthersLemmas
 pub mod ReadLemmas
+pub mod RenewalLemmas
 pub mod ScratchLemmas
 pub mod SettledLemmas
 pub mod TableLemmas

@@ -2,7 +2,7 @@
 //! rolls back. Each speaks of a database that stands for a state of the office, and makes it stand for the state after
 //! the change.
 
-ghost use Rattle.std.specs.Prelude.{◌≡◌, ◌≤◌, ⊤, false, None, IfSome};
+ghost use Rattle.std.specs.Prelude.{◌≡◌, ◌≤◌, ⊤, false, None, IsSome, IfSome};
 ghost use Rattle.std.specs.FinMap as map;
 ghost use Rattle.std.specs.FinSet as set;
 ghost use Rattle.wb_states.specs.Limits.{count_limit};
@@ -24,8 +24,8 @@ pub fn set_counts<S: Alter>(writing: &mut Writing<'_, S>, counts: Counts) -> Res
         (λ machine. record machine { handed = counts.handed; accepted = counts.accepted })
         writing.old.conn.now writing.new.conn.now result }
 {
-    writing.replace(
-        texts::put_office(),
+    writing.update(
+        texts::set_counts(),
         params![counts.handed as i64, counts.accepted as i64],
     )
 }
@@ -98,4 +98,27 @@ pub fn put<S: Alter>(
         writing.old.conn.now writing.new.conn.now result }
 {
     writing.upsert(texts::put_record(), &record_values(arch, source, current))
+}
+
+/// Gives the source package `source` on the architecture `arch` the record `current` in place of the one that it has; all
+/// else stays. The take number, if there is one, is at most [`wb_states::COUNT_LIMIT`]. It fails as `Writing::execute`
+/// does, and a transaction that is over refuses it. Where there is no such record, nothing is promised (this project's
+/// own).
+pub fn replace<S: Alter>(
+    writing: &mut Writing<'_, S>,
+    arch: &Text,
+    source: &Text,
+    current: &Record,
+) -> Result<(), Error>
+    requires given { IfSome current.now.take (λ take_number. take_number ≤ count_limit) }
+    ensures same_reference { writing.new.conn.ghost_name ≡ writing.old.conn.ghost_name }
+    ensures changes { Changes S.Store
+        (λ machine. IsSome (map.get machine.records (arch.now, source.now)))
+        (λ machine. record machine {
+          records = map.insert machine.records (arch.now, source.now) current.now;
+        })
+        writing.old.conn.now writing.new.conn.now result }
+{
+    let values = record_values(arch, source, current);
+    writing.update(texts::replace_record(), &values)
 }

@@ -16,7 +16,7 @@ mod scratch;
 
 pub use architectures::{arch, archs};
 pub use builders::{archs_of, has_builder};
-pub use changes::{add_arch, add_builder, put, remove, set_counts};
+pub use changes::{add_arch, add_builder, put, remove, replace, set_counts};
 pub use ending::{commit, roll_back};
 pub use fault::fault_of;
 pub use holds::held_by;
