@@ -1,6 +1,6 @@
 -- What an accepted step in a part of the office makes of the whole office.
-use Rattle.std.proofs.Common.{ℕ, ◌≡◌, ◌≢◌, ◌∙◌, refl, sym, ap, ◌+◌, Result, false, is_some, cond, Option, Some, None, Ok, option_map, List}
-use Rattle.std.specs.Prelude.{option_and_then}
+use Rattle.std.proofs.Common.{ℕ, ◌≡◌, ◌≢◌, ◌∙◌, refl, sym, ap, subst, ◌+◌, Result, false, is_some, cond, Option, Some, None, Ok, option_map, List}
+use Rattle.std.specs.Prelude.{IsSome, option_and_then}
 use Rattle.std.specs.FinMap as map
 use Rattle.std.specs.FinSet as set
 use Rattle.std.specs.Ordering.{is_eq}
@@ -12,6 +12,7 @@ use Rattle.wb_states.specs.declared.command.AddArch.{AddArch}
 use Rattle.wb_states.specs.declared.command.AddBuilder.{AddBuilder}
 use Rattle.wb_states.specs.declared.command.Command.{Command}
 use Rattle.wb_states.specs.declared.command.Command.TheVariants as of
+use Rattle.wb_states.specs.declared.command.Enter.{Enter}
 use Rattle.wb_states.specs.declared.moves.Move.{Move}
 use Rattle.wb_states.specs.declared.record.Record.{Record}
 use Rattle.wb_states.specs.declared.refusal.Refusal.{Refusal}
@@ -25,7 +26,8 @@ use Rattle.wb_office.specs.Step.{Outcome, assignment_of, outcome, step}
 use Rattle.wb_office.specs.Targets.{again_of, record_named, transition_of, move_of_command, target_of}
 use Rattle.wb_office.proofs.LocalityLemmas.{same_answer, same_entry, steps_change}
 use Rattle.wb_office.proofs.PassLemmas.{passes}
-use Rattle.wb_durable.specs.Changed.{IsFresh, IsStepOf, before_counts, found_at}
+use Rattle.wb_office.proofs.TransitionLemmas.{target_of-stands}
+use Rattle.wb_durable.specs.Changed.{IsFresh, IsStepOf, IsThere, before_counts, found_at}
 use Rattle.wb_durable.specs.Keys.{key_of, key_put}
 
 -- ---- which record a command puts
@@ -103,6 +105,53 @@ put_key (of.Rebuild fields) machine entry is = named_key machine fields.arch fie
 put_key (of.BuildPriority fields) machine entry is =
     keyed (fields.arch, fields.source) (λ (current : Record). record current { build_priority = fields.value }) (map.get machine.records (fields.arch, fields.source)) entry is
 put_key (of.Merge fields) machine entry is = cc
+
+-- what a command moves has a record
+target_there : (machine : Machine) (command : Command) (key : Key) → key_of (target_of machine command) ≡ Some key → IsSome (map.get machine.records key)
+target_there machine command key is = by_target (target_of machine command) refl is
+  where
+    by_target : (target : Option Entry) → target_of machine command ≡ target → key_of target ≡ Some key → IsSome (map.get machine.records key)
+    by_target None target_is none = cc
+    by_target (Some entry) target_is some =
+        let kept : map.get machine.records key ≡ Some entry.1 = ap (option_and_then (map.get machine.records)) (sym some) ∙ target_of-stands machine command entry target_is in
+        subst (λ found. IsSome found) (sym kept) refl
+
+-- so has what it moves afterwards
+moved_there : (machine : Machine) (command : Command) (entry : Entry) → option_map moved (transition_of machine command) ≡ Some entry → IsSome (map.get machine.records entry.0)
+moved_there machine command entry is = target_there machine command entry.0 (target_key machine command entry is)
+
+-- a record at a key that is found is at that key
+keyed_there : (machine : Machine) (key : Key) (put : Record → Record) (entry : Entry) → option_map (λ current. (key, put current)) (map.get machine.records key) ≡ Some entry
+    → IsSome (map.get machine.records entry.0)
+keyed_there machine key put entry is = by_found (map.get machine.records key) refl is
+  where
+    by_found : (found : Option Record) → map.get machine.records key ≡ found → option_map (λ current. (key, put current)) found ≡ Some entry → IsSome (map.get machine.records entry.0)
+    by_found None found_is none = cc
+    by_found (Some current) found_is some =
+        let kept : map.get machine.records entry.0 ≡ Some current = ap (option_and_then (map.get machine.records)) (sym (ap key_of some)) ∙ found_is in
+        subst (λ found. IsSome found) (sym kept) refl
+
+-- the record that a command puts, other than one that it enters, is in place of one that is there
+pub put_there : (command : Command) → ((fields : Enter) → command ≢ of.Enter fields) → (machine : Machine) (entry : Entry) → entry_put machine command ≡ Some entry
+    → IsSome (map.get machine.records entry.0)
+put_there (of.AddArch fields) no_enter machine entry is = cc
+put_there (of.AddBuilder fields) no_enter machine entry is = cc
+put_there (of.Enter fields) no_enter machine entry is = absurd (no_enter fields refl)
+put_there (of.Next fields) no_enter machine entry is = moved_there machine (of.Next fields) entry is
+put_there (of.Take fields) no_enter machine entry is = moved_there machine (of.Take fields) entry is
+put_there (of.Built fields) no_enter machine entry is = moved_there machine (of.Built fields) entry is
+put_there (of.Uploaded fields) no_enter machine entry is = moved_there machine (of.Uploaded fields) entry is
+put_there (of.Waits fields) no_enter machine entry is = moved_there machine (of.Waits fields) entry is
+put_there (of.PutBack fields) no_enter machine entry is = moved_there machine (of.PutBack fields) entry is
+put_there (of.Attempted fields) no_enter machine entry is = moved_there machine (of.Attempted fields) entry is
+put_there (of.GiveBack fields) no_enter machine entry is = moved_there machine (of.GiveBack fields) entry is
+put_there (of.DepWait fields) no_enter machine entry is = moved_there machine (of.DepWait fields) entry is
+put_there (of.Fail fields) no_enter machine entry is = moved_there machine (of.Fail fields) entry is
+put_there (of.NotForUs fields) no_enter machine entry is = moved_there machine (of.NotForUs fields) entry is
+put_there (of.Rebuild fields) no_enter machine entry is = moved_there machine (of.Rebuild fields) entry is
+put_there (of.BuildPriority fields) no_enter machine entry is =
+    keyed_there machine (fields.arch, fields.source) (λ (current : Record). record current { build_priority = fields.value }) entry is
+put_there (of.Merge fields) no_enter machine entry is = cc
 
 -- a source package that is named has no record where none was found
 no_record : (machine : Machine) (arch source : List ℕ) (key : Key) → Some (arch, source) ≡ Some key → record_named machine arch source ≡ None → map.get machine.records key ≡ None
@@ -210,6 +259,14 @@ module _ {whole after : Machine} {key : Option Key} (command : Command) (h : IsS
           let nothing = nothing_put command whole k put_is asked_is in
           ap (found_at after) (h.key_is ∙ asked_is)
           ∙ ap (λ (found : Option Record). option_map (λ (current : Record). (k, current)) found) (ap (λ (r : map.FinMap pair_cmp Record). map.get r k) records ∙ h.alike.source k nothing.0 ∙ nothing.1)
+
+  -- a command other than `enter` puts the record that the part has at its key in place of one that is there
+  pub found_there : ((fields : Enter) → command ≢ of.Enter fields) → IsThere whole (found_at after key)
+  found_there no_enter = by_found (found_at after key) refl
+    where
+      by_found : (found : Option Entry) → found_at after key ≡ found → IsThere whole found
+      by_found None is = tt
+      by_found (Some entry) is = put_there command no_enter whole entry (sym found_is ∙ is)
 
 absent : {X : Type 0} (found : Option X) → is_some found ≡ false → found ≡ None
 absent None none = refl

@@ -1,5 +1,5 @@
 -- What an accepted command changed in a part of the office, written to the tables of the whole office.
-use Rattle.std.specs.Prelude.{◌≡◌, ◌≢◌, ◌⊎◌, ℕ, ◌≤◌, Option, Result, Ok, IsTrue, IfErr, IfSome, OnOk, OnErr, option_and_then}
+use Rattle.std.specs.Prelude.{◌≡◌, ◌≢◌, ◌⊎◌, ℕ, ◌≤◌, Option, Result, Ok, IsTrue, IfErr, IfSome, OnOk, OnErr, IsSome, option_and_then}
 use Rattle.std.specs.FinMap as map
 use Rattle.std.specs.Option.{option_map}
 use Rattle.sqlite_trees.specs.declared.store.Store.{Ghosts}
@@ -46,6 +46,10 @@ before_counts command whole = record (step whole command).1 { handed = whole.han
 -- the record that a state has at the key, with the key
 abbrev pub found_at : Machine → Option Key → Option Entry
 found_at machine = option_and_then (λ key. option_map (λ current. (key, current)) (map.get machine.records key))
+
+-- a state has a record already at the key of this one, if there is one
+abbrev pub IsThere : Machine → Option Entry → Type 0
+IsThere machine found = IfSome found (λ entry. IsSome (map.get machine.records entry.0))
 
 -- ---- the numbers that are written
 

@@ -1,11 +1,12 @@
 //! What an accepted command changed in a part of the office, written to the tables of the whole office: one record, one
 //! architecture or one builder, and the two counts.
 
-ghost use Rattle.std.specs.Prelude.{◌≡◌, ◌↔◌, ⊤, None, Some, IfErr, IfOk, IfSome, IsTrue, OnOk};
+ghost use Rattle.std.specs.Prelude.{◌≡◌, ◌↔◌, ⊤, false, None, Some, IfErr, IfOk, IfSome, IsTrue, OnOk};
 ghost use Rattle.std.specs.FinMap as map;
 ghost use Rattle.wb_office.specs.Locality.{with_entry};
 ghost use Rattle.wb_tables.specs.Lookups.{IsReadFault};
-ghost use Rattle.wb_durable.specs.Changed.{ChangesBy, IsStepOf, Writes, before_counts, found_at};
+ghost use Rattle.wb_durable.specs.Changed.{ChangesBy, IsStepOf, IsThere, Writes};
+ghost use Rattle.wb_durable.specs.Changed.{before_counts, found_at};
 ghost use Rattle.wb_durable.specs.Changed.{HasFittingCounts, HasFittingNumbers, HasFittingTake};
 
 use deb_text::Text;
@@ -67,7 +68,10 @@ fn write_subject<S: Alter>(
             wb_tables::add_builder(writing, &command.name, &command.arch)
         }
         _ => match key {
-            Some((arch, source)) => write_record(writing, arch, source, after),
+            Some((arch, source)) => {
+                let is_new = matches!(command, Command::Enter(_));
+                write_record(writing, arch, source, after, is_new)
+            }
             None => Ok(()),
         },
     }
@@ -93,16 +97,19 @@ fn write_arch<S: Alter>(
     wb_tables::add_arch(writing, &command.name, &words)
 }
 
-/// Puts the record that the part of the office has at the key, if there is one.
+/// Writes the record that the part of the office has at the key, if there is one: as a new one, or in place of the one
+/// that is there, which is quicker.
 fn write_record<S: Alter>(
     writing: &mut Writing<'_, S>,
     arch: &Text,
     source: &Text,
     after: &Store,
+    is_new: bool,
 ) -> Result<(), Error>
     ensures same_reference { writing.new.conn.ghost_name ≡ writing.old.conn.ghost_name }
     ensures writes { Writes S.Store
-        (IfSome (found_at after.now (Some (arch.now, source.now))) (λ entry. HasFittingTake entry.1)) (λ _. ⊤)
+        (IfSome (found_at after.now (Some (arch.now, source.now))) (λ entry. HasFittingTake entry.1))
+        (λ machine. is_new ≡ false → IsThere machine (found_at after.now (Some (arch.now, source.now))))
         (λ machine. record machine {
           records = with_entry (found_at after.now (Some (arch.now, source.now))) machine.records;
         })
@@ -117,7 +124,11 @@ fn write_record<S: Alter>(
     if !fits(&current) {
         return Err(Error::SqliteFailure(ErrorCode::DatabaseCorrupt));
     }
-    wb_tables::put(writing, arch, source, &current)
+    if is_new {
+        wb_tables::put(writing, arch, source, &current)
+    } else {
+        wb_tables::replace(writing, arch, source, &current)
+    }
 }
 
 /// Whether the take number of the record, if it has one, fits.

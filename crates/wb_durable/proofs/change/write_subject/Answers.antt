@@ -1,9 +1,12 @@
-use Rattle.std.proofs.Common.{sym, subst, Ok}
+use Rattle.std.proofs.Common.{◌≡◌, ◌∙◌, sym, subst, false, Some, Ok}
+use Rattle.std.proofs.lemmas.Bool.{false≢true}
 use Rattle.std.specs.Prelude.{⊤}
-use Rattle.wb_durable.specs.Changed.{HasFittingNumbers, IsStepOf, Writes, before_counts}
-use Rattle.wb_durable.proofs.StepOfLemmas.{adds_arch, adds_builder, puts}
+use Rattle.wb_states.specs.Machine.{Machine}
+use Rattle.wb_durable.specs.Changed.{HasFittingNumbers, IsStepOf, IsThere, Writes, before_counts, found_at}
+use Rattle.wb_durable.proofs.StepOfLemmas.{adds_arch, adds_builder, found_there, puts}
 use Rattle.wb_durable.proofs.WriteLemmas.{writes_change, writes_nothing, writes_same}
 use Rattle.wb_durable.proofs.change.write_subject.Goals as goal
+use Rattle.wb_durable.proofs.change.write_subject.Goals.{in-Enter, in_default-matches}
 
 pub returns-in-AddArch-clause-writes : goal.returns-in-AddArch-clause-writes
 returns-in-AddArch-clause-writes g c =
@@ -15,10 +18,18 @@ returns-in-AddBuilder-clause-writes g c =
     subst (λ command. Writes g.S.Store (HasFittingNumbers c.args.after.now c.args.key.now) (λ whole. IsStepOf whole command c.args.key.now c.args.after.now) (before_counts command) c.args.writing.now.conn.now c.add_builder.new.writing.conn.now c.add_builder.result)
     (sym c.in-AddBuilder.is) (writes_same (λ h. tt) (λ whole h. adds_builder c.in-AddBuilder.command h) (writes_change {Fits = ⊤} c.add_builder.ensures.changes))
 
-pub returns-in-Some-clause-writes : goal.returns-in-Some-clause-writes
-returns-in-Some-clause-writes g c =
+pub returns-after-matches-clause-writes : goal.returns-after-matches-clause-writes
+returns-after-matches-clause-writes g c =
     subst (λ key. Writes g.S.Store (HasFittingNumbers c.args.after.now key) (λ whole. IsStepOf whole c.args.command.now key c.args.after.now) (before_counts c.args.command.now) c.args.writing.now.conn.now c.write_record.new.writing.conn.now c.write_record.result)
-    (sym c.in-Some.is) (writes_same (λ h. h.take) (λ whole h. (tt, puts c.args.command.now (λ fields. c.in_default.not-AddArch fields) (λ fields. c.in_default.not-AddBuilder fields) h)) c.write_record.ensures.writes)
+    (sym c.in-Some.is) (writes_same (λ h. h.take)
+    (λ whole h. (there whole h, puts c.args.command.now (λ fields. c.in_default.not-AddArch fields) (λ fields. c.in_default.not-AddBuilder fields) h)) c.write_record.ensures.writes)
+  where
+    there : (whole : Machine) → IsStepOf whole c.args.command.now (Some (c.in-Some.arch, c.in-Some.source)) c.args.after.now → c.match-matches.matches ≡ false
+        → IsThere whole (found_at c.args.after.now (Some (c.in-Some.arch, c.in-Some.source)))
+    there whole h not_new = elim c.match-matches.branch [
+      | in-Enter w ↦ absurd (false≢true (sym not_new ∙ w.matches-is))
+      | in_default-matches w ↦ found_there c.args.command.now h (λ fields. w.in_default-matches.not-Enter fields)
+    ]
 
 pub returns-in-None-clause-writes : goal.returns-in-None-clause-writes
 returns-in-None-clause-writes g c =
