@@ -36,8 +36,7 @@ enum LockRefusal {
 /// None begins in a database whose pages have no checksums, as another program makes it.
 pub(crate) fn open_for(rt: &HostRuntime, file: &str, work: Work) -> u8 {
     if names_no_file(file) {
-        let fault = refuse(rt, file, StoreFault::Device, "SQLite takes the name for no file");
-        return said_store(rt, fault.name());
+        return refuse_name(rt, file);
     }
     let _lock = match lock_of(rt, file) {
         Ok(lock) => lock,
@@ -148,6 +147,12 @@ fn lock_of(rt: &HostRuntime, file: &str) -> Result<File, LockRefusal> {
 fn refuse_lock(rt: &HostRuntime, name: &str, error: io::Error) -> LockRefusal {
     let _ = eprintln!(rt; "wb: {name} cannot be locked: {error}");
     LockRefusal::Fault(StoreFault::Device)
+}
+
+/// Says that the store cannot be opened, since its name is that of no file.
+fn refuse_name(rt: &HostRuntime, file: &str) -> u8 {
+    let reason = "SQLite takes the name for no file";
+    said_store(rt, refuse(rt, file, StoreFault::Device, reason).name())
 }
 
 /// Says that the store cannot be opened, for this fault.
