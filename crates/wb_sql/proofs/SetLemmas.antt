@@ -133,6 +133,14 @@ cells_numbered given rows = go (is_null (rowid given))
 pub cells_put : (row : Row) (left : List Row) → is_taken left row ≡ false → IsPermutation (cells row ∷ cells_of left) (cells_of (put_row row left))
 cells_put row left free = IsPermutation-map cells (row ∷ left) (put_row row left) (put_beside row left free)
 
+-- a row that is put in beside others, of which none has its rowid, leaves stored rows with the cells of all
+pub put_leaves : (row : Row) (left after : List Row) → IsStored left → is_int (rowid row) ≡ true → is_taken left row ≡ false → put_row row left ≡ after
+    → IsStored after × IsPermutation (cells row ∷ cells_of left) (cells_of after)
+put_leaves row left after stored whole free is = (
+  subst IsStored is (stored-put_row left stored row whole),
+  subst (λ all. IsPermutation (cells row ∷ cells_of left) (cells_of all)) is (cells_put row left free),
+)
+
 -- and of one whose rowid is chosen
 pub cells_beside : (given : Row) (rows left : List Row) → is_taken left (with_next_rowid rows given) ≡ false
     → IsPermutation (cells given ∷ cells_of left) (cells_of (put_row (with_next_rowid rows given) left))

@@ -33,7 +33,7 @@ use Rattle.wb_sql.specs.Rows.{cells_of, IsStored, IsTyped, without}
 use Rattle.wb_sql.specs.Statements.{IsWriting, changes}
 use Rattle.wb_sql.specs.Changes.{IsPlainTable, UpdatesIn, IsOnlyOne, rows_renewed, Updates as UpdatesRows}
 use Rattle.wb_sql.proofs.ReadingLemmas.{means_as, answers_from}
-use Rattle.wb_sql.proofs.SetLemmas.{filter_same_on, has_own, same_by_rowid, stored-filter, stored-put_row, cells_put}
+use Rattle.wb_sql.proofs.SetLemmas.{filter_same_on, has_own, same_by_rowid, stored-filter, put_leaves}
 use Rattle.wb_sql.proofs.WriteLemmas.{went, same_value, Spares, applied, spared, kept_row, task, shown_inside, row_step, sets as sets_table}
 
 -- ---- the query for one row
@@ -135,21 +135,20 @@ module _ (limit : Option ℕ) (schema : Schema) (at : ℕ) (table : Table) (para
         → IsWrittenOver schema table db r renewed w.trees
     updates = updates_one renewed (kept_row table (rowid r ∷ renewed) typed) tests sets params (alone_left passes rows r stored.rising there only.passes only.alone) refl
 
+    -- the rows that do not pass are those with another rowid
+    rest : without_rowid (id_in (rowid r)) rows ≡ without passes rows
+    rest = filter_same_on _ _ rows (λ row was. ap not (passes_alone row was))
+
     -- what is left: the rows that do not pass, and that row with its rowid and what its columns are set to
     left_is : (next : Trees) → IsWrittenOver schema table db r renewed next → next table.tree ≡ put_row (rowid r ∷ renewed) (without passes rows)
-    left_is next over = over.rows_are ∙ ap (put_row (rowid r ∷ renewed)) (filter_same_on _ _ rows (λ row was. ap not (passes_alone row was)))
+    left_is next over = over.rows_are ∙ ap (put_row (rowid r ∷ renewed)) rest
 
     -- what is left is stored, and its cells are those that were set and those of the other rows
     leaves : (next : Trees) (after : List Row) → IsWrittenOver schema table db r renewed next → next table.tree ≡ after
         → IsStored after × IsPermutation (renewed ∷ cells_of (without passes rows)) (cells_of after)
     leaves next after over same =
-        let others = without_rowid (id_in (rowid r)) rows in
-        let rest : others ≡ without passes rows = filter_same_on _ _ rows (λ row was. ap not (passes_alone row was)) in
-        let is : put_row (rowid r ∷ renewed) others ≡ after = sym over.rows_are ∙ same in (
-          subst IsStored is (stored-put_row others (stored-filter rows stored _) (rowid r ∷ renewed) over.whole),
-          subst (λ l. IsPermutation (renewed ∷ cells_of l) (cells_of after)) rest
-              (subst (λ all. IsPermutation (renewed ∷ cells_of others) (cells_of all)) is (cells_put (rowid r ∷ renewed) others (not-true _ (and_parts _ _ over.fresh).0))),
-        )
+        let free = subst (λ others. is_taken others (rowid r ∷ renewed) ≡ false) rest (not-true _ (and_parts _ _ over.fresh).0) in
+        put_leaves (rowid r ∷ renewed) (without passes rows) after (stored-filter rows stored _) over.whole free (sym (left_is next over) ∙ same)
 
 -- UPDATE of one row, in a transaction: the row keeps its rowid
 pub updates_rows : (sql : List ℕ) (params : Row) (old after : State) → RanInside sql params old after → UpdatesRows sql params old after

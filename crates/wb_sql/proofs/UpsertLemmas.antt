@@ -42,7 +42,7 @@ use Rattle.wb_sql.specs.Rows.{cells, cells_of, IsStored, IsTyped, with_next_rowi
 use Rattle.wb_sql.specs.Statements.{IsWriting, changes}
 use Rattle.wb_sql.specs.Changes.{IsPlainTable, UpsertsInto, IsDecidedBy, row_of_rowid, renewal, has_key, Upserts as UpsertsRows}
 use Rattle.wb_sql.proofs.ReadingLemmas.{means_as}
-use Rattle.wb_sql.proofs.SetLemmas.{filter_same_on, int_at, has_own, same_by_rowid, stored-filter, stored-put_row, cells_numbered, cells_put}
+use Rattle.wb_sql.proofs.SetLemmas.{filter_same_on, int_at, has_own, same_by_rowid, stored-filter, cells_numbered, put_leaves}
 use Rattle.wb_sql.proofs.UpdateLemmas.{alone_left, IsWrittenOver, updates_one}
 use Rattle.wb_sql.proofs.WriteLemmas.{Spares, puts, tries, cast_int, kept_row, kept_new, task, tries_one, shown_inside, row_step, sets as sets_table}
 
@@ -251,11 +251,8 @@ module _ (limit : Option ℕ) (schema : Schema) (at : ℕ) (table : Table) (para
       → IsStored after × IsPermutation (cells given ∷ cells_of (apart schema table given rows)) (cells_of after)
   leaves next after put same =
       let left = apart schema table given rows in
-      let is : put_row put.row left ≡ after = sym put.rows_are ∙ same in (
-        subst IsStored is (stored-put_row left (stored-filter rows stored _) put.row put.whole),
-        subst (λ all. IsPermutation (cells given ∷ cells_of left) (cells_of all)) is
-            (subst (λ c. IsPermutation (c ∷ cells_of left) (cells_of (put_row put.row left))) put.cells_are (cells_put put.row left put.free)),
-      )
+      subst (λ columns. IsStored after × IsPermutation (columns ∷ cells_of left) (cells_of after)) put.cells_are
+      (put_leaves put.row left after (stored-filter rows stored _) put.whole put.free (sym put.rows_are ∙ same))
 
 -- INSERT ON CONFLICT of one row, in a transaction
 pub upserts_rows : (sql : List ℕ) (params : Row) (old after : State) → RanInside sql params old after → UpsertsRows sql params old after
