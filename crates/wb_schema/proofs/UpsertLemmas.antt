@@ -38,6 +38,7 @@ use Rattle.wb_schema.specs.Statements.{record_row, record_sets, record_key}
 use Rattle.wb_schema.specs.Among.{table_at, index_at, HasTable, HasIndexes, UpsertsRecords}
 use Rattle.wb_schema.proofs.SelectForm.{Name, parsed}
 use Rattle.wb_schema.proofs.CompiledLemmas.{compiled_of, program_is, understood_is}
+use Rattle.wb_schema.proofs.UpdateLemmas.{rows_set, IsTypedUpdate}
 use Rattle.wb_schema.proofs.ChangeLemmas.{base_of, change_is, insert_timed, insert_returns, simple_accepted}
 use Rattle.wb_schema.proofs.AmongLemmas.{IsStill, means_is, plain_table}
 
@@ -66,7 +67,7 @@ key_is schema table names key index more some named other has is columns = rw (s
 
 -- the row with the rowid that is given after the parameters, and what it is to be
 abbrev pub renewed : Table → ℕ → List Term → Draft
-renewed table count sets = simple (Inner table.tree ∷ []) (equal Binary (col 1 0) (col 0 count) ∷ []) (col 1 0 ∷ col 1 0 ∷ sets)
+renewed table count sets = rows_set table (equal Binary (col 1 0) (col 0 count) ∷ []) sets
 
 update_is : (schema : Schema) (at base : ℕ) (table : Table) (u : Upsert) (d : Draft) → (length u.sets == 0) ≡ false → do_update schema at table base u ≡ Ok d
     → accepts_program schema [] (drafted d) [] ≡ true → update schema at table base u ≡ Ok (Some (record { lets = []; body = drafted d }))
@@ -110,8 +111,7 @@ pub record IsUpsert (table : Table) (sql : List ℕ) (terms sets : List Term) (k
   pub key_columns : list_all (λ place. not (place == 0)) key ≡ true
   pub assigns : (length assigned == 0) ≡ false
   pub updates : (schema : Schema) (at tree : ℕ) → do_update schema at (table_at tree table) (base_of names) (clause_of target assigned) ≡ Ok (renewed (table_at tree table) count sets)
-  pub typed : (tree : ℕ)
-      → (accepts_after [] (drafted (renewed (table_at tree table) count sets)) (Some (row_classes (table_at tree table) ∷ [])) && (is_count [] (lit (Int (negsuc 0))) && is_count [] (number 0))) ≡ true
+  pub typed : (tree : ℕ) → IsTypedUpdate (table_at tree table) (equal Binary (col 1 0) (col 0 count) ∷ []) sets
   pub one_row : IsOneRow terms width
   pub still : IsStill table
 

@@ -72,17 +72,21 @@ pub record InsertsInto (schema : Schema) (sql : List ℕ) (table : Table) (terms
   pub one_row : IsOneRow terms width
   pub means : Means schema sql (Insert at (Values terms width))
 
--- SELECT rowid, rowid, terms FROM the table WHERE rowid = the parameter at this place: the row with this rowid, and what it is to be
-abbrev pub row_of_rowid : ℕ → ℕ → List Term → TableQuery
-row_of_rowid tree place terms = record {
+-- SELECT rowid, rowid, terms FROM the table WHERE each of these tests: each row that passes, and what it is to be
+abbrev pub rows_renewed : ℕ → List Term → List Term → TableQuery
+rows_renewed tree tests terms = record {
   tree = tree;
-  filter = op2 (Compare Eq Binary) (col 1 0) (col 0 place) ∷ [];
+  filter = tests;
   project = col 1 0 ∷ col 1 0 ∷ terms;
   order = [];
   collations = [];
   limit = lit (Int (negsuc 0));
   offset = lit (Int (pos 0));
 }
+
+-- SELECT rowid, rowid, terms FROM the table WHERE rowid = the parameter at this place: the row with this rowid, and what it is to be
+abbrev pub row_of_rowid : ℕ → ℕ → List Term → TableQuery
+row_of_rowid tree place terms = rows_renewed tree (op2 (Compare Eq Binary) (col 1 0) (col 0 place) ∷ []) terms
 
 -- ON CONFLICT (the columns of the key) DO UPDATE SET each column to its term: the row that is there keeps its rowid, which is read after the
 -- parameters, of which there are so many
@@ -125,18 +129,6 @@ pub record DeletesFrom (schema : Schema) (sql : List ℕ) (table : Table) (tests
   pub table_is : IsPlainTable schema at table
   pub stored : nat_le (2 ^ 31) table.tree ≡ false
   pub means : Means schema sql (Delete at (record { lets = []; body = query_of (rowids_where table.tree tests) }))
-
--- SELECT rowid, rowid, terms FROM the table WHERE each of these tests: each row that passes, and what it is to be
-abbrev pub rows_renewed : ℕ → List Term → List Term → TableQuery
-rows_renewed tree tests terms = record {
-  tree = tree;
-  filter = tests;
-  project = col 1 0 ∷ col 1 0 ∷ terms;
-  order = [];
-  collations = [];
-  limit = lit (Int (negsuc 0));
-  offset = lit (Int (pos 0));
-}
 
 -- over this schema the text is UPDATE the table SET each column to its term WHERE each of these tests
 pub record UpdatesIn (schema : Schema) (sql : List ℕ) (table : Table) (tests sets : List Term) : Type 0 where
