@@ -1,19 +1,16 @@
 -- How a command is carried out over tables: what it names is read, it is carried out in that part, and what it changed is kept.
-use Rattle.std.proofs.Common.{◌≡◌, inl, inr, true, false, Option, Some, None, Result, Ok, Err, IfErr, refl, sym, ap, subst, ◌∙◌, arith}
+use Rattle.std.proofs.Common.{◌≡◌, inl, inr, true, false, Option, Some, None, Result, Ok, Err, IfErr, refl, sym, ap, subst, ◌∙◌}
 use Rattle.std.proofs.lemmas.Bool.{both_ways}
 use Rattle.sqlite_trees.specs.declared.store.Store.{Ghosts}
-use Rattle.sqlite.specs.declared.error.Error.{Error}
-use Rattle.sqlite.specs.Tree.{Trees}
 use Rattle.sqlite.specs.Held.{Held, state}
-use Rattle.sqlite.specs.State.{State, HasCleanDisk, IsUnchanged, IsRolledBack, Survives}
-use Rattle.wb_sql.specs.Transactions.{IsKeptOrUndone, LeavesNoMore}
+use Rattle.sqlite.specs.State.{HasCleanDisk}
 use Rattle.wb_sql.proofs.CallLemmas.{on_ok}
-use Rattle.wb_schema.specs.Among.{HasOffice}
 use Rattle.wb_states.specs.declared.command.Command.{Command}
 use Rattle.wb_states.specs.declared.command.Command.TheVariants as of
 use Rattle.wb_states.specs.declared.counts.Counts.{Counts}
 use Rattle.wb_states.specs.declared.refusal.Refusal.{Refusal}
 use Rattle.wb_states.specs.declared.reply.Reply.{Reply}
+use Rattle.wb_states.specs.declared.store_fault.StoreFault.{StoreFault}
 use Rattle.wb_states.specs.Machine.{Machine, Key, IsConsistent}
 use Rattle.wb_states.specs.Queue.{Entry}
 use Rattle.wb_office.specs.Arguments.{arguments_of}
@@ -27,11 +24,10 @@ use Rattle.wb_office.specs.Utf8.{HasUtf8Texts}
 use Rattle.wb_office.proofs.LocalityLemmas.{same_answer}
 use Rattle.wb_office.proofs.PartOfLemmas.{part_alike}
 use Rattle.wb_office.proofs.NamedPartLemmas.{part_of_named, part_has_all_named}
-use Rattle.wb_tables.specs.Calls.{FailsToLookUp}
 use Rattle.wb_tables.specs.Others.{KeepsOthers}
 use Rattle.wb_tables.specs.Settled.{IsSettled, IsBackAt}
 use Rattle.wb_tables.proofs.OthersLemmas.{others_equal, others_then}
-use Rattle.wb_tables.proofs.SettledLemmas.{settled_back, stays_settled, stays_back, goes_back_again, office_stands}
+use Rattle.wb_tables.proofs.SettledLemmas.{kept_or_undone_in, office_stands}
 use Rattle.wb_durable.specs.declared.answer.Answered.{Answered}
 use Rattle.wb_durable.specs.declared.answer.Failure.{Failure}
 use Rattle.wb_durable.specs.declared.answer.Failure.TheVariants.{Refused, Unread, Uncommitted}
@@ -44,47 +40,13 @@ use Rattle.wb_durable.specs.Finds.{StaysAs, FailsToFind, Finds}
 use Rattle.wb_durable.specs.Keys.{key_put}
 use Rattle.wb_durable.specs.Opening.{AreCountsOf}
 use Rattle.wb_durable.specs.Standing.{Knows}
-use Rattle.wb_durable.proofs.FindsLemmas.{unchanged_then, stays_then}
+use Rattle.wb_durable.proofs.FindsLemmas.{stays_then}
+use Rattle.wb_durable.proofs.StaysLemmas.{back_by, no_more, stays_settled_as, undone_after, was_clean}
 use Rattle.wb_durable.proofs.StepOfLemmas.{same_counts}
 
 -- ---- look-ups over a settled connection
 
--- a clean disk was clean before
-pub was_clean : {P : Trees → Type 0} (old new : State) → Survives old new P → HasCleanDisk new → HasCleanDisk old
-was_clean old new survives clean = omega (arith, survives.clean, clean)
-
-rolled_back_then : (a b c : State) → IsUnchanged a b → IsRolledBack b c → IsRolledBack a c
-rolled_back_then a b c one two = record {
-  was_open = λ _. one.0.was_open;
-  undone = λ is_open. let u = two.undone is_open in (u.0 ∙ one.0.committed_is, u.1 ∙ one.0.committed_is);
-  autocommit = two.autocommit;
-  unmarked = two.unmarked;
-  counts = record { changes = two.counts.changes ∙ one.1.changes; last_rowid = two.counts.last_rowid ∙ one.1.last_rowid };
-}
-
 module _ {S : Type 0} (g : Ghosts S) (old new : Held S) where
-  fewer : Survives (state g old) (state g new) (λ _. ¬ HasOffice old.schema) → HasOffice old.schema → HasCleanDisk (state g new) → LeavesNoMore (state g old) (state g new)
-  fewer survives same clean db may = elim (survives.crash clean db may) [ inl was ↦ was | inr other ↦ absurd (other same) ]
-
-  kept_or_undone_in : (e : Error) → FailsToLookUp (state g old) (state g new) e → IsKeptOrUndone (state g old) (state g new)
-  kept_or_undone_in e (inl read) = read.1
-  kept_or_undone_in e (inr (inl full)) = inl full.1
-  kept_or_undone_in e (inr (inr corrupt)) = inl corrupt.1
-
-  -- what stays as it was stays settled
-  stays_settled_as : {machine : Machine} → StaysAs g old new → LeavesNoMore (state g old) (state g new) → IsSettled machine (state g old) → IsSettled machine (state g new)
-  stays_settled_as {machine = machine} (inl same) less settled = subst (λ h. IsSettled machine (state g h)) same settled
-  stays_settled_as (inr kept) less settled = stays_settled (state g old) (state g new) kept less settled
-
-  back_by : {machine : Machine} → IsKeptOrUndone (state g old) (state g new) → LeavesNoMore (state g old) (state g new) → IsSettled machine (state g old) → IsBackAt machine (state g new)
-  back_by (inl same) less settled = stays_back (state g old) (state g new) same less (settled_back (state g old) settled)
-  back_by (inr undone) less settled = goes_back_again (state g old) (state g new) undone less (settled_back (state g old) settled)
-
-  undone_after : (mid : Held S) → StaysAs g old mid → IsKeptOrUndone (state g mid) (state g new) → IsKeptOrUndone (state g old) (state g new)
-  undone_after mid (inl same) failed = subst (λ h. IsKeptOrUndone (state g h) (state g new)) (sym same) failed
-  undone_after mid (inr kept) (inl same) = inl (unchanged_then (state g old) (state g mid) (state g new) kept same)
-  undone_after mid (inr kept) (inr undone) = inr (rolled_back_then (state g old) (state g mid) (state g new) kept undone)
-
   -- what stays as it was keeps the tables of others
   stays_others : StaysAs g old new → KeepsOthers (state g old).now (state g new).now
   stays_others (inl same) = others_equal (state g old).now (state g new).now (ap (λ (h : Held S). (state g h).now) (sym same))
@@ -95,21 +57,16 @@ module _ {S : Type 0} (g : Ghosts S) (old new : Held S) where
       → IsSettled machine (state g new) × Answer machine x
   found {machine = machine} finds clean consistent settled =
       let schema = settled.holds.stands.has in
-      (stays_settled_as (finds.same clean schema) (fewer finds.survives schema clean) settled, finds.value clean schema machine consistent (office_stands (state g old).now settled.holds))
+      (stays_settled_as g old new (finds.same clean schema) (no_more g old new finds.survives schema clean) settled, finds.value clean schema machine consistent (office_stands (state g old).now settled.holds))
 
   -- look-ups that fail leave the connection at its state, unless a fault shut it
-  pub not_found : {A : Type 0} {Answer : Machine → A → Type 0} {machine : Machine} {e : Error} → Finds {A = A} g Answer old new (Err e) → HasCleanDisk (state g new) → IsSettled machine (state g old)
+  pub not_found : {A : Type 0} {Answer : Machine → A → Type 0} {machine : Machine} {e : StoreFault} → Finds {A = A} g Answer old new (Err e) → HasCleanDisk (state g new) → IsSettled machine (state g old)
       → FailsToFind g old new e × IsBackAt machine (state g new)
   not_found {e = e} finds clean settled =
       let schema = settled.holds.stands.has in
       let failed : FailsToFind g old new e = finds.err clean schema settled.is_open in
-      let kept = undone_after failed.0 failed.1 (kept_or_undone_in_mid failed.0 failed.2) in
-      (failed, back_by kept (fewer finds.survives schema clean) settled)
-    where
-      kept_or_undone_in_mid : (mid : Held S) {e : Error} → FailsToLookUp (state g mid) (state g new) e → IsKeptOrUndone (state g mid) (state g new)
-      kept_or_undone_in_mid mid (inl read) = read.1
-      kept_or_undone_in_mid mid (inr (inl full)) = inl full.1
-      kept_or_undone_in_mid mid (inr (inr corrupt)) = inl corrupt.1
+      let kept = undone_after g old failed.0 new failed.2 (kept_or_undone_in g failed.0 new failed.1 e failed.3) in
+      (failed, back_by g old new kept (no_more g old new finds.survives schema clean) settled)
 
 -- ---- a step
 
@@ -263,7 +220,7 @@ module _ {S : Type 0} (g : Ghosts S) (command : Command) (old mid new : Held S) 
   -- a failure after look-ups that changed nothing
   left_later : (machine : Machine) (failure : Failure) → StaysAs g old mid → IsLeft g machine command mid new failure → IsLeft g machine command old new failure
   left_later machine (Refused refusal) same left = left
-  left_later machine (Unread e) same left = ((left.0.0, stays_then g old mid left.0.0 same left.0.1, left.0.2), left.1)
+  left_later machine (Unread e) same left = ((left.0.0, left.0.1, stays_then g old mid left.0.0 same left.0.2, left.0.3), left.1)
   left_later machine (Uncommitted e) same left = left
 
   -- what the command names is read, and then it is answered in that part
@@ -290,7 +247,7 @@ module _ {S : Type 0} (g : Ghosts S) (command : Command) (old mid new : Held S) 
       fails_later machine (Err failure) same left = left_later machine failure same left
 
   -- what the command names could not be read
-  pub unread : {A : Type 0} {Answer : Machine → A → Type 0} {Given : Machine → Type 0} {e : Error} → Finds {A = A} g Answer old new (Err e) → Answers g Given command old new (Err (Unread e))
+  pub unread : {A : Type 0} {Answer : Machine → A → Type 0} {Given : Machine → Type 0} {e : StoreFault} → Finds {A = A} g Answer old new (Err e) → Answers g Given command old new (Err (Unread e))
   unread finds = record {
     was_clean = was_clean (state g old) (state g new) finds.survives;
     ok = λ clean machine consistent settled given. tt;
@@ -341,7 +298,7 @@ module _ {S : Type 0} (g : Ghosts S) (command : Command) (was_known mid_known : 
   }
 
 -- the architectures could not be read, and what is known stays
-pub archs_unread : {S A : Type 0} (g : Ghosts S) (command : Command) (was_known known : Known) (old new : Held S) {Answer : Machine → A → Type 0} {e : Error}
+pub archs_unread : {S A : Type 0} (g : Ghosts S) (command : Command) (was_known known : Known) (old new : Held S) {Answer : Machine → A → Type 0} {e : StoreFault}
     → Finds {A = A} g Answer old new (Err e) → known ≡ was_known → Responds g command was_known old known new (Err (Unread e))
 archs_unread g command was_known known old new finds same = record {
   was_clean = was_clean (state g old) (state g new) finds.survives;

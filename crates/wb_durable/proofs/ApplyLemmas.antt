@@ -2,7 +2,6 @@
 use Rattle.std.proofs.Common.{◌≡◌, ◌≢◌, ◌⊎◌, inl, inr, true, false, not, Bool, Result, Ok, Err, IsTrue, IfErr, refl, sym, ap, subst, ◌∙◌}
 use Rattle.std.proofs.lemmas.Bool.{both_ways}
 use Rattle.sqlite_trees.specs.declared.store.Store.{Ghosts}
-use Rattle.sqlite.specs.declared.error.Error.{Error}
 use Rattle.sqlite.specs.Held.{Held, state}
 use Rattle.sqlite.specs.State.{State, HasCleanDisk, IsUnchanged, Survives}
 use Rattle.wb_sql.specs.Transactions.{IsKeptOrUndone, LeavesNoMore}
@@ -13,12 +12,10 @@ use Rattle.wb_states.specs.declared.reply.Reply.{Reply}
 use Rattle.wb_states.specs.Refusals.{IsOfMachine}
 use Rattle.wb_states.specs.declared.store_fault.StoreFault.{StoreFault}
 use Rattle.wb_states.specs.declared.store_fault.StoreFault.TheVariants as fault
-use Rattle.wb_states.specs.declared.store_fault.Table.TheVariants.{SourceRecord}
 use Rattle.wb_states.specs.Machine.{Machine}
 use Rattle.wb_office.specs.Ends.{is_of_store}
 use Rattle.wb_office.specs.Step.{step}
 use Rattle.wb_office.proofs.InvariantLemmas.{step-keeps}
-use Rattle.wb_tables.specs.Faults.{fault_of}
 use Rattle.wb_tables.specs.Settled.{IsSettled, IsBackAt, LeavesEither}
 use Rattle.wb_tables.proofs.SettledLemmas.{settled_back, stays_back, goes_back_again}
 use Rattle.wb_durable.specs.declared.answer.Failure.{Failure}
@@ -28,7 +25,7 @@ use Rattle.wb_durable.specs.declared.known.Known.{Known}
 use Rattle.wb_durable.specs.Answers.{Responds}
 use Rattle.wb_durable.specs.Standing.{Knows, StandsAt, LeavesOne}
 use Rattle.wb_durable.specs.Applies.{refusal_for, doubt_for, CannotBeUsed, IsRefusedIn, Applies, Ends, EndsWith}
-use Rattle.wb_durable.proofs.AnswerLemmas.{was_clean}
+use Rattle.wb_durable.proofs.StaysLemmas.{was_clean}
 
 -- ---- the connection after a probe
 
@@ -152,39 +149,39 @@ ends_refused g held refusal is_closed closes = record {
 
 module _ {S : Type 0} (g : Ghosts S) (old new : Held S) (refusal : Refusal) (is_closed : Bool) where
   -- a look-up failed
-  pub ends_unread : (e : Error) → EndsWith g (fault_of e SourceRecord) old new refusal is_closed → Ends g (Unread e) old new refusal is_closed
+  pub ends_unread : (e : StoreFault) → EndsWith g e old new refusal is_closed → Ends g (Unread e) old new refusal is_closed
   ends_unread e h = record {
     was_clean = h.was_clean;
-    refused = λ clean machine command before left. refused_back g machine command new (fault_of e SourceRecord) refusal is_closed h.told (h.back clean machine left.1) (h.is_open clean) h.ends;
+    refused = λ clean machine command before left. refused_back g machine command new e refusal is_closed h.told (h.back clean machine left.1) (h.is_open clean) h.ends;
     told = h.told;
     closes = λ clean is closed. inl (h.closes clean is closed);
   }
 
   -- a transaction was taken back
-  pub ends_taken_back : (e : Error) → EndsWith g (fault_of e SourceRecord) old new refusal is_closed → Ends g (Uncommitted (TakenBack e)) old new refusal is_closed
+  pub ends_taken_back : (e : StoreFault) → EndsWith g e old new refusal is_closed → Ends g (Uncommitted (TakenBack e)) old new refusal is_closed
   ends_taken_back e h = record {
     was_clean = h.was_clean;
-    refused = λ clean machine command before left. refused_back g machine command new (fault_of e SourceRecord) refusal is_closed h.told (h.back clean machine left.0) (h.is_open clean) h.ends;
+    refused = λ clean machine command before left. refused_back g machine command new e refusal is_closed h.told (h.back clean machine left.0) (h.is_open clean) h.ends;
     told = h.told;
     closes = λ clean is closed. inl (h.closes clean is closed);
   }
 
 -- a transaction could not be taken back
-pub ends_not_taken_back : {S : Type 0} (g : Ghosts S) (held : Held S) (e : Error) (refusal : Refusal) → refusal ≡ refusal_for (fault_of e SourceRecord) → Ends g (Uncommitted (RollBackFailed e)) held held refusal true
+pub ends_not_taken_back : {S : Type 0} (g : Ghosts S) (held : Held S) (e : StoreFault) (refusal : Refusal) → refusal ≡ refusal_for e → Ends g (Uncommitted (RollBackFailed e)) held held refusal true
 ends_not_taken_back g held e refusal told = record {
   was_clean = λ clean. clean;
-  refused = λ clean machine command before left. refused_back g machine command held (fault_of e SourceRecord) refusal true told left.0 (λ not_closed. cc) (λ of_store. refl);
+  refused = λ clean machine command before left. refused_back g machine command held e refusal true told left.0 (λ not_closed. cc) (λ of_store. refl);
   told = told;
   closes = λ clean is closed. inr (e, refl);
 }
 
 -- a commit is in doubt
-pub ends_in_doubt : {S : Type 0} (g : Ghosts S) (held : Held S) (e : Error) (refusal : Refusal) → refusal ≡ doubt_for (fault_of e SourceRecord) → Ends g (Uncommitted (InDoubt e)) held held refusal true
+pub ends_in_doubt : {S : Type 0} (g : Ghosts S) (held : Held S) (e : StoreFault) (refusal : Refusal) → refusal ≡ doubt_for e → Ends g (Uncommitted (InDoubt e)) held held refusal true
 ends_in_doubt g held e refusal told = record {
   was_clean = λ clean. clean;
-  refused = λ clean machine command before left. refused_in_doubt g machine command held (fault_of e SourceRecord) refusal told left.0;
+  refused = λ clean machine command before left. refused_in_doubt g machine command held e refusal told left.0;
   told = told;
-  closes = λ clean is closed. absurd (doubt_is_no_memory (fault_of e SourceRecord) (doubts_for (fault_of e SourceRecord)) (sym told ∙ is));
+  closes = λ clean is closed. absurd (doubt_is_no_memory e (doubts_for e) (sym told ∙ is));
 }
   where
     doubt_is_no_memory : (f : StoreFault) → (h : StoreFault) × (doubt_for f ≡ Store h) → doubt_for f ≢ Memory

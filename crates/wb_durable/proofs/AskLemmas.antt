@@ -3,7 +3,6 @@ use Rattle.std.proofs.Common.{◌≡◌, ◌≢◌, inl, inr, true, false, not, 
 use Rattle.std.proofs.lemmas.Bool.{both_ways}
 use Rattle.std.specs.FinMap as map
 use Rattle.sqlite_trees.specs.declared.store.Store.{Ghosts}
-use Rattle.sqlite.specs.declared.error.Error.{Error}
 use Rattle.sqlite.specs.Held.{Held, state}
 use Rattle.sqlite.specs.State.{HasCleanDisk}
 use Rattle.wb_states.specs.declared.arch.OsCpu.{OsCpu}
@@ -11,7 +10,6 @@ use Rattle.wb_states.specs.declared.record.Record.{Record}
 use Rattle.wb_states.specs.declared.refusal.Refusal.{Refusal}
 use Rattle.wb_states.specs.declared.refusal.Refusal.TheVariants.{BadName, Closed, Memory, Store, UnknownArch, UnknownBuilder}
 use Rattle.wb_states.specs.declared.store_fault.StoreFault.{StoreFault}
-use Rattle.wb_states.specs.declared.store_fault.Table.TheVariants.{SourceRecord}
 use Rattle.wb_states.specs.Holds.{held_of}
 use Rattle.wb_states.specs.Machine.{Machine}
 use Rattle.wb_states.specs.Refusals.{IsOfMachine}
@@ -23,7 +21,6 @@ use Rattle.wb_office.specs.Checks.{is_unknown_arch, is_unknown_builder}
 use Rattle.wb_office.specs.Ends.{is_of_store}
 use Rattle.wb_office.specs.Queries.{found_at, item_in, mine_in}
 use Rattle.wb_office.proofs.QueryLemmas.{keyed-entries}
-use Rattle.wb_tables.specs.Faults.{fault_of}
 use Rattle.wb_tables.specs.Settled.{IsBackAt}
 use Rattle.wb_tables.proofs.SettledLemmas.{settled_back}
 use Rattle.wb_durable.specs.declared.known.Known.{Known}
@@ -31,7 +28,8 @@ use Rattle.wb_durable.specs.Asks.{Asks, FailsByName, IsAskedAt, IsUnread}
 use Rattle.wb_durable.specs.Applies.{EndsWith}
 use Rattle.wb_durable.specs.Finds.{Finds}
 use Rattle.wb_durable.specs.Standing.{Knows, StandsAt, LeavesOne}
-use Rattle.wb_durable.proofs.AnswerLemmas.{found, not_found, was_clean}
+use Rattle.wb_durable.proofs.AnswerLemmas.{found, not_found}
+use Rattle.wb_durable.proofs.StaysLemmas.{was_clean}
 use Rattle.wb_durable.proofs.ApplyLemmas.{either_of, not_closed_for, of_fault, settled_at}
 
 -- ---- what was looked up
@@ -107,8 +105,8 @@ module _ {S : Type 0} {g : Ghosts S} {answer_of : Machine → Result Answer Refu
   }
 
   -- a look-up fails
-  pub asked_unread : {Answers : Machine → Result Answer Refusal → Type 0} {at new : Held S} {is_closed : Bool} {e : Error} {refusal : Refusal} → was_closed ≡ false → is_bad ≡ false
-      → Finds g Answers old at (Err e) → EndsWith g (fault_of e SourceRecord) at new refusal is_closed → Asks g answer_of is_bad was_closed was_known old is_closed was_known new (Err refusal)
+  pub asked_unread : {Answers : Machine → Result Answer Refusal → Type 0} {at new : Held S} {is_closed : Bool} {e : StoreFault} {refusal : Refusal} → was_closed ≡ false → is_bad ≡ false
+      → Finds g Answers old at (Err e) → EndsWith g e at new refusal is_closed → Asks g answer_of is_bad was_closed was_known old is_closed was_known new (Err refusal)
   asked_unread {at = at} {e = e} {refusal = refusal} opened is_good finds ends = record {
     was_clean = λ clean. was_clean (state g old) (state g at) finds.survives (ends.was_clean clean);
     same = refl;
@@ -120,7 +118,7 @@ module _ {S : Type 0} {g : Ghosts S} {answer_of : Machine → Result Answer Refu
           refusal,
           refl,
           inl (record {
-            error = e;
+            fault = e;
             at = at;
             failed = failed.0;
             told = ends.told;
@@ -180,7 +178,7 @@ module _ {S : Type 0} {g : Ghosts S} {answer_of : Machine → Result Answer Refu
 
   -- a refusal for an error of a look-up is no refusal of the state
   unread_is : {refusal : Refusal} → IsUnread g machine old new is_closed refusal → refusal ≢ Memory → is_of_store refusal ≡ true
-  unread_is unread other = ap is_of_store unread.told ∙ of_fault (fault_of unread.error SourceRecord) (λ is. other (unread.told ∙ is))
+  unread_is unread other = ap is_of_store unread.told ∙ of_fault unread.fault (λ is. other (unread.told ∙ is))
 
   -- what is answered, but that it is closed or out of memory, is answered of the state
   is_answer : (result : Result Answer Refusal) → r ≡ result → IfErr result (λ refusal. (refusal ≢ Memory) × (is_of_store refusal ≡ false)) → answer_of machine ≡ result
@@ -226,7 +224,7 @@ module _ {S : Type 0} {g : Ghosts S} {answer_of : Machine → Result Answer Refu
       not_when_open : IsAskedAt g answer_of machine old is_closed new r → ⊥
       not_when_open (inl answered) = of_state machine Closed refl (answered.0 ∙ is)
       not_when_open (inr (refusal, failed, inl unread)) =
-          not_closed_for (fault_of unread.error SourceRecord) (sym unread.told ∙ told (sym failed ∙ is))
+          not_closed_for unread.fault (sym unread.told ∙ told (sym failed ∙ is))
       not_when_open (inr (refusal, failed, inr nothing)) = no_memory (sym nothing.0 ∙ told (sym failed ∙ is))
         where
           no_memory : ¬ (Memory ≡ Closed)

@@ -2,8 +2,6 @@
 use Rattle.std.proofs.Common.{◌≡◌, ◌⊎◌, inl, inr, refl, sym, subst, arith, true, false, if◌then◌else◌, [], Result, Ok, Err, OnOk, IfErr, Option}
 use Rattle.sqlite_trees.specs.declared.store.Store.{Ghosts}
 use Rattle.sqlite.specs.declared.error.Error.{Error}
-use Rattle.sqlite.specs.declared.error.Error.TheVariants.{SqliteFailure}
-use Rattle.sqlite.specs.declared.error.ErrorCode.TheVariants.{OutOfMemory}
 use Rattle.sqlite.specs.Tree.{Trees}
 use Rattle.sqlite.specs.Held.{Held, state}
 use Rattle.sqlite.specs.State.{State, HasCleanDisk, IsRolledBack, Executes, CommitsBy, Survives}
@@ -14,16 +12,20 @@ use Rattle.wb_sql.specs.declared.writing.CommitError.TheVariants as commit
 use Rattle.wb_sql.specs.Transactions.{rollback_text, cause_of, FailsToCommit, LeavesNoMore}
 use Rattle.wb_sql.proofs.EndingLemmas.{rollback_commits_nothing}
 use Rattle.wb_states.specs.declared.command.Command.{Command}
+use Rattle.wb_states.specs.declared.store_fault.StoreFault.{StoreFault}
+use Rattle.wb_states.specs.declared.store_fault.StoreFault.TheVariants.{Memory}
+use Rattle.wb_states.specs.declared.store_fault.Table.TheVariants.{Office}
 use Rattle.wb_states.specs.Machine.{Machine, Key}
 use Rattle.wb_office.specs.Step.{step}
 use Rattle.wb_tables.specs.Stands.{StandsFor}
 use Rattle.wb_tables.specs.Calls.{Becomes}
+use Rattle.wb_tables.specs.Faults.{fault_of}
 use Rattle.wb_tables.specs.Settled.{IsSettled, IsUnderWay, IsBackAt, SettlesBy, TakesBack}
 use Rattle.wb_tables.proofs.OthersLemmas.{others_still}
 use Rattle.wb_tables.proofs.SettledLemmas.{begins, office_stands}
 use Rattle.wb_durable.specs.declared.carry.CarryError.{CarryError}
 use Rattle.wb_durable.specs.declared.carry.CarryError.TheVariants.{TakenBack, RollBackFailed, InDoubt}
-use Rattle.wb_durable.specs.Changed.{HasFittingNumbers, IsStepOf, before_counts, IsLeftOrBack, ChangesBy}
+use Rattle.wb_durable.specs.Changed.{LacksFittingNumbers, IsStepOf, before_counts, IsLeftOrBack, ChangesBy}
 use Rattle.wb_durable.specs.Carried.{begun, is_over, failure_of, LeavesAs, FailsAtChange, FailsAtCommit, EndsFor, HoldsStep, CarriesOut}
 use Rattle.wb_durable.proofs.WriteLemmas.{reached_way}
 
@@ -33,7 +35,7 @@ commits_nothing g old new survives =
     survives_weaker (state g old) (state g new) (CommitsBy rollback_text [] (state g old)) (λ _. ⊥) (λ clean db made. rollback_commits_nothing [] (state g old) db made) survives
 
 -- whatever ROLLBACK answers, the failure leaves what was committed before
-pub leaves_back : {A : Type 0} {before : Machine} (now : Machine) (s : State) (e : Error) (ended : Result A Error) → IsBackAt before s → LeavesAs before now s (failure_of e ended)
+pub leaves_back : {A : Type 0} {before : Machine} (now : Machine) (s : State) (e : StoreFault) (ended : Result A Error) → IsBackAt before s → LeavesAs before now s (failure_of e ended)
 leaves_back now s e (Ok x) back = back
 leaves_back {before = before} now s e (Err why) back = elim (is_over why) as (λ over. LeavesAs before now s (if over then TakenBack e else RollBackFailed e)) [ true ↦ back | false ↦ back ]
 
@@ -41,8 +43,8 @@ module _ {S : Type 0} (g : Ghosts S) (command : Command) (key : Option Key) (aft
   abbrev Settled : Machine → Type 0
   Settled whole = IsSettled whole (state g old)
 
-  abbrev WhyNot : Machine → Error → Type 0
-  WhyNot whole e = FailsAtChange g (HasFittingNumbers after key) (before_counts command whole) old e ⊎ FailsAtCommit g (step whole command).1 old e
+  abbrev WhyNot : Machine → StoreFault → Type 0
+  WhyNot whole e = FailsAtChange g (LacksFittingNumbers after key) (before_counts command whole) old e ⊎ FailsAtCommit g (step whole command).1 old e
 
   -- ---- the start
 
@@ -54,7 +56,7 @@ module _ {S : Type 0} (g : Ghosts S) (command : Command) (key : Option Key) (aft
 
   -- ---- the end of a transaction that is not committed
 
-  ends_for : {A : Type 0} (whole : Machine) (at new : Held S) (e : Error) (ended : Result A Error) → WhyNot whole e → OnOk ended (IsRolledBack (state g at) (state g new))
+  ends_for : {A : Type 0} (whole : Machine) (at new : Held S) (e : StoreFault) (ended : Result A Error) → WhyNot whole e → OnOk ended (IsRolledBack (state g at) (state g new))
       → IfErr ended (λ why. Executes rollback_text [] (state g at) (state g new) (Err why)) → EndsFor g command key after whole old new (failure_of e ended)
   ends_for whole at new e (Ok x) why rolled failed = (why, (at, inl rolled))
   ends_for whole at new e (Err told) why rolled failed =
@@ -64,7 +66,7 @@ module _ {S : Type 0} (g : Ghosts S) (command : Command) (key : Option Key) (aft
       ]) refl
 
   -- a transaction that failed is taken back
-  pub carries_not : {A B : Type 0} (at new : Held S) (e : Error) (ended : Result A Error) (r : CarryError) → r ≡ failure_of e ended
+  pub carries_not : {A B : Type 0} (at new : Held S) (e : StoreFault) (ended : Result A Error) (r : CarryError) → r ≡ failure_of e ended
       → (HasCleanDisk (state g at) → (whole : Machine) → Settled whole → IsStepOf whole command key after → WhyNot whole e)
       → (HasCleanDisk (state g at) → (whole : Machine) → Settled whole → IsStepOf whole command key after → IsLeftOrBack g whole at)
       → Survives (state g (begun old)) (state g at) (HoldsStep g command key after old)
@@ -89,7 +91,7 @@ module _ {S : Type 0} (g : Ghosts S) (command : Command) (key : Option Key) (aft
 
   -- ---- the change fails
 
-  module _ {B : Type 0} (mid : Held S) (e : Error) (change : ChangesBy {A = B} g command key after (begun old) mid (Err e)) where
+  module _ {B : Type 0} (mid : Held S) (e : StoreFault) (change : ChangesBy {A = B} g command key after (begun old) mid (Err e)) where
     pub change_why : HasCleanDisk (state g mid) → (whole : Machine) → Settled whole → IsStepOf whole command key after → WhyNot whole e
     change_why clean whole settled made = inl (mid, change.cause clean refl whole (stands_at_start settled) made)
 
@@ -130,8 +132,8 @@ module _ {S : Type 0} (g : Ghosts S) (command : Command) (key : Option Key) (aft
         (λ clean db is. holds_step (before clean) db is) change.survives survives
 
     -- the commit failed with this error
-    failed_at : {whole : Machine} (e : CommitError) → r ≡ Err e → HasCleanDisk (state g at) → Settled whole → IsStepOf whole command key after → FailsAtCommit g (step whole command).1 old (cause_of e)
-    failed_at e is clean settled made = (mid, (written (before clean) settled made, subst (λ r. IfErr r (λ e. FailsToCommit g mid (cause_of e))) is (cause clean)))
+    failed_at : {whole : Machine} (e : CommitError) → r ≡ Err e → HasCleanDisk (state g at) → Settled whole → IsStepOf whole command key after → FailsAtCommit g (step whole command).1 old (fault_of (cause_of e) Office)
+    failed_at e is clean settled made = (mid, (written (before clean) settled made, (cause_of e, subst (λ r. IfErr r (λ e. FailsToCommit g mid (cause_of e))) is (cause clean), refl)))
 
     -- the commit was made
     pub carries_it : {C : Type 0} {y : A} {z : C} → r ≡ Ok y → CarriesOut {A = C} g command key after old at (Ok z)
@@ -146,7 +148,7 @@ module _ {S : Type 0} (g : Ghosts S) (command : Command) (key : Option Key) (aft
     }
 
     -- the commit is in doubt
-    pub carries_in_doubt : {C : Type 0} (e : Error) → r ≡ Err (commit.InDoubt e) → CarriesOut {A = C} g command key after old at (Err (InDoubt e))
+    pub carries_in_doubt : {C : Type 0} (e : Error) → r ≡ Err (commit.InDoubt e) → CarriesOut {A = C} g command key after old at (Err (InDoubt (fault_of e Office)))
     carries_in_doubt e is = record {
       ok = λ clean whole settled made. tt;
       err = λ clean whole settled made. settles.crash clean whole (step whole command).1 (under_way (before clean) settled made);
@@ -157,7 +159,7 @@ module _ {S : Type 0} (g : Ghosts S) (command : Command) (key : Option Key) (aft
 
     -- memory ran out for the commit
     module _ (is : r ≡ Err commit.Memory) where
-      pub memory_why : HasCleanDisk (state g at) → (whole : Machine) → Settled whole → IsStepOf whole command key after → WhyNot whole (SqliteFailure OutOfMemory)
+      pub memory_why : HasCleanDisk (state g at) → (whole : Machine) → Settled whole → IsStepOf whole command key after → WhyNot whole Memory
       memory_why clean whole settled made = inr (failed_at commit.Memory is clean settled made)
 
       pub memory_way : HasCleanDisk (state g at) → (whole : Machine) → Settled whole → IsStepOf whole command key after → IsLeftOrBack g whole at

@@ -1,14 +1,15 @@
 -- What look-ups, one after another, promise together: from one of them, and from those before and those after.
-use Rattle.std.proofs.Common.{◌≡◌, inl, inr, IsTrue, Result, Ok, Err, refl, sym, ap, subst, ◌∙◌, arith}
+use Rattle.std.proofs.Common.{◌≡◌, inl, inr, IsTrue, Result, Ok, Err, IfOk, IfErr, refl, sym, ap, subst, ◌∙◌, arith}
 use Rattle.sqlite_trees.specs.declared.store.Store.{Ghosts}
-use Rattle.sqlite.specs.declared.error.Error.{Error}
-use Rattle.sqlite.specs.declared.error.Error.TheVariants.{SqliteFailure}
-use Rattle.sqlite.specs.declared.error.ErrorCode.TheVariants.{OutOfMemory}
 use Rattle.sqlite.specs.Effect.{Database}
 use Rattle.sqlite.specs.Held.{Held, state}
 use Rattle.sqlite.specs.State.{State, HasCleanDisk, IsUnchanged, Survives}
 use Rattle.sqlite.proofs.StateLemmas.{survives_then}
 use Rattle.wb_schema.specs.Among.{HasOffice}
+use Rattle.wb_states.specs.declared.store_fault.StoreFault.{StoreFault}
+use Rattle.wb_states.specs.declared.store_fault.StoreFault.TheVariants.{Memory}
+use Rattle.wb_states.specs.declared.store_fault.Table.{Table}
+use Rattle.wb_states.specs.declared.store_fault.Table.TheVariants.{Office}
 use Rattle.wb_states.specs.Machine.{Machine, IsConsistent}
 use Rattle.wb_tables.specs.Stands.{StandsFor}
 use Rattle.wb_tables.specs.Calls.{LooksUp}
@@ -65,17 +66,17 @@ module _ {S : Type 0} (g : Ghosts S) (old new : Held S) where
 
 module _ {S : Type 0} {g : Ghosts S} {old new : Held S} where
   -- a look-up alone
-  pub finds_looked_up : {A : Type 0} {Answer : Machine → A → Type 0} (r : Result A Error) → LooksUp g Answer old new r → Finds g Answer old new r
+  pub finds_looked_up : {A : Type 0} {table : Table} {Answer : Machine → A → Type 0} (r : Result A StoreFault) → LooksUp g table Answer old new r → Finds g Answer old new r
   finds_looked_up (Ok x) one = record {
     value = λ clean office machine sound stands. one.value clean machine stands;
     same = λ clean office. inr (one.same clean office);
     err = λ clean office is_open. tt;
     survives = one.survives;
   }
-  finds_looked_up (Err e) one = record {
+  finds_looked_up {table = table} (Err e) one = record {
     value = λ clean office. tt;
     same = λ clean office. tt;
-    err = λ clean office is_open. (old, inl refl, one.err clean office);
+    err = λ clean office is_open. (old, table, inl refl, one.err clean office);
     survives = one.survives;
   }
 
@@ -90,7 +91,7 @@ module _ {S : Type 0} {g : Ghosts S} {old new : Held S} where
   }
 
   -- another word for the answer
-  pub finds_weaker : {A : Type 0} {Answer Other : Machine → A → Type 0} (r : Result A Error) → Finds g Answer old new r
+  pub finds_weaker : {A : Type 0} {Answer Other : Machine → A → Type 0} (r : Result A StoreFault) → Finds g Answer old new r
       → ((machine : Machine) (x : A) → IsConsistent machine → Answer machine x → Other machine x) → Finds g Other old new r
   finds_weaker (Ok x) one follows = finds_from one (λ machine. follows machine x)
   finds_weaker (Err e) one follows = record {
@@ -101,9 +102,9 @@ module _ {S : Type 0} {g : Ghosts S} {old new : Held S} where
   }
 
   -- a failure that is handed on
-  pub fails_to_find : {A B : Type 0} {Answer : Machine → A → Type 0} {Other : Machine → B → Type 0} {e : Error} {r : Result B Error}
+  pub fails_to_find : {A B : Type 0} {Answer : Machine → A → Type 0} {Other : Machine → B → Type 0} {e : StoreFault} {r : Result B StoreFault}
       → Finds g Answer old new (Err e) → r ≡ Err e → Finds g Other old new r
-  fails_to_find {B = B} {Other = Other} one is = subst (λ (r : Result B Error). Finds g Other old new r) (sym is) (record {
+  fails_to_find {B = B} {Other = Other} one is = subst (λ (r : Result B StoreFault). Finds g Other old new r) (sym is) (record {
     value = λ clean office. tt;
     same = λ clean office. tt;
     err = one.err;
@@ -111,16 +112,27 @@ module _ {S : Type 0} {g : Ghosts S} {old new : Held S} where
   })
 
   -- memory ran out after look-ups that succeeded, or before one
-  pub lacks_memory : {A B : Type 0} {Answer : Machine → A → Type 0} {Other : Machine → B → Type 0} {x : A} {r : Result B Error}
-      → Finds g Answer old new (Ok x) → r ≡ Err (SqliteFailure OutOfMemory) → Finds g Other old new r
-  lacks_memory {B = B} {Other = Other} one is = subst (λ (r : Result B Error). Finds g Other old new r) (sym is) (record {
+  pub lacks_memory : {A B : Type 0} {Answer : Machine → A → Type 0} {Other : Machine → B → Type 0} {x : A} {r : Result B StoreFault}
+      → Finds g Answer old new (Ok x) → r ≡ Err Memory → Finds g Other old new r
+  lacks_memory {B = B} {Other = Other} one is = subst (λ (r : Result B StoreFault). Finds g Other old new r) (sym is) (record {
     value = λ clean office. tt;
     same = λ clean office. tt;
     err = λ clean office is_open.
         let stays = one.same clean office in
-        (new, stays, inr (inl (refl, unchanged_itself (state g new) (stays-open g old new stays is_open))));
+        (new, Office, stays, inr (inl (refl, unchanged_itself (state g new) (stays-open g old new stays is_open))));
     survives = one.survives;
   })
+
+-- both of what holds of a value
+pub both_ok : {A E : Type 0} (P Q : A → Type 0) (r : Result A E) → IfOk r P → IfOk r Q → IfOk r (λ x. P x × Q x)
+both_ok P Q (Ok x) one two = (one, two)
+both_ok P Q (Err e) one two = tt
+
+-- what look-ups found is made into something else, unless memory runs out
+pub made_after : {S A B : Type 0} {g : Ghosts S} {old new : Held S} {Answer : Machine → A → Type 0} {Other : Machine → B → Type 0} {x : A} → Finds g Answer old new (Ok x) → (r : Result B StoreFault)
+    → IfOk r (λ y. (machine : Machine) → IsConsistent machine → Answer machine x → Other machine y) → IfErr r (λ fault. fault ≡ Memory) → Finds g Other old new r
+made_after one (Ok y) makes full = finds_from one makes
+made_after one (Err fault) makes full = lacks_memory one (ap Err full)
 
 -- nothing is asked
 pub finds_unasked : {S A : Type 0} {g : Ghosts S} {old : Held S} {Answer : Machine → A → Type 0} {x : A}
@@ -149,8 +161,8 @@ module _ {S A : Type 0} {g : Ghosts S} {old mid : Held S} {First : Machine → A
       survives_then (state g old) (state g mid) (state g new) _ _ _ (λ clean db other. other)
       (λ clean db other office. other (stays-schema g old mid (one.same (before clean) office) office)) one.survives later
 
-  later_fault : (new : Held S) (e : Error) → StaysAs g old mid → FailsToFind g mid new e → FailsToFind g old new e
-  later_fault new e stays later = (later.0, stays_then g old mid later.0 stays later.1, later.2)
+  later_fault : (new : Held S) (e : StoreFault) → StaysAs g old mid → FailsToFind g mid new e → FailsToFind g old new e
+  later_fault new e stays later = (later.0, later.1, stays_then g old mid later.0 stays later.2, later.3)
 
   -- the others succeed too
   pub finds_then : {B C : Type 0} {new : Held S} {Second : Machine → B → Type 0} {Both : Machine → C → Type 0} {y : B} {z : C}
@@ -176,9 +188,9 @@ module _ {S A : Type 0} {g : Ghosts S} {old mid : Held S} {First : Machine → A
   finds_both two = finds_then two (λ machine sound first second. (first, second))
 
   -- one of the others fails
-  pub then_fails : {B C : Type 0} {new : Held S} {Second : Machine → B → Type 0} {Both : Machine → C → Type 0} {e : Error} {r : Result C Error}
+  pub then_fails : {B C : Type 0} {new : Held S} {Second : Machine → B → Type 0} {Both : Machine → C → Type 0} {e : StoreFault} {r : Result C StoreFault}
       → Finds g Second mid new (Err e) → r ≡ Err e → Finds g Both old new r
-  then_fails {C = C} {new} {Both = Both} {e} two is = subst (λ (r : Result C Error). Finds g Both old new r) (sym is) (
+  then_fails {C = C} {new} {Both = Both} {e} two is = subst (λ (r : Result C StoreFault). Finds g Both old new r) (sym is) (
       let before : HasCleanDisk (state g new) → HasCleanDisk (state g mid) = λ clean. omega (arith, two.survives.clean, clean) in
       record {
         value = λ clean office. tt;

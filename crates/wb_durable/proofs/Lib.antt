@@ -14,6 +14,7 @@ pub mod NumberedLemmas
 pub mod OpeningLemmas
 pub mod PreparingLemmas
 pub mod SoughtLemmas
+pub mod StaysLemmas
 pub mod StepOfLemmas
 pub mod TurnLemmas
 pub mod WriteLemmas

@@ -21,7 +21,8 @@ use Rattle.wb_durable.specs.Answers.{AreParts, IsLeft, IsUncommitted, KeepsMerge
 use Rattle.wb_durable.specs.MergeCarried.{CarriesMerge}
 use Rattle.wb_durable.specs.MergeWritten.{IsMergeIn}
 use Rattle.wb_durable.specs.Opening.{AreCountsOf}
-use Rattle.wb_durable.proofs.AnswerLemmas.{counts_at, was_clean}
+use Rattle.wb_durable.proofs.AnswerLemmas.{counts_at}
+use Rattle.wb_durable.proofs.StaysLemmas.{was_clean}
 use Rattle.wb_durable.proofs.MergeRecordLemmas.{merged_whole}
 
 module _ {S : Type 0} (g : Ghosts S) (sources : List ℕ) (parts : List Part) (old new : Held S) (before part after : Machine) where

@@ -2,8 +2,6 @@
 use Rattle.std.proofs.Common.{◌≡◌, inl, inr, refl, sym, subst, arith, true, false, if◌then◌else◌, [], Result, Ok, Err, OnOk, IfErr, ℕ, List}
 use Rattle.sqlite_trees.specs.declared.store.Store.{Ghosts}
 use Rattle.sqlite.specs.declared.error.Error.{Error}
-use Rattle.sqlite.specs.declared.error.Error.TheVariants.{SqliteFailure}
-use Rattle.sqlite.specs.declared.error.ErrorCode.TheVariants.{OutOfMemory}
 use Rattle.sqlite.specs.Tree.{Trees}
 use Rattle.sqlite.specs.Held.{Held, state}
 use Rattle.sqlite.specs.State.{HasCleanDisk, IsRolledBack, Executes, Survives}
@@ -14,10 +12,14 @@ use Rattle.wb_sql.specs.declared.writing.CommitError.TheVariants as commit
 use Rattle.wb_sql.specs.Transactions.{rollback_text, cause_of, FailsToCommit, LeavesNoMore}
 use Rattle.wb_states.specs.declared.command.Part.{Part}
 use Rattle.wb_states.specs.Forms.{Merge}
+use Rattle.wb_states.specs.declared.store_fault.StoreFault.{StoreFault}
+use Rattle.wb_states.specs.declared.store_fault.StoreFault.TheVariants.{Memory}
+use Rattle.wb_states.specs.declared.store_fault.Table.TheVariants.{Office}
 use Rattle.wb_states.specs.Machine.{Machine}
 use Rattle.wb_office.specs.Step.{step}
 use Rattle.wb_tables.specs.Stands.{StandsFor}
 use Rattle.wb_tables.specs.Calls.{Becomes}
+use Rattle.wb_tables.specs.Faults.{fault_of}
 use Rattle.wb_tables.specs.Settled.{IsSettled, IsUnderWay, SettlesBy, TakesBack}
 use Rattle.wb_tables.proofs.OthersLemmas.{others_still}
 use Rattle.wb_tables.proofs.SettledLemmas.{begins, office_stands}
@@ -34,7 +36,7 @@ module _ {S : Type 0} (g : Ghosts S) (sources : List ℕ) (parts : List Part) (b
   abbrev Settled : Machine → Type 0
   Settled whole = IsSettled whole (state g old)
 
-  abbrev WhyNot : Machine → Error → Type 0
+  abbrev WhyNot : Machine → StoreFault → Type 0
   WhyNot whole e = FailsToMerge g after (step whole (Merge sources parts)).1 old e
 
   -- ---- the start
@@ -47,7 +49,7 @@ module _ {S : Type 0} (g : Ghosts S) (sources : List ℕ) (parts : List Part) (b
 
   -- ---- the end of a transaction that is not committed
 
-  ends_for : {A : Type 0} (whole : Machine) (at new : Held S) (e : Error) (ended : Result A Error) → WhyNot whole e → OnOk ended (IsRolledBack (state g at) (state g new))
+  ends_for : {A : Type 0} (whole : Machine) (at new : Held S) (e : StoreFault) (ended : Result A Error) → WhyNot whole e → OnOk ended (IsRolledBack (state g at) (state g new))
       → IfErr ended (λ why. Executes rollback_text [] (state g at) (state g new) (Err why)) → MergeEndsFor g after (step whole (Merge sources parts)).1 old new (failure_of e ended)
   ends_for whole at new e (Ok x) why rolled failed = (why, (at, inl rolled))
   ends_for whole at new e (Err told) why rolled failed =
@@ -57,7 +59,7 @@ module _ {S : Type 0} (g : Ghosts S) (sources : List ℕ) (parts : List Part) (b
       ]) refl
 
   -- a transaction that failed is taken back
-  pub merges_not : {A B : Type 0} (at new : Held S) (e : Error) (ended : Result A Error) (r : CarryError) → r ≡ failure_of e ended
+  pub merges_not : {A B : Type 0} (at new : Held S) (e : StoreFault) (ended : Result A Error) (r : CarryError) → r ≡ failure_of e ended
       → (HasCleanDisk (state g at) → (whole : Machine) → Settled whole → IsMergeIn whole sources parts before after → WhyNot whole e)
       → (HasCleanDisk (state g at) → (whole : Machine) → Settled whole → IsMergeIn whole sources parts before after → IsLeftOrBack g whole at)
       → Survives (state g (begun old)) (state g at) (HoldsMerge g sources parts before after old)
@@ -82,7 +84,7 @@ module _ {S : Type 0} (g : Ghosts S) (sources : List ℕ) (parts : List Part) (b
 
   -- ---- the change fails
 
-  module _ {B : Type 0} (mid : Held S) (e : Error) (change : WritesMerge {A = B} g parts before after (begun old) mid (Err e)) where
+  module _ {B : Type 0} (mid : Held S) (e : StoreFault) (change : WritesMerge {A = B} g parts before after (begun old) mid (Err e)) where
     pub change_why : HasCleanDisk (state g mid) → (whole : Machine) → Settled whole → IsMergeIn whole sources parts before after → WhyNot whole e
     change_why clean whole settled made = inl (mid, change.cause clean refl whole (stands_at_start settled))
 
@@ -123,8 +125,8 @@ module _ {S : Type 0} (g : Ghosts S) (sources : List ℕ) (parts : List Part) (b
         (λ clean db is. holds_step (cleaner clean) db is) change.survives survives
 
     -- the commit failed with this error
-    failed_at : {whole : Machine} (e : CommitError) → r ≡ Err e → HasCleanDisk (state g at) → Settled whole → IsMergeIn whole sources parts before after → FailsAtCommit g (step whole (Merge sources parts)).1 old (cause_of e)
-    failed_at e is clean settled made = (mid, (written (cleaner clean) settled made, subst (λ r. IfErr r (λ e. FailsToCommit g mid (cause_of e))) is (cause clean)))
+    failed_at : {whole : Machine} (e : CommitError) → r ≡ Err e → HasCleanDisk (state g at) → Settled whole → IsMergeIn whole sources parts before after → FailsAtCommit g (step whole (Merge sources parts)).1 old (fault_of (cause_of e) Office)
+    failed_at e is clean settled made = (mid, (written (cleaner clean) settled made, (cause_of e, subst (λ r. IfErr r (λ e. FailsToCommit g mid (cause_of e))) is (cause clean), refl)))
 
     -- the commit was made
     pub merges_it : {C : Type 0} {y : A} {z : C} → r ≡ Ok y → CarriesMerge {A = C} g sources parts before after old at (Ok z)
@@ -140,7 +142,7 @@ module _ {S : Type 0} (g : Ghosts S) (sources : List ℕ) (parts : List Part) (b
     }
 
     -- the commit is in doubt
-    pub merges_in_doubt : {C : Type 0} (e : Error) → r ≡ Err (commit.InDoubt e) → CarriesMerge {A = C} g sources parts before after old at (Err (InDoubt e))
+    pub merges_in_doubt : {C : Type 0} (e : Error) → r ≡ Err (commit.InDoubt e) → CarriesMerge {A = C} g sources parts before after old at (Err (InDoubt (fault_of e Office)))
     merges_in_doubt e is = record {
       ok = λ clean whole settled made. tt;
       err = λ clean whole settled made. settles.crash clean whole (step whole (Merge sources parts)).1 (under_way (cleaner clean) settled made);
@@ -151,7 +153,7 @@ module _ {S : Type 0} (g : Ghosts S) (sources : List ℕ) (parts : List Part) (b
 
     -- memory ran out for the commit
     module _ (is : r ≡ Err commit.Memory) where
-      pub memory_why : HasCleanDisk (state g at) → (whole : Machine) → Settled whole → IsMergeIn whole sources parts before after → WhyNot whole (SqliteFailure OutOfMemory)
+      pub memory_why : HasCleanDisk (state g at) → (whole : Machine) → Settled whole → IsMergeIn whole sources parts before after → WhyNot whole Memory
       memory_why clean whole settled made = inr (failed_at commit.Memory is clean settled made)
 
       pub memory_way : HasCleanDisk (state g at) → (whole : Machine) → Settled whole → IsMergeIn whole sources parts before after → IsLeftOrBack g whole at

@@ -3,22 +3,25 @@ use Rattle.std.proofs.Common.{◌≡◌, inr, sym, subst, ℕ, ◌+◌, ◌<◌,
 use Rattle.std.proofs.lemmas.List.{drop_all}
 use Rattle.std.specs.Prelude.{⊤}
 use Rattle.sqlite_trees.specs.declared.store.Store.{Ghosts}
-use Rattle.sqlite.specs.declared.error.Error.{Error}
 use Rattle.sqlite.specs.Held.{Held, state}
 use Rattle.sqlite.specs.State.{HasCleanDisk}
+use Rattle.wb_sql.proofs.CallLemmas.{on_ok}
 use Rattle.wb_states.specs.declared.command.Part.{Part}
 use Rattle.wb_states.specs.declared.counts.Counts.{Counts}
+use Rattle.wb_states.specs.declared.store_fault.StoreFault.{StoreFault}
+use Rattle.wb_states.specs.declared.store_fault.Table.TheVariants.{Office}
 use Rattle.wb_states.specs.Machine.{Machine}
 use Rattle.wb_store.specs.declared.keyed.KeyedRecord.{KeyedRecord}
 use Rattle.wb_store.specs.Lookups.{entry_of}
 use Rattle.wb_tables.specs.Stands.{StandsFor}
 use Rattle.wb_tables.specs.Calls.{Becomes, Changes}
-use Rattle.wb_tables.specs.Lookups.{IsReadFault}
+use Rattle.wb_tables.specs.Faults.{IsUnfit}
 use Rattle.wb_durable.specs.Changed.{HasFittingCounts}
 use Rattle.wb_durable.specs.MergeWritten.{CannotBeWritten, HasTakeOverLimit, WritesMerge, entries_changed, entries_gone, with_arch, with_parts}
 use Rattle.wb_durable.specs.Turns.{ChangesInTurn}
 use Rattle.wb_durable.proofs.MergeRecordLemmas.{changed_kept, merged_whole}
-use Rattle.wb_durable.proofs.TurnLemmas.{comes_becomes, comes_stands, failed_alike, for_more, no_change, not_made, on_ok, one_change, then_changes}
+use Rattle.wb_durable.proofs.TurnLemmas.{failed_alike, for_more, no_change, not_made, one_change, then_changes}
+use Rattle.wb_durable.proofs.WriteLemmas.{becomes_then, reached_stands}
 use Rattle.wb_durable.proofs.WrittenRowLemmas.{having, left_of, without}
 
 -- an office with what differs of an architecture
@@ -34,12 +37,12 @@ abbrev pub counts_written : Machine → Machine → Machine
 counts_written after machine = record machine { handed = after.handed; accepted = after.accepted }
 
 module _ {S : Type 0} (g : Ghosts S) (before after : Machine) where
-  over_limit : (arch : List ℕ) (e : Error) → HasTakeOverLimit (entries_changed before after arch) e → CannotBeWritten after e
-  over_limit arch e why = inr (why.0, λ within. why.1 (λ entry h. within.takes entry.0 entry.1 (changed_kept before after arch entry h)))
+  over_limit : (arch : List ℕ) (e : StoreFault) → HasTakeOverLimit (entries_changed before after arch) e → CannotBeWritten after e
+  over_limit arch e why = inr (inr (why.0, λ fit. why.1 (λ entry h. fit entry.0 entry.1 (changed_kept before after arch entry h))))
 
   -- what differs of an architecture
   pub writes_arch : (arch : List ℕ) (gone changed : List KeyedRecord) → each entry_of gone ≡ entries_gone before after arch → each entry_of changed ≡ entries_changed before after arch
-      → {old mid new : Held S} (x : Unit {0}) (r : Result (Unit {0}) Error) → ChangesInTurn g (λ _. ⊥) (without (each entry_of gone)) old mid (Ok x)
+      → {old mid new : Held S} (x : Unit {0}) (r : Result (Unit {0}) StoreFault) → ChangesInTurn g (λ _. ⊥) (without (each entry_of gone)) old mid (Ok x)
       → ChangesInTurn g (HasTakeOverLimit (each entry_of changed)) (having (each entry_of changed)) mid new r
       → ChangesInTurn g (CannotBeWritten after) (arch_written before after arch) old new r
   writes_arch arch gone changed gone_is changed_is {old = old} {mid = mid} {new = new} x r one two =
@@ -47,14 +50,14 @@ module _ {S : Type 0} (g : Ghosts S) (before after : Machine) where
       (for_more g (Ok x) (λ e none. absurd none) (subst (λ entries. ChangesInTurn g (λ _. ⊥) (without entries) old mid (Ok x)) gone_is one))
       (for_more g r (over_limit arch) (subst (λ entries. ChangesInTurn g (HasTakeOverLimit entries) (having entries) mid new r) changed_is two))
 
-  pub fails_arch : (arch : List ℕ) (gone : List KeyedRecord) {old new : Held S} (e : Error) → ChangesInTurn {A = Unit {0}} g (λ _. ⊥) (without (each entry_of gone)) old new (Err e)
+  pub fails_arch : (arch : List ℕ) (gone : List KeyedRecord) {old new : Held S} (e : StoreFault) → ChangesInTurn {A = Unit {0}} g (λ _. ⊥) (without (each entry_of gone)) old new (Err e)
       → ChangesInTurn {A = Unit {0}} g (CannotBeWritten after) (arch_written before after arch) old new (Err e)
   fails_arch arch gone e h = failed_alike g e (for_more g (Err e) (λ e none. absurd none) h)
 
   -- the parts, one after another
   pub parts_next : (parts : List Part) (at : ℕ) (part : Part) → at < length parts → part ≡ get_or parts at part
       → {old mid : Held S} (x : Unit {0}) → ChangesInTurn g (CannotBeWritten after) (arch_written before after part.arch) old mid (Ok x)
-      → (new : Held S) (r : Result (Unit {0}) Error) → ChangesInTurn g (CannotBeWritten after) (parts_written before after (drop (at + 1) parts)) mid new r
+      → (new : Held S) (r : Result (Unit {0}) StoreFault) → ChangesInTurn g (CannotBeWritten after) (parts_written before after (drop (at + 1) parts)) mid new r
       → ChangesInTurn g (CannotBeWritten after) (parts_written before after (drop at parts)) old new r
   parts_next parts at part within is {old = old} x made new r later =
       subst (λ (rest : List Part). ChangesInTurn g (CannotBeWritten after) (parts_written before after rest) old new r) (sym (left_of parts at part within is))
@@ -65,12 +68,12 @@ module _ {S : Type 0} (g : Ghosts S) (before after : Machine) where
       subst (λ (rest : List Part). ChangesInTurn g (CannotBeWritten after) (parts_written before after rest) held held (Ok (tt {0}))) (sym (drop_all at parts past)) (no_change g (tt {0}))
 
   -- a merge of which a part could not be written
-  pub merge_stops : (parts : List Part) {old new : Held S} {machines : Machine → Machine} (e : Error) → ChangesInTurn {A = Unit {0}} g (CannotBeWritten after) machines old new (Err e)
+  pub merge_stops : (parts : List Part) {old new : Held S} {machines : Machine → Machine} (e : StoreFault) → ChangesInTurn {A = Unit {0}} g (CannotBeWritten after) machines old new (Err e)
       → WritesMerge {A = Unit {0}} g parts before after old new (Err e)
   merge_stops parts e h = record { ok = λ clean. tt; cause = h.cause; err = h.err; survives = h.survives }
 
   -- the parts, and then the counts
-  pub merge_writes : (parts : List Part) {old mid new : Held S} (x : Unit {0}) (r : Result (Unit {0}) Error)
+  pub merge_writes : (parts : List Part) {old mid new : Held S} (x : Unit {0}) (r : Result (Unit {0}) StoreFault)
       → ChangesInTurn g (CannotBeWritten after) (parts_written before after parts) old mid (Ok x)
       → ChangesInTurn g (CannotBeWritten after) (counts_written after) mid new r
       → (HasCleanDisk (state g new) → OnOk r ((machine : Machine) → StandsFor machine (state g mid).now → Becomes (counts_written after machine) (state g mid) (state g new)))
@@ -82,27 +85,23 @@ module _ {S : Type 0} (g : Ghosts S) (before after : Machine) where
             (λ becomes whole sources stands h.
             let comes = one.ok (omega (arith, two.survives.clean, clean)) whole stands in
             subst (λ (machine : Machine). Becomes machine (state g old) (state g new)) (merged_whole h)
-            (comes_becomes g old mid new comes (becomes (parts_written before after parts whole) (comes_stands g old mid comes)))) (made clean);
+            (becomes_then g old mid new comes (becomes (parts_written before after parts whole) (reached_stands g old mid comes)))) (made clean);
         cause = both.cause;
         err = both.err;
         survives = both.survives;
       }
 
   -- the parts, and then these counts
-  pub merge_counts : (parts : List Part) {old mid new : Held S} (counts : Counts) → (counts.handed ≡ after.handed) × (counts.accepted ≡ after.accepted) → (x : Unit {0}) (r : Result (Unit {0}) Error)
+  pub merge_counts : (parts : List Part) {old mid new : Held S} (counts : Counts) → (counts.handed ≡ after.handed) × (counts.accepted ≡ after.accepted) → (x : Unit {0}) (r : Result (Unit {0}) StoreFault)
       → ChangesInTurn g (CannotBeWritten after) (parts_written before after parts) old mid (Ok x)
-      → Changes g (λ _. ⊤) (λ machine. record machine { handed = counts.handed; accepted = counts.accepted }) mid new r
+      → Changes g Office (λ _. ⊤) (λ machine. record machine { handed = counts.handed; accepted = counts.accepted }) mid new r
       → WritesMerge g parts before after old new r
   merge_counts parts {mid = mid} {new = new} counts same x r one set =
-      let two : Changes g (λ _. ⊤) (counts_written after) mid new r =
-      subst (λ (made : Machine → Machine). Changes g (λ _. ⊤) made mid new r) (λ i machine. record machine { handed = same.0 i; accepted = same.1 i }) set in
+      let two : Changes g Office (λ _. ⊤) (counts_written after) mid new r =
+      subst (λ (made : Machine → Machine). Changes g Office (λ _. ⊤) made mid new r) (λ i machine. record machine { handed = same.0 i; accepted = same.1 i }) set in
       merge_writes parts x r one (one_change g r two)
       (λ clean. on_ok {P = (machine : Machine) → StandsFor machine (state g mid).now → ⊤ → Becomes (counts_written after machine) (state g mid) (state g new)} r (λ makes machine stands. makes machine stands tt) (two.ok clean))
 
   -- the counts do not fit, or are not had
-  pub counts_stop : (parts : List Part) {held : Held S} (e : Error) → IsReadFault (HasFittingCounts after) e → WritesMerge {A = Unit {0}} g parts before after held held (Err e)
-  counts_stop parts {held = held} e why = merge_stops parts {machines = λ machine. machine} e (not_made g e (of_counts why))
-    where
-      of_counts : IsReadFault (HasFittingCounts after) e → CannotBeWritten after e
-      of_counts (inl full) = inl full
-      of_counts (inr high) = inr (high.0, λ within. high.1 within.counts)
+  pub counts_stop : (parts : List Part) {held : Held S} (e : StoreFault) → IsUnfit Office (HasFittingCounts after) e → WritesMerge {A = Unit {0}} g parts before after held held (Err e)
+  counts_stop parts {held = held} e why = merge_stops parts {machines = λ machine. machine} e (not_made g e (inl why))

@@ -1,69 +1,46 @@
 -- What tests of the office's tables, one after another, promise together, and what they leave of a settled connection.
-use Rattle.std.proofs.Common.{◌≡◌, inl, inr, true, false, ◌||◌, ℕ, List, [], ◌∷◌, Result, Ok, Err, Vec, refl, sym, ap, subst, ◌∙◌, arith}
+use Rattle.std.proofs.Common.{◌≡◌, inl, inr, true, false, ℕ, List, [], ◌∷◌, Result, Ok, Err, Vec, refl, sym, ap, subst, arith}
 use Rattle.std.specs.Bool.{⊤}
 use Rattle.std.specs.FinMap as finite
 use Rattle.std.proofs.lemmas.Bool.{both_ways}
 use Rattle.sqlite_trees.specs.declared.store.Store.{Ghosts}
 use Rattle.sqlite.specs.declared.error.Error.{Error}
-use Rattle.sqlite.specs.Tree.{Trees}
 use Rattle.sqlite.specs.Effect.{Database}
 use Rattle.sqlite.specs.Held.{Held, state}
 use Rattle.sqlite.specs.Order.{Row}
 use Rattle.sqlite.specs.Schema.{Schema}
-use Rattle.sqlite.specs.State.{State, HasCleanDisk, IsUnchanged, IsRolledBack, Survives}
+use Rattle.sqlite.specs.State.{State, HasCleanDisk, Survives}
 use Rattle.sqlite.proofs.StateLemmas.{survives_then}
 use Rattle.wb_sql.specs.Queries.{TableQuery}
-use Rattle.wb_sql.specs.Transactions.{IsKeptOrUndone, LeavesNoMore}
+use Rattle.wb_sql.specs.Transactions.{IsKeptOrUndone}
 use Rattle.wb_schema.specs.Statements as sql
 use Rattle.sqlite.specs.Table as stored
 use Rattle.wb_schema.specs.Among.{HasOffice, LacksOffice, rows_in}
 use Rattle.wb_schema.proofs.GrowthLemmas.{lacks_none}
-use Rattle.wb_schema.specs.Tables.{builder, scratch_source, scratch_binary, source_record}
+use Rattle.wb_schema.specs.Tables.{builder, source_record}
 use Rattle.wb_states.specs.declared.arch.OsCpu.{OsCpu}
 use Rattle.wb_states.specs.declared.counts.Counts.{Counts}
 use Rattle.wb_states.specs.declared.store_fault.StoreFault.{StoreFault}
 use Rattle.wb_states.specs.declared.store_fault.StoreFault.TheVariants.{Damaged, NotOffice}
 use Rattle.wb_states.specs.declared.store_fault.Table.{Table}
-use Rattle.wb_states.specs.declared.store_fault.Table.TheVariants.{Builder, Office, ScratchSource, SourceRecord}
+use Rattle.wb_states.specs.declared.store_fault.Table.TheVariants.{Builder, Office, ScratchBinary, ScratchSource, SourceRecord}
 use Rattle.wb_states.specs.Machine.{Key, Machine, empty_office}
 use Rattle.wb_office.proofs.ConsistencyLemmas.{IsConsistent-empty_office}
 use Rattle.wb_rows.specs.Cells.{builder_cells}
-use Rattle.wb_tables.specs.Calls.{FailsToRead}
 use Rattle.wb_tables.specs.Faults.{fault_of}
 use Rattle.wb_tables.specs.Opening.{AreBadRecords, AreBadRows, AreKept, FailsToTest, HasGoodRecords, HoldsBuilders, HoldsRecords, IsFormedBuilder, PassesWith, ShowsGood, Tests}
-use Rattle.wb_tables.specs.Scratch as scratch
-use Rattle.wb_tables.specs.Scratch.{FindsWhether, has_row, has_scratch_rows}
-use Rattle.wb_tables.specs.Settled.{IsBackAt, IsSettled}
+use Rattle.wb_tables.specs.Scratch.{TestsForRows, has_row, has_rows}
+use Rattle.wb_tables.specs.Settled.{IsSettled}
 use Rattle.wb_tables.specs.Stands.{StandsFor, builder_pairs}
-use Rattle.wb_tables.proofs.SettledLemmas.{goes_back_again, office_stands, settled_back, stays_back, stays_settled}
+use Rattle.wb_tables.specs.Texts.{table_of}
+use Rattle.wb_tables.proofs.SettledLemmas.{office_stands, settled_back}
 use Rattle.wb_durable.specs.Finds.{StaysAs}
-use Rattle.wb_durable.specs.Opening.{AreCountsOf, Checks, ChecksScratch, ChecksWith, FailsOnOffice, FindsOffice, HasGoodRowsWith, HasNoScratchRows, ShowsBuilders}
+use Rattle.wb_durable.specs.Opening.{AreCountsOf, Checks, ChecksScratch, ChecksScratchOf, ChecksWith, FailsOnOffice, FindsOffice, HasGoodRowsWith, HasNoScratchRows, ShowsBuilders}
 use Rattle.wb_durable.specs.Preparing.{LeavesFound, MakesEmptyOffice}
-use Rattle.wb_durable.proofs.FindsLemmas.{stays-schema, stays-stands, stays_then, unchanged_then}
+use Rattle.wb_durable.proofs.FindsLemmas.{stays-schema, stays-stands, stays_then}
+use Rattle.wb_durable.proofs.StaysLemmas.{back_by, no_more, stays_settled_as, undone_after, was_clean}
 
 -- ---- what one test promises
-
--- a clean disk was clean before
-was_clean : {P : Trees → Type 0} (old new : State) → Survives old new P → HasCleanDisk new → HasCleanDisk old
-was_clean old new survives clean = omega (arith, survives.clean, clean)
-
-rolled_back_then : (a b c : State) → IsUnchanged a b → IsRolledBack b c → IsRolledBack a c
-rolled_back_then a b c one two = record {
-  was_open = λ _. one.0.was_open;
-  undone = λ is_open. let u = two.undone is_open in (u.0 ∙ one.0.committed_is, u.1 ∙ one.0.committed_is);
-  autocommit = two.autocommit;
-  unmarked = two.unmarked;
-  counts = record { changes = two.counts.changes ∙ one.1.changes; last_rowid = two.counts.last_rowid ∙ one.1.last_rowid };
-}
-
-undone_then : (a b c : State) → IsUnchanged a b → IsKeptOrUndone b c → IsKeptOrUndone a c
-undone_then a b c kept (inl same) = inl (unchanged_then a b c kept same)
-undone_then a b c kept (inr undone) = inr (rolled_back_then a b c kept undone)
-
--- a failure after tests that left the database as it was changes nothing, or takes the transaction back
-undone_after : {S : Type 0} (g : Ghosts S) (old mid new : Held S) → StaysAs g old mid → IsKeptOrUndone (state g mid) (state g new) → IsKeptOrUndone (state g old) (state g new)
-undone_after g old mid new (inl same) failed = subst (λ h. IsKeptOrUndone (state g h) (state g new)) (sym same) failed
-undone_after g old mid new (inr kept) failed = undone_then (state g old) (state g mid) (state g new) kept failed
 
 -- what stays has the database that it had
 same_now : {S : Type 0} (g : Ghosts S) (old new : Held S) → StaysAs g old new → (state g new).now ≡ (state g old).now
@@ -72,7 +49,7 @@ same_now g old new (inr kept) = kept.0.now_is
 
 test_undone : (of : stored.Table) (q : TableQuery) (table : Table) (Bad : List Row → StoreFault → Type 0) (old new : State) (fault : StoreFault)
     → FailsToTest of q table Bad old new fault → IsKeptOrUndone old new
-test_undone of q table Bad old new fault (inl failed) = failed.1.1
+test_undone of q table Bad old new fault (inl failed) = failed.left
 test_undone of q table Bad old new fault (inr bad) = inl bad.0
 
 module _ {S : Type 0} {g : Ghosts S} {old new : Held S} where
@@ -137,56 +114,43 @@ no_row : {X : Type 0} (xs : List X) → has_row xs ≡ false → xs ≡ []
 no_row [] none = refl
 no_row (x ∷ xs) none = absurd (both_ways true none refl)
 
-neither_has_row : {X Y : Type 0} (xs : List X) (ys : List Y) → (has_row xs || has_row ys) ≡ false → (xs ≡ []) × (ys ≡ [])
-neither_has_row [] ys none = (refl, no_row ys none)
-neither_has_row (x ∷ xs) ys none = absurd (both_ways true none refl)
-
-has_no_row : {X Y : Type 0} (xs : List X) (ys : List Y) → xs ≡ [] → ys ≡ [] → (has_row xs || has_row ys) ≡ false
-has_no_row xs ys none nothing = ap (λ (l : List _). has_row l || has_row ys) none ∙ ap has_row nothing
-
-query_later : {S : Type 0} (g : Ghosts S) (old new : Held S) (e : Error) → scratch.FailsToTest g old new e
-    → (mid : Held S) × StaysAs g old mid × FailsToRead (state g mid) (state g new) e
-query_later g old new e (inl read) = (old, inl refl, read)
-query_later g old new e (inr later) = (later.0, inr later.1, later.2)
-
-module _ {S : Type 0} {g : Ghosts S} {old new : Held S} where
-  -- neither has a row
-  pub scratch_empty : {A : Type 0} {x : A} → FindsWhether g has_scratch_rows old new (Ok false) → ChecksScratch g old new (Ok x)
-  scratch_empty finds = record {
-    good = λ clean office. neither_has_row (rows_in (state g old).now scratch_source) (rows_in (state g old).now scratch_binary) (sym (finds.value clean office));
-    same = λ clean office. inr (finds.same clean office);
+module _ {S : Type 0} {g : Ghosts S} (table : Table) {old new : Held S} where
+  -- the table has no row
+  pub scratch_empty : {A : Type 0} {x : A} → TestsForRows g table old new (Ok false) → ChecksScratchOf g table old new (Ok x)
+  scratch_empty tests = record {
+    good = λ clean office. no_row (rows_in (state g old).now (table_of table)) (sym (tests.value clean office));
+    same = λ clean office. inr (tests.same clean office);
     err = λ clean office. tt;
     kept = λ clean office. tt;
     told = λ clean machine stands. tt;
     fails = λ clean. tt;
-    survives = finds.survives;
+    survives = tests.survives;
   }
 
-  -- one of them has a row
-  pub scratch_left : {A : Type 0} → FindsWhether g has_scratch_rows old new (Ok true) → ChecksScratch {A = A} g old new (Err (Damaged ScratchSource 1))
-  scratch_left finds = record {
+  -- it has one
+  pub scratch_left : {A : Type 0} → ((machine : Machine) → StandsFor machine (state g old).now → rows_in (state g old).now (table_of table) ≡ []) → TestsForRows g table old new (Ok true)
+      → ChecksScratchOf {A = A} g table old new (Err (Damaged table 1))
+  scratch_left empty tests = record {
     good = λ clean office. tt;
     same = λ clean office. tt;
-    err = λ clean office. (old, inl refl, inr (refl, sym (finds.value clean office), finds.same clean office));
-    kept = λ clean office. inl (finds.same clean office);
+    err = λ clean office. (old, inl refl, inr (refl, sym (tests.value clean office), tests.same clean office));
+    kept = λ clean office. inl (tests.same clean office);
     told = λ clean. tt;
     fails = λ clean machine consistent stands given.
-        absurd (both_ways (has_scratch_rows (state g old).now)
-        (has_no_row (rows_in (state g old).now scratch_source) (rows_in (state g old).now scratch_binary) stands.sources stands.binaries) (sym (finds.value clean stands.has)));
-    survives = finds.survives;
+        absurd (both_ways (has_rows table (state g old).now) (ap has_row (empty machine stands)) (sym (tests.value clean stands.has)));
+    survives = tests.survives;
   }
 
-  -- their query failed
-  pub scratch_unread : {A : Type 0} {e : Error} {fault : StoreFault} → fault ≡ fault_of e ScratchSource → FindsWhether g has_scratch_rows old new (Err e)
-      → ChecksScratch {A = A} g old new (Err fault)
-  scratch_unread {e = e} {fault} is finds = record {
+  -- its query failed
+  pub scratch_unread : {A : Type 0} {fault : StoreFault} → TestsForRows g table old new (Err fault) → ChecksScratchOf {A = A} g table old new (Err fault)
+  scratch_unread tests = record {
     good = λ clean office. tt;
     same = λ clean office. tt;
-    err = λ clean office. let f = query_later g old new e (finds.err clean office) in (f.0, f.1, inl (e, f.2, is));
-    kept = λ clean office. let f = query_later g old new e (finds.err clean office) in undone_after g old f.0 new f.1 f.2.1;
+    err = λ clean office. (old, inl refl, inl (tests.err clean office));
+    kept = λ clean office. (tests.err clean office).left;
     told = λ clean. tt;
-    fails = λ clean machine consistent stands given. let f = query_later g old new e (finds.err clean stands.has) in inr (f.0, f.1, (ScratchSource, (e, f.2, is)));
-    survives = finds.survives;
+    fails = λ clean machine consistent stands given. inr (old, inl refl, (table, tests.err clean stands.has));
+    survives = tests.survives;
   }
 
 -- ---- tests, one after another
@@ -281,20 +245,14 @@ module _ {S : Type 0} {g : Ghosts S} {old mid : Held S} {Good : Database → Typ
     survives = one.survives;
   }
 
+-- the tests of both scratch tables
+pub scratch_both : {S A B : Type 0} {g : Ghosts S} {old mid new : Held S} {x : A} → ChecksScratchOf g ScratchSource old mid (Ok x) → (r : Result B StoreFault) → ChecksScratchOf g ScratchBinary mid new r
+    → ChecksScratch g old new r
+scratch_both {g = g} {old = old} one (Ok y) two = all_passed (then_passed (then_passed (none_yet g old) one) two) (λ db good. (good.0.1, good.1)) (λ machine told. tt)
+scratch_both {g = g} {old = old} one (Err fault) two =
+    then_failed (then_passed (none_yet g old) one) two (λ machine told. tt) (λ at after good why. inr (good.1, why)) refl
+
 -- ---- the tests of a whole office
-
-module _ {S : Type 0} (g : Ghosts S) (old new : Held S) where
-  fewer : Survives (state g old) (state g new) (λ _. ¬ HasOffice old.schema) → HasOffice old.schema → HasCleanDisk (state g new) → LeavesNoMore (state g old) (state g new)
-  fewer survives same clean db may = elim (survives.crash clean db may) [ inl was ↦ was | inr other ↦ absurd (other same) ]
-
-  -- what stays as it was stays settled
-  stays_settled_as : {machine : Machine} → StaysAs g old new → LeavesNoMore (state g old) (state g new) → IsSettled machine (state g old) → IsSettled machine (state g new)
-  stays_settled_as {machine = machine} (inl same) less settled = subst (λ h. IsSettled machine (state g h)) same settled
-  stays_settled_as (inr kept) less settled = stays_settled (state g old) (state g new) kept less settled
-
-  back_by : {machine : Machine} → IsKeptOrUndone (state g old) (state g new) → LeavesNoMore (state g old) (state g new) → IsSettled machine (state g old) → IsBackAt machine (state g new)
-  back_by (inl same) less settled = stays_back (state g old) (state g new) same less (settled_back (state g old) settled)
-  back_by (inr undone) less settled = goes_back_again (state g old) (state g new) undone less (settled_back (state g old) settled)
 
 -- what the tests make of a settled connection
 module _ {S : Type 0} {g : Ghosts S} {old new : Held S} where
@@ -304,7 +262,7 @@ module _ {S : Type 0} {g : Ghosts S} {old new : Held S} where
     good = λ clean office. let good = h.good clean office in (good.0, good.1, h.same clean office);
     passes = λ clean machine consistent settled.
         let schema = settled.holds.stands.has in
-        (h.told clean machine (office_stands (state g old).now settled.holds), stays_settled_as g old new (h.same clean schema) (fewer g old new h.survives schema clean) settled);
+        (h.told clean machine (office_stands (state g old).now settled.holds), stays_settled_as g old new (h.same clean schema) (no_more g old new h.survives schema clean) settled);
     fails = λ clean machine consistent settled. tt;
     refuses = λ clean office. tt;
     survives = h.survives;
@@ -315,7 +273,7 @@ module _ {S : Type 0} {g : Ghosts S} {old new : Held S} where
     passes = λ clean machine consistent settled. tt;
     fails = λ clean machine consistent settled.
         let schema = settled.holds.stands.has in
-        (back_by g old new (h.kept clean schema) (fewer g old new h.survives schema clean) settled, h.fails clean machine consistent (office_stands (state g old).now settled.holds) tt);
+        (back_by g old new (h.kept clean schema) (no_more g old new h.survives schema clean) settled, h.fails clean machine consistent (office_stands (state g old).now settled.holds) tt);
     refuses = h.err;
     survives = h.survives;
   }

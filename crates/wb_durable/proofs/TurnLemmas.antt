@@ -1,93 +1,42 @@
 -- Changes of the office's tables, one after another.
-use Rattle.std.proofs.Common.{◌⊎◌, inl, inr, Result, Ok, Err, OnOk, OnErr, IfErr, IsTrue, refl, sym, ap, subst, ◌∙◌, arith}
+use Rattle.std.proofs.Common.{◌⊎◌, inl, inr, Result, Ok, Err, refl, sym, subst, arith}
 use Rattle.std.specs.Prelude.{⊤}
 use Rattle.sqlite_trees.specs.declared.store.Store.{Ghosts}
-use Rattle.sqlite.specs.declared.error.Error.{Error}
-use Rattle.sqlite.specs.Effect.{Database}
 use Rattle.sqlite.specs.Held.{Held, state}
 use Rattle.sqlite.specs.State.{HasCleanDisk, Survives}
 use Rattle.sqlite.proofs.StateLemmas.{survives_then, survives_weaker}
 use Rattle.wb_sql.specs.Transactions.{LeavesNoMore}
+use Rattle.wb_sql.proofs.CallLemmas.{on_ok}
+use Rattle.wb_states.specs.declared.store_fault.StoreFault.{StoreFault}
+use Rattle.wb_states.specs.declared.store_fault.Table.{Table}
 use Rattle.wb_states.specs.Machine.{Machine}
 use Rattle.wb_tables.specs.Stands.{StandsFor}
 use Rattle.wb_tables.specs.Calls.{Becomes, Changes, FailsToWrite}
-use Rattle.wb_tables.specs.Settled.{IsOffice, IsUnderWay, IsBackAt}
-use Rattle.wb_tables.proofs.OthersLemmas.{others_then}
+use Rattle.wb_tables.specs.Settled.{IsUnderWay, IsBackAt}
 use Rattle.wb_tables.proofs.SettledLemmas.{not_changed}
-use Rattle.wb_durable.specs.Changed.{Reaches}
-use Rattle.wb_durable.specs.Turns.{FailsToGoOn, StopsWith, IsNoOffice, ChangesInTurn}
-
-pub on_ok : {E A P Q : Type 0} (r : Result A E) → (P → Q) → OnOk r P → OnOk r Q
-on_ok (Ok x) follows h = follows h
-on_ok (Err e) follows h = tt
-
-on_err : {E A P Q : Type 0} (r : Result A E) → (P → Q) → OnErr r P → OnErr r Q
-on_err (Ok x) follows h = tt
-on_err (Err e) follows h = follows h
-
-if_err : {E A : Type 0} {P Q : E → Type 0} (r : Result A E) → ((e : E) → P e → Q e) → IfErr r P → IfErr r Q
-if_err (Ok x) follows h = tt
-if_err (Err e) follows h = follows e h
+use Rattle.wb_durable.specs.Changed.{FailsAtOnce, Reaches}
+use Rattle.wb_durable.specs.Turns.{StopsWith, IsNoOffice, ChangesInTurn}
+use Rattle.wb_durable.proofs.WriteLemmas.{becomes_then, if_err, on_err, reached_inside, reached_stands, reached_way, survives_itself}
 
 module _ {S : Type 0} (g : Ghosts S) where
   -- ---- what the database comes to
-
-  pub comes_stands : {machine : Machine} (old new : Held S) → Reaches g machine old new → StandsFor machine (state g new).now
-  comes_stands old new (inl nothing) = nothing.1
-  comes_stands old new (inr made) = made.stands
-
-  pub comes_becomes : {between machine : Machine} (old mid new : Held S) → Reaches g between old mid → Becomes machine (state g mid) (state g new) → Becomes machine (state g old) (state g new)
-  comes_becomes {machine = machine} old mid new (inl nothing) two = subst (λ held. Becomes machine (state g held) (state g new)) (sym nothing.0) two
-  comes_becomes old mid new (inr one) two = record {
-    stands = two.stands;
-    shown = record { was_open = one.shown.was_open; is_open = two.shown.is_open; now_is = refl; committed_is = two.shown.committed_is ∙ one.shown.committed_is; mode = two.shown.mode };
-    schema_is = two.schema_is ∙ one.schema_is;
-    marks = two.marks ∙ one.marks;
-    others = others_then (state g old).now (state g mid).now (state g new).now one.others two.others;
-  }
 
   comes_then : {between machine : Machine} (old mid new : Held S) → Reaches g between old mid → Reaches g machine mid new → Reaches g machine old new
   comes_then {machine = machine} old mid new (inl nothing) two = subst (λ held. Reaches g machine held new) (sym nothing.0) two
   comes_then {machine = machine} old mid new (inr one) (inl nothing) =
       inr (subst (λ held. Becomes machine (state g old) (state g held)) nothing.0 (record { stands = subst (λ (held : Held S). StandsFor machine (state g held).now) (sym nothing.0) nothing.1; shown = one.shown; schema_is = one.schema_is; marks = one.marks; others = one.others }))
-  comes_then old mid new (inr one) (inr two) = inr (comes_becomes old mid new (inr one) two)
-
-  comes_inside : {machine : Machine} (old new : Held S) → Reaches g machine old new → IsTrue old.in_transaction → IsTrue new.in_transaction
-  comes_inside old new (inl nothing) inside = subst (λ (held : Held S). IsTrue held.in_transaction) nothing.0 inside
-  comes_inside old new (inr made) inside = made.shown.mode
-
-  comes_under_way : {before now machine : Machine} (old new : Held S) → Reaches g machine old new → LeavesNoMore (state g old) (state g new) → IsUnderWay before now (state g old) → IsUnderWay before machine (state g new)
-  comes_under_way {before = before} {now = now} old new (inl nothing) fewer way =
-      let there : IsUnderWay before now (state g new) = subst (λ (held : Held S). IsUnderWay before now (state g held)) nothing.0 way in
-      record { is_open = there.is_open; inside = there.inside; stands = nothing.1; began = there.began; alone = there.alone }
-  comes_under_way {before = before} old new (inr made) fewer way = record {
-    is_open = made.shown.is_open;
-    inside = made.shown.mode;
-    stands = made.stands;
-    began = subst (IsOffice before) (sym made.shown.committed_is) way.began;
-    alone = λ db may. way.alone db (fewer db may) ∙ ap (λ (d : Database). d.trees) (sym made.shown.committed_is);
-  }
+  comes_then old mid new (inr one) (inr two) = inr (becomes_then g old mid new (inr one) two)
 
   fewer_for : {machine : Machine} (old new : Held S) → Survives (state g old) (state g new) (λ _. IsNoOffice g old) → StandsFor machine (state g old).now → HasCleanDisk (state g new) → LeavesNoMore (state g old) (state g new)
   fewer_for {machine = machine} old new survives stands clean db may = elim (survives.crash clean db may) [ inl was ↦ was | inr none ↦ absurd (none machine stands) ]
 
-  survives_itself : (held : Held S) → Survives (state g held) (state g held) (λ _. IsNoOffice g held)
-  survives_itself held = record {
-    clean = omega arith;
-    shield = λ is. is;
-    counts = omega arith;
-    limit = refl;
-    closes = λ clean is_open. inl is_open;
-    crash = λ clean db may. inl may;
-  }
-
   -- ---- one change, and none
 
   -- one change of the tables
-  pub one_change : {A : Type 0} {Why : Error → Type 0} {after : Machine → Machine} {old new : Held S} (r : Result A Error) → Changes g (λ _. ⊤) after old new r → ChangesInTurn g Why after old new r
-  one_change {after = after} {old = old} {new = new} r h = record {
+  pub one_change : {A : Type 0} {table : Table} {Why : StoreFault → Type 0} {after : Machine → Machine} {old new : Held S} (r : Result A StoreFault) → Changes g table (λ _. ⊤) after old new r → ChangesInTurn g Why after old new r
+  one_change {table = table} {after = after} {old = old} {new = new} r h = record {
     ok = λ clean. on_ok {P = (machine : Machine) → StandsFor machine (state g old).now → ⊤ → Becomes (after machine) (state g old) (state g new)} r (λ makes machine stands. inr (makes machine stands tt)) (h.ok clean);
-    cause = λ clean inside machine stands. if_err {P = FailsToWrite (state g old) (state g new)} r (λ e failed. (machine, old, inl (refl, stands), inl failed)) (h.err clean inside);
+    cause = λ clean inside machine stands. if_err {P = FailsToWrite table (state g old) (state g new)} r (λ e failed. (machine, old, inl (refl, stands), inl (table, failed))) (h.err clean inside);
     err = λ clean before now way. on_err {P = IsUnderWay before now (state g new) ⊎ IsBackAt before (state g new)} r
         (λ left. elim left [ inl there ↦ inl (now, there) | inr back ↦ inr back ]) (not_changed g old new r h clean way);
     survives = survives_weaker (state g old) (state g new) _ _ (λ clean db other machine stands. other stands.has) h.survives;
@@ -95,46 +44,46 @@ module _ {S : Type 0} (g : Ghosts S) where
 
   -- ---- several
 
-  module _ {A B : Type 0} {Why : Error → Type 0} {first second : Machine → Machine} {old mid new : Held S} where
-    pub then_changes : (x : A) (r : Result B Error) → ChangesInTurn g Why first old mid (Ok x) → ChangesInTurn g Why second mid new r
+  module _ {A B : Type 0} {Why : StoreFault → Type 0} {first second : Machine → Machine} {old mid new : Held S} where
+    pub then_changes : (x : A) (r : Result B StoreFault) → ChangesInTurn g Why first old mid (Ok x) → ChangesInTurn g Why second mid new r
         → ChangesInTurn g Why (λ machine. second (first machine)) old new r
     then_changes x r one two =
         let before : HasCleanDisk (state g new) → HasCleanDisk (state g mid) = λ clean. omega (arith, two.survives.clean, clean) in
         record {
           ok = λ clean. on_ok {P = (machine : Machine) → StandsFor machine (state g mid).now → Reaches g (second machine) mid new} r (λ makes machine stands.
               let made = one.ok (before clean) machine stands in
-              comes_then old mid new made (makes (first machine) (comes_stands old mid made))) (two.ok clean);
+              comes_then old mid new made (makes (first machine) (reached_stands g old mid made))) (two.ok clean);
           cause = λ clean inside machine stands.
               let made = one.ok (before clean) machine stands in
               if_err {P = StopsWith g Why mid new} r (λ e stops. (stops.0, stops.1, comes_then old mid stops.1 made stops.2, stops.3))
-              (two.cause clean (comes_inside old mid made inside) (first machine) (comes_stands old mid made));
+              (two.cause clean (reached_inside g old mid made inside) (first machine) (reached_stands g old mid made));
           err = λ clean begin now way.
               let made = one.ok (before clean) now way.stands in
-              two.err clean begin (first now) (comes_under_way old mid made (fewer_for old mid one.survives way.stands (before clean)) way);
+              two.err clean begin (first now) (reached_way g old mid made (fewer_for old mid one.survives way.stands (before clean)) way);
           survives = survives_then (state g old) (state g mid) (state g new) _ _ _ (λ clean db other. other)
-              (λ clean db other machine stands. other (first machine) (comes_stands old mid (one.ok (before clean) machine stands))) one.survives two.survives;
+              (λ clean db other machine stands. other (first machine) (reached_stands g old mid (one.ok (before clean) machine stands))) one.survives two.survives;
         }
 
   -- nothing was to be changed
-  pub no_change : {A : Type 0} {Why : Error → Type 0} {held : Held S} (x : A) → ChangesInTurn g Why (λ machine. machine) held held (Ok x)
+  pub no_change : {A : Type 0} {Why : StoreFault → Type 0} {held : Held S} (x : A) → ChangesInTurn g Why (λ machine. machine) held held (Ok x)
   no_change {held = held} x = record {
     ok = λ clean machine stands. inl (refl, stands);
     cause = λ clean inside machine stands. tt;
     err = λ clean before now way. tt;
-    survives = survives_itself held;
+    survives = survives_itself (state g held);
   }
 
   -- a change was not made for a reason
-  pub not_made : {A : Type 0} {Why : Error → Type 0} {after : Machine → Machine} {held : Held S} (e : Error) → Why e → ChangesInTurn {A = A} g Why after held held (Err e)
+  pub not_made : {A : Type 0} {Why : StoreFault → Type 0} {after : Machine → Machine} {held : Held S} (e : StoreFault) → Why e → ChangesInTurn {A = A} g Why after held held (Err e)
   not_made {held = held} e why = record {
     ok = λ clean. tt;
     cause = λ clean inside machine stands. (machine, held, inl (refl, stands), inr (why, refl));
     err = λ clean before now way. inl (now, way);
-    survives = survives_itself held;
+    survives = survives_itself (state g held);
   }
 
   -- changes that fail for fewer reasons
-  pub for_more : {A : Type 0} {Why More : Error → Type 0} {after : Machine → Machine} {old new : Held S} (r : Result A Error) → ((e : Error) → Why e → More e) → ChangesInTurn g Why after old new r → ChangesInTurn g More after old new r
+  pub for_more : {A : Type 0} {Why More : StoreFault → Type 0} {after : Machine → Machine} {old new : Held S} (r : Result A StoreFault) → ((e : StoreFault) → Why e → More e) → ChangesInTurn g Why after old new r → ChangesInTurn g More after old new r
   for_more {Why = Why} {More = More} r more h = record {
     ok = h.ok;
     cause = λ clean inside machine stands. if_err r (λ e stops. (stops.0, stops.1, stops.2, go_on e stops.3)) (h.cause clean inside machine stands);
@@ -142,10 +91,10 @@ module _ {S : Type 0} (g : Ghosts S) where
     survives = h.survives;
   }
     where
-      go_on : (e : Error) {a b : Held S} → FailsToGoOn g Why a b e → FailsToGoOn g More a b e
+      go_on : (e : StoreFault) {a b : Held S} → FailsAtOnce g Why a b e → FailsAtOnce g More a b e
       go_on e (inl failed) = inl failed
       go_on e (inr why) = inr (more e why.0, why.1)
 
   -- changes that failed would have made no matter what
-  pub failed_alike : {A : Type 0} {Why : Error → Type 0} {after other : Machine → Machine} {old new : Held S} (e : Error) → ChangesInTurn {A = A} g Why after old new (Err e) → ChangesInTurn {A = A} g Why other old new (Err e)
+  pub failed_alike : {A : Type 0} {Why : StoreFault → Type 0} {after other : Machine → Machine} {old new : Held S} (e : StoreFault) → ChangesInTurn {A = A} g Why after old new (Err e) → ChangesInTurn {A = A} g Why other old new (Err e)
   failed_alike e h = record { ok = λ clean. tt; cause = h.cause; err = h.err; survives = h.survives }

@@ -2,7 +2,6 @@
 use Rattle.std.proofs.Common.{◌≡◌, ◌∙◌, ◌⊎◌, inl, inr, refl, sym, ap, subst, arith, ℕ, ◌≤◌, IsTrue, Result, Ok, Err, OnErr, IfErr, IfSome, Option, Some, None, option_map}
 use Rattle.std.specs.Prelude.{⊤}
 use Rattle.sqlite_trees.specs.declared.store.Store.{Ghosts}
-use Rattle.sqlite.specs.declared.error.Error.{Error}
 use Rattle.sqlite.specs.Tree.{Trees}
 use Rattle.sqlite.specs.Effect.{Database}
 use Rattle.sqlite.specs.Held.{Held, state}
@@ -10,10 +9,12 @@ use Rattle.sqlite.specs.State.{State, HasCleanDisk, Survives}
 use Rattle.sqlite.proofs.StateLemmas.{survives_then, survives_weaker}
 use Rattle.wb_sql.specs.Transactions.{LeavesNoMore}
 use Rattle.wb_sql.proofs.CallLemmas.{on_ok}
-use Rattle.wb_schema.specs.Among.{HasOffice}
 use Rattle.wb_states.specs.declared.command.Command.{Command}
 use Rattle.std.specs.FinMap as map
 use Rattle.wb_states.specs.declared.record.Record.{Record}
+use Rattle.wb_states.specs.declared.store_fault.StoreFault.{StoreFault}
+use Rattle.wb_states.specs.declared.store_fault.Table.{Table}
+use Rattle.wb_states.specs.declared.store_fault.Table.TheVariants.{Office}
 use Rattle.wb_states.specs.Limits.{count_limit}
 use Rattle.wb_states.specs.Machine.{Machine, Key, IsRecord, IsConsistent}
 use Rattle.wb_states.specs.Queue.{Entry}
@@ -24,11 +25,12 @@ use Rattle.wb_office.proofs.InvariantLemmas.{step-keeps}
 use Rattle.wb_office.proofs.PartOfLemmas.{part_consistent}
 use Rattle.wb_tables.specs.Stands.{StandsFor}
 use Rattle.wb_tables.specs.Calls.{Becomes, Changes, FailsToWrite}
-use Rattle.wb_tables.specs.Lookups.{IsReadFault}
+use Rattle.wb_tables.specs.Faults.{IsUnfit}
 use Rattle.wb_tables.specs.Settled.{IsOffice, IsUnderWay, IsBackAt}
 use Rattle.wb_tables.proofs.OthersLemmas.{others_then}
 use Rattle.wb_tables.proofs.SettledLemmas.{not_changed, stays_or_goes_back}
-use Rattle.wb_durable.specs.Changed.{HasFittingTake, HasFittingCounts, HasFittingNumbers, found_at, IsStepOf, before_counts, Reaches, FailsAtOnce, Writes, IsLeftOrBack, ChangesBy}
+use Rattle.wb_durable.specs.Changed.{HasFittingTake, HasFittingCounts, HasFittingNumbers, LacksFittingNumbers, found_at, IsStepOf, before_counts, Reaches, FailsAtOnce, Writes, IsLeftOrBack, ChangesBy}
+use Rattle.wb_durable.proofs.StaysLemmas.{no_more}
 use Rattle.wb_durable.proofs.StepOfLemmas.{same_counts}
 
 -- what holds of the value or the error of a result, weaker
@@ -42,9 +44,9 @@ on_err (Err e) follows h = follows h
 
 -- ---- one write
 
-module _ {S A : Type 0} {g : Ghosts S} {old new : Held S} {r : Result A Error} where
+module _ {S A : Type 0} {g : Ghosts S} {old new : Held S} {r : Result A StoreFault} where
   -- a write that makes the same of the states that are allowed
-  pub writes_same : {Room Fits : Type 0} {Given Allows : Machine → Type 0} {made after : Machine → Machine} → (Fits → Room) → ((machine : Machine) → Allows machine → Given machine × (made machine ≡ after machine))
+  pub writes_same : {Room Fits : StoreFault → Type 0} {Given Allows : Machine → Type 0} {made after : Machine → Machine} → ((e : StoreFault) → Room e → Fits e) → ((machine : Machine) → Allows machine → Given machine × (made machine ≡ after machine))
       → Writes g Room Given made old new r → Writes g Fits Allows after old new r
   writes_same {Room = Room} {Fits = Fits} {Given = Given} {made = made} fits same one = record {
     ok = λ clean. on_ok {P = (machine : Machine) → StandsFor machine (state g old).now → Given machine → Reaches g (made machine) old new} r
@@ -53,21 +55,21 @@ module _ {S A : Type 0} {g : Ghosts S} {old new : Held S} {r : Result A Error} w
     survives = one.survives;
   }
     where
-      unfit : (e : Error) → FailsAtOnce g Room old new e → FailsAtOnce g Fits old new e
+      unfit : (e : StoreFault) → FailsAtOnce g Room old new e → FailsAtOnce g Fits old new e
       unfit e (inl failed) = inl failed
-      unfit e (inr (inl full, same)) = inr (inl full, same)
-      unfit e (inr (inr (corrupt, beyond), same)) = inr (inr (corrupt, λ h. beyond (fits h)), same)
+      unfit e (inr (why, same)) = inr (fits e why, same)
 
   -- a change of the tables is a write
-  pub writes_change : {Fits : Type 0} {Allows : Machine → Type 0} {after : Machine → Machine} → Changes g Allows after old new r → Writes g Fits Allows after old new r
-  writes_change {Allows = Allows} {after = after} one = record {
+  pub writes_change : {table : Table} {Fits : StoreFault → Type 0} {Allows : Machine → Type 0} {after : Machine → Machine} → Changes g table Allows after old new r → Writes g Fits Allows after old new r
+  writes_change {table = table} {Allows = Allows} {after = after} one = record {
     ok = λ clean. on_ok {P = (machine : Machine) → StandsFor machine (state g old).now → Allows machine → Becomes (after machine) (state g old) (state g new)} r
         (λ makes machine stands allows. inr (makes machine stands allows)) (one.ok clean);
-    err = λ clean inside. if_err {P = FailsToWrite (state g old) (state g new)} r (λ e failed. inl failed) (one.err clean inside);
+    err = λ clean inside. if_err {P = FailsToWrite table (state g old) (state g new)} r (λ e failed. inl (table, failed)) (one.err clean inside);
     survives = one.survives;
   }
 
-survives_itself : {P : Trees → Type 0} (s : State) → Survives s s P
+-- what stays survives itself
+pub survives_itself : {P : Trees → Type 0} (s : State) → Survives s s P
 survives_itself s = record {
   clean = omega arith;
   shield = λ h. h;
@@ -77,7 +79,7 @@ survives_itself s = record {
   crash = λ clean db may. inl may;
 }
 
-module _ {S A : Type 0} {g : Ghosts S} {old : Held S} {Fits : Type 0} where
+module _ {S A : Type 0} {g : Ghosts S} {old : Held S} {Fits : StoreFault → Type 0} where
   -- nothing is written where nothing is to be
   pub writes_nothing : {x : A} {Allows : Machine → Type 0} {after : Machine → Machine} → ((machine : Machine) → Allows machine → machine ≡ after machine) → Writes g Fits Allows after old old (Ok x)
   writes_nothing same = record {
@@ -89,11 +91,8 @@ module _ {S A : Type 0} {g : Ghosts S} {old : Held S} {Fits : Type 0} where
 -- ---- two writes
 
 module _ {S : Type 0} (g : Ghosts S) (old new : Held S) where
-  leaves_no_more : Survives (state g old) (state g new) (λ _. ¬ HasOffice old.schema) → HasOffice old.schema → HasCleanDisk (state g new) → LeavesNoMore (state g old) (state g new)
-  leaves_no_more survives is clean db may = elim (survives.crash clean db may) [ inl was ↦ was | inr other ↦ absurd (other is) ]
-
   -- a write leaves a database that stands for what it made
-  reached_stands : {machine : Machine} → Reaches g machine old new → StandsFor machine (state g new).now
+  pub reached_stands : {machine : Machine} → Reaches g machine old new → StandsFor machine (state g new).now
   reached_stands (inl same) = same.1
   reached_stands (inr made) = made.stands
 
@@ -111,15 +110,16 @@ module _ {S : Type 0} (g : Ghosts S) (old new : Held S) where
   }
 
   -- a write that fails leaves the transaction under way as it was, or taken back
-  failed_way : {before now : Machine} {Fits : Type 0} (e : Error) → FailsAtOnce g Fits old new e → LeavesNoMore (state g old) (state g new) → IsUnderWay before now (state g old) → IsLeftOrBack g before new
-  failed_way {before = before} {now = now} e (inl failed) less way = elim (stays_or_goes_back (state g old) (state g new) failed.1 less way) [
+  failed_way : {before now : Machine} (Fits : StoreFault → Type 0) (e : StoreFault) → FailsAtOnce g Fits old new e → LeavesNoMore (state g old) (state g new) → IsUnderWay before now (state g old) → IsLeftOrBack g before new
+  failed_way {before = before} {now = now} Fits e (inl failed) less way = elim (stays_or_goes_back (state g old) (state g new) failed.1.left less way) [
     | inl still ↦ inl (now, still)
     | inr back ↦ inr back
   ]
-  failed_way {before = before} {now = now} e (inr unwritten) less way = inl (now, subst (λ (h : Held S). IsUnderWay before now (state g h)) unwritten.1 way)
+  failed_way {before = before} {now = now} Fits e (inr unwritten) less way = inl (now, subst (λ (h : Held S). IsUnderWay before now (state g h)) unwritten.1 way)
 
 module _ {S : Type 0} (g : Ghosts S) (old mid new : Held S) where
-  becomes_then : {between machine : Machine} → Reaches g between old mid → Becomes machine (state g mid) (state g new) → Becomes machine (state g old) (state g new)
+  -- one change after another
+  pub becomes_then : {between machine : Machine} → Reaches g between old mid → Becomes machine (state g mid) (state g new) → Becomes machine (state g old) (state g new)
   becomes_then {machine = machine} (inl same) made = subst (λ (h : Held S). Becomes machine (state g h) (state g new)) (sym same.0) made
   becomes_then (inr one) two = record {
     stands = two.stands;
@@ -135,39 +135,36 @@ module _ {S : Type 0} (g : Ghosts S) (old mid new : Held S) where
     others = others_then (state g old).now (state g mid).now (state g new).now one.others two.others;
   }
 
-reached_inside : {S : Type 0} (g : Ghosts S) (old mid : Held S) {between : Machine} → Reaches g between old mid → IsTrue old.in_transaction → IsTrue mid.in_transaction
+-- a write leaves the transaction that it was in
+pub reached_inside : {S : Type 0} (g : Ghosts S) (old mid : Held S) {between : Machine} → Reaches g between old mid → IsTrue old.in_transaction → IsTrue mid.in_transaction
 reached_inside {S = S} g old mid (inl same) inside = subst (λ (h : Held S). IsTrue h.in_transaction) same.0 inside
 reached_inside g old mid (inr made) inside = subst IsTrue (sym made.shown.mode) refl
 
 module _ {S : Type 0} (g : Ghosts S) (command : Command) (key : Option Key) (after : Machine) (old : Held S) where
-  abbrev WritesSubject : {A : Type 0} → Held S → Result A Error → Type 0
-  WritesSubject = Writes g (HasFittingNumbers after key) (λ whole. IsStepOf whole command key after) (before_counts command) old
+  abbrev WritesSubject : {A : Type 0} → Held S → Result A StoreFault → Type 0
+  WritesSubject = Writes g (LacksFittingNumbers after key) (λ whole. IsStepOf whole command key after) (before_counts command) old
 
   -- the counts do not fit, or memory ran out for them
-  pub changes_nothing : {B : Type 0} (e : Error) (r : Result B Error) → r ≡ Err e → IsReadFault (HasFittingCounts after) e → ChangesBy g command key after old old r
+  pub changes_nothing : {B : Type 0} (e : StoreFault) (r : Result B StoreFault) → r ≡ Err e → IsUnfit Office (HasFittingCounts after) e → ChangesBy g command key after old old r
   changes_nothing e r is fault = subst (λ r. ChangesBy g command key after old old r) (sym is) (record {
     ok = λ clean. tt;
-    cause = λ clean inside whole stands made. inl (inr (unfit fault, refl));
+    cause = λ clean inside whole stands made. inl (inr (inl fault, refl));
     err = λ clean before whole way made. inl (whole, way);
     survives = survives_itself (state g old);
   })
-    where
-      unfit : IsReadFault (HasFittingCounts after) e → IsReadFault (HasFittingNumbers after key) e
-      unfit (inl full) = inl full
-      unfit (inr (corrupt, beyond)) = inr (corrupt, λ h. beyond h.counts)
 
   -- the first write failed
-  pub changes_not : {A B : Type 0} (new : Held S) (e : Error) (r : Result B Error) → r ≡ Err e → WritesSubject {A = A} new (Err e) → ChangesBy g command key after old new r
+  pub changes_not : {A B : Type 0} (new : Held S) (e : StoreFault) (r : Result B StoreFault) → r ≡ Err e → WritesSubject {A = A} new (Err e) → ChangesBy g command key after old new r
   changes_not new e r is one = subst (λ r. ChangesBy g command key after old new r) (sym is) (record {
     ok = λ clean. tt;
     cause = λ clean inside whole stands made. inl (one.err clean inside);
-    err = λ clean before whole way made. failed_way g old new e (one.err clean way.inside) (leaves_no_more g old new one.survives way.stands.has clean) way;
+    err = λ clean before whole way made. failed_way g old new (LacksFittingNumbers after key) e (one.err clean way.inside) (no_more g old new one.survives way.stands.has clean) way;
     survives = survives_weaker (state g old) (state g new) _ _ (λ clean db other ready. other ready.1.has) one.survives;
   })
 
   -- the first write succeeded, and then the counts are written
-  pub changes_by : {A B : Type 0} (mid new : Held S) {x : A} (r : Result B Error) (handed accepted : ℕ) → (handed ≡ after.handed) × (accepted ≡ after.accepted) → WritesSubject mid (Ok x)
-      → Changes g (λ _. ⊤) (λ machine. record machine { handed = handed; accepted = accepted }) mid new r → ChangesBy g command key after old new r
+  pub changes_by : {A B : Type 0} (mid new : Held S) {x : A} (r : Result B StoreFault) (handed accepted : ℕ) → (handed ≡ after.handed) × (accepted ≡ after.accepted) → WritesSubject mid (Ok x)
+      → Changes g Office (λ _. ⊤) (λ machine. record machine { handed = handed; accepted = accepted }) mid new r → ChangesBy g command key after old new r
   changes_by mid new r handed accepted same one two =
       let before : HasCleanDisk (state g new) → HasCleanDisk (state g mid) = λ clean. omega (arith, two.survives.clean, clean) in
       record {
@@ -180,10 +177,10 @@ module _ {S : Type 0} (g : Ghosts S) (command : Command) (key : Option Key) (aft
             (subst (λ m. Becomes m (state g mid) (state g new)) counts (makes (before_counts command whole) (reached_stands g old mid reached) tt))) (two.ok clean);
         cause = λ clean inside whole stands made.
             let reached = one.ok (before clean) whole stands made in
-            if_err {P = FailsToWrite (state g mid) (state g new)} r (λ e failed. inr (mid, reached, failed)) (two.err clean (reached_inside g old mid reached inside));
+            if_err {P = FailsToWrite Office (state g mid) (state g new)} r (λ e failed. inr (mid, reached, failed)) (two.err clean (reached_inside g old mid reached inside));
         err = λ clean first whole way made.
             let reached = one.ok (before clean) whole way.stands made in
-            let here : IsUnderWay first (before_counts command whole) (state g mid) = reached_way g old mid reached (leaves_no_more g old mid one.survives way.stands.has (before clean)) way in
+            let here : IsUnderWay first (before_counts command whole) (state g mid) = reached_way g old mid reached (no_more g old mid one.survives way.stands.has (before clean)) way in
             on_err {P = IsUnderWay first (before_counts command whole) (state g new) ⊎ IsBackAt first (state g new)} r (λ left. elim left [
               | inl still ↦ inl (before_counts command whole, still)
               | inr back ↦ inr back

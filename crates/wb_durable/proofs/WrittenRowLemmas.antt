@@ -4,9 +4,10 @@ use Rattle.std.proofs.lemmas.List.{drop_all}
 use Rattle.std.specs.FinMap as map
 use Rattle.std.specs.Prelude.{⊤}
 use Rattle.sqlite_trees.specs.declared.store.Store.{Ghosts}
-use Rattle.sqlite.specs.declared.error.Error.{Error}
 use Rattle.sqlite.specs.Held.{Held}
 use Rattle.deb_text.specs.Lists.{IsIn}
+use Rattle.wb_states.specs.declared.store_fault.StoreFault.{StoreFault}
+use Rattle.wb_states.specs.declared.store_fault.Table.{Table}
 use Rattle.wb_states.specs.Machine.{Machine}
 use Rattle.wb_states.specs.Queue.{Entry}
 use Rattle.wb_store.specs.declared.keyed.KeyedRecord.{KeyedRecord}
@@ -35,18 +36,18 @@ without entries machine = record machine { records = without_rows machine.record
 abbrev pub having : List Entry → Machine → Machine
 having entries machine = record machine { records = with_rows machine.records entries }
 
-module _ {S : Type 0} (g : Ghosts S) {Why : Error → Type 0} (rows : List KeyedRecord) (at : ℕ) where
-  pub removed_next : {old mid : Held S} (row : KeyedRecord) (x : Unit {0}) → at < length rows → row ≡ get_or rows at row
-      → Changes g (λ _. ⊤) (λ machine. record machine { records = map.remove machine.records (row.arch, row.source) }) old mid (Ok x)
-      → (new : Held S) (r : Result (Unit {0}) Error) → ChangesInTurn g Why (without (each entry_of (drop (at + 1) rows))) mid new r
+module _ {S : Type 0} (g : Ghosts S) {Why : StoreFault → Type 0} (rows : List KeyedRecord) (at : ℕ) where
+  pub removed_next : {table : Table} {old mid : Held S} (row : KeyedRecord) (x : Unit {0}) → at < length rows → row ≡ get_or rows at row
+      → Changes g table (λ _. ⊤) (λ machine. record machine { records = map.remove machine.records (row.arch, row.source) }) old mid (Ok x)
+      → (new : Held S) (r : Result (Unit {0}) StoreFault) → ChangesInTurn g Why (without (each entry_of (drop (at + 1) rows))) mid new r
       → ChangesInTurn g Why (without (each entry_of (drop at rows))) old new r
   removed_next {old = old} row x within is made new r later =
       subst (λ (rest : List KeyedRecord). ChangesInTurn g Why (without (each entry_of rest)) old new r) (sym (left_of rows at row within is))
       (then_changes g x r (one_change g (Ok x) made) later)
 
-  pub put_next : {old mid : Held S} (row : KeyedRecord) (x : Unit {0}) → at < length rows → row ≡ get_or rows at row
-      → Changes g (λ _. ⊤) (λ machine. record machine { records = map.insert machine.records (row.arch, row.source) row.current }) old mid (Ok x)
-      → (new : Held S) (r : Result (Unit {0}) Error) → ChangesInTurn g Why (having (each entry_of (drop (at + 1) rows))) mid new r
+  pub put_next : {table : Table} {old mid : Held S} (row : KeyedRecord) (x : Unit {0}) → at < length rows → row ≡ get_or rows at row
+      → Changes g table (λ _. ⊤) (λ machine. record machine { records = map.insert machine.records (row.arch, row.source) row.current }) old mid (Ok x)
+      → (new : Held S) (r : Result (Unit {0}) StoreFault) → ChangesInTurn g Why (having (each entry_of (drop (at + 1) rows))) mid new r
       → ChangesInTurn g Why (having (each entry_of (drop at rows))) old new r
   put_next {old = old} row x within is made new r later =
       subst (λ (rest : List KeyedRecord). ChangesInTurn g Why (having (each entry_of rest)) old new r) (sym (left_of rows at row within is))
@@ -61,6 +62,6 @@ module _ {S : Type 0} (g : Ghosts S) {Why : Error → Type 0} (rows : List Keyed
       subst (λ (rest : List KeyedRecord). ChangesInTurn g Why (having (each entry_of rest)) held held (Ok (tt {0}))) (sym (drop_all at rows past)) (no_change g (tt {0}))
 
 -- a change of the tables that failed, as one of several
-pub fails_among : {S A : Type 0} (g : Ghosts S) {Why : Error → Type 0} {after other : Machine → Machine} {old new : Held S} (e : Error) → Changes {A = A} g (λ _. ⊤) after old new (Err e)
+pub fails_among : {S A : Type 0} (g : Ghosts S) {table : Table} {Why : StoreFault → Type 0} {after other : Machine → Machine} {old new : Held S} (e : StoreFault) → Changes {A = A} g table (λ _. ⊤) after old new (Err e)
     → ChangesInTurn {A = A} g Why other old new (Err e)
 fails_among g e made = failed_alike g e (one_change g (Err e) made)

@@ -52,19 +52,19 @@ IsNamed command part key machine = (part ≡ part_named machine command) × (key
 -- what a command changed was not committed, for this reason
 abbrev pub IsUncommitted : {S : Type 0} → Ghosts S → Machine → Command → Held S → Held S → Failure → Type 0
 IsUncommitted g machine command old new (Refused refusal) = ⊥
-IsUncommitted g machine command old new (Unread e) = ⊥
-IsUncommitted {S} g machine command old new (Uncommitted e) =
-    LeavesAs machine (step machine command).1 (state g new) e
-    × (((at : Held S) × (key : Option Key) × (after : Machine) × EndsFor g command key after machine at new e)
-    ⊎ ((at : Held S) × (after : Machine) × MergeEndsFor g after (step machine command).1 at new e))
+IsUncommitted g machine command old new (Unread fault) = ⊥
+IsUncommitted {S} g machine command old new (Uncommitted failure) =
+    LeavesAs machine (step machine command).1 (state g new) failure
+    × (((at : Held S) × (key : Option Key) × (after : Machine) × EndsFor g command key after machine at new failure)
+    ⊎ ((at : Held S) × (after : Machine) × MergeEndsFor g after (step machine command).1 at new failure))
 
 -- why a command is not carried out, and where the office is left: it is refused, or a look-up failed, and nothing is changed; or what it changed
 -- was not committed, and the office is as it was, or, if the commit is in doubt, as it was or as the command makes it
 abbrev pub IsLeft : {S : Type 0} → Ghosts S → Machine → Command → Held S → Held S → Failure → Type 0
 IsLeft g machine command old new (Refused refusal) =
     (IsOfMachine refusal → (step machine command).0 ≡ Err refusal) × ((refusal ≡ Memory → MayWantMemory command) × IsSettled machine (state g new))
-IsLeft g machine command old new (Unread e) = FailsToFind g old new e × IsBackAt machine (state g new)
-IsLeft g machine command old new (Uncommitted e) = IsUncommitted g machine command old new (Uncommitted e)
+IsLeft g machine command old new (Unread fault) = FailsToFind g old new fault × IsBackAt machine (state g new)
+IsLeft g machine command old new (Uncommitted failure) = IsUncommitted g machine command old new (Uncommitted failure)
 
 -- what a step in a part of the office changed, written to the tables of the whole office; if it succeeds, the tables of others keep their rows
 pub record KeepsStep {S A : Type 0} (g : Ghosts S) (command : Command) (key : Option Key) (after : Machine) (old new : Held S) (result : Result A Failure) : Type 0 where

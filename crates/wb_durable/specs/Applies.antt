@@ -1,7 +1,6 @@
 -- What an office over tables answers to a command, and how it stands then.
 use Rattle.std.specs.Prelude.{◌≡◌, ◌≢◌, ◌⊎◌, Bool, true, false, [], Result, Ok, Err, IfOk, IfErr, IsTrue, OnOk}
 use Rattle.sqlite_trees.specs.declared.store.Store.{Ghosts}
-use Rattle.sqlite.specs.declared.error.Error.{Error}
 use Rattle.sqlite.specs.Held.{Held, state}
 use Rattle.sqlite.specs.State.{HasCleanDisk}
 use Rattle.wb_sql.specs.Transactions.{FailsToRun}
@@ -10,12 +9,10 @@ use Rattle.wb_states.specs.declared.reply.Reply.{Reply}
 use Rattle.wb_states.specs.declared.refusal.Refusal.{Refusal}
 use Rattle.wb_states.specs.declared.refusal.Refusal.TheVariants.{Closed, Memory, Store}
 use Rattle.wb_states.specs.declared.store_fault.StoreFault.{StoreFault}
-use Rattle.wb_states.specs.declared.store_fault.Table.TheVariants.{SourceRecord}
 use Rattle.wb_states.specs.declared.store_fault.StoreFault.TheVariants as fault
 use Rattle.wb_states.specs.Machine.{Machine}
 use Rattle.wb_office.specs.Ends.{is_of_store}
 use Rattle.wb_office.specs.Step.{step}
-use Rattle.wb_tables.specs.Faults.{fault_of}
 use Rattle.wb_tables.specs.Others.{KeepsOthers}
 use Rattle.wb_tables.specs.Settled.{IsBackAt, LeavesEither}
 use Rattle.wb_durable.specs.declared.answer.Failure.{Failure}
@@ -38,10 +35,10 @@ doubt_for fault = Store fault
 -- what is answered to a command that is not carried out
 abbrev pub refusal_of : Failure → Refusal
 refusal_of (Refused refusal) = refusal
-refusal_of (Unread e) = refusal_for (fault_of e SourceRecord)
-refusal_of (Uncommitted (TakenBack e)) = refusal_for (fault_of e SourceRecord)
-refusal_of (Uncommitted (RollBackFailed e)) = refusal_for (fault_of e SourceRecord)
-refusal_of (Uncommitted (InDoubt e)) = doubt_for (fault_of e SourceRecord)
+refusal_of (Unread fault) = refusal_for fault
+refusal_of (Uncommitted (TakenBack fault)) = refusal_for fault
+refusal_of (Uncommitted (RollBackFailed fault)) = refusal_for fault
+refusal_of (Uncommitted (InDoubt fault)) = doubt_for fault
 
 -- a command that was not carried out is refused, and the office stands as before, or is closed
 pub record IsRefusedIn {S : Type 0} (g : Ghosts S) (machine : Machine) (command : Command) (is_closed : Bool) (new : Held S) (refusal : Refusal) : Type 0 where
@@ -58,7 +55,7 @@ CannotBeUsed g old new = FailsToRun [] (state g old) (state g new)
 
 -- why an office is closed that is out of memory: its connection cannot be used on, or the transaction could not be taken back
 abbrev pub MustClose : {S : Type 0} → Ghosts S → Failure → Held S → Held S → Type 0
-MustClose g failure old new = CannotBeUsed g old new ⊎ ((e : Error) × (failure ≡ Uncommitted (RollBackFailed e)))
+MustClose g failure old new = CannotBeUsed g old new ⊎ ((fault : StoreFault) × (failure ≡ Uncommitted (RollBackFailed fault)))
 
 -- what is answered after a failure, and whether the office is closed then
 pub record Ends {S : Type 0} (g : Ghosts S) (failure : Failure) (old new : Held S) (refusal : Refusal) (is_closed : Bool) : Type 0 where

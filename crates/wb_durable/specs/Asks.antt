@@ -1,16 +1,14 @@
 -- What an office over tables answers to a query, and how it stands then.
 use Rattle.std.specs.Prelude.{◌≡◌, ◌⊎◌, Bool, true, false, Result, Err, IsTrue}
 use Rattle.sqlite_trees.specs.declared.store.Store.{Ghosts}
-use Rattle.sqlite.specs.declared.error.Error.{Error}
 use Rattle.sqlite.specs.Held.{Held, state}
 use Rattle.sqlite.specs.State.{HasCleanDisk}
 use Rattle.wb_states.specs.declared.refusal.Refusal.{Refusal}
 use Rattle.wb_states.specs.declared.refusal.Refusal.TheVariants.{BadName, Closed, Memory}
-use Rattle.wb_states.specs.declared.store_fault.Table.TheVariants.{SourceRecord}
+use Rattle.wb_states.specs.declared.store_fault.StoreFault.{StoreFault}
 use Rattle.wb_states.specs.Machine.{Machine}
 use Rattle.wb_office.specs.declared.query.Answer.{Answer}
 use Rattle.wb_office.specs.Ends.{is_of_store}
-use Rattle.wb_tables.specs.Faults.{fault_of}
 use Rattle.wb_tables.specs.Settled.{IsSettled, IsBackAt}
 use Rattle.wb_durable.specs.declared.known.Known.{Known}
 use Rattle.wb_durable.specs.Applies.{CannotBeUsed, refusal_for}
@@ -25,13 +23,13 @@ FailsByName is_bad refusal = ((is_bad ≡ true) × (refusal ≡ BadName)) ⊎ ((
 abbrev pub IsAnswered : {S : Type 0} → Ghosts S → (Machine → Result Answer Refusal) → Machine → Held S → Bool → Result Answer Refusal → Type 0
 IsAnswered g answer_of machine new is_closed result = (answer_of machine ≡ result) × IsSettled machine (state g new) × (is_closed ≡ false)
 
--- a look-up of a query failed: this is the refusal for its error, the office has its state as before, and it is open only if its connection is;
+-- a look-up of a query failed: this is the refusal for its fault, the office has its state as before, and it is open only if its connection is;
 -- after a fault of the store it is closed, and out of memory only if its connection cannot be used on
 pub record IsUnread {S : Type 0} (g : Ghosts S) (machine : Machine) (old new : Held S) (is_closed : Bool) (refusal : Refusal) : Type 0 where
-  pub error : Error
+  pub fault : StoreFault
   pub at : Held S
-  pub failed : FailsToFind g old at error
-  pub told : refusal ≡ refusal_for (fault_of error SourceRecord)
+  pub failed : FailsToFind g old at fault
+  pub told : refusal ≡ refusal_for fault
   pub back : IsBackAt machine (state g new)
   pub is_open : is_closed ≡ false → IsTrue (state g new).is_open
   pub ends : is_of_store refusal ≡ true → is_closed ≡ true

@@ -9,15 +9,18 @@ use Rattle.sqlite.specs.Held.{Held, state}
 use Rattle.sqlite.specs.State.{State, HasCleanDisk, IsRolledBack, Executes, Survives}
 use Rattle.wb_sql.specs.Transactions.{rollback_text, FailsToCommit}
 use Rattle.wb_states.specs.declared.command.Command.{Command}
+use Rattle.wb_states.specs.declared.store_fault.StoreFault.{StoreFault}
+use Rattle.wb_states.specs.declared.store_fault.Table.TheVariants.{Office}
 use Rattle.wb_states.specs.Machine.{Machine, Key}
 use Rattle.wb_office.specs.Step.{step}
 use Rattle.wb_tables.specs.Stands.{StandsFor}
 use Rattle.wb_tables.specs.Calls.{Becomes}
+use Rattle.wb_tables.specs.Faults.{fault_of}
 use Rattle.wb_tables.specs.Others.{KeepsOthers}
 use Rattle.wb_tables.specs.Settled.{IsSettled, IsBackAt, LeavesEither}
 use Rattle.wb_durable.specs.declared.carry.CarryError.{CarryError}
 use Rattle.wb_durable.specs.declared.carry.CarryError.TheVariants.{TakenBack, RollBackFailed, InDoubt}
-use Rattle.wb_durable.specs.Changed.{HasFittingNumbers, IsStepOf, before_counts, FailsToChange}
+use Rattle.wb_durable.specs.Changed.{LacksFittingNumbers, IsStepOf, before_counts, FailsToChange}
 
 -- the connection in a transaction that has just begun
 abbrev pub begun : {S : Type 0} → Held S → Held S
@@ -30,16 +33,16 @@ abbrev pub is_over : Error → Bool
 is_over (SqliteFailure TransactionState) = true
 is_over _ = false
 
--- the failure of a transaction with this error, by the answer to ROLLBACK: it is taken back if that succeeded or found it over
-abbrev pub failure_of : {A : Type 0} → Error → Result A Error → CarryError
-failure_of e (Ok x) = TakenBack e
-failure_of e (Err why) = if is_over why then TakenBack e else RollBackFailed e
+-- the failure of a transaction with this fault, by the answer to ROLLBACK: it is taken back if that succeeded or found it over
+abbrev pub failure_of : {A : Type 0} → StoreFault → Result A Error → CarryError
+failure_of fault (Ok x) = TakenBack fault
+failure_of fault (Err why) = if is_over why then TakenBack fault else RollBackFailed fault
 
 -- what was committed before stands, unless the commit is in doubt: then that or the state after the command
 abbrev pub LeavesAs : Machine → Machine → State → CarryError → Type 0
-LeavesAs before now s (TakenBack e) = IsBackAt before s
-LeavesAs before now s (RollBackFailed e) = IsBackAt before s
-LeavesAs before now s (InDoubt e) = LeavesEither before now s
+LeavesAs before now s (TakenBack fault) = IsBackAt before s
+LeavesAs before now s (RollBackFailed fault) = IsBackAt before s
+LeavesAs before now s (InDoubt fault) = LeavesEither before now s
 
 -- ROLLBACK took the transaction back, or found it over
 abbrev pub IsEnded : {S : Type 0} → Ghosts S → Held S → Type 0
@@ -51,21 +54,25 @@ IsEnded {S} g new =
 abbrev pub FailsToRollBack : {S : Type 0} → Ghosts S → Held S → Type 0
 FailsToRollBack {S} g new = (at : Held S) × ((why : Error) × (Executes rollback_text [] (state g at) (state g new) (Err why) × (is_over why ≡ false)))
 
--- the whole change was written, and then the commit failed with this error
-abbrev pub FailsAtCommit : {S : Type 0} → Ghosts S → Machine → Held S → Error → Type 0
-FailsAtCommit {S} g now old e = (at : Held S) × (Becomes now (state g (begun old)) (state g at) × FailsToCommit g at e)
+-- the commit failed, which is this fault of the table of the office, since COMMIT names none
+abbrev pub IsFaultOfCommit : {S : Type 0} → Ghosts S → Held S → StoreFault → Type 0
+IsFaultOfCommit g at fault = (e : Error) × FailsToCommit g at e × (fault ≡ fault_of e Office)
 
--- a write of the change failed with this error
-abbrev pub FailsAtChange : {S : Type 0} → Ghosts S → Type 0 → Machine → Held S → Error → Type 0
-FailsAtChange {S} g Fits between old e = (at : Held S) × FailsToChange g Fits between (begun old) at e
+-- the whole change was written, and then the commit failed with this fault
+abbrev pub FailsAtCommit : {S : Type 0} → Ghosts S → Machine → Held S → StoreFault → Type 0
+FailsAtCommit {S} g now old fault = (at : Held S) × (Becomes now (state g (begun old)) (state g at) × IsFaultOfCommit g at fault)
+
+-- a write of the change failed with this fault, or was not made
+abbrev pub FailsAtChange : {S : Type 0} → Ghosts S → (StoreFault → Type 0) → Machine → Held S → StoreFault → Type 0
+FailsAtChange {S} g Why between old fault = (at : Held S) × FailsToChange g Why between (begun old) at fault
 
 -- why the transaction was not committed, and how ROLLBACK answered, if it was run
 abbrev pub EndsFor : {S : Type 0} → Ghosts S → Command → Option Key → Machine → Machine → Held S → Held S → CarryError → Type 0
-EndsFor g command key after whole old new (TakenBack e) =
-    (FailsAtChange g (HasFittingNumbers after key) (before_counts command whole) old e ⊎ FailsAtCommit g (step whole command).1 old e) × IsEnded g new
-EndsFor g command key after whole old new (RollBackFailed e) =
-    (FailsAtChange g (HasFittingNumbers after key) (before_counts command whole) old e ⊎ FailsAtCommit g (step whole command).1 old e) × FailsToRollBack g new
-EndsFor g command key after whole old new (InDoubt e) = FailsAtCommit g (step whole command).1 old e
+EndsFor g command key after whole old new (TakenBack fault) =
+    (FailsAtChange g (LacksFittingNumbers after key) (before_counts command whole) old fault ⊎ FailsAtCommit g (step whole command).1 old fault) × IsEnded g new
+EndsFor g command key after whole old new (RollBackFailed fault) =
+    (FailsAtChange g (LacksFittingNumbers after key) (before_counts command whole) old fault ⊎ FailsAtCommit g (step whole command).1 old fault) × FailsToRollBack g new
+EndsFor g command key after whole old new (InDoubt fault) = FailsAtCommit g (step whole command).1 old fault
 
 -- ---- the transaction
 

@@ -3,15 +3,17 @@ use Rattle.std.specs.Prelude.{◌≡◌, ◌≢◌, ◌⊎◌, ℕ, ◌≤◌, O
 use Rattle.std.specs.FinMap as map
 use Rattle.std.specs.Option.{option_map}
 use Rattle.sqlite_trees.specs.declared.store.Store.{Ghosts}
-use Rattle.sqlite.specs.declared.error.Error.{Error}
 use Rattle.sqlite.specs.Held.{Held, state}
-use Rattle.sqlite.specs.State.{HasCleanDisk, Survives}
+use Rattle.sqlite.specs.State.{State, HasCleanDisk, Survives}
 use Rattle.wb_schema.specs.Among.{HasOffice}
 use Rattle.wb_states.specs.declared.command.Command.{Command}
 use Rattle.wb_states.specs.declared.record.Record.{Record}
 use Rattle.wb_states.specs.declared.reply.Assignment.{Assignment}
 use Rattle.wb_states.specs.declared.reply.Reply.{Reply}
 use Rattle.wb_states.specs.declared.reply.Reply.TheVariants.{Again}
+use Rattle.wb_states.specs.declared.store_fault.StoreFault.{StoreFault}
+use Rattle.wb_states.specs.declared.store_fault.Table.{Table}
+use Rattle.wb_states.specs.declared.store_fault.Table.TheVariants.{Office, SourceRecord}
 use Rattle.wb_states.specs.Limits.{count_limit}
 use Rattle.wb_states.specs.Machine.{Machine, Key}
 use Rattle.wb_states.specs.Queue.{Entry}
@@ -19,7 +21,7 @@ use Rattle.wb_office.specs.Locality.{LooksAlike}
 use Rattle.wb_office.specs.Step.{step}
 use Rattle.wb_tables.specs.Stands.{StandsFor}
 use Rattle.wb_tables.specs.Calls.{Becomes, FailsToWrite}
-use Rattle.wb_tables.specs.Lookups.{IsReadFault}
+use Rattle.wb_tables.specs.Faults.{IsUnfit}
 use Rattle.wb_tables.specs.Settled.{IsUnderWay, IsBackAt}
 use Rattle.wb_durable.specs.Keys.{key_put}
 
@@ -61,10 +63,19 @@ HasFittingTake current = IfSome current.take (λ take_number. take_number ≤ co
 abbrev pub HasFittingCounts : Machine → Type 0
 HasFittingCounts machine = (machine.handed ≤ count_limit) × (machine.accepted ≤ count_limit)
 
+-- the take number of the record at the key, if there is one, is at most the limit
+abbrev pub HasFittingTakeAt : Machine → Option Key → Type 0
+HasFittingTakeAt after key = IfSome (found_at after key) (λ entry. HasFittingTake entry.1)
+
 -- the numbers that a change writes fit: those of the record at the key, and the two counts
 pub record HasFittingNumbers (after : Machine) (key : Option Key) : Type 0 where
-  pub take : IfSome (found_at after key) (λ entry. HasFittingTake entry.1)
+  pub take : HasFittingTakeAt after key
   pub counts : HasFittingCounts after
+
+-- why the numbers of a change are not written: memory ran out, or a count, or the take number of the record at the key, is above its limit, for which
+-- no row of its table is blamed
+abbrev pub LacksFittingNumbers : Machine → Option Key → StoreFault → Type 0
+LacksFittingNumbers after key fault = IsUnfit Office (HasFittingCounts after) fault ⊎ IsUnfit SourceRecord (HasFittingTakeAt after key) fault
 
 -- ---- a part of a change
 
@@ -72,16 +83,19 @@ pub record HasFittingNumbers (after : Machine) (key : Option Key) : Type 0 where
 abbrev pub Reaches : {S : Type 0} → Ghosts S → Machine → Held S → Held S → Type 0
 Reaches g machine old new = ((old ≡ new) × StandsFor machine (state g new).now) ⊎ Becomes machine (state g old) (state g new)
 
--- a statement failed with this error, and nothing was written or the whole transaction is taken back; or before any statement memory ran out, or
--- what is to be written does not fit
-abbrev pub FailsAtOnce : {S : Type 0} → Ghosts S → Type 0 → Held S → Held S → Error → Type 0
-FailsAtOnce g Fits old new e = FailsToWrite (state g old) (state g new) e ⊎ (IsReadFault Fits e × (old ≡ new))
+-- a change of one of the tables failed with this fault, and nothing was written or the whole transaction is taken back
+abbrev pub FailsToWriteOne : State → State → StoreFault → Type 0
+FailsToWriteOne old new fault = (table : Table) × FailsToWrite table old new fault
+
+-- a change failed with this fault; or for this reason none was made
+abbrev pub FailsAtOnce : {S : Type 0} → Ghosts S → (StoreFault → Type 0) → Held S → Held S → StoreFault → Type 0
+FailsAtOnce g Why old new fault = FailsToWriteOne (state g old) (state g new) fault ⊎ (Why fault × (old ≡ new))
 
 -- one write in a transaction, or none: if it succeeds, a database that stood for a state that allows it stands for the state after it; if it
--- fails, it fails as its statement does, or because memory ran out or what it writes does not fit; and a crash leaves no more than before
-pub record Writes {S A : Type 0} (g : Ghosts S) (Fits : Type 0) (Allows : Machine → Type 0) (after : Machine → Machine) (old new : Held S) (result : Result A Error) : Type 0 where
+-- fails, its change did, or was not made for one of these reasons; and a crash leaves no more than before
+pub record Writes {S A : Type 0} (g : Ghosts S) (Why : StoreFault → Type 0) (Allows : Machine → Type 0) (after : Machine → Machine) (old new : Held S) (result : Result A StoreFault) : Type 0 where
   pub ok : HasCleanDisk (state g new) → OnOk result ((machine : Machine) → StandsFor machine (state g old).now → Allows machine → Reaches g (after machine) old new)
-  pub err : HasCleanDisk (state g new) → IsTrue old.in_transaction → IfErr result (FailsAtOnce g Fits old new)
+  pub err : HasCleanDisk (state g new) → IsTrue old.in_transaction → IfErr result (FailsAtOnce g Why old new)
   pub survives : Survives (state g old) (state g new) (λ _. ¬ HasOffice old.schema)
 
 -- ---- the whole change
@@ -90,10 +104,11 @@ pub record Writes {S A : Type 0} (g : Ghosts S) (Fits : Type 0) (Allows : Machin
 abbrev pub StandsForStep : {S : Type 0} → Ghosts S → Command → Option Key → Machine → Held S → Type 0
 StandsForStep g command key after held = (whole : Machine) × StandsFor whole (state g held).now × IsStepOf whole command key after
 
--- a change failed with this error: its first write did, or its second, after the first had made the database stand for this state
-abbrev pub FailsToChange : {S : Type 0} → Ghosts S → Type 0 → Machine → Held S → Held S → Error → Type 0
-FailsToChange {S} g Fits between old new e =
-    FailsAtOnce g Fits old new e ⊎ ((mid : Held S) × Reaches g between old mid × FailsToWrite (state g mid) (state g new) e)
+-- a change failed with this fault: its first write did, or was not made for this reason; or its second did, after the first had made the database
+-- stand for this state
+abbrev pub FailsToChange : {S : Type 0} → Ghosts S → (StoreFault → Type 0) → Machine → Held S → Held S → StoreFault → Type 0
+FailsToChange {S} g Why between old new fault =
+    FailsAtOnce g Why old new fault ⊎ ((mid : Held S) × Reaches g between old mid × FailsToWrite Office (state g mid) (state g new) fault)
 
 -- after a failure the transaction from the state `before` is under way, with some of what it was to write, or it is taken back
 abbrev pub IsLeftOrBack : {S : Type 0} → Ghosts S → Machine → Held S → Type 0
@@ -101,11 +116,11 @@ IsLeftOrBack g before new = ((now : Machine) × IsUnderWay before now (state g n
 
 -- the change of an accepted command, written in a transaction: if it succeeds, a database that stood for the whole office stands for it after
 -- the command; if it fails, one of its writes failed, and the transaction is under way, or taken back; and a crash leaves no more than before
-pub record ChangesBy {S A : Type 0} (g : Ghosts S) (command : Command) (key : Option Key) (after : Machine) (old new : Held S) (result : Result A Error) : Type 0 where
+pub record ChangesBy {S A : Type 0} (g : Ghosts S) (command : Command) (key : Option Key) (after : Machine) (old new : Held S) (result : Result A StoreFault) : Type 0 where
   pub ok : HasCleanDisk (state g new)
       → OnOk result ((whole : Machine) → StandsFor whole (state g old).now → IsStepOf whole command key after → Becomes (step whole command).1 (state g old) (state g new))
   pub cause : HasCleanDisk (state g new) → IsTrue old.in_transaction → (whole : Machine) → StandsFor whole (state g old).now → IsStepOf whole command key after
-      → IfErr result (FailsToChange g (HasFittingNumbers after key) (before_counts command whole) old new)
+      → IfErr result (FailsToChange g (LacksFittingNumbers after key) (before_counts command whole) old new)
   pub err : HasCleanDisk (state g new) → (before whole : Machine) → IsUnderWay before whole (state g old) → IsStepOf whole command key after
       → OnErr result (IsLeftOrBack g before new)
   pub survives : Survives (state g old) (state g new) (λ _. ¬ StandsForStep g command key after old)

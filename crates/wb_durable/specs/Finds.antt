@@ -1,10 +1,11 @@
 -- What several look-ups in the office's tables, one after another, promise together.
 use Rattle.std.specs.Prelude.{◌≡◌, ◌⊎◌, Result, IfOk, IfErr, IsTrue, OnOk}
 use Rattle.sqlite_trees.specs.declared.store.Store.{Ghosts}
-use Rattle.sqlite.specs.declared.error.Error.{Error}
 use Rattle.sqlite.specs.Held.{Held, state}
 use Rattle.sqlite.specs.State.{HasCleanDisk, IsUnchanged, Survives}
 use Rattle.wb_schema.specs.Among.{HasOffice}
+use Rattle.wb_states.specs.declared.store_fault.StoreFault.{StoreFault}
+use Rattle.wb_states.specs.declared.store_fault.Table.{Table}
 use Rattle.wb_states.specs.Machine.{Machine, IsConsistent}
 use Rattle.wb_tables.specs.Stands.{StandsFor}
 use Rattle.wb_tables.specs.Calls.{FailsToLookUp}
@@ -13,14 +14,14 @@ use Rattle.wb_tables.specs.Calls.{FailsToLookUp}
 abbrev pub StaysAs : {S : Type 0} → Ghosts S → Held S → Held S → Type 0
 StaysAs g old new = (old ≡ new) ⊎ IsUnchanged (state g old) (state g new)
 
--- a look-up failed with this error, after others that left the database as it was
-abbrev pub FailsToFind : {S : Type 0} → Ghosts S → Held S → Held S → Error → Type 0
-FailsToFind {S} g old new e = (mid : Held S) × StaysAs g old mid × FailsToLookUp (state g mid) (state g new) e
+-- a look-up in one of the tables failed with this fault, after others that left the database as it was
+abbrev pub FailsToFind : {S : Type 0} → Ghosts S → Held S → Held S → StoreFault → Type 0
+FailsToFind {S} g old new fault = (mid : Held S) × (table : Table) × StaysAs g old mid × FailsToLookUp table (state g mid) (state g new) fault
 
 -- look-ups, one after another: if they succeed, the answer is that of the state of a consistent office for which the database stands, and the
 -- database stays as it is; if they fail over an open connection, one of them did, after others that changed nothing; and a crash leaves no more
 -- than before
-pub record Finds {S A : Type 0} (g : Ghosts S) (Answer : Machine → A → Type 0) (old new : Held S) (result : Result A Error) : Type 0 where
+pub record Finds {S A : Type 0} (g : Ghosts S) (Answer : Machine → A → Type 0) (old new : Held S) (result : Result A StoreFault) : Type 0 where
   pub value : HasCleanDisk (state g new) → HasOffice old.schema
       → IfOk result (λ answer. (machine : Machine) → IsConsistent machine → StandsFor machine (state g old).now → Answer machine answer)
   pub same : HasCleanDisk (state g new) → HasOffice old.schema → OnOk result (StaysAs g old new)

@@ -1,11 +1,11 @@
 -- The transaction of a merge: how it ends, and why it was not committed.
 use Rattle.std.specs.Prelude.{◌⊎◌, ℕ, List, Result, IfErr, OnOk}
 use Rattle.sqlite_trees.specs.declared.store.Store.{Ghosts}
-use Rattle.sqlite.specs.declared.error.Error.{Error}
 use Rattle.sqlite.specs.Tree.{Trees}
 use Rattle.sqlite.specs.Held.{Held, state}
 use Rattle.sqlite.specs.State.{HasCleanDisk, Survives}
 use Rattle.wb_states.specs.declared.command.Part.{Part}
+use Rattle.wb_states.specs.declared.store_fault.StoreFault.{StoreFault}
 use Rattle.wb_states.specs.Forms.{Merge}
 use Rattle.wb_states.specs.Machine.{Machine}
 use Rattle.wb_office.specs.Step.{step}
@@ -18,15 +18,15 @@ use Rattle.wb_durable.specs.Carried.{begun, FailsAtCommit, FailsToRollBack, IsEn
 use Rattle.wb_durable.specs.MergeWritten.{CannotBeWritten, IsMergeIn}
 use Rattle.wb_durable.specs.Turns.{StopsWith}
 
--- a change of a merge failed with this error, or all were written and the commit failed with it
-abbrev pub FailsToMerge : {S : Type 0} → Ghosts S → Machine → Machine → Held S → Error → Type 0
-FailsToMerge {S} g after now old e = ((at : Held S) × StopsWith g (CannotBeWritten after) (begun old) at e) ⊎ FailsAtCommit g now old e
+-- a change of a merge failed with this fault, or was not made, or all were written and the commit failed with it
+abbrev pub FailsToMerge : {S : Type 0} → Ghosts S → Machine → Machine → Held S → StoreFault → Type 0
+FailsToMerge {S} g after now old fault = ((at : Held S) × StopsWith g (CannotBeWritten after) (begun old) at fault) ⊎ FailsAtCommit g now old fault
 
 -- why the transaction of a merge was not committed, and how ROLLBACK answered, if it was run
 abbrev pub MergeEndsFor : {S : Type 0} → Ghosts S → Machine → Machine → Held S → Held S → CarryError → Type 0
-MergeEndsFor g after now old new (TakenBack e) = FailsToMerge g after now old e × IsEnded g new
-MergeEndsFor g after now old new (RollBackFailed e) = FailsToMerge g after now old e × FailsToRollBack g new
-MergeEndsFor g after now old new (InDoubt e) = FailsAtCommit g now old e
+MergeEndsFor g after now old new (TakenBack fault) = FailsToMerge g after now old fault × IsEnded g new
+MergeEndsFor g after now old new (RollBackFailed fault) = FailsToMerge g after now old fault × FailsToRollBack g new
+MergeEndsFor g after now old new (InDoubt fault) = FailsAtCommit g now old fault
 
 -- these trees hold the tables of the office after a merge of the one for which the database stands
 abbrev pub HoldsMerge : {S : Type 0} → Ghosts S → List ℕ → List Part → Machine → Machine → Held S → Trees → Type 0

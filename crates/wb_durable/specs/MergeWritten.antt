@@ -1,15 +1,15 @@
 -- What a merge changed of the records of its architectures, and that it is written to the tables.
-use Rattle.std.specs.Prelude.{◌≡◌, ℕ, Bool, not, List, [], ◌∷◌, filter, Some, Result, IsTrue, IfErr, OnOk, OnErr}
+use Rattle.std.specs.Prelude.{◌≡◌, ◌⊎◌, ℕ, Bool, not, List, [], ◌∷◌, filter, Some, Result, IsTrue, IfErr, OnOk, OnErr}
 use Rattle.std.specs.FinMap as map
 use Rattle.sqlite_trees.specs.declared.store.Store.{Ghosts}
-use Rattle.sqlite.specs.declared.error.Error.{Error}
-use Rattle.sqlite.specs.declared.error.Error.TheVariants.{SqliteFailure}
-use Rattle.sqlite.specs.declared.error.ErrorCode.TheVariants.{DatabaseCorrupt}
 use Rattle.sqlite.specs.Held.{Held, state}
 use Rattle.sqlite.specs.State.{HasCleanDisk, Survives}
 use Rattle.deb_text.specs.Lists.{IsIn}
 use Rattle.wb_states.specs.declared.command.Part.{Part}
 use Rattle.wb_states.specs.declared.record.Record.{Record}
+use Rattle.wb_states.specs.declared.store_fault.StoreFault.{StoreFault}
+use Rattle.wb_states.specs.declared.store_fault.StoreFault.TheVariants.{Damaged}
+use Rattle.wb_states.specs.declared.store_fault.Table.TheVariants.{Office, SourceRecord}
 use Rattle.wb_states.specs.Forms.{Merge}
 use Rattle.wb_states.specs.Machine.{Machine, Key}
 use Rattle.wb_states.specs.Queue.{Entry}
@@ -20,7 +20,7 @@ use Rattle.wb_office.specs.Step.{step}
 use Rattle.wb_tables.specs.Stands.{StandsFor}
 use Rattle.wb_tables.specs.Calls.{Becomes}
 use Rattle.wb_tables.specs.Settled.{IsUnderWay}
-use Rattle.wb_tables.specs.Lookups.{IsReadFault}
+use Rattle.wb_tables.specs.Faults.{IsUnfit}
 use Rattle.wb_durable.specs.Changed.{HasFittingCounts, HasFittingTake, IsLeftOrBack}
 use Rattle.wb_durable.specs.Turns.{IsNoOffice, StopsWith}
 
@@ -65,18 +65,22 @@ with_parts before after (part ∷ parts) records = with_parts before after parts
 abbrev pub HaveFittingTakes : List Entry → Type 0
 HaveFittingTakes entries = (entry : Entry) → IsIn entry entries → HasFittingTake entry.1
 
--- the records are not written, since a take number of them is above the limit
-abbrev pub HasTakeOverLimit : List Entry → Error → Type 0
-HasTakeOverLimit entries e = (e ≡ SqliteFailure DatabaseCorrupt) × ¬ HaveFittingTakes entries
+-- the records are not written, since a take number of them is above the limit, for which no row of their table is blamed
+abbrev pub HasTakeOverLimit : List Entry → StoreFault → Type 0
+HasTakeOverLimit entries fault = (fault ≡ Damaged SourceRecord 0) × ¬ HaveFittingTakes entries
+
+-- the take number of each record of an office fits
+abbrev pub AllTakesFit : Machine → Type 0
+AllTakesFit machine = (key : Key) (current : Record) → map.get machine.records key ≡ Some current → HasFittingTake current
 
 -- the counts of an office fit, and so does the take number of each of its records
 pub record IsWithinLimits (machine : Machine) : Type 0 where
   pub counts : HasFittingCounts machine
-  pub takes : (key : Key) (current : Record) → map.get machine.records key ≡ Some current → HasFittingTake current
+  pub takes : AllTakesFit machine
 
--- why the office after a merge is not written: memory ran out, or a number in it is above the limit
-abbrev pub CannotBeWritten : Machine → Error → Type 0
-CannotBeWritten after = IsReadFault (IsWithinLimits after)
+-- why the office after a merge is not written: memory ran out, or a count or a take number in it is above the limit
+abbrev pub CannotBeWritten : Machine → StoreFault → Type 0
+CannotBeWritten after fault = IsUnfit Office (HasFittingCounts after) fault ⊎ IsUnfit SourceRecord (AllTakesFit after) fault
 
 -- ---- the whole
 
@@ -88,7 +92,7 @@ pub record IsMergeIn (whole : Machine) (sources : List ℕ) (parts : List Part) 
 -- what a merge changed, written in a transaction: if it succeeds, a database that stood for the whole office stands for it after the merge; if it
 -- fails, one of its changes failed or cannot be written, and the transaction is under way or taken back; and a crash leaves no more than before
 pub record WritesMerge {S A : Type 0} (g : Ghosts S) (parts : List Part) (before after : Machine) (old new : Held S)
-    (result : Result A Error) : Type 0 where
+    (result : Result A StoreFault) : Type 0 where
   pub ok : HasCleanDisk (state g new)
       → OnOk result ((whole : Machine) (sources : List ℕ) → StandsFor whole (state g old).now → IsMergeIn whole sources parts before after
       → Becomes (step whole (Merge sources parts)).1 (state g old) (state g new))

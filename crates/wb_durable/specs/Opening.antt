@@ -14,14 +14,16 @@ use Rattle.wb_states.specs.declared.counts.Counts.{Counts}
 use Rattle.wb_states.specs.declared.store_fault.StoreFault.{StoreFault}
 use Rattle.wb_states.specs.declared.store_fault.StoreFault.TheVariants.{Damaged, Memory, NotOffice}
 use Rattle.wb_states.specs.declared.store_fault.Table.{Table}
-use Rattle.wb_states.specs.declared.store_fault.Table.TheVariants.{Office, Arch, Builder, SourceRecord, ScratchSource}
+use Rattle.wb_states.specs.declared.store_fault.Table.TheVariants.{Office, Arch, Builder, SourceRecord, ScratchSource, ScratchBinary}
 use Rattle.wb_states.specs.Machine.{Key, Machine, IsConsistent, empty_office}
 use Rattle.wb_rows.specs.Cells.{arch_cells, builder_cells}
+use Rattle.wb_tables.specs.Calls.{FailsToRead}
 use Rattle.wb_tables.specs.Faults.{fault_of}
-use Rattle.wb_tables.specs.Opening.{AreBadCounts, AreBadRecords, AreBadRows, FailsToTest, HasGoodRows, HoldsArchs, HoldsBuilders, HoldsCounts, IsFormedArch, IsFormedBuilder, IsQueryFault, ShowsGood}
-use Rattle.wb_tables.specs.Scratch.{has_scratch_rows}
+use Rattle.wb_tables.specs.Opening.{AreBadCounts, AreBadRecords, AreBadRows, FailsToTest, HasGoodRows, HoldsArchs, HoldsBuilders, HoldsCounts, IsFormedArch, IsFormedBuilder, ShowsGood}
+use Rattle.wb_tables.specs.Scratch.{has_rows}
 use Rattle.wb_tables.specs.Settled.{IsBackAt, IsSettled}
 use Rattle.wb_tables.specs.Stands.{StandsFor}
+use Rattle.wb_tables.specs.Texts.{table_of}
 use Rattle.wb_durable.specs.Finds.{StaysAs}
 use Rattle.wb_durable.specs.Preparing.{FailsToMake, IsFoundAt, LeavesFound}
 
@@ -74,11 +76,15 @@ FailsOnRows old new fault =
     FailsToTest office sql.office_counts Office AreBadCounts old new fault
     ⊎ (FailsOnArchs old new fault ⊎ (FailsOnBuilders old new fault ⊎ FailsOnRecords old new fault))
 
--- why the test of the scratch tables fails: a query failed, or one of them has a row, and nothing is changed
+-- why the test of a scratch table fails: its query failed; or it has a row, of which the first is damaged, and nothing is changed
+abbrev pub FailsOnScratchOf : Table → State → State → StoreFault → Type 0
+FailsOnScratchOf table old new fault =
+    FailsToRead table old new fault ⊎ ((fault ≡ Damaged table 1) × IsTrue (has_rows table old.now) × IsUnchanged old new)
+
+-- why the tests of the scratch tables fail: that of the source packages, or, where it has no row, that of the binary packages
 abbrev pub FailsOnScratch : State → State → StoreFault → Type 0
 FailsOnScratch old new fault =
-    IsQueryFault ScratchSource old new fault
-    ⊎ ((fault ≡ Damaged ScratchSource 1) × IsTrue (has_scratch_rows old.now) × IsUnchanged old new)
+    FailsOnScratchOf ScratchSource old new fault ⊎ ((rows_in old.now scratch_source ≡ []) × FailsOnScratchOf ScratchBinary old new fault)
 
 -- why the tests of an office fail: one of the rows, or, after good rows, that of the scratch tables
 abbrev pub FailsOnOffice : State → State → StoreFault → Type 0
@@ -89,12 +95,12 @@ abbrev pub ComesLater : {S : Type 0} → Ghosts S → (State → State → Store
 ComesLater {S} g Why old new fault = (mid : Held S) × StaysAs g old mid × Why (state g mid) (state g new) fault
 
 -- the query of one of the tables failed
-abbrev pub IsQueryFaultOfOne : State → State → StoreFault → Type 0
-IsQueryFaultOfOne old new fault = (table : Table) × IsQueryFault table old new fault
+abbrev pub FailsToReadOne : State → State → StoreFault → Type 0
+FailsToReadOne old new fault = (table : Table) × FailsToRead table old new fault
 
 -- memory ran out, or a query failed, after tests that left the database as it was
 abbrev pub LacksMemoryOrQuery : {S : Type 0} → Ghosts S → Held S → Held S → StoreFault → Type 0
-LacksMemoryOrQuery g old new fault = (fault ≡ Memory) ⊎ ComesLater g IsQueryFaultOfOne old new fault
+LacksMemoryOrQuery g old new fault = (fault ≡ Memory) ⊎ ComesLater g FailsToReadOne old new fault
 
 -- tests, one after another, of a database with the office's tables: if they succeed, it is good, and stays as it is; if they fail, one of them did,
 -- after others that changed nothing; if this is true of the state, the tables of a consistent office pass them, with this outcome, unless memory
@@ -114,7 +120,11 @@ pub record ChecksWith {S A : Type 0} (g : Ghosts S) (Given : Machine → Type 0)
 abbrev pub ChecksRows : {S : Type 0} → Ghosts S → Held S → Held S → Result Counts StoreFault → Type 0
 ChecksRows g = ChecksWith g (λ _. ⊤) HasGoodRowsWith AreCountsOf FailsOnRows
 
--- the test of the scratch tables
+-- the test of one scratch table
+abbrev pub ChecksScratchOf : {S A : Type 0} → Ghosts S → Table → Held S → Held S → Result A StoreFault → Type 0
+ChecksScratchOf g table = ChecksWith g (λ _. ⊤) (λ db _. rows_in db (table_of table) ≡ []) (λ _ _. ⊤) (FailsOnScratchOf table)
+
+-- the tests of the scratch tables
 abbrev pub ChecksScratch : {S A : Type 0} → Ghosts S → Held S → Held S → Result A StoreFault → Type 0
 ChecksScratch g = ChecksWith g (λ _. ⊤) (λ db _. HasNoScratchRows db) (λ _ _. ⊤) FailsOnScratch
 

@@ -1,32 +1,27 @@
 -- What several changes of the office's tables, one after another in a transaction, promise together.
-use Rattle.std.specs.Prelude.{◌≡◌, ◌⊎◌, Result, IsTrue, IfErr, OnOk, OnErr}
+use Rattle.std.specs.Prelude.{Result, IsTrue, IfErr, OnOk, OnErr}
 use Rattle.sqlite_trees.specs.declared.store.Store.{Ghosts}
-use Rattle.sqlite.specs.declared.error.Error.{Error}
 use Rattle.sqlite.specs.Held.{Held, state}
 use Rattle.sqlite.specs.State.{HasCleanDisk, Survives}
+use Rattle.wb_states.specs.declared.store_fault.StoreFault.{StoreFault}
 use Rattle.wb_states.specs.Machine.{Machine}
 use Rattle.wb_tables.specs.Stands.{StandsFor}
-use Rattle.wb_tables.specs.Calls.{FailsToWrite}
 use Rattle.wb_tables.specs.Settled.{IsUnderWay}
-use Rattle.wb_durable.specs.Changed.{Reaches, IsLeftOrBack}
+use Rattle.wb_durable.specs.Changed.{FailsAtOnce, Reaches, IsLeftOrBack}
 
--- a statement failed with this error, and nothing was written or the whole transaction is taken back; or for this reason none was run
-abbrev pub FailsToGoOn : {S : Type 0} → Ghosts S → (Error → Type 0) → Held S → Held S → Error → Type 0
-FailsToGoOn g Why old new e = FailsToWrite (state g old) (state g new) e ⊎ (Why e × (old ≡ new))
-
--- the changes stopped with this error: the database stood for some state after those before it, and then one failed
-abbrev pub StopsWith : {S : Type 0} → Ghosts S → (Error → Type 0) → Held S → Held S → Error → Type 0
-StopsWith {S} g Why old new e = (now : Machine) × (mid : Held S) × Reaches g now old mid × FailsToGoOn g Why mid new e
+-- the changes stopped with this fault: the database stood for some state after those before it, and then one failed, or was not made for this reason
+abbrev pub StopsWith : {S : Type 0} → Ghosts S → (StoreFault → Type 0) → Held S → Held S → StoreFault → Type 0
+StopsWith {S} g Why old new fault = (now : Machine) × (mid : Held S) × Reaches g now old mid × FailsAtOnce g Why mid new fault
 
 -- the database stands for no state of an office
 abbrev pub IsNoOffice : {S : Type 0} → Ghosts S → Held S → Type 0
 IsNoOffice g held = (machine : Machine) → ¬ StandsFor machine (state g held).now
 
 -- changes in a transaction, one after another: if they succeed, a database that stood for a state stands for the state after them; if they fail,
--- one of them did, after others, or was not run for one of these reasons, and the transaction is under way or taken back; and a crash leaves
+-- one of them did, after others, or was not made for one of these reasons, and the transaction is under way or taken back; and a crash leaves
 -- no more than before
-pub record ChangesInTurn {S A : Type 0} (g : Ghosts S) (Why : Error → Type 0) (after : Machine → Machine) (old new : Held S)
-    (result : Result A Error) : Type 0 where
+pub record ChangesInTurn {S A : Type 0} (g : Ghosts S) (Why : StoreFault → Type 0) (after : Machine → Machine) (old new : Held S)
+    (result : Result A StoreFault) : Type 0 where
   pub ok : HasCleanDisk (state g new) → OnOk result ((machine : Machine) → StandsFor machine (state g old).now → Reaches g (after machine) old new)
   pub cause : HasCleanDisk (state g new) → IsTrue old.in_transaction → (machine : Machine) → StandsFor machine (state g old).now
       → IfErr result (StopsWith g Why old new)

@@ -12,8 +12,9 @@ use deb_text::Text;
 use sqlite::{Alter, Connection, Error, ErrorCode};
 use std::alloc::Global;
 use wb_office::carry_out;
-use wb_states::{Command, Counts, OsCpu, Refusal, Reply};
+use wb_states::{Command, Counts, OsCpu, Refusal, Reply, StoreFault, Table};
 use wb_store::Store;
+use wb_tables::fault_of;
 
 /// Why a command is not carried out.
 #[derive(Drop)]
@@ -21,7 +22,7 @@ pub(crate) enum Failure {
     /// The office refuses it.
     Refused(Refusal),
     /// What it names could not be read.
-    Unread(Error),
+    Unread(StoreFault),
     /// What it changed was not committed.
     Uncommitted(CarryError),
 }
@@ -46,7 +47,7 @@ pub(crate) fn answer<S: Alter>(
 {
     let archs = match find_archs(alloc, conn, known) {
         Ok(archs) => archs,
-        Err(error) => return Err(Failure::Unread(error)),
+        Err(fault) => return Err(Failure::Unread(fault)),
     };
     match answer_of(alloc, conn, known.counts, archs, command) {
         Ok(Answered { reply, counts }) => {
@@ -86,7 +87,7 @@ fn answer_one<S: Alter>(
 {
     match named_part(alloc, conn, counts, archs, command) {
         Ok(named) => answer_in(alloc, conn, command, named),
-        Err(error) => Err(Failure::Unread(error)),
+        Err(fault) => Err(Failure::Unread(fault)),
     }
 }
 
@@ -142,7 +143,8 @@ fn keep<S: Alter>(
     ensures keeps { KeepsStep S.Store command.now key.now after.now conn.old conn.new result }
 {
     if !conn.is_autocommit() {
-        return Err(Failure::Unread(Error::SqliteFailure(ErrorCode::TransactionState)));
+        let error = Error::SqliteFailure(ErrorCode::TransactionState);
+        return Err(Failure::Unread(fault_of(error, Table::Office)));
     }
     match carry(conn, command, key, after) {
         Ok(()) => Ok(()),

@@ -4,25 +4,29 @@ ghost use Rattle.std.specs.Prelude.{◌≡◌, false, [], Err, IfErr, OnOk};
 ghost use Rattle.sqlite.specs.Held.{state};
 ghost use Rattle.sqlite.specs.State.{Executes, HasCleanDisk, IsRolledBack, Survives};
 ghost use Rattle.wb_sql.specs.Transactions.{rollback_text};
+ghost use Rattle.wb_states.specs.declared.store_fault.Table.TheVariants.{Office};
+ghost use Rattle.wb_tables.specs.Faults.{fault_of};
 ghost use Rattle.wb_tables.specs.Settled.{TakesBack};
+ghost use Rattle.wb_durable.specs.declared.carry.CarryError.TheVariants.{InDoubt};
 ghost use Rattle.wb_durable.specs.Carried.{CarriesOut, failure_of, is_over};
 
 use crate::change::write_change;
 use deb_text::Text;
 use sqlite::{Alter, Connection, Error, ErrorCode};
 use wb_sql::{CommitError, begin};
-use wb_states::Command;
+use wb_states::{Command, StoreFault, Table};
 use wb_store::Store;
+use wb_tables::fault_of;
 
 /// Why the transaction of a command was not committed (this project's own).
 #[derive(Debug, Drop)]
 pub(crate) enum CarryError {
-    /// It failed with this error, and was taken back. The connection can be used on, unless a fault shut it.
-    TakenBack(Error),
-    /// It failed with this error, and a fault came when it was to be taken back. Nothing of it was committed.
-    RollBackFailed(Error),
-    /// The commit failed with this error. Whether it was made is not known.
-    InDoubt(Error),
+    /// It failed with this fault, and was taken back. The connection can be used on, unless a fault shut it.
+    TakenBack(StoreFault),
+    /// It failed with this fault, and another came when it was to be taken back. Nothing of it was committed.
+    RollBackFailed(StoreFault),
+    /// The commit failed with this fault. Whether it was made is not known.
+    InDoubt(StoreFault),
 }
 
 /// Writes the change of an accepted command in a transaction of its own, and commits it. `after` is the part of the
@@ -39,35 +43,43 @@ pub(crate) fn carry<S: Alter>(
     ensures carries { CarriesOut S.Store command.now key.now after.now conn.old conn.new result }
 {
     let mut writing = begin(conn);
-    if let Err(error) = write_change(&mut writing, command, key, after) {
+    if let Err(fault) = write_change(&mut writing, command, key, after) {
         let ended = wb_tables::roll_back(writing);
-        return Err(failure(error, ended));
+        return Err(failure(fault, ended));
     }
     match wb_tables::commit(writing) {
         Ok(()) => Ok(()),
-        Err(CommitError::InDoubt(error)) => Err(CarryError::InDoubt(error)),
+        Err(CommitError::InDoubt(error)) => Err(in_doubt(error)),
         Err(CommitError::Memory) => {
             let ended = take_back(conn);
-            Err(failure(Error::SqliteFailure(ErrorCode::OutOfMemory), ended))
+            Err(failure(StoreFault::Memory, ended))
         }
     }
 }
 
-/// The failure of a transaction that failed with this error, after the call that was to take it back. That call may
+/// The failure of a transaction that failed with this fault, after the call that was to take it back. That call may
 /// find it taken back already.
-pub(crate) fn failure(error: Error, ended: Result<(), Error>) -> CarryError
-    ensures value { result ≡ failure_of error ended }
+pub(crate) fn failure(fault: StoreFault, ended: Result<(), Error>) -> CarryError
+    ensures value { result ≡ failure_of fault ended }
 {
     match ended {
-        Ok(()) => CarryError::TakenBack(error),
+        Ok(()) => CarryError::TakenBack(fault),
         Err(why) => {
             if is_over(why) {
-                CarryError::TakenBack(error)
+                CarryError::TakenBack(fault)
             } else {
-                CarryError::RollBackFailed(error)
+                CarryError::RollBackFailed(fault)
             }
         }
     }
+}
+
+/// The failure of a commit that failed with this error, and may have been made. The fault is that of the table of the
+/// office, since COMMIT names none.
+pub(crate) fn in_doubt(error: Error) -> CarryError
+    ensures value { result ≡ InDoubt (fault_of error Office) }
+{
+    CarryError::InDoubt(fault_of(error, Table::Office))
 }
 
 /// Whether the error says that no transaction is under way.

@@ -1,30 +1,34 @@
 //! What an accepted command changed in a part of the office, written to the tables of the whole office: one record, one
 //! architecture or one builder, and the two counts.
 
-ghost use Rattle.std.specs.Prelude.{◌≡◌, ◌↔◌, ⊤, false, None, Some, IfErr, IfOk, IfSome, IsTrue, OnOk};
+ghost use Rattle.std.specs.Prelude.{◌≡◌, ◌↔◌, false, None, Some, IfErr, IfOk, IsTrue, OnOk};
 ghost use Rattle.std.specs.FinMap as map;
+ghost use Rattle.wb_states.specs.declared.store_fault.StoreFault.TheVariants.{Memory};
+ghost use Rattle.wb_states.specs.declared.store_fault.Table.TheVariants.{Office, SourceRecord};
 ghost use Rattle.wb_office.specs.Locality.{with_entry};
-ghost use Rattle.wb_tables.specs.Lookups.{IsReadFault};
+ghost use Rattle.wb_tables.specs.Faults.{IsUnfit};
 ghost use Rattle.wb_durable.specs.Changed.{ChangesBy, IsStepOf, IsThere, Writes};
 ghost use Rattle.wb_durable.specs.Changed.{before_counts, found_at};
-ghost use Rattle.wb_durable.specs.Changed.{HasFittingCounts, HasFittingNumbers, HasFittingTake};
+ghost use Rattle.wb_durable.specs.Changed.{HasFittingCounts, HasFittingTake, HasFittingTakeAt, LacksFittingNumbers};
 
 use deb_text::Text;
-use sqlite::{Alter, Error, ErrorCode};
+use sqlite::Alter;
 use wb_sql::Writing;
-use wb_states::{COUNT_LIMIT, Command, Counts, OsCpu, Record, command};
+use wb_states::{COUNT_LIMIT, Command, Counts, OsCpu, Record, StoreFault, Table, command};
 use wb_store::Store;
+use wb_tables::unfit;
 
 /// Writes the change of an accepted command, and the counts after it, in a transaction that is under way. `after` is
-/// the part of the office in which the command was carried out, and `key` is that of the record that it put. The error
-/// is that of the statement that failed; or, before any, `OutOfMemory`, or `DatabaseCorrupt` if a take number or a
-/// count of the part is above [`COUNT_LIMIT`]. The caller then takes the transaction back (this project's own).
+/// the part of the office in which the command was carried out, and `key` is that of the record that it put. The fault
+/// is that of the statement that failed; or, before any, `Memory`, or `Damaged` with row 0 of the office or of the
+/// records if a count or a take number of the part is above [`COUNT_LIMIT`]. The caller then takes the transaction back
+/// (this project's own).
 pub(crate) fn write_change<S: Alter>(
     writing: &mut Writing<'_, S>,
     command: &Command,
     key: &Option<(Text, Text)>,
     after: &Store,
-) -> Result<(), Error>
+) -> Result<(), StoreFault>
     ensures same_reference { writing.new.conn.ghost_name ≡ writing.old.conn.ghost_name }
     ensures changes { ChangesBy S.Store command.now key.now after.now
         writing.old.conn.now writing.new.conn.now result }
@@ -35,17 +39,15 @@ pub(crate) fn write_change<S: Alter>(
 }
 
 /// The counts of the part of the office, which are those of the whole one, if they fit.
-pub(crate) fn counts_of(after: &Store) -> Result<Counts, Error>
+pub(crate) fn counts_of(after: &Store) -> Result<Counts, StoreFault>
     ensures value { IfOk result (λ counts.
         (counts.handed ≡ after.now.handed) × (counts.accepted ≡ after.now.accepted)) }
     ensures fits { OnOk result (HasFittingCounts after.now) }
-    ensures err { IfErr result (IsReadFault (HasFittingCounts after.now)) }
+    ensures err { IfErr result (IsUnfit Office (HasFittingCounts after.now)) }
 {
-    let Ok(counts) = after.office_row() else {
-        return Err(Error::SqliteFailure(ErrorCode::OutOfMemory));
-    };
+    let counts = after.office_row()?;
     if counts.handed > COUNT_LIMIT || counts.accepted > COUNT_LIMIT {
-        return Err(Error::SqliteFailure(ErrorCode::DatabaseCorrupt));
+        return Err(unfit(Table::Office));
     }
     Ok(counts)
 }
@@ -56,9 +58,9 @@ fn write_subject<S: Alter>(
     command: &Command,
     key: &Option<(Text, Text)>,
     after: &Store,
-) -> Result<(), Error>
+) -> Result<(), StoreFault>
     ensures same_reference { writing.new.conn.ghost_name ≡ writing.old.conn.ghost_name }
-    ensures writes { Writes S.Store (HasFittingNumbers after.now key.now)
+    ensures writes { Writes S.Store (LacksFittingNumbers after.now key.now)
         (λ whole. IsStepOf whole command.now key.now after.now) (before_counts command.now)
         writing.old.conn.now writing.new.conn.now result }
 {
@@ -81,9 +83,9 @@ fn write_subject<S: Alter>(
 fn write_arch<S: Alter>(
     writing: &mut Writing<'_, S>,
     command: &command::AddArch,
-) -> Result<(), Error>
+) -> Result<(), StoreFault>
     ensures same_reference { writing.new.conn.ghost_name ≡ writing.old.conn.ghost_name }
-    ensures writes { Writes S.Store ⊤ (λ machine. map.get machine.archs command.now.name ≡ None)
+    ensures writes { Writes S.Store (λ fault. fault ≡ Memory) (λ machine. map.get machine.archs command.now.name ≡ None)
         (λ machine. record machine {
           archs = map.insert machine.archs command.now.name
               (record { os = command.now.os; cpu = command.now.cpu });
@@ -105,24 +107,21 @@ fn write_record<S: Alter>(
     source: &Text,
     after: &Store,
     is_new: bool,
-) -> Result<(), Error>
+) -> Result<(), StoreFault>
     ensures same_reference { writing.new.conn.ghost_name ≡ writing.old.conn.ghost_name }
     ensures writes { Writes S.Store
-        (IfSome (found_at after.now (Some (arch.now, source.now))) (λ entry. HasFittingTake entry.1))
+        (IsUnfit SourceRecord (HasFittingTakeAt after.now (Some (arch.now, source.now))))
         (λ machine. is_new ≡ false → IsThere machine (found_at after.now (Some (arch.now, source.now))))
         (λ machine. record machine {
           records = with_entry (found_at after.now (Some (arch.now, source.now))) machine.records;
         })
         writing.old.conn.now writing.new.conn.now result }
 {
-    let Ok(found) = after.get(arch, source) else {
-        return Err(Error::SqliteFailure(ErrorCode::OutOfMemory));
-    };
-    let Some(current) = found else {
+    let Some(current) = after.get(arch, source)? else {
         return Ok(());
     };
     if !fits(&current) {
-        return Err(Error::SqliteFailure(ErrorCode::DatabaseCorrupt));
+        return Err(unfit(Table::SourceRecord));
     }
     if is_new {
         wb_tables::put(writing, arch, source, &current)

@@ -8,9 +8,9 @@ ghost use Rattle.wb_durable.specs.Opening.{AreCountsOf};
 ghost use Rattle.wb_durable.specs.Standing.{Knows};
 
 use deb_text::Text;
-use sqlite::{Alter, Connection, Error};
+use sqlite::{Alter, Connection};
 use std::alloc::{AllocError, Global};
-use wb_states::{Command, Counts, OsCpu};
+use wb_states::{Command, Counts, OsCpu, StoreFault};
 
 /// What an office knows of its tables.
 #[derive(Drop)]
@@ -35,13 +35,13 @@ pub(crate) fn copied(
     Ok(copy)
 }
 
-/// All architectures of the office, by name. They are read if they are not known, and are known then. The errors are
-/// those of the look-up, and `OutOfMemory`.
+/// All architectures of the office, by name. They are read if they are not known, and are known then. The faults are
+/// those of the look-up, and `Memory`.
 pub(crate) fn find_archs<S: Alter>(
     alloc: Global,
     conn: &mut Connection<S>,
     known: &mut Known,
-) -> Result<Vec<(Text, OsCpu)>, Error>
+) -> Result<Vec<(Text, OsCpu)>, StoreFault>
     ensures finds { Finds S.Store (λ machine archs. Knows machine known.old
         → (archs.items ≡ map.entries machine.archs) × Knows machine known.new) conn.old conn.new result }
     ensures counts { known.new.counts ≡ known.old.counts }

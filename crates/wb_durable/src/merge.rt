@@ -8,16 +8,17 @@ ghost use Rattle.wb_durable.specs.MergeWritten.{entries_changed, entries_gone, i
 ghost use Rattle.wb_durable.specs.MergeWritten.{with_arch, with_rows, without_rows};
 ghost use Rattle.wb_durable.specs.Turns.{ChangesInTurn};
 
-use crate::carry::{CarryError, failure, take_back};
+use crate::carry::{CarryError, failure, in_doubt, take_back};
 use crate::change::{counts_of, fits};
 use deb_text::Text;
-use sqlite::{Alter, Connection, Error, ErrorCode};
+use sqlite::{Alter, Connection};
 use std::alloc::Global;
 use wb_merge::Change;
 use wb_sql::{CommitError, Writing, begin};
-use wb_states::StoreFault;
 use wb_states::command::{Merge, Part};
+use wb_states::{StoreFault, Table};
 use wb_store::{KeyedRecord, Store};
+use wb_tables::unfit;
 
 /// Whether the record at its key differs from the one before, or there was none. The only error is `Memory`.
 fn is_different(before: &Store, row: &KeyedRecord) -> Result<bool, StoreFault>
@@ -69,8 +70,11 @@ fn rows_changed(
     Ok(changed)
 }
 
-/// Takes out these records, one after another; all else stays. The error is that of the statement that failed.
-fn remove_all<S: Alter>(writing: &mut Writing<'_, S>, rows: &[KeyedRecord]) -> Result<(), Error>
+/// Takes out these records, one after another; all else stays. The fault is that of the statement that failed.
+fn remove_all<S: Alter>(
+    writing: &mut Writing<'_, S>,
+    rows: &[KeyedRecord],
+) -> Result<(), StoreFault>
     ensures same_reference { writing.new.conn.ghost_name ≡ writing.old.conn.ghost_name }
     ensures changes { ChangesInTurn S.Store (λ _. ⊥)
         (λ machine. record machine { records = without_rows machine.records (each entry_of rows.now) })
@@ -82,9 +86,9 @@ fn remove_all<S: Alter>(writing: &mut Writing<'_, S>, rows: &[KeyedRecord]) -> R
     Ok(())
 }
 
-/// Puts these records, one after another; all else stays. The error is that of the statement that failed, or
-/// `DatabaseCorrupt` at a record whose take number is above the limit.
-fn put_all<S: Alter>(writing: &mut Writing<'_, S>, rows: &[KeyedRecord]) -> Result<(), Error>
+/// Puts these records, one after another; all else stays. The fault is that of the statement that failed, or `Damaged`
+/// with row 0 of the records at one whose take number is above the limit.
+fn put_all<S: Alter>(writing: &mut Writing<'_, S>, rows: &[KeyedRecord]) -> Result<(), StoreFault>
     ensures same_reference { writing.new.conn.ghost_name ≡ writing.old.conn.ghost_name }
     ensures changes { ChangesInTurn S.Store (HasTakeOverLimit (each entry_of rows.now))
         (λ machine. record machine { records = with_rows machine.records (each entry_of rows.now) })
@@ -92,49 +96,46 @@ fn put_all<S: Alter>(writing: &mut Writing<'_, S>, rows: &[KeyedRecord]) -> Resu
 {
     for row in rows {
         if !fits(&row.current) {
-            return Err(Error::SqliteFailure(ErrorCode::DatabaseCorrupt));
+            return Err(unfit(Table::SourceRecord));
         }
         wb_tables::put(writing, &row.arch, &row.source, &row.current)?;
     }
     Ok(())
 }
 
-/// Writes what differs of the records of the architecture. The error is that of the statement that failed,
-/// `OutOfMemory` if memory runs out for what differs, or `DatabaseCorrupt` at a take number above the limit.
+/// Writes what differs of the records of the architecture. The fault is that of the statement that failed, `Memory` if
+/// memory runs out for what differs, or `Damaged` with row 0 of the records at a take number above the limit.
 fn write_arch<S: Alter>(
     alloc: Global,
     writing: &mut Writing<'_, S>,
     arch: &Text,
     before: &Store,
     after: &Store,
-) -> Result<(), Error>
+) -> Result<(), StoreFault>
     ensures same_reference { writing.new.conn.ghost_name ≡ writing.old.conn.ghost_name }
     ensures changes { ChangesInTurn S.Store (CannotBeWritten after.now)
         (λ machine. record machine { records = with_arch before.now after.now arch.now machine.records })
         writing.old.conn.now writing.new.conn.now result }
 {
-    let Ok(gone) = rows_gone(alloc, arch, before, after) else {
-        return Err(Error::SqliteFailure(ErrorCode::OutOfMemory));
-    };
-    let Ok(changed) = rows_changed(alloc, arch, before, after) else {
-        return Err(Error::SqliteFailure(ErrorCode::OutOfMemory));
-    };
+    let gone = rows_gone(alloc, arch, before, after)?;
+    let changed = rows_changed(alloc, arch, before, after)?;
     remove_all(writing, &gone)?;
     put_all(writing, &changed)
 }
 
 /// Writes what a merge of these parts changed, in a transaction that is under way: `before` is the part of the office
 /// that the merge looks at, and `after` is the same after the merge. Each record that is gone is taken out, each that
-/// is new or differs is put, and both counts are set; a record that did not change is not written. The error is that
-/// of the statement that failed, `OutOfMemory` if memory runs out for what differs, or `DatabaseCorrupt` if a count
-/// or a take number is above the limit; the caller then takes the transaction back (this project's own).
+/// is new or differs is put, and both counts are set; a record that did not change is not written. The fault is that
+/// of the statement that failed, `Memory` if memory runs out for what differs, or `Damaged` with row 0 of the office or
+/// of the records if a count or a take number is above the limit; the caller then takes the transaction back (this
+/// project's own).
 pub(crate) fn write_merge<S: Alter>(
     alloc: Global,
     writing: &mut Writing<'_, S>,
     parts: &[Part],
     before: &Store,
     after: &Store,
-) -> Result<(), Error>
+) -> Result<(), StoreFault>
     ensures same_reference { writing.new.conn.ghost_name ≡ writing.old.conn.ghost_name }
     ensures merges { WritesMerge S.Store parts.now before.now after.now
         writing.old.conn.now writing.new.conn.now result }
@@ -161,16 +162,16 @@ pub(crate) fn carry_merge<S: Alter>(
         conn.old conn.new result }
 {
     let mut writing = begin(conn);
-    if let Err(error) = write_merge(alloc, &mut writing, merge.parts.as_slice(), before, after) {
+    if let Err(fault) = write_merge(alloc, &mut writing, merge.parts.as_slice(), before, after) {
         let ended = wb_tables::roll_back(writing);
-        return Err(failure(error, ended));
+        return Err(failure(fault, ended));
     }
     match wb_tables::commit(writing) {
         Ok(()) => Ok(()),
-        Err(CommitError::InDoubt(error)) => Err(CarryError::InDoubt(error)),
+        Err(CommitError::InDoubt(error)) => Err(in_doubt(error)),
         Err(CommitError::Memory) => {
             let ended = take_back(conn);
-            Err(failure(Error::SqliteFailure(ErrorCode::OutOfMemory), ended))
+            Err(failure(StoreFault::Memory, ended))
         }
     }
 }

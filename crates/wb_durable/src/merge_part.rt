@@ -9,10 +9,10 @@ ghost use Rattle.wb_durable.specs.MergePart.{HasFoundParts, rows_of_parts};
 use crate::known::copied;
 use crate::named::{Found, part_of};
 use deb_text::Text;
-use sqlite::{Alter, Connection, Error, ErrorCode};
+use sqlite::{Alter, Connection};
 use std::alloc::{AllocError, Global};
 use wb_states::command::Part;
-use wb_states::{Counts, OsCpu};
+use wb_states::{Counts, OsCpu, StoreFault};
 use wb_store::{KeyedRecord, Store};
 
 /// Adds these records after the others. The only error is that there is no memory for it.
@@ -25,14 +25,13 @@ fn push_all(rows: &mut Vec<KeyedRecord>, found: Vec<KeyedRecord>) -> Result<(), 
     Ok(())
 }
 
-/// The records of the architectures of the parts. It fails if a query fails, with `OutOfMemory` if memory runs out, and
-/// with `DatabaseCorrupt` if a row is not that of a record. The database stays as it is; only a failed query may take a
-/// transaction back.
+/// The records of the architectures of the parts. The faults are those of the look-ups, and `Memory` if memory runs out.
+/// The database stays as it is; only a failed query may take a transaction back.
 fn find_rows<S: Alter>(
     alloc: Global,
     conn: &mut Connection<S>,
     parts: &[Part],
-) -> Result<Vec<KeyedRecord>, Error>
+) -> Result<Vec<KeyedRecord>, StoreFault>
     ensures finds { Finds S.Store (λ machine rows.
         each entry_of rows.items ≡ rows_of_parts machine parts.now) conn.old conn.new result }
 {
@@ -45,7 +44,7 @@ fn find_rows<S: Alter>(
 }
 
 /// What a merge of these parts looks at of an office that has these counts and architectures, as it is found in the
-/// tables. The errors are those of the look-ups, and `OutOfMemory`, and the database stays as it is, but for a
+/// tables. The faults are those of the look-ups, and `Memory`, and the database stays as it is, but for a
 /// transaction that a failed query takes back.
 fn find<S: Alter>(
     alloc: Global,
@@ -53,7 +52,7 @@ fn find<S: Alter>(
     counts: Counts,
     archs: &[(Text, OsCpu)],
     parts: &[Part],
-) -> Result<Found, Error>
+) -> Result<Found, StoreFault>
     ensures finds { Finds S.Store (λ machine found. AreOf counts archs.now machine
         → HasFoundParts machine parts.now found) conn.old conn.new result }
 {
@@ -69,9 +68,9 @@ fn find<S: Alter>(
 }
 
 /// The part that a merge of these parts looks at of an office that has these counts and architectures: they, and, read
-/// from the tables, the records of the architectures of the parts, and their holders. It fails if a query fails, with
-/// `OutOfMemory` if memory runs out, and with `DatabaseCorrupt` if a row is not what an office keeps. The database
-/// stays as it is; only a failed query may take a transaction back.
+/// from the tables, the records of the architectures of the parts, and their holders. The faults are those of the
+/// look-ups, and `Memory` if memory runs out. The database stays as it is; only a failed query may take a transaction
+/// back.
 /// Source: this project's own.
 pub(crate) fn part_for_merge<S: Alter>(
     alloc: Global,
@@ -79,13 +78,10 @@ pub(crate) fn part_for_merge<S: Alter>(
     counts: Counts,
     archs: &[(Text, OsCpu)],
     parts: &[Part],
-) -> Result<Store, Error>
+) -> Result<Store, StoreFault>
     ensures finds { Finds S.Store (λ machine part. AreOf counts archs.now machine
         → part ≡ part_for_merge machine parts.now) conn.old conn.new result }
 {
     let found = find(alloc, conn, counts, archs, parts)?;
-    match part_of(alloc, found) {
-        Ok(part) => Ok(part),
-        Err(_) => Err(Error::SqliteFailure(ErrorCode::OutOfMemory)),
-    }
+    part_of(alloc, found)
 }

@@ -13,8 +13,9 @@ use sqlite::{Alter, Connection, Error, ErrorCode};
 use std::alloc::Global;
 use wb_office::carry_out;
 use wb_states::command::Merge;
-use wb_states::{Command, Counts, OsCpu};
+use wb_states::{Command, Counts, OsCpu, Table};
 use wb_store::Store;
+use wb_tables::fault_of;
 
 /// Carries out a merge. The records of its architectures are read twice, to find afterwards which of them differ.
 pub(crate) fn answer_merge<S: Alter>(
@@ -30,7 +31,7 @@ pub(crate) fn answer_merge<S: Alter>(
 {
     match part_for_merge(alloc, conn, counts, archs, merge.parts.as_slice()) {
         Ok(before) => merge_beside(alloc, conn, counts, archs, command, merge, &before),
-        Err(error) => Err(Failure::Unread(error)),
+        Err(fault) => Err(Failure::Unread(fault)),
     }
 }
 
@@ -50,7 +51,7 @@ fn merge_beside<S: Alter>(
 {
     match part_for_merge(alloc, conn, counts, archs, merge.parts.as_slice()) {
         Ok(part) => merge_in(alloc, conn, command, merge, before, part),
-        Err(error) => Err(Failure::Unread(error)),
+        Err(fault) => Err(Failure::Unread(fault)),
     }
 }
 
@@ -91,7 +92,8 @@ fn keep_merge<S: Alter>(
         conn.old conn.new result }
 {
     if !conn.is_autocommit() {
-        return Err(Failure::Unread(Error::SqliteFailure(ErrorCode::TransactionState)));
+        let error = Error::SqliteFailure(ErrorCode::TransactionState);
+        return Err(Failure::Unread(fault_of(error, Table::Office)));
     }
     match carry_merge(alloc, conn, merge, before, after) {
         Ok(()) => Ok(()),

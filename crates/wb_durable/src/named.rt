@@ -16,7 +16,7 @@ pub(crate) use found::Found;
 use found::find;
 use names::{Names, key_of, names_of};
 pub(crate) use part::part_of;
-use sqlite::{Alter, Connection, Error, ErrorCode};
+use sqlite::{Alter, Connection};
 use std::alloc::Global;
 use wb_states::{Command, Counts, OsCpu, StoreFault};
 use wb_store::Store;
@@ -45,9 +45,8 @@ fn named_of(alloc: Global, names: &Names<'_>, found: Found) -> Result<Named, Sto
 }
 
 /// What the command names of an office that has these counts and architectures: they, and what is read from the tables;
-/// for a merge that is nothing. It fails if a query fails, with `OutOfMemory` if memory runs out, and with
-/// `DatabaseCorrupt` if a row is not what an office keeps. The database stays as it is; only a failed query may take a
-/// transaction back.
+/// for a merge that is nothing. The faults are those of the look-ups, and `Memory` if memory runs out. The database
+/// stays as it is; only a failed query may take a transaction back.
 /// Source: this project's own.
 pub(crate) fn named_part<S: Alter>(
     alloc: Global,
@@ -55,14 +54,11 @@ pub(crate) fn named_part<S: Alter>(
     counts: Counts,
     archs: Vec<(Text, OsCpu)>,
     command: &Command,
-) -> Result<Named, Error>
+) -> Result<Named, StoreFault>
     ensures finds { Finds S.Store (λ machine named. AreOf counts archs.items machine
         → IsNamed command.now named.part named.key machine) conn.old conn.new result }
 {
     let names = names_of(command);
     let found = find(alloc, conn, counts, archs, command, &names)?;
-    match named_of(alloc, &names, found) {
-        Ok(named) => Ok(named),
-        Err(_) => Err(Error::SqliteFailure(ErrorCode::OutOfMemory)),
-    }
+    named_of(alloc, &names, found)
 }

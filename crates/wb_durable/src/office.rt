@@ -132,11 +132,8 @@ impl<S: Alter + Drop> Office<S> {
         let (arch, source) = key_of(self.alloc, arch, source)?;
         match find_item(&mut self.conn, arch, source) {
             Ok(answer) => answer,
-            Err(error) => {
-                let (refusal, is_closed) = end_with(
-                    &mut self.conn,
-                    fault_of(error, Table::SourceRecord),
-                );
+            Err(fault) => {
+                let (refusal, is_closed) = end_with(&mut self.conn, fault);
                 self.is_closed = is_closed;
                 Err(refusal)
             }
@@ -159,11 +156,8 @@ impl<S: Alter + Drop> Office<S> {
         let builder = builder_of(self.alloc, builder)?;
         match find_mine(&mut self.conn, builder) {
             Ok(answer) => answer,
-            Err(error) => {
-                let (refusal, is_closed) = end_with(
-                    &mut self.conn,
-                    fault_of(error, Table::SourceRecord),
-                );
+            Err(fault) => {
+                let (refusal, is_closed) = end_with(&mut self.conn, fault);
                 self.is_closed = is_closed;
                 Err(refusal)
             }
@@ -281,7 +275,7 @@ fn end<S: Alter>(conn: &mut Connection<S>, failure: Failure) -> (Refusal, bool)
             let is_closed = is_of_store(&refusal);
             (refusal, is_closed)
         }
-        Failure::Unread(error) => end_with(conn, fault_of(error, Table::SourceRecord)),
+        Failure::Unread(fault) => end_with(conn, fault),
         Failure::Uncommitted(error) => end_uncommitted(conn, error),
     }
 }
@@ -291,11 +285,9 @@ fn end_uncommitted<S: Alter>(conn: &mut Connection<S>, error: CarryError) -> (Re
     ensures ends { Ends S.Store (Uncommitted error) conn.old conn.new result.0 result.1 }
 {
     match error {
-        CarryError::TakenBack(error) => end_with(conn, fault_of(error, Table::SourceRecord)),
-        CarryError::RollBackFailed(error) => {
-            (refusal_for(fault_of(error, Table::SourceRecord)), true)
-        }
-        CarryError::InDoubt(error) => (doubt_for(fault_of(error, Table::SourceRecord)), true),
+        CarryError::TakenBack(fault) => end_with(conn, fault),
+        CarryError::RollBackFailed(fault) => (refusal_for(fault), true),
+        CarryError::InDoubt(fault) => (doubt_for(fault), true),
     }
 }
 

@@ -1,13 +1,15 @@
 //! What an opening tests of the tables of an office, in one call; and how an office is found in them, or made.
 ghost use Rattle.std.specs.Prelude.{◌≡◌, false};
-ghost use Rattle.wb_durable.specs.Opening.{Checks, ChecksRows, ChecksScratch, FindsOffice};
+ghost use Rattle.wb_states.specs.declared.store_fault.Table.TheVariants.{ScratchBinary, ScratchSource};
+ghost use Rattle.wb_durable.specs.Opening.{Checks, ChecksRows, ChecksScratch, ChecksScratchOf, FindsOffice};
 
 use crate::preparing::make_office;
 use sqlite::{Alter, Connection};
 use wb_schema::{has_office_tables, lacks_office};
 use wb_states::{Counts, StoreFault, Table};
 use wb_tables::{
-    check_archs, check_builders, check_counts, check_records, fault_of, has_scratch_rows,
+    check_archs, check_builders, check_counts, check_records, fault_of, has_scratch_binaries,
+    has_scratch_sources,
 };
 
 /// The two counts of the office that the database holds, or of an empty one, whose tables are made first if the
@@ -35,9 +37,9 @@ pub fn find_office<S: Alter>(conn: &mut Connection<S>) -> Result<Counts, StoreFa
 
 /// The two counts of the office, if the rows of its tables are good, those of each table beside those of the others,
 /// and no merge left a row in the scratch tables. The faults are those of `check_counts`, `check_archs`,
-/// `check_builders` and `check_records`, in this order, and then those of the scratch tables: `Damaged` with row 1 of
-/// the scratch table of source packages if one of the two has a row, and the fault of their query. The database stays
-/// as it is, but for a transaction that a failure of a query takes back (this project's own).
+/// `check_builders` and `check_records`, in this order, and then those of the scratch table of source packages and of
+/// that of binary packages: `Damaged` with row 1 of the table if it has a row, and the fault of its query. The database
+/// stays as it is, but for a transaction that a failure of a query takes back (this project's own).
 pub(crate) fn check<S: Alter>(conn: &mut Connection<S>) -> Result<Counts, StoreFault>
     ensures checks { Checks S.Store conn.old conn.new result }
 {
@@ -61,12 +63,34 @@ fn check_rows<S: Alter>(conn: &mut Connection<S>) -> Result<Counts, StoreFault>
 fn check_scratch<S: Alter>(conn: &mut Connection<S>) -> Result<(), StoreFault>
     ensures checks { ChecksScratch S.Store conn.old conn.new result }
 {
-    match has_scratch_rows(conn) {
+    check_scratch_sources(conn)?;
+    check_scratch_binaries(conn)
+}
+
+/// Tests that the scratch table of source packages has no row.
+fn check_scratch_sources<S: Alter>(conn: &mut Connection<S>) -> Result<(), StoreFault>
+    ensures checks { ChecksScratchOf S.Store ScratchSource conn.old conn.new result }
+{
+    match has_scratch_sources(conn) {
         Ok(false) => Ok(()),
         Ok(true) => Err(StoreFault::Damaged {
             table: Table::ScratchSource,
             row: 1,
         }),
-        Err(error) => Err(fault_of(error, Table::ScratchSource)),
+        Err(fault) => Err(fault),
+    }
+}
+
+/// Tests that the scratch table of binary packages has no row.
+fn check_scratch_binaries<S: Alter>(conn: &mut Connection<S>) -> Result<(), StoreFault>
+    ensures checks { ChecksScratchOf S.Store ScratchBinary conn.old conn.new result }
+{
+    match has_scratch_binaries(conn) {
+        Ok(false) => Ok(()),
+        Ok(true) => Err(StoreFault::Damaged {
+            table: Table::ScratchBinary,
+            row: 1,
+        }),
+        Err(fault) => Err(fault),
     }
 }

@@ -8,10 +8,10 @@ ghost use Rattle.wb_durable.specs.Asks.{FailsByName};
 ghost use Rattle.wb_durable.specs.Finds.{Finds};
 
 use deb_text::{Items, Text};
-use sqlite::{Alter, Connection, Error};
+use sqlite::{Alter, Connection};
 use std::alloc::Global;
 use wb_office::Answer;
-use wb_states::{Record, Refusal, is_arch, is_builder, is_source};
+use wb_states::{Record, Refusal, StoreFault, is_arch, is_builder, is_source};
 use wb_store::KeyedRecord;
 
 /// The names of a query for a record, if they have their forms. The refusals are `BadName` and `Memory`.
@@ -41,13 +41,13 @@ pub(crate) fn builder_of(alloc: Global, builder: &str) -> Result<Text, Refusal>
 }
 
 /// What the office answers to the query for the record of the source package on the architecture, if both names have
-/// their forms. The errors are those of the look-ups. The database stays as it is; only a failed query may take a
+/// their forms. The faults are those of the look-ups. The database stays as it is; only a failed query may take a
 /// transaction back.
 pub(crate) fn find_item<S: Alter>(
     conn: &mut Connection<S>,
     arch: Text,
     source: Text,
-) -> Result<Result<Answer, Refusal>, Error>
+) -> Result<Result<Answer, Refusal>, StoreFault>
     ensures finds { Finds S.Store (λ machine answer. answer ≡ item_in machine arch source)
         conn.old conn.new result }
 {
@@ -74,12 +74,12 @@ fn item_found(arch: Text, source: Text, found: Option<Record>) -> Result<Answer,
     }
 }
 
-/// What the office answers to the query for what the builder holds, if its name has its form. The errors are those of
+/// What the office answers to the query for what the builder holds, if its name has its form. The faults are those of
 /// the look-ups. The database stays as it is; only a failed query may take a transaction back.
 pub(crate) fn find_mine<S: Alter>(
     conn: &mut Connection<S>,
     builder: Text,
-) -> Result<Result<Answer, Refusal>, Error>
+) -> Result<Result<Answer, Refusal>, StoreFault>
     ensures finds { Finds S.Store (λ machine answer. answer ≡ mine_in machine builder)
         conn.old conn.new result }
 {

@@ -1,6 +1,6 @@
 -- What a statement on one of the office's tables makes of the state for which the database stands.
 use Rattle.std.specs.Prelude.{⊤}
-use Rattle.std.proofs.Common.{◌≡◌, ◌≢◌, ℕ, ℤ, pos, true, false, not, List, [], ◌∷◌, length, map, filter, drop, None, Result, Ok, Err, IfErr, OnOk, refl, arith, sym, ap, ap₂, subst, ◌∙◌, IsPermutation}
+use Rattle.std.proofs.Common.{◌≡◌, ◌≢◌, inl, inr, ℕ, ℤ, pos, true, false, not, List, [], ◌∷◌, length, map, filter, drop, None, Result, Ok, Err, IfErr, OnOk, refl, arith, sym, ap, ap₂, subst, ◌∙◌, IsPermutation}
 use Rattle.std.specs.FinMap as finite
 use Rattle.std.specs.FinSet as set
 use Rattle.std.specs.Option.{IsSome}
@@ -22,6 +22,9 @@ use Rattle.deb_text.specs.Text.{pair_cmp}
 use Rattle.deb_text.proofs.KeyLemmas.{text_cmp_total, text_cmp-same, pair_cmp_total, pair_cmp-same}
 use Rattle.wb_states.specs.declared.arch.OsCpu.{OsCpu}
 use Rattle.wb_states.specs.declared.record.Record.{Record}
+use Rattle.wb_states.specs.declared.store_fault.StoreFault.{StoreFault}
+use Rattle.wb_states.specs.declared.store_fault.Table as fault
+use Rattle.wb_states.specs.declared.store_fault.Table.TheVariants.{Office, Arch, Builder, SourceRecord}
 use Rattle.wb_states.specs.Machine.{Machine}
 use Rattle.wb_states.specs.Queue.{Entry}
 use Rattle.wb_sql.specs.Calls.{RunsStatement}
@@ -41,6 +44,8 @@ use Rattle.wb_schema.proofs.RecordLemmas.{arch_typed, builder_typed}
 use Rattle.wb_rows.specs.Cells.{record_cells, arch_cells, builder_cells, number}
 use Rattle.wb_tables.specs.Stands.{HoldsRows, StandsFor, office_row, record_rows, arch_rows, builder_rows, builder_pairs}
 use Rattle.wb_tables.specs.Calls.{Becomes, Changes, FailsToWrite}
+use Rattle.wb_tables.specs.Faults.{told_of}
+use Rattle.wb_tables.specs.Texts.{IsChangeOf}
 use Rattle.wb_tables.proofs.OthersLemmas.{others_kept, office_named, arch_named, builder_named, record_named}
 use Rattle.wb_tables.proofs.MapLemmas.{entries-insert, entries-added, items-added}
 use Rattle.wb_tables.proofs.ChangeRowLemmas.{begins_with, passes, cells_without, cells_apart, records_without, record_decides, office_typed, entry_typed, typed_at}
@@ -49,22 +54,27 @@ use Rattle.wb_schema.proofs.ApartLemmas.{other_rows, own_rows}
 
 -- ---- any statement that writes
 
-weaker_err : {A E : Type 0} {P Q : E → Type 0} (r : Result A E) → ((e : E) → P e → Q e) → IfErr r P → IfErr r Q
-weaker_err (Ok x) follows h = tt
-weaker_err (Err e) follows h = follows e h
-
 -- what a statement that writes makes of the state
-pub statement_changes : {S A : Type 0} {g : Ghosts S} {sql : List ℕ} {params : Row} {Allows : Machine → Type 0} {after : Machine → Machine} {old new : Held S} {r : Result A Error} (Done : State → State → Type 0)
-    → ((schema : Schema) → HasOffice schema → IsWriting schema sql)
+pub statement_changes : {S A : Type 0} {g : Ghosts S} {sql : List ℕ} {params : Row} {table : fault.Table} {Allows : Machine → Type 0} {after : Machine → Machine} {old new : Held S} {r : Result A Error} {told : Result A StoreFault} (Done : State → State → Type 0)
+    → IsChangeOf table sql → ((schema : Schema) → HasOffice schema → IsWriting schema sql)
     → ((machine : Machine) → StandsFor machine (state g old).now → Allows machine → Done (state g old) (state g new) → Becomes (after machine) (state g old) (state g new))
-    → RunsStatement g sql params old new r → (HasCleanDisk (state g new) → OnOk r (Done (state g old) (state g new))) → Changes g Allows after old new r
-statement_changes {g = g} {sql = sql} {params = params} {old = old} {new = new} {r = r} Done writes makes ran ok = record {
-  ok = λ clean. on_ok r (λ done machine stands allows. makes machine stands allows done) (ok clean);
-  err = λ clean inside. weaker_err {P = λ e. Executes sql params (state g old) (state g new) (Err e) × IsKeptOrUndone (state g old) (state g new)} {Q = FailsToWrite (state g old) (state g new)} r
-      (λ e failed. ((sql, params, failed.0), failed.1)) (ran.err clean inside);
-  ended = ran.ended;
-  survives = survives_weaker (state g old) (state g new) _ _ (λ clean db none has. none (writes old.schema has)) ran.survives;
-}
+    → RunsStatement g sql params old new r → (HasCleanDisk (state g new) → OnOk r (Done (state g old) (state g new))) → told ≡ told_of r table → Changes g table Allows after old new told
+statement_changes {A = A} {g = g} {sql = sql} {params = params} {table = table} {Allows = Allows} {after = after} {old = old} {new = new} {r = r} Done on writes makes ran ok is =
+    subst (λ (t : Result A StoreFault). Changes g table Allows after old new t) (sym is) (record {
+      ok = λ clean. ok_told _ r (on_ok r (λ done machine stands allows. makes machine stands allows done) (ok clean));
+      err = λ clean inside. err_told r (ran.err clean inside);
+      ended = λ over. let ended = ran.ended over in (ap (λ answered. told_of answered table) ended.0, ended.1);
+      survives = survives_weaker (state g old) (state g new) _ _ (λ clean db none has. none (writes old.schema has)) ran.survives;
+    })
+  where
+    ok_told : (P : Type 0) (answered : Result A Error) → OnOk answered P → OnOk (told_of answered table) P
+    ok_told P (Ok x) h = h
+    ok_told P (Err e) h = tt
+
+    err_told : (answered : Result A Error) → IfErr answered (λ e. Executes sql params (state g old) (state g new) (Err e) × IsKeptOrUndone (state g old) (state g new))
+        → IfErr (told_of answered table) (FailsToWrite table (state g old) (state g new))
+    err_told (Ok x) h = tt
+    err_told (Err e) h = record { error = e; sql = sql; params = params; on = on; failed = h.0; told = refl; left = h.1 }
 
 -- ---- the other tables
 
@@ -278,47 +288,47 @@ number_bound value cast kept is same = ap bound_value is ∙ ap Int same
 
 -- ---- each call
 
-module _ {S A : Type 0} {g : Ghosts S} {sql : List ℕ} {params : Row} {old new : Held S} {r : Result A Error} where
+module _ {S A : Type 0} {g : Ghosts S} {sql : List ℕ} {params : Row} {old new : Held S} {r : Result A Error} {told : Result A StoreFault} where
   pub counts_change : (handed accepted : ℕ) → UpdatesAmong office sql [] office_sets → params ≡ number handed ∷ number accepted ∷ [] → RunsStatement g sql params old new r
       → (HasCleanDisk (state g new) → OnOk r (Updates sql params (state g old) (state g new)))
-      → Changes g (λ _. ⊤) (λ machine. record machine { handed = handed; accepted = accepted }) old new r
+      → told ≡ told_of r Office → Changes g Office (λ _. ⊤) (λ machine. record machine { handed = handed; accepted = accepted }) old new told
   counts_change handed accepted text is =
-      statement_changes (Updates sql params) (λ schema has. updates_writes schema sql (table_in schema office) [] office_sets (text schema (tree_named schema office.name) has.office_is (office_quiet schema has)))
+      statement_changes (Updates sql params) (inr (inr (inl ([], office_sets, text)))) (λ schema has. updates_writes schema sql (table_in schema office) [] office_sets (text schema (tree_named schema office.name) has.office_is (office_quiet schema has)))
       (λ machine stands allows does. counts_set sql machine (state g old) (state g new) stands handed accepted text (subst (λ p. Updates sql p (state g old) (state g new)) is does))
 
   pub arch_change : (name : List ℕ) (words : OsCpu) → InsertsAmong arch sql arch_terms → params ≡ arch_cells (name, words) → RunsStatement g sql params old new r
       → (HasCleanDisk (state g new) → OnOk r (Inserts sql params (state g old) (state g new)))
-      → Changes g (λ machine. finite.get machine.archs name ≡ None) (λ machine. record machine { archs = finite.insert machine.archs name words }) old new r
+      → told ≡ told_of r Arch → Changes g Arch (λ machine. finite.get machine.archs name ≡ None) (λ machine. record machine { archs = finite.insert machine.archs name words }) old new told
   arch_change name words text is =
-      statement_changes (Inserts sql params) (λ schema has. inserts_writes schema sql (table_in schema arch) arch_terms (text schema (tree_named schema arch.name) has.arch_is (arch_quiet schema has)))
+      statement_changes (Inserts sql params) (inl (arch_terms, text)) (λ schema has. inserts_writes schema sql (table_in schema arch) arch_terms (text schema (tree_named schema arch.name) has.arch_is (arch_quiet schema has)))
       (λ machine stands unknown does. arch_put sql machine (state g old) (state g new) stands name words text unknown (subst (λ p. Inserts sql p (state g old) (state g new)) is does))
 
   pub builder_change : (name of : List ℕ) → InsertsAmong builder sql builder_terms → params ≡ builder_cells (name, of) → RunsStatement g sql params old new r
       → (HasCleanDisk (state g new) → OnOk r (Inserts sql params (state g old) (state g new)))
-      → Changes g (λ machine. set.contains machine.builders (name, of) ≡ false) (λ machine. record machine { builders = set.insert machine.builders (name, of) }) old new r
+      → told ≡ told_of r Builder → Changes g Builder (λ machine. set.contains machine.builders (name, of) ≡ false) (λ machine. record machine { builders = set.insert machine.builders (name, of) }) old new told
   builder_change name of text is =
-      statement_changes (Inserts sql params) (λ schema has. inserts_writes schema sql (table_in schema builder) builder_terms (text schema (tree_named schema builder.name) has.builder_is (builder_quiet schema has)))
+      statement_changes (Inserts sql params) (inl (builder_terms, text)) (λ schema has. inserts_writes schema sql (table_in schema builder) builder_terms (text schema (tree_named schema builder.name) has.builder_is (builder_quiet schema has)))
       (λ machine stands unknown does. builder_put sql machine (state g old) (state g new) stands name of text unknown (subst (λ p. Inserts sql p (state g old) (state g new)) is does))
 
   pub removal_change : (of source : List ℕ) → DeletesAmong source_record sql has_record_key → params ≡ Text of ∷ Text source ∷ [] → RunsStatement g sql params old new r
       → (HasCleanDisk (state g new) → OnOk r (Deletes sql params (state g old) (state g new)))
-      → Changes g (λ _. ⊤) (λ machine. record machine { records = finite.remove machine.records (of, source) }) old new r
+      → told ≡ told_of r SourceRecord → Changes g SourceRecord (λ _. ⊤) (λ machine. record machine { records = finite.remove machine.records (of, source) }) old new told
   removal_change of source text is =
-      statement_changes (Deletes sql params) (λ schema has. deletes_writes schema sql (table_in schema source_record) has_record_key (text schema (tree_named schema source_record.name) has.record_is (record_quiet schema has)))
+      statement_changes (Deletes sql params) (inr (inr (inr (has_record_key, text)))) (λ schema has. deletes_writes schema sql (table_in schema source_record) has_record_key (text schema (tree_named schema source_record.name) has.record_is (record_quiet schema has)))
       (λ machine stands allows does. record_removed sql machine (state g old) (state g new) stands of source text (subst (λ p. Deletes sql p (state g old) (state g new)) is does))
 
   pub record_change : (of source : List ℕ) (current : Record) → UpsertsRecords sql → params ≡ record_cells ((of, source), current) → RunsStatement g sql params old new r
       → (HasCleanDisk (state g new) → OnOk r (Upserts sql params (state g old) (state g new)))
-      → Changes g (λ _. ⊤) (λ machine. record machine { records = finite.insert machine.records (of, source) current }) old new r
+      → told ≡ told_of r SourceRecord → Changes g SourceRecord (λ _. ⊤) (λ machine. record machine { records = finite.insert machine.records (of, source) current }) old new told
   record_change of source current text is =
-      statement_changes (Upserts sql params) (λ schema has. upserts_writes schema sql (table_in schema source_record) record_terms record_sets record_key 16
+      statement_changes (Upserts sql params) (inr (inl (refl, text))) (λ schema has. upserts_writes schema sql (table_in schema source_record) record_terms record_sets record_key 16
       (text schema (tree_named schema source_record.name) has.at has.record_is has.records_indexed (record_quiet schema has)))
       (λ machine stands allows does. record_put sql machine (state g old) (state g new) stands of source current text (subst (λ p. Upserts sql p (state g old) (state g new)) is does))
 
   pub renewal_change : (of source : List ℕ) (current : Record) → UpdatesAmong source_record sql has_record_key record_sets → params ≡ record_cells ((of, source), current) → RunsStatement g sql params old new r
       → (HasCleanDisk (state g new) → OnOk r (Updates sql params (state g old) (state g new)))
-      → Changes g (λ machine. IsSome (finite.get machine.records (of, source))) (λ machine. record machine { records = finite.insert machine.records (of, source) current }) old new r
+      → told ≡ told_of r SourceRecord → Changes g SourceRecord (λ machine. IsSome (finite.get machine.records (of, source))) (λ machine. record machine { records = finite.insert machine.records (of, source) current }) old new told
   renewal_change of source current text is =
-      statement_changes (Updates sql params) (λ schema has. updates_writes schema sql (table_in schema source_record) has_record_key record_sets
+      statement_changes (Updates sql params) (inr (inr (inl (has_record_key, record_sets, text)))) (λ schema has. updates_writes schema sql (table_in schema source_record) has_record_key record_sets
       (text schema (tree_named schema source_record.name) has.record_is (record_quiet schema has)))
       (λ machine stands there does. record_renewed sql machine (state g old) (state g new) stands of source current text there (subst (λ p. Updates sql p (state g old) (state g new)) is does))

@@ -18,12 +18,14 @@ use Rattle.wb_states.specs.declared.store_fault.Table.TheVariants.{Arch}
 use Rattle.wb_states.specs.Machine.{Machine, IsConsistent}
 use Rattle.wb_rows.specs.Cells.{arch_cells}
 use Rattle.wb_rows.specs.Reading.{IsNoArch}
-use Rattle.wb_tables.specs.Lookups.{AreRowsOf}
-use Rattle.wb_tables.specs.Opening.{AreBadRows, HoldsArchs, IsBadRow, IsFirstBad, IsFormedArch, IsRowOf, Passes, PassesWith, ReadsTable, Tests}
+use Rattle.wb_tables.specs.Faults.{IsBadRow}
+use Rattle.wb_tables.specs.Lookups.{AreRowsOf, ReadsTable}
+use Rattle.wb_tables.specs.Opening.{AreBadRows, HoldsArchs, IsFirstBad, IsFormedArch, IsRowOf, Passes, PassesWith, Tests}
 use Rattle.wb_tables.specs.Stands.{StandsFor}
+use Rattle.wb_tables.specs.Texts.{AsksOffice, table_of}
 use Rattle.wb_tables.proofs.ArchLemmas.{archs_found, archs_formed}
 use Rattle.wb_tables.proofs.FormLemmas.{formed_arch_readable}
-use Rattle.wb_tables.proofs.ReadLemmas.{AsksOffice, answered, crash_over, one_of_rows, plain_over, row_read}
+use Rattle.wb_tables.proofs.ReadLemmas.{answered, crash_over, fails_to_read, one_of_rows, plain_over, row_read}
 
 -- a call that hands on the fault of another one
 pub faulted : {T E : Type 0} {e : E} (r : Result T E) → IsErrAnd r (λ d. d ≡ e) → r ≡ Err e
@@ -74,10 +76,10 @@ module _ {X : Type 0} (columns : X → Row) (Fits : X → Type 0) where
 
 -- ---- the test of a table
 
-module _ {S : Type 0} {g : Ghosts S} {text : List ℕ} {q : TableQuery} {of : stored.Table} (asks : AsksOffice text of q) {table : Table} {old new : Held S} where
+module _ {S : Type 0} {g : Ghosts S} {text : List ℕ} {q : TableQuery} {table : Table} (asks : AsksOffice text table q) {old new : Held S} where
   -- a test whose rows are had
-  pub tests_rows : {A X : Type 0} {rows : Vec Row X} {Good : List Row → A → Type 0} {Bad : List Row → StoreFault → Type 0} (r : Result A StoreFault) → ReadsTable g text table old new (Ok rows)
-      → IfOk r (Good rows.items) → IfErr r (Bad rows.items) → Tests g of q table Good Bad old new r
+  pub tests_rows : {A X : Type 0} {rows : Vec Row X} {Good : List Row → A → Type 0} {Bad : List Row → StoreFault → Type 0} (r : Result A StoreFault) → ReadsTable g table text [] old new (Ok rows)
+      → IfOk r (Good rows.items) → IfErr r (Bad rows.items) → Tests g (table_of table) q table Good Bad old new r
   tests_rows {rows} (Ok x) read good bad = record {
     value = λ clean office. (rows.items, answered asks (state g old) office (read.value clean), good);
     same = λ clean office. read.same clean (plain_over asks office);
@@ -92,12 +94,12 @@ module _ {S : Type 0} {g : Ghosts S} {text : List ℕ} {q : TableQuery} {of : st
   }
 
   -- a test whose rows are not had
-  pub tests_nothing : {A X : Type 0} {fault : StoreFault} {Good : List Row → A → Type 0} {Bad : List Row → StoreFault → Type 0} {r : Result A StoreFault} → ReadsTable {X = X} g text table old new (Err fault)
-      → r ≡ Err fault → Tests g of q table Good Bad old new r
-  tests_nothing {A} {Good} {Bad} read is = subst (λ (r : Result A StoreFault). Tests g of q table Good Bad old new r) (sym is) (record {
+  pub tests_nothing : {A X : Type 0} {fault : StoreFault} {Good : List Row → A → Type 0} {Bad : List Row → StoreFault → Type 0} {r : Result A StoreFault} → ReadsTable {X = X} g table text [] old new (Err fault)
+      → r ≡ Err fault → Tests g (table_of table) q table Good Bad old new r
+  tests_nothing {A} {Good = Good} {Bad = Bad} read is = subst (λ (r : Result A StoreFault). Tests g (table_of table) q table Good Bad old new r) (sym is) (record {
     value = λ clean office. tt;
     same = λ clean office. tt;
-    err = λ clean office. inl (read.err clean);
+    err = λ clean office. inl (fails_to_read [] asks (read.err clean));
     survives = crash_over asks g old new read.survives;
   })
 

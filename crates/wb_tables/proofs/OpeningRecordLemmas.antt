@@ -36,7 +36,8 @@ use Rattle.wb_states.proofs.QueueLemmas.{IsIn-entries}
 use Rattle.wb_rows.specs.Cells.{record_cells}
 use Rattle.wb_rows.specs.Reading.{IsNoRecord}
 use Rattle.wb_rows.proofs.CellsLemmas.{record_cells-same}
-use Rattle.wb_tables.specs.Opening.{AllAfter, AreBadRecords, AreKept, FitsBeside, FitsRecords, HasGoodRecords, HasOwnTake, HoldsRecords, IsBadRow, IsFormedRecord, IsRowOf, IsTestedRow, PassesWith, Tests, has_pair, words_among}
+use Rattle.wb_tables.specs.Faults.{IsBadRow}
+use Rattle.wb_tables.specs.Opening.{AllAfter, AreBadRecords, AreKept, FitsBeside, FitsRecords, HasGoodRecords, HasOwnTake, HoldsRecords, IsFormedRecord, IsRowOf, IsTestedRow, PassesWith, Tests, has_pair, words_among}
 use Rattle.wb_tables.specs.Stands.{StandsFor, builder_pairs}
 use Rattle.wb_tables.proofs.ArchLemmas.{name_test}
 use Rattle.wb_tables.proofs.FormLemmas.{arch_known, formed_readable}

@@ -23,7 +23,8 @@ use Rattle.wb_states.specs.declared.store_fault.StoreFault.{StoreFault}
 use Rattle.wb_states.specs.declared.store_fault.Table.{Table}
 use Rattle.wb_tables.specs.Faults.{fault_of}
 use Rattle.wb_tables.specs.Opening.{Tests}
-use Rattle.wb_tables.proofs.ReadLemmas.{AsksOffice, answers_of, asked_over, plain_over}
+use Rattle.wb_tables.specs.Texts.{AsksOffice, table_of}
+use Rattle.wb_tables.proofs.ReadLemmas.{answers_of, asked_over, fails_to_read, plain_over}
 
 -- ---- a query that fails later, as one that fails at its start
 
@@ -83,14 +84,14 @@ answer_ends sql q old mid new rows asks same shown =
 -- ---- the query under way
 
 -- a query of the table has given these rows so far, and the database is as it was
-pub record IsUnderWay {S : Type 0} (g : Ghosts S) (of : stored.Table) (q : TableQuery) (old now : Held S) (given : List Row) : Type 0 where
+pub record IsUnderWay {S : Type 0} (g : Ghosts S) (table : Table) (q : TableQuery) (old now : Held S) (given : List Row) : Type 0 where
   pub text : List ℕ
-  pub asks : AsksOffice text of q
+  pub asks : AsksOffice text table q
   pub runs : HasCleanDisk (state g now) → HasOffice old.schema → HasGiven g text [] now given × IsUnchanged (state g old) (state g now)
   pub survives : Survives (state g old) (state g now) (λ _. ¬ HasOffice old.schema)
 
 -- a crash in a query that writes nothing
-crash_plain : {S : Type 0} (g : Ghosts S) {text : List ℕ} {q : TableQuery} {of : stored.Table} (asks : AsksOffice text of q) (old new : Held S) → Survives (state g old) (state g new) (CommitsShowing text [] (state g old))
+crash_plain : {S : Type 0} (g : Ghosts S) {text : List ℕ} {q : TableQuery} {table : Table} (asks : AsksOffice text table q) (old new : Held S) → Survives (state g old) (state g new) (CommitsShowing text [] (state g old))
     → Survives (state g old) (state g new) (λ _. ¬ HasOffice old.schema)
 crash_plain g {text} asks old new =
     survives_weaker (state g old) (state g new) (CommitsShowing text [] (state g old)) (λ _. ¬ HasOffice old.schema)
@@ -102,19 +103,19 @@ crash_later : {S : Type 0} (g : Ghosts S) (old now new : Held S) → Survives (s
 crash_later g old now new =
     survives_then (state g old) (state g now) (state g new) (λ _. ¬ HasOffice old.schema) (λ _. ⊥) (λ _. ¬ HasOffice old.schema) (λ clean db other. other) (λ clean db none. absurd none)
 
-module _ {S : Type 0} {g : Ghosts S} {text : List ℕ} {q : TableQuery} {of : stored.Table} (asks : AsksOffice text of q) {old new : Held S}
+module _ {S : Type 0} {g : Ghosts S} {text : List ℕ} {q : TableQuery} {table : Table} (asks : AsksOffice text table q) {old new : Held S}
     (survives : Survives (state g old) (state g new) (CommitsShowing text [] (state g old))) where
   -- the query begins
-  pub begins : (HasCleanDisk (state g new) → HasBegun g text [] old new) → IsUnderWay g of q old new []
+  pub begins : (HasCleanDisk (state g new) → HasBegun g text [] old new) → IsUnderWay g table q old new []
   begins begun = record { text = text; asks = asks; runs = λ clean office. begun_plain g text [] old new (plain_over asks office) (begun clean); survives = crash_plain g asks old new survives }
 
   -- the query does not begin
-  pub tests_refused : {A : Type 0} {table : Table} {Good : List Row → A → Type 0} {Bad : List Row → StoreFault → Type 0} {r : Result A StoreFault} (e : Error)
-      → (HasCleanDisk (state g new) → FailsToQuery text [] (state g old) (state g new) e) → r ≡ Err (fault_of e table) → Tests g of q table Good Bad old new r
-  tests_refused {A} {table} {Good} {Bad} e fails is = subst (λ (r : Result A StoreFault). Tests g of q table Good Bad old new r) (sym is) (record {
+  pub tests_refused : {A : Type 0} {Good : List Row → A → Type 0} {Bad : List Row → StoreFault → Type 0} {r : Result A StoreFault} (e : Error)
+      → (HasCleanDisk (state g new) → FailsToQuery text [] (state g old) (state g new) e) → r ≡ Err (fault_of e table) → Tests g (table_of table) q table Good Bad old new r
+  tests_refused {A} {Good} {Bad} e fails is = subst (λ (r : Result A StoreFault). Tests g (table_of table) q table Good Bad old new r) (sym is) (record {
     value = λ clean office. tt;
     same = λ clean office. tt;
-    err = λ clean office. let failed = fails clean in inl (e, ((text, [], failed), query_kept text [] (state g old) (state g new) e failed), refl);
+    err = λ clean office. let failed = fails clean in inl (fails_to_read [] asks (e, failed, query_kept text [] (state g old) (state g new) e failed, refl));
     survives = crash_plain g asks old new survives;
   })
 
@@ -123,11 +124,11 @@ pub tests_at : {S A : Type 0} {g : Ghosts S} {of : stored.Table} {q : TableQuery
     → Tests g of q table Good Bad old now r → new ≡ now → Tests g of q table Good Bad old new r
 tests_at {g} {of} {q} {table} {Good} {Bad} {old} {r} tests same = subst (λ h. Tests g of q table Good Bad old h r) (sym same) tests
 
-module _ {S : Type 0} {g : Ghosts S} {of : stored.Table} {q : TableQuery} {old now : Held S} {given : List Row} (under : IsUnderWay g of q old now given) where
+module _ {S : Type 0} {g : Ghosts S} {table : Table} {q : TableQuery} {old now : Held S} {given : List Row} (under : IsUnderWay g table q old now given) where
   module _ (new : Held S) (later : Survives (state g now) (state g new) (λ _. ⊥)) where
     -- one more row is given
     pub moves : (row : Row) → (HasCleanDisk (state g new) → Advances g now new (Some row)) → (HasCleanDisk (state g new) → IsUnchanged (state g now) (state g new))
-        → IsUnderWay g of q old new (given ++ row ∷ [])
+        → IsUnderWay g table q old new (given ++ row ∷ [])
     moves row advances same = record {
       text = under.text;
       asks = under.asks;
@@ -136,41 +137,41 @@ module _ {S : Type 0} {g : Ghosts S} {of : stored.Table} {q : TableQuery} {old n
       survives = crash_later g old now new under.survives later;
     }
 
-    module _ {A : Type 0} {table : Table} {Good : List Row → A → Type 0} {Bad : List Row → StoreFault → Type 0} {r : Result A StoreFault} where
+    module _ {A : Type 0} {Good : List Row → A → Type 0} {Bad : List Row → StoreFault → Type 0} {r : Result A StoreFault} where
       -- the rows are at their end, and good
       pub tests_ended : (x : A) → (HasCleanDisk (state g new) → Advances g now new None) → (HasCleanDisk (state g new) → IsUnchanged (state g now) (state g new)) → Good given x → r ≡ Ok x
-          → Tests g of q table Good Bad old new r
-      tests_ended x advances same good is = subst (λ (r : Result A StoreFault). Tests g of q table Good Bad old new r) (sym is) (record {
+          → Tests g (table_of table) q table Good Bad old new r
+      tests_ended x advances same good is = subst (λ (r : Result A StoreFault). Tests g (table_of table) q table Good Bad old new r) (sym is) (record {
         value = λ clean office.
             let was = under.runs (omega (arith, clean, later.clean)) office in
-            (given, answers_of (answer_ends under.text (query_in old.schema of q) (state g old) (state g now) (state g new) given (asked_over under.asks office) was.1 (advances clean under.text [] given was.0)), good);
+            (given, answers_of (answer_ends under.text (query_in old.schema (table_of table) q) (state g old) (state g now) (state g new) given (asked_over under.asks office) was.1 (advances clean under.text [] given was.0)), good);
         same = λ clean office. unchanged_then (state g old) (state g now) (state g new) (under.runs (omega (arith, clean, later.clean)) office).1 (same clean);
         err = λ clean office. tt;
         survives = crash_later g old now new under.survives later;
       })
 
       -- the next row cannot be read
-      pub tests_failed : (e : Error) → (HasCleanDisk (state g new) → FailsToAdvance g now new e) → r ≡ Err (fault_of e table) → Tests g of q table Good Bad old new r
-      tests_failed e fails is = subst (λ (r : Result A StoreFault). Tests g of q table Good Bad old new r) (sym is) (record {
+      pub tests_failed : (e : Error) → (HasCleanDisk (state g new) → FailsToAdvance g now new e) → r ≡ Err (fault_of e table) → Tests g (table_of table) q table Good Bad old new r
+      tests_failed e fails is = subst (λ (r : Result A StoreFault). Tests g (table_of table) q table Good Bad old new r) (sym is) (record {
         value = λ clean office. tt;
         same = λ clean office. tt;
         err = λ clean office.
             let was = under.runs (omega (arith, clean, later.clean)) office in
             let plain = plain_over under.asks office in
             let failed = fails_from_start under.text [] (state g old) (state g now) (state g new) was.1 under.survives.counts under.survives.limit plain e (fails clean under.text [] given was.0) in
-            inl (e, ((under.text, [], failed), query_kept under.text [] (state g old) (state g new) e failed), refl);
+            inl (fails_to_read [] under.asks (e, failed, query_kept under.text [] (state g old) (state g new) e failed, refl));
         survives = crash_later g old now new under.survives later;
       })
 
   -- the rows so far show that the test fails, whatever comes after them
-  pub tests_bad : {A : Type 0} {table : Table} {Good : List Row → A → Type 0} {Bad : List Row → StoreFault → Type 0} {r : Result A StoreFault} (fault : StoreFault)
-      → ((rest : List Row) → Bad (given ++ rest) fault) → r ≡ Err fault → Tests g of q table Good Bad old now r
-  tests_bad {A} {table} {Good} {Bad} fault bad is = subst (λ (r : Result A StoreFault). Tests g of q table Good Bad old now r) (sym is) (record {
+  pub tests_bad : {A : Type 0} {Good : List Row → A → Type 0} {Bad : List Row → StoreFault → Type 0} {r : Result A StoreFault} (fault : StoreFault)
+      → ((rest : List Row) → Bad (given ++ rest) fault) → r ≡ Err fault → Tests g (table_of table) q table Good Bad old now r
+  tests_bad {A} {Good} {Bad} fault bad is = subst (λ (r : Result A StoreFault). Tests g (table_of table) q table Good Bad old now r) (sym is) (record {
     value = λ clean office. tt;
     same = λ clean office. tt;
     err = λ clean office.
         let was = under.runs clean office in
-        let whole = answer_begins g under.text (query_in old.schema of q) (state g old) now given (asked_over under.asks office) was.0 was.1 in
+        let whole = answer_begins g under.text (query_in old.schema (table_of table) q) (state g old) now given (asked_over under.asks office) was.0 was.1 in
         inr (was.1, (given ++ whole.0, answers_of whole.1, bad whole.0));
     survives = under.survives;
   })

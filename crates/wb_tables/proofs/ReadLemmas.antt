@@ -1,27 +1,28 @@
 -- From the run of a query to the records that it answers, and to what a look-up promises.
 use Rattle.std.proofs.Common.{◌≡◌, inl, inr, ℕ, List, [], ◌∷◌, ◌++◌, append_assoc, map, Result, Ok, Err, IfOk, IfErr, IsErrAnd, Vec, refl, sym, ap, subst, ◌∙◌}
 use Rattle.std.proofs.lemmas.List.{map-append}
-use Rattle.sqlite.specs.declared.error.Error.{Error}
-use Rattle.sqlite.specs.declared.error.Error.TheVariants.{SqliteFailure}
-use Rattle.sqlite.specs.declared.error.ErrorCode.TheVariants.{OutOfMemory}
 use Rattle.sqlite.specs.Given.{IsPlain}
 use Rattle.sqlite.specs.Held.{Held, state}
 use Rattle.sqlite.specs.Listing.{understood}
 use Rattle.sqlite.specs.Order.{Row}
 use Rattle.sqlite.specs.Schema.{Schema}
 use Rattle.sqlite.specs.State.{State, Survives}
-use Rattle.sqlite.specs.Table.{Table}
 use Rattle.sqlite.proofs.StateLemmas.{survives_weaker}
 use Rattle.sqlite_trees.specs.declared.store.Store.{Ghosts}
-use Rattle.wb_sql.specs.Calls.{RunsQuery}
 use Rattle.wb_sql.specs.Queries.{TableQuery, Asks, Answers}
 use Rattle.wb_schema.specs.Among.{AsksAmong, HasOffice, query_at, query_in, rows_in, tree_named}
 use Rattle.wb_schema.specs.Tables as tables
+use Rattle.wb_states.specs.declared.store_fault.StoreFault.{StoreFault}
+use Rattle.wb_states.specs.declared.store_fault.StoreFault.TheVariants.{Memory}
+use Rattle.wb_states.specs.declared.store_fault.Table.{Table}
+use Rattle.wb_states.specs.declared.store_fault.Table.TheVariants.{Office, Arch, Builder, SourceRecord, ScratchSource, ScratchBinary}
 use Rattle.wb_states.specs.Machine.{Machine, IsConsistent}
 use Rattle.wb_store.specs.declared.keyed.KeyedRecord.{KeyedRecord}
+use Rattle.wb_tables.specs.Faults.{IsUnfit}
 use Rattle.wb_tables.specs.Stands.{StandsFor}
-use Rattle.wb_tables.specs.Calls.{FailsToLookUp, LooksUp}
-use Rattle.wb_tables.specs.Lookups.{AreRecords, AreRowsOf, FailsToReadRecords, IsReadFault, MayAnswer, ReadsRecords, keyed_cells}
+use Rattle.wb_tables.specs.Calls.{FailsToLookUp, FailsToRead, LooksUp}
+use Rattle.wb_tables.specs.Lookups.{AreRecords, AreRowsOf, FailsToReadRecords, IsQueryFault, MayAnswer, ReadsRecords, ReadsTable, keyed_cells}
+use Rattle.wb_tables.specs.Texts.{AsksOffice, table_of}
 
 -- a call that hands on the error of another one
 pub handed_on : {T E : Type 0} {e : E} (r : Result T E) → IsErrAnd r (λ d. d ≡ e) → r ≡ Err e
@@ -39,11 +40,11 @@ module _ {X : Type 0} (columns : X → Row) (Fits : X → Type 0) where
   one_of_rows (first ∷ before) row rest (x ∷ xs, fit, is) = one_of_rows before row rest (xs, fit.1, let same : before ++ row ∷ rest ≡ map columns xs = cc in same)
 
   -- why one row is not read, as why all are not
-  pub row_fault : (before : List Row) (row : Row) (rest left all : List Row) (e : Error) → before ++ left ≡ all → left ≡ row ∷ rest
-      → IsReadFault ((x : X) × Fits x × (row ≡ columns x)) e → IsReadFault (AreRowsOf columns Fits all) e
-  row_fault before row rest left all e whole next (inl memory) = inl memory
-  row_fault before row rest left all e whole next (inr corrupt) =
-      inr (corrupt.0, λ fits. corrupt.1 (one_of_rows before row rest (subst (AreRowsOf columns Fits) (sym whole ∙ ap (λ l. before ++ l) next) fits)))
+  pub row_fault : (table : Table) (before : List Row) (row : Row) (rest left all : List Row) (fault : StoreFault) → before ++ left ≡ all → left ≡ row ∷ rest
+      → IsUnfit table ((x : X) × Fits x × (row ≡ columns x)) fault → IsUnfit table (AreRowsOf columns Fits all) fault
+  row_fault table before row rest left all fault whole next (inl memory) = inl memory
+  row_fault table before row rest left all fault whole next (inr unfit) =
+      inr (unfit.0, λ fits. unfit.1 (one_of_rows before row rest (subst (AreRowsOf columns Fits) (sym whole ∙ ap (λ l. before ++ l) next) fits)))
 
 -- one more row is read
 pub row_read : {Y : Type 0} (columns : Y → Row) (made after : List Y) (new : Y) (row : Row) (rest left all : List Row) → map columns made ++ left ≡ all → left ≡ row ∷ rest → after ≡ made ++ new ∷ []
@@ -54,33 +55,29 @@ row_read columns made after new row rest left all whole next pushed is =
 
 -- ---- the run of a query
 
--- over each schema with the office's tables the text asks this of one of them, in the tree in which the schema has it
-pub record AsksOffice (sql : List ℕ) (table : Table) (q : TableQuery) : Type 0 where
-  pub over : (schema : Schema) → HasOffice schema → Asks schema sql (query_in schema table q)
-
 module _ {sql : List ℕ} (q : TableQuery) where
   -- a text on the table of the counts
-  pub asks_office : AsksAmong tables.office sql q → AsksOffice sql tables.office q
+  pub asks_office : AsksAmong tables.office sql q → AsksOffice sql Office q
   asks_office asks = record { over = λ schema has. asks schema (tree_named schema tables.office.name) has.office_is }
 
   -- a text on the table of the architectures
-  pub asks_arch : AsksAmong tables.arch sql q → AsksOffice sql tables.arch q
+  pub asks_arch : AsksAmong tables.arch sql q → AsksOffice sql Arch q
   asks_arch asks = record { over = λ schema has. asks schema (tree_named schema tables.arch.name) has.arch_is }
 
   -- a text on the table of the builders
-  pub asks_builder : AsksAmong tables.builder sql q → AsksOffice sql tables.builder q
+  pub asks_builder : AsksAmong tables.builder sql q → AsksOffice sql Builder q
   asks_builder asks = record { over = λ schema has. asks schema (tree_named schema tables.builder.name) has.builder_is }
 
   -- a text on the table of the records
-  pub asks_record : AsksAmong tables.source_record sql q → AsksOffice sql tables.source_record q
+  pub asks_record : AsksAmong tables.source_record sql q → AsksOffice sql SourceRecord q
   asks_record asks = record { over = λ schema has. asks schema (tree_named schema tables.source_record.name) has.record_is }
 
   -- a text on the table of the source packages of a merge
-  pub asks_source : AsksAmong tables.scratch_source sql q → AsksOffice sql tables.scratch_source q
+  pub asks_source : AsksAmong tables.scratch_source sql q → AsksOffice sql ScratchSource q
   asks_source asks = record { over = λ schema has. asks schema (tree_named schema tables.scratch_source.name) has.source_is }
 
   -- a text on the table of the binary packages of a merge
-  pub asks_binary : AsksAmong tables.scratch_binary sql q → AsksOffice sql tables.scratch_binary q
+  pub asks_binary : AsksAmong tables.scratch_binary sql q → AsksOffice sql ScratchBinary q
   asks_binary asks = record { over = λ schema has. asks schema (tree_named schema tables.scratch_binary.name) has.binary_is }
 
 -- what a query answers does not depend on the tree in which its table is
@@ -89,82 +86,88 @@ answers_of a = record { ordered = a.ordered; same = a.same; sorted = a.sorted; s
 
 module _ {sql : List ℕ} {q : TableQuery} {table : Table} (asks : AsksOffice sql table q) where
   -- what a text asks over a schema with the office's tables
-  pub asked_over : {schema : Schema} → HasOffice schema → Asks schema sql (query_in schema table q)
+  pub asked_over : {schema : Schema} → HasOffice schema → Asks schema sql (query_in schema (table_of table) q)
   asked_over {schema} has = asks.over schema has
 
   pub plain_over : {schema : Schema} → HasOffice schema → IsPlain (understood schema sql)
   plain_over has = (asked_over has).means.plain
 
   -- what it may answer, it answers of the rows of the table
-  pub answered : {params : Row} {rows : List Row} (at : State) → HasOffice at.now.schema → MayAnswer sql params at rows → Answers q params (rows_in at.now table) rows
-  answered at has answers = answers_of (answers (query_in at.now.schema table q) (asked_over has))
+  pub answered : {params : Row} {rows : List Row} (at : State) → HasOffice at.now.schema → MayAnswer sql params at rows → Answers q params (rows_in at.now (table_of table)) rows
+  answered at has answers = answers_of (answers (query_in at.now.schema (table_of table) q) (asked_over has))
 
   pub crash_over : {S : Type 0} (g : Ghosts S) (old new : Held S) → Survives (state g old) (state g new) (λ _. ¬ IsPlain (understood old.schema sql))
       → Survives (state g old) (state g new) (λ _. ¬ HasOffice old.schema)
   crash_over g old new =
       survives_weaker (state g old) (state g new) (λ _. ¬ IsPlain (understood old.schema sql)) (λ _. ¬ HasOffice old.schema) (λ clean db unplain has. unplain (plain_over has))
 
+-- a query on a table that failed, by its text
+pub fails_to_read : {table : Table} {sql : List ℕ} {q : TableQuery} (params : Row) {old new : State} {fault : StoreFault} → AsksOffice sql table q → IsQueryFault table sql params old new fault → FailsToRead table old new fault
+fails_to_read {sql = sql} {q = q} params asks failed =
+    record { error = failed.0; sql = sql; params = params; on = (q, asks); failed = failed.1; left = failed.2; told = failed.3 }
+
 module _ {S : Type 0} {g : Ghosts S} {sql : List ℕ} {params : Row} {old new : Held S} where
   -- the records in the rows of a query that succeeded
-  pub reads_rows : {X Y : Type 0} {rows : Vec Row X} (r : Result (Vec KeyedRecord Y) Error) → RunsQuery g sql params old new (Ok rows)
-      → IfOk r (λ made. rows.items ≡ map keyed_cells made.items) → IfErr r (IsReadFault (AreRecords rows.items)) → ReadsRecords g sql params old new r
-  reads_rows (Ok made) run is fault = record {
-    value = λ clean. subst (MayAnswer sql params (state g old)) is (run.answers clean);
-    same = run.same;
+  pub reads_rows : {X Y : Type 0} {rows : Vec Row X} (r : Result (Vec KeyedRecord Y) StoreFault) → ReadsTable g SourceRecord sql params old new (Ok rows)
+      → IfOk r (λ made. rows.items ≡ map keyed_cells made.items) → IfErr r (IsUnfit SourceRecord (AreRecords rows.items)) → ReadsRecords g sql params old new r
+  reads_rows (Ok made) read is fault = record {
+    value = λ clean. subst (MayAnswer sql params (state g old)) is (read.value clean);
+    same = read.same;
     err = λ clean plain. tt;
-    survives = run.survives;
+    survives = read.survives;
   }
-  reads_rows {rows} (Err e) run is fault = record {
+  reads_rows {rows} (Err fault) read is unfit = record {
     value = λ clean. tt;
     same = λ clean plain. tt;
-    err = λ clean plain. inr (run.same clean plain, (rows.items, run.answers clean, fault));
-    survives = run.survives;
+    err = λ clean plain. inr (read.same clean plain, (rows.items, read.value clean, unfit));
+    survives = read.survives;
   }
 
   -- no records, of a query that failed
-  pub reads_nothing : {X Y : Type 0} {e : Error} {r : Result (Vec KeyedRecord Y) Error} → RunsQuery {X = X} g sql params old new (Err e) → r ≡ Err e → ReadsRecords g sql params old new r
-  reads_nothing {Y} {e} run is = subst (λ (r : Result (Vec KeyedRecord Y) Error). ReadsRecords g sql params old new r) (sym is) (record {
+  pub reads_nothing : {X Y : Type 0} {fault : StoreFault} {r : Result (Vec KeyedRecord Y) StoreFault} → ReadsTable {X = X} g SourceRecord sql params old new (Err fault) → r ≡ Err fault → ReadsRecords g sql params old new r
+  reads_nothing {Y} {fault} read is = subst (λ (r : Result (Vec KeyedRecord Y) StoreFault). ReadsRecords g sql params old new r) (sym is) (record {
     value = λ clean. tt;
     same = λ clean plain. tt;
-    err = λ clean plain. let why = run.err clean in inl ((sql, params, why.0), why.1);
-    survives = run.survives;
+    err = λ clean plain. inl (read.err clean);
+    survives = read.survives;
   })
 
   module _ {q : TableQuery} {table : Table} (asks : AsksOffice sql table q) where
     -- a look-up whose query succeeded, and whose rows are read
-    pub looks_up_rows : {A X : Type 0} {rows : Vec Row X} {Answer : Machine → A → Type 0} (Fits : Type 0) (r : Result A Error) → RunsQuery g sql params old new (Ok rows)
-        → ((machine : Machine) → StandsFor machine (state g old).now → Answers q params (rows_in (state g old).now table) rows.items → IfOk r (Answer machine)) → IfErr r (IsReadFault Fits)
-        → ((machine : Machine) → IsConsistent machine → StandsFor machine (state g old).now → Answers q params (rows_in (state g old).now table) rows.items → Fits)
-        → LooksUp g Answer old new r
-    looks_up_rows Fits (Ok x) run finds fault fits = record {
-      value = λ clean machine stands. finds machine stands (answered asks (state g old) stands.has (run.answers clean));
-      same = λ clean office. run.same clean (plain_over asks office);
+    pub looks_up_rows : {A X : Type 0} {rows : Vec Row X} {Answer : Machine → A → Type 0} (Fits : Type 0) (r : Result A StoreFault) → ReadsTable g table sql params old new (Ok rows)
+        → ((machine : Machine) → StandsFor machine (state g old).now → Answers q params (rows_in (state g old).now (table_of table)) rows.items → IfOk r (Answer machine)) → IfErr r (IsUnfit table Fits)
+        → ((machine : Machine) → IsConsistent machine → StandsFor machine (state g old).now → Answers q params (rows_in (state g old).now (table_of table)) rows.items → Fits)
+        → LooksUp g table Answer old new r
+    looks_up_rows Fits (Ok x) read finds fault fits = record {
+      value = λ clean machine stands. finds machine stands (answered asks (state g old) stands.has (read.value clean));
+      same = λ clean office. read.same clean (plain_over asks office);
       err = λ clean office. tt;
-      survives = crash_over asks g old new run.survives;
+      survives = crash_over asks g old new read.survives;
     }
-    looks_up_rows Fits (Err e) run finds fault fits = record {
+    looks_up_rows Fits (Err e) read finds fault fits = record {
       value = λ clean. tt;
       same = λ clean office. tt;
       err = λ clean office. elim fault [
-        | inl memory ↦ inr (inl (memory, run.same clean (plain_over asks office)))
-        | inr corrupt ↦ inr (inr (corrupt.0, run.same clean (plain_over asks office), λ machine sound stands. corrupt.1 (fits machine sound stands (answered asks (state g old) stands.has (run.answers clean)))))
+        | inl memory ↦ inr (inl (memory, read.same clean (plain_over asks office)))
+        | inr unfit ↦ inr (inr (unfit.0, read.same clean (plain_over asks office), λ machine sound stands. unfit.1 (fits machine sound stands (answered asks (state g old) stands.has (read.value clean)))))
       ];
-      survives = crash_over asks g old new run.survives;
+      survives = crash_over asks g old new read.survives;
     }
 
     -- a look-up whose query failed
-    pub looks_up_nothing : {A X : Type 0} {e : Error} {Answer : Machine → A → Type 0} {r : Result A Error} → RunsQuery {X = X} g sql params old new (Err e) → r ≡ Err e → LooksUp g Answer old new r
-    looks_up_nothing {A} {Answer} run is = subst (λ (r : Result A Error). LooksUp g Answer old new r) (sym is) (record {
+    pub looks_up_nothing : {A X : Type 0} {fault : StoreFault} {Answer : Machine → A → Type 0} {r : Result A StoreFault} → ReadsTable {X = X} g table sql params old new (Err fault) → r ≡ Err fault → LooksUp g table Answer old new r
+    looks_up_nothing {A} {Answer = Answer} read is = subst (λ (r : Result A StoreFault). LooksUp g table Answer old new r) (sym is) (record {
       value = λ clean. tt;
       same = λ clean office. tt;
-      err = λ clean office. let why = run.err clean in inl ((sql, params, why.0), why.1);
-      survives = crash_over asks g old new run.survives;
+      err = λ clean office. inl (fails_to_read params asks (read.err clean));
+      survives = crash_over asks g old new read.survives;
     })
 
+  module _ {q : TableQuery} (asks : AsksOffice sql SourceRecord q) where
     -- a look-up of records
     pub looks_up : {A X : Type 0} {rows : Vec KeyedRecord X} {Answer : Machine → A → Type 0} {x : A} → ReadsRecords g sql params old new (Ok rows)
-        → ((machine : Machine) → StandsFor machine (state g old).now → Answers q params (rows_in (state g old).now table) (map keyed_cells rows.items) → Answer machine x)
-        → LooksUp g Answer old new (Ok x)
+        → ((machine : Machine) → StandsFor machine (state g old).now → Answers q params (rows_in (state g old).now tables.source_record) (map keyed_cells rows.items) → Answer machine x)
+        → LooksUp g SourceRecord Answer old new (Ok x)
     looks_up read finds = record {
       value = λ clean machine stands. finds machine stands (answered asks (state g old) stands.has (read.value clean));
       same = λ clean office. read.same clean (plain_over asks office);
@@ -173,26 +176,26 @@ module _ {S : Type 0} {g : Ghosts S} {sql : List ℕ} {params : Row} {old new : 
     }
 
     -- a look-up whose records are not had
-    pub fails_to_look_up : {A X : Type 0} {e : Error} {Answer : Machine → A → Type 0} {r : Result A Error} → ReadsRecords {X = X} g sql params old new (Err e) → r ≡ Err e
-        → ((machine : Machine) → IsConsistent machine → StandsFor machine (state g old).now → (rows : List Row) → Answers q params (rows_in (state g old).now table) rows → AreRecords rows)
-        → LooksUp g Answer old new r
-    fails_to_look_up {A} {e} {Answer} read is fits = subst (λ (r : Result A Error). LooksUp g Answer old new r) (sym is) (record {
+    pub fails_to_look_up : {A X : Type 0} {fault : StoreFault} {Answer : Machine → A → Type 0} {r : Result A StoreFault} → ReadsRecords {X = X} g sql params old new (Err fault) → r ≡ Err fault
+        → ((machine : Machine) → IsConsistent machine → StandsFor machine (state g old).now → (rows : List Row) → Answers q params (rows_in (state g old).now tables.source_record) rows → AreRecords rows)
+        → LooksUp g SourceRecord Answer old new r
+    fails_to_look_up {A} {fault = fault} {Answer = Answer} read is fits = subst (λ (r : Result A StoreFault). LooksUp g SourceRecord Answer old new r) (sym is) (record {
       value = λ clean. tt;
       same = λ clean office. tt;
       err = λ clean office. why office (read.err clean (plain_over asks office));
       survives = crash_over asks g old new read.survives;
     })
       where
-        why : HasOffice old.schema → FailsToReadRecords sql params (state g old) (state g new) e → FailsToLookUp (state g old) (state g new) e
-        why office (inl failed) = inl failed
+        why : HasOffice old.schema → FailsToReadRecords sql params (state g old) (state g new) fault → FailsToLookUp SourceRecord (state g old) (state g new) fault
+        why office (inl failed) = inl (fails_to_read params asks failed)
         why office (inr (kept, (rows, answers, inl memory))) = inr (inl (memory, kept))
-        why office (inr (kept, (rows, answers, inr corrupt))) =
-            inr (inr (corrupt.0, kept, λ machine sound stands. corrupt.1 (fits machine sound stands rows (answered asks (state g old) stands.has answers))))
+        why office (inr (kept, (rows, answers, inr unfit))) =
+            inr (inr (unfit.0, kept, λ machine sound stands. unfit.1 (fits machine sound stands rows (answered asks (state g old) stands.has answers))))
 
     -- a look-up that is out of memory for its answer
-    pub lacks_memory : {A X : Type 0} {rows : Vec KeyedRecord X} {Answer : Machine → A → Type 0} {r : Result A Error} → ReadsRecords g sql params old new (Ok rows)
-        → r ≡ Err (SqliteFailure OutOfMemory) → LooksUp g Answer old new r
-    lacks_memory {A} {Answer} read is = subst (λ (r : Result A Error). LooksUp g Answer old new r) (sym is) (record {
+    pub lacks_memory : {A X : Type 0} {rows : Vec KeyedRecord X} {Answer : Machine → A → Type 0} {r : Result A StoreFault} → ReadsRecords g sql params old new (Ok rows)
+        → r ≡ Err Memory → LooksUp g SourceRecord Answer old new r
+    lacks_memory {A} {Answer = Answer} read is = subst (λ (r : Result A StoreFault). LooksUp g SourceRecord Answer old new r) (sym is) (record {
       value = λ clean. tt;
       same = λ clean office. tt;
       err = λ clean office. inr (inl (refl, read.same clean (plain_over asks office)));
@@ -200,19 +203,9 @@ module _ {S : Type 0} {g : Ghosts S} {sql : List ℕ} {params : Row} {old new : 
     })
 
     -- all the records of a look-up
-    pub looks_up_all : {X : Type 0} {Answer : Machine → Vec KeyedRecord X → Type 0} (r : Result (Vec KeyedRecord X) Error) → ReadsRecords g sql params old new r
-        → ((machine : Machine) (rows : Vec KeyedRecord X) → StandsFor machine (state g old).now → Answers q params (rows_in (state g old).now table) (map keyed_cells rows.items) → Answer machine rows)
-        → ((machine : Machine) → IsConsistent machine → StandsFor machine (state g old).now → (rows : List Row) → Answers q params (rows_in (state g old).now table) rows → AreRecords rows)
-        → LooksUp g Answer old new r
+    pub looks_up_all : {X : Type 0} {Answer : Machine → Vec KeyedRecord X → Type 0} (r : Result (Vec KeyedRecord X) StoreFault) → ReadsRecords g sql params old new r
+        → ((machine : Machine) (rows : Vec KeyedRecord X) → StandsFor machine (state g old).now → Answers q params (rows_in (state g old).now tables.source_record) (map keyed_cells rows.items) → Answer machine rows)
+        → ((machine : Machine) → IsConsistent machine → StandsFor machine (state g old).now → (rows : List Row) → Answers q params (rows_in (state g old).now tables.source_record) rows → AreRecords rows)
+        → LooksUp g SourceRecord Answer old new r
     looks_up_all (Ok rows) read finds fits = looks_up read (λ machine. finds machine rows)
-    looks_up_all (Err e) read finds fits = fails_to_look_up read refl fits
-
--- an answer that follows from another one
-pub looks_up_from : {S A B : Type 0} {g : Ghosts S} {old new : Held S} {Answer : Machine → A → Type 0} {Other : Machine → B → Type 0} {x : A} {y : B} → LooksUp g Answer old new (Ok x)
-    → ((machine : Machine) → Answer machine x → Other machine y) → LooksUp g Other old new (Ok y)
-looks_up_from one follows = record {
-  value = λ clean machine stands. follows machine (one.value clean machine stands);
-  same = one.same;
-  err = λ clean office. tt;
-  survives = one.survives;
-}
+    looks_up_all (Err fault) read finds fits = fails_to_look_up read refl fits

@@ -1,24 +1,22 @@
 -- Whether a scratch table has a row, by a query for one.
-use Rattle.std.proofs.Common.{◌≡◌, inl, inr, ℕ, Bool, false, not, ◌||◌, List, [], ◌∷◌, length, ◌==◌, map, take, Result, Ok, Err, Vec, refl, sym, ap, subst, ◌∙◌, arith, IsPermutation}
+use Rattle.std.proofs.Common.{◌≡◌, ℕ, Bool, false, not, List, [], ◌∷◌, length, ◌==◌, map, take, Result, Ok, Err, Vec, refl, sym, ap, subst, ◌∙◌, arith, IsPermutation}
 use Rattle.std.specs.Vec.{vec_len}
 use Rattle.std.proofs.lemmas.List.Sorted.{length_permutation}
-use Rattle.sqlite.specs.declared.error.Error.{Error}
-use Rattle.sqlite.specs.Effect.{Database}
 use Rattle.sqlite.specs.Held.{Held, state}
 use Rattle.sqlite.specs.Order.{Row}
 use Rattle.sqlite.specs.Query.{Output}
-use Rattle.sqlite.specs.State.{State, HasCleanDisk, IsUnchanged}
-use Rattle.sqlite.specs.Table.{Table}
-use Rattle.sqlite.proofs.StateLemmas.{survives_then}
 use Rattle.sqlite_trees.specs.declared.store.Store.{Ghosts}
-use Rattle.wb_sql.specs.Calls.{RunsQuery}
 use Rattle.wb_sql.specs.Queries.{TableQuery, Answers, outputs}
 use Rattle.wb_sql.proofs.AnswerLemmas.{first_answer}
-use Rattle.wb_schema.specs.Among.{HasOffice, rows_in}
+use Rattle.wb_schema.specs.Among.{rows_in}
 use Rattle.wb_schema.specs.Statements as sql
-use Rattle.wb_tables.specs.Scratch.{has_row, FailsToTest, FindsWhether}
+use Rattle.wb_states.specs.declared.store_fault.StoreFault.{StoreFault}
+use Rattle.wb_states.specs.declared.store_fault.Table.{Table}
+use Rattle.wb_tables.specs.Lookups.{ReadsTable}
+use Rattle.wb_tables.specs.Scratch.{TestsForRows, has_row, has_rows}
+use Rattle.wb_tables.specs.Texts.{AsksOffice, table_of}
 use Rattle.wb_tables.proofs.OrderLemmas.{none_permuted}
-use Rattle.wb_tables.proofs.ReadLemmas.{AsksOffice, answered, crash_over, plain_over}
+use Rattle.wb_tables.proofs.ReadLemmas.{answered, crash_over, fails_to_read, plain_over}
 
 -- ---- whether a list has a row
 
@@ -60,65 +58,22 @@ module _ (tree : ℕ) (rows answer : List Row) (a : Answers (sql.first_of_scratc
 
 -- ---- what a test promises
 
-module _ {S : Type 0} {g : Ghosts S} {text : List ℕ} {q : TableQuery} {table : Table} (asks : AsksOffice text table q) {old new : Held S} {test : Database → Bool} where
+module _ {S : Type 0} {g : Ghosts S} {text : List ℕ} {q : TableQuery} {table : Table} (asks : AsksOffice text table q) {old new : Held S} where
   -- a test whose query succeeded
-  pub tests_rows : {X : Type 0} {rows : Vec Row X} {found : Bool} → RunsQuery g text [] old new (Ok rows)
-      → (Answers q [] (rows_in (state g old).now table) rows.items → found ≡ test (state g old).now) → FindsWhether g test old new (Ok found)
-  tests_rows run finds = record {
-    value = λ clean office. finds (answered asks (state g old) office (run.answers clean));
-    same = λ clean office. run.same clean (plain_over asks office);
+  pub tests_rows : {X : Type 0} {rows : Vec Row X} {found : Bool} → ReadsTable g table text [] old new (Ok rows)
+      → (Answers q [] (rows_in (state g old).now (table_of table)) rows.items → found ≡ has_rows table (state g old).now) → TestsForRows g table old new (Ok found)
+  tests_rows read finds = record {
+    value = λ clean office. finds (answered asks (state g old) office (read.value clean));
+    same = λ clean office. read.same clean (plain_over asks office);
     err = λ clean office. tt;
-    survives = crash_over asks g old new run.survives;
+    survives = crash_over asks g old new read.survives;
   }
 
   -- a test whose query failed
-  pub tests_nothing : {X : Type 0} {e : Error} {r : Result Bool Error} → RunsQuery {X = X} g text [] old new (Err e) → r ≡ Err e → FindsWhether g test old new r
-  tests_nothing run is = subst (λ (r : Result Bool Error). FindsWhether g test old new r) (sym is) (record {
+  pub tests_nothing : {X : Type 0} {fault : StoreFault} {r : Result Bool StoreFault} → ReadsTable {X = X} g table text [] old new (Err fault) → r ≡ Err fault → TestsForRows g table old new r
+  tests_nothing read is = subst (λ (r : Result Bool StoreFault). TestsForRows g table old new r) (sym is) (record {
     value = λ clean office. tt;
     same = λ clean office. tt;
-    err = λ clean office. let why = run.err clean in inl ((text, [], why.0), why.1);
-    survives = crash_over asks g old new run.survives;
+    err = λ clean office. fails_to_read [] asks (read.err clean);
+    survives = crash_over asks g old new read.survives;
   })
-
-unchanged_then : (a b c : State) → IsUnchanged a b → IsUnchanged b c → IsUnchanged a c
-unchanged_then a b c one two = (
-  record {
-    was_open = one.0.was_open;
-    is_open = two.0.is_open;
-    now_is = two.0.now_is ∙ one.0.now_is;
-    committed_is = two.0.committed_is ∙ one.0.committed_is;
-    mode = two.0.mode ∙ one.0.mode;
-  },
-  record { changes = two.1.changes ∙ one.1.changes; last_rowid = two.1.last_rowid ∙ one.1.last_rowid },
-  two.2 ∙ one.2,
-)
-
-module _ {S : Type 0} {g : Ghosts S} {old mid : Held S} {first : Database → Bool} where
-  module _ (one : FindsWhether g first old mid (Ok false)) where
-    kept : HasCleanDisk (state g mid) → HasOffice old.schema → HasOffice mid.schema
-    kept clean office = subst (λ (db : Database). HasOffice db.schema) (sym (one.same clean office).0.now_is) office
-
-    later_fault : (new : Held S) (e : Error) → IsUnchanged (state g old) (state g mid) → FailsToTest g mid new e → FailsToTest g old new e
-    later_fault new e same (inl failed) = inr (mid, same, failed)
-    later_fault new e same (inr later) = inr (later.0, unchanged_then (state g old) (state g mid) (state g later.0) same later.1, later.2)
-
-    -- it is not, and the second one decides
-    pub tests_second : (new : Held S) (second : Database → Bool) (r : Result Bool Error) → FindsWhether g second mid new r → FindsWhether g (λ db. first db || second db) old new r
-    tests_second new second (Ok found) two =
-        let before : HasCleanDisk (state g new) → HasCleanDisk (state g mid) = λ clean. omega (arith, two.survives.clean, clean) in
-        record {
-          value = λ clean office.
-              two.value clean (kept (before clean) office) ∙ ap second (one.same (before clean) office).0.now_is
-              ∙ ap (λ b. b || second (state g old).now) (one.value (before clean) office);
-          same = λ clean office. unchanged_then (state g old) (state g mid) (state g new) (one.same (before clean) office) (two.same clean (kept (before clean) office));
-          err = λ clean office. tt;
-          survives = survives_then (state g old) (state g mid) (state g new) _ _ _ (λ clean db other. other) (λ clean db other office. other (kept (before clean) office)) one.survives two.survives;
-        }
-    tests_second new second (Err e) two =
-        let before : HasCleanDisk (state g new) → HasCleanDisk (state g mid) = λ clean. omega (arith, two.survives.clean, clean) in
-        record {
-          value = λ clean office. tt;
-          same = λ clean office. tt;
-          err = λ clean office. later_fault new e (one.same (before clean) office) (two.err clean (kept (before clean) office));
-          survives = survives_then (state g old) (state g mid) (state g new) _ _ _ (λ clean db other. other) (λ clean db other office. other (kept (before clean) office)) one.survives two.survives;
-        }

@@ -12,6 +12,8 @@ use Rattle.wb_sql.specs.declared.writing.CommitError.TheVariants.{Memory}
 use Rattle.wb_sql.specs.Transactions.{IsKeptOrUndone, IsTakenBack, Commits, LeavesAlone, LeavesNoMore}
 use Rattle.wb_sql.proofs.CallLemmas.{on_ok}
 use Rattle.wb_schema.specs.Among.{HasOffice}
+use Rattle.wb_states.specs.declared.store_fault.StoreFault.{StoreFault}
+use Rattle.wb_states.specs.declared.store_fault.Table.{Table}
 use Rattle.wb_states.specs.Machine.{Machine}
 use Rattle.wb_tables.specs.Stands.{StandsFor}
 use Rattle.wb_tables.specs.Calls.{Becomes, Changes, FailsToWrite, LooksUp, FailsToLookUp}
@@ -189,14 +191,15 @@ module _ {S : Type 0} (g : Ghosts S) (old new : Held S) where
   fewer_by : Survives (state g old) (state g new) (λ _. ¬ HasOffice old.schema) → HasOffice old.schema → HasCleanDisk (state g new) → LeavesNoMore (state g old) (state g new)
   fewer_by survives has = fewer_of (state g old) (state g new) survives (λ db other. other has)
 
-  kept_or_undone_in : (e : Error) → FailsToLookUp (state g old) (state g new) e → IsKeptOrUndone (state g old) (state g new)
-  kept_or_undone_in e (inl read) = read.1
-  kept_or_undone_in e (inr (inl full)) = inl full.1
-  kept_or_undone_in e (inr (inr corrupt)) = inl corrupt.1
+  -- a look-up that fails changes nothing, or takes the transaction back
+  pub kept_or_undone_in : (table : Table) (fault : StoreFault) → FailsToLookUp table (state g old) (state g new) fault → IsKeptOrUndone (state g old) (state g new)
+  kept_or_undone_in table fault (inl read) = read.left
+  kept_or_undone_in table fault (inr (inl full)) = inl full.1
+  kept_or_undone_in table fault (inr (inr unfit)) = inl unfit.1
 
 module _ {S A : Type 0} (g : Ghosts S) (old new : Held S) where
   -- a change that succeeds leaves the transaction under way, with what it made of the state
-  pub changed : {Allows : Machine → Type 0} {after : Machine → Machine} {before now : Machine} (r : Result A Error) → Changes g Allows after old new r → HasCleanDisk (state g new) → IsUnderWay before now (state g old) → Allows now
+  pub changed : {table : Table} {Allows : Machine → Type 0} {after : Machine → Machine} {before now : Machine} (r : Result A StoreFault) → Changes g table Allows after old new r → HasCleanDisk (state g new) → IsUnderWay before now (state g old) → Allows now
       → OnOk r (IsUnderWay before (after now) (state g new))
   changed {Allows = Allows} {after = after} {before = before} {now = now} r h clean way allows = on_ok {P = (machine : Machine) → StandsFor machine (state g old).now → Allows machine → Becomes (after machine) (state g old) (state g new)} r (λ makes.
       let made : Becomes (after now) (state g old) (state g new) = makes now way.stands allows in
@@ -209,21 +212,21 @@ module _ {S A : Type 0} (g : Ghosts S) (old new : Held S) where
       }) (h.ok clean)
 
   -- a change that fails leaves the transaction under way as it was, or taken back
-  pub not_changed : {Allows : Machine → Type 0} {after : Machine → Machine} {before now : Machine} (r : Result A Error) → Changes g Allows after old new r → HasCleanDisk (state g new) → IsUnderWay before now (state g old)
+  pub not_changed : {table : Table} {Allows : Machine → Type 0} {after : Machine → Machine} {before now : Machine} (r : Result A StoreFault) → Changes g table Allows after old new r → HasCleanDisk (state g new) → IsUnderWay before now (state g old)
       → OnErr r (IsUnderWay before now (state g new) ⊎ IsBackAt before (state g new))
-  not_changed r h clean way = on_err {P = FailsToWrite (state g old) (state g new)} r
-      (λ e failed. stays_or_goes_back (state g old) (state g new) failed.1 (fewer_by g old new h.survives way.stands.has clean) way) (h.err clean way.inside)
+  not_changed {table = table} r h clean way = on_err {P = FailsToWrite table (state g old) (state g new)} r
+      (λ fault failed. stays_or_goes_back (state g old) (state g new) failed.left (fewer_by g old new h.survives way.stands.has clean) way) (h.err clean way.inside)
 
   -- a look-up that succeeds leaves the connection settled
-  pub looked_up : {Answer : Machine → A → Type 0} {machine : Machine} (r : Result A Error) → LooksUp g Answer old new r → HasCleanDisk (state g new) → IsSettled machine (state g old) → OnOk r (IsSettled machine (state g new))
+  pub looked_up : {table : Table} {Answer : Machine → A → Type 0} {machine : Machine} (r : Result A StoreFault) → LooksUp g table Answer old new r → HasCleanDisk (state g new) → IsSettled machine (state g old) → OnOk r (IsSettled machine (state g new))
   looked_up r h clean settled = on_ok r (λ same. stays_settled (state g old) (state g new) same (fewer_by g old new h.survives settled.holds.stands.has clean) settled) (h.same clean settled.holds.stands.has)
 
   -- a look-up that fails leaves the connection at its state, unless a fault shut it
-  pub not_looked_up : {Answer : Machine → A → Type 0} {machine : Machine} (r : Result A Error) → LooksUp g Answer old new r → HasCleanDisk (state g new) → IsSettled machine (state g old) → OnErr r (IsBackAt machine (state g new))
-  not_looked_up {machine = machine} r h clean settled =
+  pub not_looked_up : {table : Table} {Answer : Machine → A → Type 0} {machine : Machine} (r : Result A StoreFault) → LooksUp g table Answer old new r → HasCleanDisk (state g new) → IsSettled machine (state g old) → OnErr r (IsBackAt machine (state g new))
+  not_looked_up {table = table} {machine = machine} r h clean settled =
       let fewer = fewer_by g old new h.survives settled.holds.stands.has clean in
-      on_err {P = FailsToLookUp (state g old) (state g new)} r
-      (λ e failed. back_at (kept_or_undone_in g old new e failed) fewer) (h.err clean settled.holds.stands.has)
+      on_err {P = FailsToLookUp table (state g old) (state g new)} r
+      (λ fault failed. back_at (kept_or_undone_in g old new table fault failed) fewer) (h.err clean settled.holds.stands.has)
     where
       back_at : IsKeptOrUndone (state g old) (state g new) → LeavesNoMore (state g old) (state g new) → IsBackAt machine (state g new)
       back_at (inl same) fewer = stays_back (state g old) (state g new) same fewer (settled_back (state g old) settled)

@@ -1,4 +1,5 @@
--- What an error of `sqlite` is to the store of the office.
+-- What an error of `sqlite`, and a row that is none of an office, are to the store of the office.
+use Rattle.std.specs.Prelude.{◌≡◌, ◌⊎◌, ℕ, Result, Ok, Err}
 use Rattle.sqlite.specs.declared.error.Error.{Error}
 use Rattle.sqlite.specs.declared.error.Error.TheVariants.{SqliteFailure}
 use Rattle.sqlite.specs.declared.error.ErrorCode.TheVariants.{OutOfMemory, SystemIoFailure, DiskFull, TooBig, Closed}
@@ -14,3 +15,16 @@ fault_of (SqliteFailure DiskFull) table = Device
 fault_of (SqliteFailure TooBig) table = Device
 fault_of (SqliteFailure Closed) table = Device
 fault_of _ table = Damaged table 0
+
+-- what a statement on the table answered, with the fault of the store in place of an error
+abbrev pub told_of : {A : Type 0} → Result A Error → Table → Result A StoreFault
+told_of (Ok x) table = Ok x
+told_of (Err e) table = Err (fault_of e table)
+
+-- memory ran out, or the row of this number is damaged, because it does not fit
+abbrev pub IsBadRow : Table → ℕ → Type 0 → StoreFault → Type 0
+IsBadRow table place Fits fault = (fault ≡ Memory) ⊎ ((fault ≡ Damaged table place) × ¬ Fits)
+
+-- memory ran out, or what is read of the table, or is to be written to it, does not fit, which no row of it is blamed for
+abbrev pub IsUnfit : Table → Type 0 → StoreFault → Type 0
+IsUnfit table = IsBadRow table 0

@@ -6,3 +6,4 @@ pub mod Others
 pub mod Scratch
 pub mod Settled
 pub mod Stands
+pub mod Texts

@@ -4,24 +4,26 @@ use Rattle.std.specs.List.{AllByRecursion}
 use Rattle.std.specs.Option.{option_map}
 use Rattle.sqlite.specs.declared.types.Value.TheVariants.{Int}
 use Rattle.sqlite.specs.declared.error.Error.{Error}
-use Rattle.sqlite.specs.declared.error.Error.TheVariants.{SqliteFailure}
-use Rattle.sqlite.specs.declared.error.ErrorCode.TheVariants.{OutOfMemory, DatabaseCorrupt}
 use Rattle.sqlite.specs.Given.{IsPlain}
 use Rattle.sqlite.specs.Held.{Held, state}
 use Rattle.sqlite.specs.Listing.{understood}
 use Rattle.sqlite.specs.Order.{Row, column}
-use Rattle.sqlite.specs.State.{State, HasCleanDisk, IsUnchanged, Survives}
+use Rattle.sqlite.specs.State.{State, HasCleanDisk, IsUnchanged, FailsToQuery, Survives}
 use Rattle.sqlite_trees.specs.declared.store.Store.{Ghosts}
 use Rattle.deb_text.specs.Lists.{first_of}
 use Rattle.wb_sql.specs.Queries.{TableQuery, Asks, Answers}
+use Rattle.wb_sql.specs.Transactions.{IsKeptOrUndone}
 use Rattle.wb_states.specs.declared.arch.OsCpu.{OsCpu}
+use Rattle.wb_states.specs.declared.store_fault.StoreFault.{StoreFault}
+use Rattle.wb_states.specs.declared.store_fault.Table.{Table}
+use Rattle.wb_states.specs.declared.store_fault.Table.TheVariants.{SourceRecord}
 use Rattle.wb_states.specs.Machine.{Key}
 use Rattle.wb_states.specs.Queue.{Entry}
 use Rattle.wb_store.specs.declared.keyed.KeyedRecord.{KeyedRecord}
 use Rattle.wb_store.specs.Lookups.{entry_of}
 use Rattle.wb_rows.specs.Cells.{record_cells, arch_cells, builder_cells, number}
 use Rattle.wb_rows.specs.Reading.{IsReadable}
-use Rattle.wb_tables.specs.Calls.{FailsToRead}
+use Rattle.wb_tables.specs.Faults.{IsUnfit, fault_of}
 
 -- the columns of a record with its key
 abbrev pub keyed_cells : KeyedRecord → Row
@@ -74,23 +76,31 @@ ArePairs = AreRowsOf builder_cells IsReadablePair
 abbrev pub HaveArchs : List Row → List (List ℕ) → Type 0
 HaveArchs rows archs = (pairs : List Key) × (rows ≡ map builder_cells pairs) × (archs ≡ map (λ pair. pair.1) pairs)
 
--- what is read is not what an office keeps, or memory ran out
-abbrev pub IsReadFault : Type 0 → Error → Type 0
-IsReadFault Fits e = (e ≡ SqliteFailure OutOfMemory) ⊎ ((e ≡ SqliteFailure DatabaseCorrupt) × ¬ Fits)
-
 -- the rows that a query may answer
 abbrev pub MayAnswer : List ℕ → Row → State → List Row → Type 0
 MayAnswer sql params s rows = (q : TableQuery) → Asks s.now.schema sql q → Answers q params (s.now.trees q.tree) rows
 
+-- the query failed, which is this fault of the table, and changed nothing or took a transaction back
+abbrev pub IsQueryFault : Table → List ℕ → Row → State → State → StoreFault → Type 0
+IsQueryFault table sql params old new fault = (e : Error) × FailsToQuery sql params old new e × IsKeptOrUndone old new × (fault ≡ fault_of e table)
+
+-- the rows of a query on a table: if it succeeds, they are its answer, and the database stays as it is; if it fails, it fails as the query does;
+-- and a crash leaves no more than before
+pub record ReadsTable {S X : Type 0} (g : Ghosts S) (table : Table) (sql : List ℕ) (params : Row) (old new : Held S) (result : Result (Vec Row X) StoreFault) : Type 0 where
+  pub value : HasCleanDisk (state g new) → IfOk result (λ rows. MayAnswer sql params (state g old) rows.items)
+  pub same : HasCleanDisk (state g new) → IsPlain (understood old.schema sql) → OnOk result (IsUnchanged (state g old) (state g new))
+  pub err : HasCleanDisk (state g new) → IfErr result (IsQueryFault table sql params (state g old) (state g new))
+  pub survives : Survives (state g old) (state g new) (λ _. ¬ IsPlain (understood old.schema sql))
+
 -- why the records of a query are not read: it failed; or memory ran out for them; or a row that it answers is no record
-abbrev pub FailsToReadRecords : List ℕ → Row → State → State → Error → Type 0
-FailsToReadRecords sql params old new e =
-    FailsToRead old new e
-    ⊎ (IsUnchanged old new × ((rows : List Row) × MayAnswer sql params old rows × IsReadFault (AreRecords rows) e))
+abbrev pub FailsToReadRecords : List ℕ → Row → State → State → StoreFault → Type 0
+FailsToReadRecords sql params old new fault =
+    IsQueryFault SourceRecord sql params old new fault
+    ⊎ (IsUnchanged old new × ((rows : List Row) × MayAnswer sql params old rows × IsUnfit SourceRecord (AreRecords rows) fault))
 
 -- the records of a query: if it succeeds, their columns are its rows, and the database stays as it is; if it fails, it fails for one of the
 -- reasons above; and a crash leaves no more than before
-pub record ReadsRecords {S X : Type 0} (g : Ghosts S) (sql : List ℕ) (params : Row) (old new : Held S) (result : Result (Vec KeyedRecord X) Error) : Type 0 where
+pub record ReadsRecords {S X : Type 0} (g : Ghosts S) (sql : List ℕ) (params : Row) (old new : Held S) (result : Result (Vec KeyedRecord X) StoreFault) : Type 0 where
   pub value : HasCleanDisk (state g new) → IfOk result (λ rows. MayAnswer sql params (state g old) (map keyed_cells rows.items))
   pub same : HasCleanDisk (state g new) → IsPlain (understood old.schema sql) → OnOk result (IsUnchanged (state g old) (state g new))
   pub err : HasCleanDisk (state g new) → IsPlain (understood old.schema sql) → IfErr result (FailsToReadRecords sql params (state g old) (state g new))

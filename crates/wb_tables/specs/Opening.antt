@@ -1,15 +1,12 @@
 -- What an opening tests of the office's tables, row by row.
-use Rattle.std.specs.Prelude.{◌≡◌, ◌⊎◌, ◌++◌, ℕ, suc, ◌<◌, ◌≤◌, ⊤, Bool, false, ◌&&◌, ◌||◌, nat_eq, bytes_eq, IsTrue, List, [], ◌∷◌, length, map, find, Option, IfSome, Result, Vec, IfOk, IfErr, OnOk}
+use Rattle.std.specs.Prelude.{◌≡◌, ◌⊎◌, ◌++◌, ℕ, suc, ◌<◌, ◌≤◌, ⊤, Bool, false, ◌&&◌, ◌||◌, nat_eq, bytes_eq, IsTrue, List, [], ◌∷◌, length, map, find, Option, IfSome, Result, IfOk, IfErr, OnOk}
 use Rattle.std.specs.Option.{option_map, IsSomeAnd}
 use Rattle.std.specs.List.{AllByRecursion, list_any}
 use Rattle.std.specs.FinMap as finite
 use Rattle.sqlite_trees.specs.declared.store.Store.{Ghosts}
-use Rattle.sqlite.specs.declared.error.Error.{Error}
 use Rattle.sqlite.specs.declared.types.Value.{Value}
 use Rattle.sqlite.specs.Effect.{Database}
-use Rattle.sqlite.specs.Given.{IsPlain}
 use Rattle.sqlite.specs.Held.{Held, state}
-use Rattle.sqlite.specs.Listing.{understood}
 use Rattle.sqlite.specs.Order.{Row}
 use Rattle.sqlite.specs.Table as stored
 use Rattle.sqlite.specs.State.{State, HasCleanDisk, IsUnchanged, Survives}
@@ -34,8 +31,7 @@ use Rattle.deb_text.specs.Options.{has_value}
 use Rattle.wb_rows.specs.Cells.{arch_cells, builder_cells, number, record_cells}
 use Rattle.wb_tables.specs.Stands.{StandsFor, builder_pairs}
 use Rattle.wb_tables.specs.Calls.{FailsToRead}
-use Rattle.wb_tables.specs.Faults.{fault_of}
-use Rattle.wb_tables.specs.Lookups.{AreRowsOf, MayAnswer, counts_row}
+use Rattle.wb_tables.specs.Lookups.{AreRowsOf, counts_row}
 
 -- the row has the columns of one that fits
 abbrev pub IsRowOf : {X : Type 0} → (X → Row) → (X → Type 0) → Row → Type 0
@@ -56,30 +52,14 @@ pub record Holds {X : Type 0} (columns : X → Row) (Fits : X → Type 0) (rows 
   pub same : rows ≡ map columns xs
   pub fit : AllByRecursion Fits xs
 
--- memory ran out, or the row of this number is damaged, because it does not fit
-abbrev pub IsBadRow : Table → ℕ → Type 0 → StoreFault → Type 0
-IsBadRow table place Fits fault = (fault ≡ Memory) ⊎ ((fault ≡ Damaged table place) × ¬ Fits)
-
 -- memory ran out, or the first row that does not fit is damaged
 abbrev pub AreBadRows : {X : Type 0} → Table → (X → Row) → (X → Type 0) → List Row → StoreFault → Type 0
 AreBadRows table columns Fits rows fault = (fault ≡ Memory) ⊎ ((place : ℕ) × (fault ≡ Damaged table place) × IsFirstBad columns Fits rows place)
 
--- the query failed, which is the fault of the table
-abbrev pub IsQueryFault : Table → State → State → StoreFault → Type 0
-IsQueryFault table old new fault = (e : Error) × FailsToRead old new e × (fault ≡ fault_of e table)
-
--- the rows of a query on a table: if it succeeds, they are its answer, and the database stays as it is; if it fails, it fails as the query does;
--- and a crash leaves no more than before
-pub record ReadsTable {S X : Type 0} (g : Ghosts S) (sql : List ℕ) (table : Table) (old new : Held S) (result : Result (Vec Row X) StoreFault) : Type 0 where
-  pub value : HasCleanDisk (state g new) → IfOk result (λ rows. MayAnswer sql [] (state g old) rows.items)
-  pub same : HasCleanDisk (state g new) → IsPlain (understood old.schema sql) → OnOk result (IsUnchanged (state g old) (state g new))
-  pub err : HasCleanDisk (state g new) → IfErr result (IsQueryFault table (state g old) (state g new))
-  pub survives : Survives (state g old) (state g new) (λ _. ¬ IsPlain (understood old.schema sql))
-
 -- why a test of a table fails: its query failed; or memory ran out or a row is damaged, and nothing is changed
 abbrev pub FailsToTest : stored.Table → TableQuery → Table → (List Row → StoreFault → Type 0) → State → State → StoreFault → Type 0
 FailsToTest of q table Bad old new fault =
-    IsQueryFault table old new fault ⊎ (IsUnchanged old new × ((rows : List Row) × Answers q [] (rows_in old.now of) rows × Bad rows fault))
+    FailsToRead table old new fault ⊎ (IsUnchanged old new × ((rows : List Row) × Answers q [] (rows_in old.now of) rows × Bad rows fault))
 
 -- a test of the rows of a table, which a query answers: if it succeeds, they are good, and the database stays as it is; if it fails, it fails
 -- for one of the reasons above; and a crash leaves no more than before
@@ -95,7 +75,7 @@ pub record PassesWith {S A : Type 0} (g : Ghosts S) (table : Table) (Given : Mac
   pub value : HasCleanDisk (state g new) → IfOk result (λ x. (machine : Machine) → StandsFor machine (state g old).now → Outcome machine x)
   pub err : HasCleanDisk (state g new)
       → IfErr result (λ fault. (machine : Machine) → IsConsistent machine → StandsFor machine (state g old).now → Given machine
-      → (fault ≡ Memory) ⊎ IsQueryFault table (state g old) (state g new) fault)
+      → (fault ≡ Memory) ⊎ FailsToRead table (state g old) (state g new) fault)
 
 -- the tables of a consistent office pass the test, with this outcome
 abbrev pub Passes : {S A : Type 0} → Ghosts S → Table → (Machine → A → Type 0) → Held S → Held S → Result A StoreFault → Type 0

@@ -3,42 +3,51 @@ ghost use Rattle.std.specs.Prelude.{◌≡◌, IfOk, IfErr};
 ghost use Rattle.std.specs.FinMap as map;
 ghost use Rattle.std.specs.Option.{option_map};
 ghost use Rattle.deb_text.specs.Lists.{first_of};
+ghost use Rattle.wb_states.specs.declared.store_fault.Table.TheVariants.{Arch};
 ghost use Rattle.wb_tables.specs.Calls.{LooksUp};
-ghost use Rattle.wb_tables.specs.Lookups.{AreArchs, FirstWords, IsReadFault};
+ghost use Rattle.wb_tables.specs.Faults.{IsUnfit};
+ghost use Rattle.wb_tables.specs.Lookups.{AreArchs, FirstWords};
 
-use crate::reading::archs_in;
+use crate::reading::{archs_in, rows_of};
 use deb_text::Text;
-use sqlite::{Alter, Connection, Error, Row, params};
+use sqlite::{Alter, Connection, Row, params};
 use wb_schema::texts;
-use wb_sql::read;
-use wb_states::OsCpu;
+use wb_states::{OsCpu, StoreFault, Table};
 
 /// The architectures of the office with their words, by name.
-/// It fails if the query fails, with `OutOfMemory` if memory runs out for the answer, and with `DatabaseCorrupt` if a
-/// row is not that of an architecture. The database stays as it is; only a failed query may take a transaction back.
+/// The faults are those of the query on the table of the architectures, `Memory` if memory runs out for the answer, and
+/// `Damaged` with row 0 if a row is not that of an architecture. The database stays as it is; only a failed query may take a
+/// transaction back.
 /// Source: this project's own.
-pub fn archs<S: Alter>(conn: &mut Connection<S>) -> Result<Vec<(Text, OsCpu)>, Error>
-    ensures looks_up { LooksUp S.Store (λ machine archs.
+pub fn archs<S: Alter>(conn: &mut Connection<S>) -> Result<Vec<(Text, OsCpu)>, StoreFault>
+    ensures looks_up { LooksUp S.Store Arch (λ machine archs.
         archs.items ≡ map.entries machine.archs) conn.old conn.new result }
 {
-    archs_in(read(conn, texts::all_archs(), &[])?)
+    archs_in(rows_of(conn, Table::Arch, texts::all_archs(), &[])?)
 }
 
 /// The words of the architecture, or none if it was never added.
-/// It fails if the query fails, with `OutOfMemory` if memory runs out for the answer, and with `DatabaseCorrupt` if a
-/// row is not that of an architecture. The database stays as it is; only a failed query may take a transaction back.
+/// The faults are those of the query on the table of the architectures, `Memory` if memory runs out for the answer, and
+/// `Damaged` with row 0 if a row is not that of an architecture. The database stays as it is; only a failed query may take a
+/// transaction back.
 /// Source: this project's own.
-pub fn arch<S: Alter>(conn: &mut Connection<S>, name: &Text) -> Result<Option<OsCpu>, Error>
-    ensures looks_up { LooksUp S.Store (λ machine found.
+pub fn arch<S: Alter>(conn: &mut Connection<S>, name: &Text) -> Result<Option<OsCpu>, StoreFault>
+    ensures looks_up { LooksUp S.Store Arch (λ machine found.
         found ≡ map.get machine.archs name.now) conn.old conn.new result }
 {
-    words_in(read(conn, texts::arch_words(), params![name.as_str()])?)
+    words_in(rows_of(
+        conn,
+        Table::Arch,
+        texts::arch_words(),
+        params![name.as_str()],
+    )?)
 }
 
-/// The words of the first of the architectures in these rows. A row that is no architecture is `DatabaseCorrupt`.
-fn words_in(rows: Vec<Row>) -> Result<Option<OsCpu>, Error>
+/// The words of the first of the architectures in these rows. The table is damaged if a
+/// row is no architecture.
+fn words_in(rows: Vec<Row>) -> Result<Option<OsCpu>, StoreFault>
     ensures value { IfOk result (λ found. FirstWords rows.items found) }
-    ensures err { IfErr result (IsReadFault (AreArchs rows.items)) }
+    ensures err { IfErr result (IsUnfit Arch (AreArchs rows.items)) }
 {
     let archs = archs_in(rows)?;
     Ok(first_words(archs))

@@ -1,33 +1,36 @@
-//! The changes of the office's tables, in a transaction. Each fails as `Writing::execute` does, and the caller then
-//! rolls back. Each speaks of a database that stands for a state of the office, and makes it stand for the state after
-//! the change.
+//! The changes of the office's tables, in a transaction. Each fails as `Writing::execute` does, with the fault of its
+//! table, and the caller then rolls back. Each speaks of a database that stands for a state of the office, and makes it
+//! stand for the state after the change.
 
 ghost use Rattle.std.specs.Prelude.{◌≡◌, ◌≤◌, ⊤, false, None, IsSome, IfSome};
 ghost use Rattle.std.specs.FinMap as map;
 ghost use Rattle.std.specs.FinSet as set;
+ghost use Rattle.wb_states.specs.declared.store_fault.Table.TheVariants.{Arch, Builder, Office, SourceRecord};
 ghost use Rattle.wb_states.specs.Limits.{count_limit};
 ghost use Rattle.wb_tables.specs.Calls.{Changes};
 
+use crate::fault::told_of;
 use deb_text::Text;
-use sqlite::{Alter, Error, params};
+use sqlite::{Alter, params};
 use wb_rows::{arch_values, builder_values, record_values};
 use wb_schema::texts;
 use wb_sql::Writing;
-use wb_states::{Counts, OsCpu, Record};
+use wb_states::{Counts, OsCpu, Record, StoreFault, Table};
 
 /// Sets both counts of the office, each at most [`wb_states::COUNT_LIMIT`]; all else stays. It fails as
 /// `Writing::execute` does, and a transaction that is over refuses it (this project's own).
-pub fn set_counts<S: Alter>(writing: &mut Writing<'_, S>, counts: Counts) -> Result<(), Error>
+pub fn set_counts<S: Alter>(writing: &mut Writing<'_, S>, counts: Counts) -> Result<(), StoreFault>
     requires fits { (counts.handed ≤ count_limit) × (counts.accepted ≤ count_limit) }
     ensures same_reference { writing.new.conn.ghost_name ≡ writing.old.conn.ghost_name }
-    ensures changes { Changes S.Store (λ _. ⊤)
+    ensures changes { Changes S.Store Office (λ _. ⊤)
         (λ machine. record machine { handed = counts.handed; accepted = counts.accepted })
         writing.old.conn.now writing.new.conn.now result }
 {
-    writing.update(
+    let answered = writing.update(
         texts::set_counts(),
         params![counts.handed as i64, counts.accepted as i64],
-    )
+    );
+    told_of(answered, Table::Office)
 }
 
 /// Adds an architecture, which is not there yet, with its words; all else stays. It fails as `Writing::execute` does,
@@ -36,13 +39,14 @@ pub fn add_arch<S: Alter>(
     writing: &mut Writing<'_, S>,
     name: &Text,
     words: &OsCpu,
-) -> Result<(), Error>
+) -> Result<(), StoreFault>
     ensures same_reference { writing.new.conn.ghost_name ≡ writing.old.conn.ghost_name }
-    ensures changes { Changes S.Store (λ machine. map.get machine.archs name.now ≡ None)
+    ensures changes { Changes S.Store Arch (λ machine. map.get machine.archs name.now ≡ None)
         (λ machine. record machine { archs = map.insert machine.archs name.now words.now })
         writing.old.conn.now writing.new.conn.now result }
 {
-    writing.insert(texts::add_arch(), &arch_values(name, words))
+    let answered = writing.insert(texts::add_arch(), &arch_values(name, words));
+    told_of(answered, Table::Arch)
 }
 
 /// Adds a builder for an architecture, for which it was not added yet; all else stays. It fails as `Writing::execute`
@@ -51,14 +55,15 @@ pub fn add_builder<S: Alter>(
     writing: &mut Writing<'_, S>,
     builder: &Text,
     arch: &Text,
-) -> Result<(), Error>
+) -> Result<(), StoreFault>
     ensures same_reference { writing.new.conn.ghost_name ≡ writing.old.conn.ghost_name }
-    ensures changes { Changes S.Store
+    ensures changes { Changes S.Store Builder
         (λ machine. set.contains machine.builders (builder.now, arch.now) ≡ false)
         (λ machine. record machine { builders = set.insert machine.builders (builder.now, arch.now) })
         writing.old.conn.now writing.new.conn.now result }
 {
-    writing.insert(texts::add_builder(), &builder_values(builder, arch))
+    let answered = writing.insert(texts::add_builder(), &builder_values(builder, arch));
+    told_of(answered, Table::Builder)
 }
 
 /// Takes out the record of the source package `source` on the architecture `arch`, if there is one; all else stays. It
@@ -67,16 +72,17 @@ pub fn remove<S: Alter>(
     writing: &mut Writing<'_, S>,
     arch: &Text,
     source: &Text,
-) -> Result<(), Error>
+) -> Result<(), StoreFault>
     ensures same_reference { writing.new.conn.ghost_name ≡ writing.old.conn.ghost_name }
-    ensures changes { Changes S.Store (λ _. ⊤)
+    ensures changes { Changes S.Store SourceRecord (λ _. ⊤)
         (λ machine. record machine { records = map.remove machine.records (arch.now, source.now) })
         writing.old.conn.now writing.new.conn.now result }
 {
-    writing.delete(
+    let answered = writing.delete(
         texts::remove_record(),
         params![arch.as_str(), source.as_str()],
-    )
+    );
+    told_of(answered, Table::SourceRecord)
 }
 
 /// Gives the source package `source` on the architecture `arch` the record `current`, in place of the one that it had,
@@ -88,16 +94,17 @@ pub fn put<S: Alter>(
     arch: &Text,
     source: &Text,
     current: &Record,
-) -> Result<(), Error>
+) -> Result<(), StoreFault>
     requires given { IfSome current.now.take (λ take_number. take_number ≤ count_limit) }
     ensures same_reference { writing.new.conn.ghost_name ≡ writing.old.conn.ghost_name }
-    ensures changes { Changes S.Store (λ _. ⊤)
+    ensures changes { Changes S.Store SourceRecord (λ _. ⊤)
         (λ machine. record machine {
           records = map.insert machine.records (arch.now, source.now) current.now;
         })
         writing.old.conn.now writing.new.conn.now result }
 {
-    writing.upsert(texts::put_record(), &record_values(arch, source, current))
+    let answered = writing.upsert(texts::put_record(), &record_values(arch, source, current));
+    told_of(answered, Table::SourceRecord)
 }
 
 /// Gives the source package `source` on the architecture `arch` the record `current` in place of the one that it has; all
@@ -109,10 +116,10 @@ pub fn replace<S: Alter>(
     arch: &Text,
     source: &Text,
     current: &Record,
-) -> Result<(), Error>
+) -> Result<(), StoreFault>
     requires given { IfSome current.now.take (λ take_number. take_number ≤ count_limit) }
     ensures same_reference { writing.new.conn.ghost_name ≡ writing.old.conn.ghost_name }
-    ensures changes { Changes S.Store
+    ensures changes { Changes S.Store SourceRecord
         (λ machine. IsSome (map.get machine.records (arch.now, source.now)))
         (λ machine. record machine {
           records = map.insert machine.records (arch.now, source.now) current.now;
@@ -120,5 +127,6 @@ pub fn replace<S: Alter>(
         writing.old.conn.now writing.new.conn.now result }
 {
     let values = record_values(arch, source, current);
-    writing.update(texts::replace_record(), &values)
+    let answered = writing.update(texts::replace_record(), &values);
+    told_of(answered, Table::SourceRecord)
 }

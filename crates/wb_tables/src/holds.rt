@@ -1,24 +1,27 @@
 //! The records that builders hold, as the tables have them.
 ghost use Rattle.std.specs.Prelude.{◌≡◌, map as each};
+ghost use Rattle.wb_states.specs.declared.store_fault.Table.TheVariants.{SourceRecord};
 ghost use Rattle.wb_states.specs.Holds.{held_of};
 ghost use Rattle.wb_store.specs.Lookups.{entry_of};
 ghost use Rattle.wb_tables.specs.Calls.{LooksUp};
 
 use crate::reading::records;
 use deb_text::Text;
-use sqlite::{Alter, Connection, Error, params};
+use sqlite::{Alter, Connection, params};
 use wb_schema::texts;
+use wb_states::StoreFault;
 use wb_store::KeyedRecord;
 
 /// The records that the builder holds, of all architectures, by take number: none if it was never added.
-/// It fails if the query fails, with `OutOfMemory` if memory runs out for the answer, and with `DatabaseCorrupt` if a
-/// row is not that of a record. The database stays as it is; only a failed query may take a transaction back.
+/// The faults are those of the query on the table of the records, `Memory` if memory runs out for the answer, and
+/// `Damaged` with row 0 if a row is not that of a record. The database stays as it is; only a failed query may take a
+/// transaction back.
 /// Source: this project's own.
 pub fn held_by<S: Alter>(
     conn: &mut Connection<S>,
     builder: &Text,
-) -> Result<Vec<KeyedRecord>, Error>
-    ensures looks_up { LooksUp S.Store (λ machine rows.
+) -> Result<Vec<KeyedRecord>, StoreFault>
+    ensures looks_up { LooksUp S.Store SourceRecord (λ machine rows.
         each entry_of rows.items ≡ held_of machine builder.now) conn.old conn.new result }
 {
     let mut rows = records(conn, texts::held_by(), params![builder.as_str()])?;

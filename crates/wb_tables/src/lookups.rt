@@ -2,41 +2,43 @@
 ghost use Rattle.std.specs.Prelude.{◌≡◌, map as each};
 ghost use Rattle.std.specs.Option.{option_map};
 ghost use Rattle.std.specs.FinMap as map;
+ghost use Rattle.wb_states.specs.declared.store_fault.Table.TheVariants.{Office, SourceRecord};
 ghost use Rattle.wb_states.specs.Machine.{IsConsistent};
 ghost use Rattle.wb_states.specs.Holds.{taken_as};
 ghost use Rattle.wb_store.specs.Lookups.{entry_of, rows_of};
 ghost use Rattle.wb_tables.specs.Calls.{LooksUp};
 
-use crate::reading::{counts_in, current_in, first_in, records, stored_number};
+use crate::reading::{counts_in, current_in, first_in, records, rows_of, stored_number};
 use deb_text::Text;
-use sqlite::{Alter, Connection, Error, params};
+use sqlite::{Alter, Connection, params};
 use wb_schema::texts;
-use wb_sql::read;
-use wb_states::{Counts, Record};
+use wb_states::{Counts, Record, StoreFault, Table};
 use wb_store::KeyedRecord;
 
 /// The two counts of the office: the greatest take number that was given, and how many commands were accepted.
-/// It fails if the query fails, with `OutOfMemory` if memory runs out for the answer, and with `DatabaseCorrupt` if a
-/// row is not that of the office. The database stays as it is; only a failed query may take a transaction back.
+/// The faults are those of the query on the table of the office, `Memory` if memory runs out for the answer, and
+/// `Damaged` with row 0 if a row is not that of the office. The database stays as it is; only a failed query may take a
+/// transaction back.
 /// Source: this project's own.
-pub fn counts<S: Alter>(conn: &mut Connection<S>) -> Result<Counts, Error>
-    ensures looks_up { LooksUp S.Store (λ machine counts. (counts.handed ≡ machine.handed)
+pub fn counts<S: Alter>(conn: &mut Connection<S>) -> Result<Counts, StoreFault>
+    ensures looks_up { LooksUp S.Store Office (λ machine counts. (counts.handed ≡ machine.handed)
         × (counts.accepted ≡ machine.accepted)) conn.old conn.new result }
 {
-    let rows = read(conn, texts::office_counts(), &[])?;
+    let rows = rows_of(conn, Table::Office, texts::office_counts(), &[])?;
     counts_in(&rows)
 }
 
 /// The record of the source package on the architecture, or none if it has no record there.
-/// It fails if the query fails, with `OutOfMemory` if memory runs out for the answer, and with `DatabaseCorrupt` if a
-/// row is not that of a record. The database stays as it is; only a failed query may take a transaction back.
+/// The faults are those of the query on the table of the records, `Memory` if memory runs out for the answer, and
+/// `Damaged` with row 0 if a row is not that of a record. The database stays as it is; only a failed query may take a
+/// transaction back.
 /// Source: this project's own.
 pub fn get<S: Alter>(
     conn: &mut Connection<S>,
     arch: &Text,
     source: &Text,
-) -> Result<Option<Record>, Error>
-    ensures looks_up { LooksUp S.Store (λ machine found. found
+) -> Result<Option<Record>, StoreFault>
+    ensures looks_up { LooksUp S.Store SourceRecord (λ machine found. found
         ≡ map.get machine.records (arch.now, source.now)) conn.old conn.new result }
 {
     let rows = records(
@@ -48,14 +50,15 @@ pub fn get<S: Alter>(
 }
 
 /// The record that is held under the take number, or none if no record is, as for a number that was never given.
-/// It fails if the query fails, with `OutOfMemory` if memory runs out for the answer, and with `DatabaseCorrupt` if a
-/// row is not that of a record. The database stays as it is; only a failed query may take a transaction back.
+/// The faults are those of the query on the table of the records, `Memory` if memory runs out for the answer, and
+/// `Damaged` with row 0 if a row is not that of a record. The database stays as it is; only a failed query may take a
+/// transaction back.
 /// Source: this project's own.
 pub fn by_take<S: Alter>(
     conn: &mut Connection<S>,
     take_number: u64,
-) -> Result<Option<KeyedRecord>, Error>
-    ensures looks_up { LooksUp S.Store (λ machine found. IsConsistent machine
+) -> Result<Option<KeyedRecord>, StoreFault>
+    ensures looks_up { LooksUp S.Store SourceRecord (λ machine found. IsConsistent machine
         → option_map entry_of found ≡ taken_as machine take_number) conn.old conn.new result }
 {
     let rows = records(
@@ -67,11 +70,15 @@ pub fn by_take<S: Alter>(
 }
 
 /// The records of the architecture, by the names of their source packages: none if it was never added.
-/// It fails if the query fails, with `OutOfMemory` if memory runs out for the answer, and with `DatabaseCorrupt` if a
-/// row is not that of a record. The database stays as it is; only a failed query may take a transaction back.
+/// The faults are those of the query on the table of the records, `Memory` if memory runs out for the answer, and
+/// `Damaged` with row 0 if a row is not that of a record. The database stays as it is; only a failed query may take a
+/// transaction back.
 /// Source: this project's own.
-pub fn all_of<S: Alter>(conn: &mut Connection<S>, arch: &Text) -> Result<Vec<KeyedRecord>, Error>
-    ensures looks_up { LooksUp S.Store (λ machine rows.
+pub fn all_of<S: Alter>(
+    conn: &mut Connection<S>,
+    arch: &Text,
+) -> Result<Vec<KeyedRecord>, StoreFault>
+    ensures looks_up { LooksUp S.Store SourceRecord (λ machine rows.
         each entry_of rows.items ≡ rows_of machine arch.now) conn.old conn.new result }
 {
     records(conn, texts::records_of_arch(), params![arch.as_str()])

@@ -5,7 +5,6 @@ mod builders;
 mod counts;
 mod forms;
 mod records;
-mod rows;
 
 pub use archs::check_archs;
 pub use builders::check_builders;

@@ -1,6 +1,7 @@
 //! The queue of an architecture, as the tables have it.
 ghost use Rattle.std.specs.Prelude.{◌≡◌, map as each};
 ghost use Rattle.std.specs.Option.{option_map};
+ghost use Rattle.wb_states.specs.declared.store_fault.Table.TheVariants.{SourceRecord};
 ghost use Rattle.wb_states.specs.Machine.{IsConsistent};
 ghost use Rattle.wb_states.specs.Queue.{head_of, queue_of};
 ghost use Rattle.wb_store.specs.Lookups.{entry_of};
@@ -8,18 +9,22 @@ ghost use Rattle.wb_tables.specs.Calls.{LooksUp};
 
 use crate::reading::{first_in, records};
 use deb_text::Text;
-use sqlite::{Alter, Connection, Error, params};
+use sqlite::{Alter, Connection, params};
 use wb_schema::texts;
-use wb_states::State;
+use wb_states::{State, StoreFault};
 use wb_store::KeyedRecord;
 
 /// The head of the architecture's queue, which is built next, or none if no source package of the architecture waits
 /// for a builder (wanna-build's states page).
-/// It fails if the query fails, with `OutOfMemory` if memory runs out for the answer, and with `DatabaseCorrupt` if a
-/// row is not that of a record. The database stays as it is; only a failed query may take a transaction back.
+/// The faults are those of the query on the table of the records, `Memory` if memory runs out for the answer, and
+/// `Damaged` with row 0 if a row is not that of a record. The database stays as it is; only a failed query may take a
+/// transaction back.
 /// Source: this project's own.
-pub fn head<S: Alter>(conn: &mut Connection<S>, arch: &Text) -> Result<Option<KeyedRecord>, Error>
-    ensures looks_up { LooksUp S.Store (λ machine found. IsConsistent machine
+pub fn head<S: Alter>(
+    conn: &mut Connection<S>,
+    arch: &Text,
+) -> Result<Option<KeyedRecord>, StoreFault>
+    ensures looks_up { LooksUp S.Store SourceRecord (λ machine found. IsConsistent machine
         → option_map entry_of found ≡ head_of machine arch.now) conn.old conn.new result }
 {
     let waiting = u32::from(State::NeedsBuild.code());
@@ -29,11 +34,15 @@ pub fn head<S: Alter>(conn: &mut Connection<S>, arch: &Text) -> Result<Option<Ke
 
 /// The architecture's queue: its records that wait for a builder, in the order in which they are built (wanna-build's
 /// states page).
-/// It fails if the query fails, with `OutOfMemory` if memory runs out for the answer, and with `DatabaseCorrupt` if a
-/// row is not that of a record. The database stays as it is; only a failed query may take a transaction back.
+/// The faults are those of the query on the table of the records, `Memory` if memory runs out for the answer, and
+/// `Damaged` with row 0 if a row is not that of a record. The database stays as it is; only a failed query may take a
+/// transaction back.
 /// Source: this project's own.
-pub fn queue_of<S: Alter>(conn: &mut Connection<S>, arch: &Text) -> Result<Vec<KeyedRecord>, Error>
-    ensures looks_up { LooksUp S.Store (λ machine rows. IsConsistent machine
+pub fn queue_of<S: Alter>(
+    conn: &mut Connection<S>,
+    arch: &Text,
+) -> Result<Vec<KeyedRecord>, StoreFault>
+    ensures looks_up { LooksUp S.Store SourceRecord (λ machine rows. IsConsistent machine
         → each entry_of rows.items ≡ queue_of machine arch.now) conn.old conn.new result }
 {
     let waiting = u32::from(State::NeedsBuild.code());

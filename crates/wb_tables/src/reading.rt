@@ -3,40 +3,57 @@ ghost use Rattle.std.specs.Prelude.{◌≡◌, ℕ, ◌^◌, ◌-◌, min, pos, 
 ghost use Rattle.std.specs.Option.{option_map};
 ghost use Rattle.sqlite.specs.Values.{bound};
 ghost use Rattle.deb_text.specs.Lists.{first_of};
-ghost use Rattle.wb_tables.specs.Lookups.{AreArchs, AreCounts, AreRecords, HasArch, HasNumberAt, HasRecord, HaveCounts, IsReadFault, ReadsRecords, keyed_cells};
+ghost use Rattle.wb_states.specs.declared.store_fault.Table.TheVariants.{Arch, Office, SourceRecord};
+ghost use Rattle.wb_tables.specs.Faults.{IsUnfit};
+ghost use Rattle.wb_tables.specs.Lookups.{AreArchs, AreCounts, AreRecords, HasArch, HasNumberAt, HasRecord, HaveCounts, ReadsRecords, ReadsTable, keyed_cells};
 ghost use Rattle.wb_rows.specs.Cells.{arch_cells, number};
 ghost use Rattle.sqlite.specs.Order.{column};
 
+use crate::fault::{fault_of, unfit};
 use deb_text::Text;
 use sqlite::types::ValueRef;
 use sqlite::{Alter, Connection, Error, ErrorCode, Row};
 use wb_rows::{arch_of, record_of};
 use wb_sql::read;
-use wb_states::{Counts, OsCpu, Record};
+use wb_states::{Counts, OsCpu, Record, StoreFault, Table};
 use wb_store::KeyedRecord;
 
-/// The number from 0 in a column; columns are counted from 0. It is `DatabaseCorrupt` if the column has none.
-fn count_at(row: &Row, at: usize) -> Result<u64, Error>
-    ensures value { IfOk result (λ n. column row.now at ≡ number n) }
-    ensures err { IfErr result (IsReadFault (HasNumberAt row.now at)) }
+/// The rows that the query answers on the table. The fault is that of the query. The database stays as it is, but for
+/// a transaction that a failure of the query takes back.
+pub(crate) fn rows_of<S: Alter>(
+    conn: &mut Connection<S>,
+    table: Table,
+    sql: &str,
+    params: &[ValueRef<'_>],
+) -> Result<Vec<Row>, StoreFault>
+    ensures reads { ReadsTable S.Store table sql.now (bound params.now) conn.old conn.new result }
 {
-    match row.get(at) {
-        Ok(count) => Ok(count),
-        Err(Error::SqliteFailure(ErrorCode::OutOfMemory)) => {
-            Err(Error::SqliteFailure(ErrorCode::OutOfMemory))
-        }
-        Err(_) => Err(Error::SqliteFailure(ErrorCode::DatabaseCorrupt)),
+    match read(conn, sql, params) {
+        Ok(rows) => Ok(rows),
+        Err(error) => Err(fault_of(error, table)),
     }
 }
 
-/// The two counts in the row of the office, after its format. It is `DatabaseCorrupt` if the row is another one.
-pub(crate) fn counts_in(rows: &[Row]) -> Result<Counts, Error>
+/// The number from 0 in a column; columns are counted from 0. The table of the office is damaged if the column has none.
+fn count_at(row: &Row, at: usize) -> Result<u64, StoreFault>
+    ensures value { IfOk result (λ n. column row.now at ≡ number n) }
+    ensures err { IfErr result (IsUnfit Office (HasNumberAt row.now at)) }
+{
+    match row.get(at) {
+        Ok(count) => Ok(count),
+        Err(Error::SqliteFailure(ErrorCode::OutOfMemory)) => Err(StoreFault::Memory),
+        Err(_) => Err(unfit(Table::Office)),
+    }
+}
+
+/// The two counts in the row of the office, after its format. The table is damaged if the row is another one.
+pub(crate) fn counts_in(rows: &[Row]) -> Result<Counts, StoreFault>
     ensures value { IfOk result (λ counts. (handed accepted : ℕ) → AreCounts rows.now handed accepted
         → (counts.handed ≡ handed) × (counts.accepted ≡ accepted)) }
-    ensures err { IfErr result (IsReadFault (HaveCounts rows.now)) }
+    ensures err { IfErr result (IsUnfit Office (HaveCounts rows.now)) }
 {
     let Some(row) = rows.first() else {
-        return Err(Error::SqliteFailure(ErrorCode::DatabaseCorrupt));
+        return Err(unfit(Table::Office));
     };
     Ok(Counts {
         handed: count_at(row, 1)?,
@@ -44,18 +61,18 @@ pub(crate) fn counts_in(rows: &[Row]) -> Result<Counts, Error>
     })
 }
 
-/// The record in a row. It is `DatabaseCorrupt` if the row is not that of a record.
-fn record_in(row: &Row) -> Result<KeyedRecord, Error>
+/// The record in a row. The table is damaged if the row is not that of a record.
+fn record_in(row: &Row) -> Result<KeyedRecord, StoreFault>
     ensures value { IfOk result (λ made. row.now ≡ keyed_cells made) }
-    ensures err { IfErr result (IsReadFault (HasRecord row.now)) }
+    ensures err { IfErr result (IsUnfit SourceRecord (HasRecord row.now)) }
 {
-    record_of(row)?.ok_or(Error::SqliteFailure(ErrorCode::DatabaseCorrupt))
+    record_of(row)?.ok_or(unfit(Table::SourceRecord))
 }
 
-/// The records in these rows. It is `DatabaseCorrupt` if a row is not that of a record.
-fn records_in(rows: Vec<Row>) -> Result<Vec<KeyedRecord>, Error>
+/// The records in these rows. The table is damaged if a row is not that of a record.
+fn records_in(rows: Vec<Row>) -> Result<Vec<KeyedRecord>, StoreFault>
     ensures value { IfOk result (λ made. rows.items ≡ each keyed_cells made.items) }
-    ensures err { IfErr result (IsReadFault (AreRecords rows.items)) }
+    ensures err { IfErr result (IsUnfit SourceRecord (AreRecords rows.items)) }
 {
     let mut made = Vec::new(*rows.allocator());
     for row in rows {
@@ -64,31 +81,31 @@ fn records_in(rows: Vec<Row>) -> Result<Vec<KeyedRecord>, Error>
     Ok(made)
 }
 
-/// The records that a query answers, in its order. It fails as the query does, with `OutOfMemory`, or with
-/// `DatabaseCorrupt` if a row is no record. The database stays as it is, but for a transaction that a failure takes
+/// The records that a query on their table answers, in its order. The faults are that of the query, `Memory`, and
+/// `Damaged` with row 0 if a row is no record. The database stays as it is, but for a transaction that a failure takes
 /// back.
 pub(crate) fn records<S: Alter>(
     conn: &mut Connection<S>,
     sql: &str,
     params: &[ValueRef<'_>],
-) -> Result<Vec<KeyedRecord>, Error>
+) -> Result<Vec<KeyedRecord>, StoreFault>
     ensures reads { ReadsRecords S.Store sql.now (bound params.now) conn.old conn.new result }
 {
-    records_in(read(conn, sql, params)?)
+    records_in(rows_of(conn, Table::SourceRecord, sql, params)?)
 }
 
-/// The architecture, with its words, in a row. It is `DatabaseCorrupt` if the row is not that of an architecture.
-fn arch_in(row: &Row) -> Result<(Text, OsCpu), Error>
+/// The architecture, with its words, in a row. The table is damaged if the row is not that of an architecture.
+fn arch_in(row: &Row) -> Result<(Text, OsCpu), StoreFault>
     ensures value { IfOk result (λ made. row.now ≡ arch_cells made) }
-    ensures err { IfErr result (IsReadFault (HasArch row.now)) }
+    ensures err { IfErr result (IsUnfit Arch (HasArch row.now)) }
 {
-    arch_of(row)?.ok_or(Error::SqliteFailure(ErrorCode::DatabaseCorrupt))
+    arch_of(row)?.ok_or(unfit(Table::Arch))
 }
 
-/// The architectures, with their words, in these rows. It is `DatabaseCorrupt` if a row is not that of one.
-pub(crate) fn archs_in(rows: Vec<Row>) -> Result<Vec<(Text, OsCpu)>, Error>
+/// The architectures, with their words, in these rows. The table is damaged if a row is not that of one.
+pub(crate) fn archs_in(rows: Vec<Row>) -> Result<Vec<(Text, OsCpu)>, StoreFault>
     ensures value { IfOk result (λ made. rows.items ≡ each arch_cells made.items) }
-    ensures err { IfErr result (IsReadFault (AreArchs rows.items)) }
+    ensures err { IfErr result (IsUnfit Arch (AreArchs rows.items)) }
 {
     let mut made = Vec::new(*rows.allocator());
     for row in rows {

@@ -12,9 +12,9 @@ ghost use Rattle.wb_durable.specs.Sought.{HasFound, first_named, others_named};
 
 use crate::named::names::Names;
 use deb_text::Text;
-use sqlite::{Alter, Connection, Error};
+use sqlite::{Alter, Connection};
 use std::alloc::{AllocError, Global};
-use wb_states::{Command, Counts, OsCpu, Record, command};
+use wb_states::{Command, Counts, OsCpu, Record, StoreFault, command};
 use wb_store::KeyedRecord;
 use wb_tables::{archs_of, by_take, get, has_builder, head, held_by};
 
@@ -52,13 +52,13 @@ fn keyed(
     }
 }
 
-/// The record of the source package on the architecture, with its key, or none if it has no record there. The errors
-/// are those of the look-up, and `OutOfMemory`.
+/// The record of the source package on the architecture, with its key, or none if it has no record there. The faults
+/// are those of the look-up, and `Memory`.
 fn find_source<S: Alter>(
     conn: &mut Connection<S>,
     arch: &Text,
     source: &Text,
-) -> Result<Option<KeyedRecord>, Error>
+) -> Result<Option<KeyedRecord>, StoreFault>
     ensures finds { Finds S.Store (λ machine row. option_map entry_of row
         ≡ record_named machine arch.now source.now) conn.old conn.new result }
 {
@@ -66,12 +66,12 @@ fn find_source<S: Alter>(
     Ok(keyed(arch, source, found)?)
 }
 
-/// The first record that is named, or none if there is no such record. The errors are those of the look-up, and
-/// `OutOfMemory`.
+/// The first record that is named, or none if there is no such record. The faults are those of the look-up, and
+/// `Memory`.
 fn find_first<S: Alter>(
     conn: &mut Connection<S>,
     names: &Names<'_>,
-) -> Result<Option<KeyedRecord>, Error>
+) -> Result<Option<KeyedRecord>, StoreFault>
     ensures finds { Finds S.Store (λ machine row. option_map entry_of row
         ≡ first_named machine names.now) conn.old conn.new result }
 {
@@ -83,13 +83,13 @@ fn find_first<S: Alter>(
     }
 }
 
-/// The other records that are named, by take number: what a builder that asks again holds. The errors are those of the
+/// The other records that are named, by take number: what a builder that asks again holds. The faults are those of the
 /// look-up.
 fn find_others<S: Alter>(
     alloc: Global,
     conn: &mut Connection<S>,
     names: &Names<'_>,
-) -> Result<Vec<KeyedRecord>, Error>
+) -> Result<Vec<KeyedRecord>, StoreFault>
     ensures finds { Finds S.Store (λ machine rows. each entry_of rows.items
         ≡ others_named machine names.now) conn.old conn.new result }
 {
@@ -115,12 +115,12 @@ fn pairs_with(
     Ok(pairs)
 }
 
-/// The builder with each architecture for which it was added. The errors are those of the look-up, and `OutOfMemory`.
+/// The builder with each architecture for which it was added. The faults are those of the look-up, and `Memory`.
 fn find_pairs_of<S: Alter>(
     alloc: Global,
     conn: &mut Connection<S>,
     builder: &Text,
-) -> Result<Vec<(Text, Text)>, Error>
+) -> Result<Vec<(Text, Text)>, StoreFault>
     ensures finds { Finds S.Store (λ machine pairs. pairs.items
         ≡ each (λ arch. (builder.now, arch)) (archs_of machine builder.now)) conn.old conn.new result }
 {
@@ -144,13 +144,13 @@ fn pair_if(
     Ok(pairs)
 }
 
-/// The pair of the builder and the architecture, if it was added. The errors are those of the look-up, and
-/// `OutOfMemory`.
+/// The pair of the builder and the architecture, if it was added. The faults are those of the look-up, and
+/// `Memory`.
 fn find_pair<S: Alter>(
     alloc: Global,
     conn: &mut Connection<S>,
     adds: &command::AddBuilder,
-) -> Result<Vec<(Text, Text)>, Error>
+) -> Result<Vec<(Text, Text)>, StoreFault>
     ensures finds { Finds S.Store (λ machine pairs. pairs.items
         ≡ cond (set.contains machine.builders (adds.now.name, adds.now.arch))
         ((adds.now.name, adds.now.arch) ∷ []) []) conn.old conn.new result }
@@ -159,13 +159,13 @@ fn find_pair<S: Alter>(
     Ok(pair_if(alloc, is_there, adds)?)
 }
 
-/// The pairs of a builder and an architecture that the command names. The errors are those of the look-up, and
-/// `OutOfMemory`.
+/// The pairs of a builder and an architecture that the command names. The faults are those of the look-up, and
+/// `Memory`.
 fn find_pairs<S: Alter>(
     alloc: Global,
     conn: &mut Connection<S>,
     command: &Command,
-) -> Result<Vec<(Text, Text)>, Error>
+) -> Result<Vec<(Text, Text)>, StoreFault>
     ensures finds { Finds S.Store (λ machine pairs. pairs.items
         ≡ pairs_named machine command.now) conn.old conn.new result }
 {
@@ -177,8 +177,8 @@ fn find_pairs<S: Alter>(
     }
 }
 
-/// What a command that names these records names of an office that has these counts and architectures. The errors are
-/// those of the look-ups, and `OutOfMemory`. The database stays as it is; only a failed query may take a transaction
+/// What a command that names these records names of an office that has these counts and architectures. The faults are
+/// those of the look-ups, and `Memory`. The database stays as it is; only a failed query may take a transaction
 /// back.
 pub(crate) fn find<S: Alter>(
     alloc: Global,
@@ -187,7 +187,7 @@ pub(crate) fn find<S: Alter>(
     archs: Vec<(Text, OsCpu)>,
     command: &Command,
     names: &Names<'_>,
-) -> Result<Found, Error>
+) -> Result<Found, StoreFault>
     ensures finds { Finds S.Store (λ machine found. AreOf counts archs.items machine
         → HasFound machine command.now names.now found) conn.old conn.new result }
 {

@@ -6,9 +6,10 @@ ghost use Rattle.wb_states.specs.declared.store_fault.Table.TheVariants.{Arch};
 ghost use Rattle.wb_schema.specs.Statements.{all_archs};
 ghost use Rattle.wb_schema.specs.Tables as tables;
 ghost use Rattle.wb_rows.specs.Cells.{arch_cells};
-ghost use Rattle.wb_tables.specs.Opening.{AreBadRows, HoldsArchs, IsBadRow, IsFormedArch, IsRowOf, Passes, Tests};
+ghost use Rattle.wb_tables.specs.Faults.{IsBadRow};
+ghost use Rattle.wb_tables.specs.Opening.{AreBadRows, HoldsArchs, IsFormedArch, IsRowOf, Passes, Tests};
 
-use super::rows::rows_of;
+use crate::reading::rows_of;
 use deb_text::Text;
 use sqlite::{Alter, Connection, Row};
 use wb_rows::arch_of;
@@ -25,7 +26,7 @@ pub fn check_archs<S: Alter>(conn: &mut Connection<S>) -> Result<Vec<(Text, OsCp
     ensures passes { Passes S.Store Arch (λ machine archs.
         archs.items ≡ map.entries machine.archs) conn.old conn.new result }
 {
-    archs_in(rows_of(conn, texts::all_archs(), Table::Arch)?)
+    archs_in(rows_of(conn, Table::Arch, texts::all_archs(), &[])?)
 }
 
 /// The architectures in these rows, or the first that is no architecture with its forms.

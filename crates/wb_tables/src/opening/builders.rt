@@ -6,9 +6,10 @@ ghost use Rattle.wb_schema.specs.Statements.{all_builders};
 ghost use Rattle.wb_schema.specs.Tables as tables;
 ghost use Rattle.wb_rows.specs.Cells.{builder_cells};
 ghost use Rattle.wb_tables.specs.Stands.{builder_pairs};
-ghost use Rattle.wb_tables.specs.Opening.{AreBadRows, HoldsBuilders, IsBadRow, IsFormedBuilder, IsRowOf, PassesWith, Tests, has_arch};
+ghost use Rattle.wb_tables.specs.Faults.{IsBadRow};
+ghost use Rattle.wb_tables.specs.Opening.{AreBadRows, HoldsBuilders, IsFormedBuilder, IsRowOf, PassesWith, Tests, has_arch};
 
-use super::rows::rows_of;
+use crate::reading::rows_of;
 use deb_text::Text;
 use sqlite::{Alter, Connection, Row};
 use wb_rows::builder_of;
@@ -29,7 +30,7 @@ pub fn check_builders<S: Alter>(
     ensures passes { PassesWith S.Store Builder (λ machine. archs.now ≡ map.entries machine.archs)
         (λ machine pairs. pairs.items ≡ builder_pairs machine) conn.old conn.new result }
 {
-    let rows = rows_of(conn, texts::all_builders(), Table::Builder)?;
+    let rows = rows_of(conn, Table::Builder, texts::all_builders(), &[])?;
     builders_in(rows, archs)
 }
 

@@ -8,7 +8,7 @@ ghost use Rattle.wb_schema.specs.Tables as tables;
 ghost use Rattle.wb_rows.specs.Cells.{number};
 ghost use Rattle.wb_tables.specs.Opening.{AreBadCounts, HasFormat, HoldsCounts, IsDamagedOffice, IsOfficeRow, Passes, Tests};
 
-use super::rows::rows_of;
+use crate::reading::rows_of;
 use sqlite::types::ValueRef;
 use sqlite::{Alter, Connection, Row};
 use wb_schema::texts;
@@ -27,7 +27,7 @@ pub fn check_counts<S: Alter>(conn: &mut Connection<S>) -> Result<Counts, StoreF
     ensures passes { Passes S.Store Office (λ machine counts. (counts.handed ≡ machine.handed)
         × (counts.accepted ≡ machine.accepted)) conn.old conn.new result }
 {
-    let rows = rows_of(conn, texts::office_counts(), Table::Office)?;
+    let rows = rows_of(conn, Table::Office, texts::office_counts(), &[])?;
     counts_in(&rows)
 }
 

@@ -10,7 +10,8 @@ ghost use Rattle.wb_schema.specs.Tables as tables;
 ghost use Rattle.wb_store.specs.Lookups.{entry_of};
 ghost use Rattle.wb_rows.specs.Cells.{record_cells};
 ghost use Rattle.wb_tables.specs.Lookups.{keyed_cells};
-ghost use Rattle.wb_tables.specs.Opening.{AreBadRecords, AreKept, FitsBeside, HasGoodRecords, HoldsRecords, IsBadRow, IsFormedRecord, IsRowOf, IsTestedRow, PassesWith, Tests};
+ghost use Rattle.wb_tables.specs.Faults.{IsBadRow};
+ghost use Rattle.wb_tables.specs.Opening.{AreBadRecords, AreKept, FitsBeside, HasGoodRecords, HoldsRecords, IsFormedRecord, IsRowOf, IsTestedRow, PassesWith, Tests};
 
 use super::forms::{Kept, is_formed};
 use crate::fault::fault_of;

@@ -1,4 +1,4 @@
-use Rattle.std.proofs.Common.{refl, sym, subst, ◌∙◌, map as each}
+use Rattle.std.proofs.Common.{sym, subst, ◌∙◌, map as each}
 use Rattle.std.proofs.lemmas.Bool.{both_ways}
 use Rattle.wb_store.specs.Lookups.{entry_of}
 use Rattle.wb_tables.proofs.ReadLemmas.{handed_on}
@@ -11,7 +11,7 @@ use Rattle.wb_durable.proofs.merge.put_all.Goals as goal
 pub returns-then-not-fits-clause-changes : goal.returns-then-not-fits-clause-changes
 returns-then-not-fits-clause-changes g c =
     c.loop-row.invariant.rest _ _ (not_made g.S.Store _ (
-      refl,
+      c.unfit.ensures,
       λ all. both_ways _ c.if-not-fits.true
           (c.fits.ensures.value.1 (all (entry_of c.row-item.result) (in_place entry_of c.args.rows.now c.loop-row.row-index c.row-item.result c.loop-row-test.true c.row-item.is))),
     ))

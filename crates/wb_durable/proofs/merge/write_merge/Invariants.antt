@@ -1,7 +1,7 @@
 -- What is left to be written, and that it makes the whole.
 use Rattle.std.proofs.Common.{◌≡◌, Result, drop}
-use Rattle.sqlite.specs.declared.error.Error.{Error}
 use Rattle.sqlite.specs.Held.{Held}
+use Rattle.wb_states.specs.declared.store_fault.StoreFault.{StoreFault}
 use Rattle.wb_durable.specs.MergeWritten.{CannotBeWritten, with_parts}
 use Rattle.wb_durable.specs.Turns.{ChangesInTurn}
 use Rattle.wb_durable.proofs.merge.write_merge.Given as goal
@@ -9,7 +9,7 @@ use Rattle.wb_durable.proofs.merge.write_merge.Given as goal
 abbrev pub invariant-loop-part : goal.invariant-loop-part
 invariant-loop-part g l = record {
   same_reference : l.writing.conn.ghost_name ≡ l.fn.writing.conn.ghost_name;
-  rest : (new : Held g.row.S.Denot) (r : Result (Unit {0}) Error)
+  rest : (new : Held g.row.S.Denot) (r : Result (Unit {0}) StoreFault)
       → ChangesInTurn g.S.Store (CannotBeWritten l.after) (λ machine. record machine { records = with_parts l.before l.after (drop l.part-index l.parts) machine.records }) l.writing.conn.now new r
       → ChangesInTurn g.S.Store (CannotBeWritten l.after) (λ machine. record machine { records = with_parts l.before l.after l.parts machine.records }) l.fn.writing.conn.now new r;
 }

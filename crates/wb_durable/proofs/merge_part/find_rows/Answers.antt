@@ -1,7 +1,6 @@
 use Rattle.std.proofs.Common.{refl, Result, Err, Ok}
-use Rattle.sqlite.specs.declared.error.Error.{Error}
-use Rattle.sqlite.specs.declared.error.Error.TheVariants.{SqliteFailure}
-use Rattle.sqlite.specs.declared.error.ErrorCode.TheVariants.{OutOfMemory}
+use Rattle.wb_states.specs.declared.store_fault.StoreFault.{StoreFault}
+use Rattle.wb_states.specs.declared.store_fault.StoreFault.TheVariants.{Memory}
 use Rattle.wb_tables.proofs.ReadLemmas.{handed_on}
 use Rattle.wb_durable.specs.Finds.{Finds}
 use Rattle.wb_durable.proofs.FindsLemmas.{finds_looked_up, finds_then, lacks_memory, then_fails}
@@ -15,7 +14,7 @@ returns-in_err-found g c = record {
 
 pub returns-in_err-push_all : goal.returns-in_err-push_all
 returns-in_err-push_all g c =
-    let full : Result (Unit {0}) Error = Err (SqliteFailure OutOfMemory) in
+    let full : Result (Unit {0}) StoreFault = Err Memory in
     let lacks : Finds g.S.Store (λ machine (x : Unit {0}). Unit {0}) c.loop-part.conn c.all_of.new.conn full =
     lacks_memory (finds_looked_up (Ok _) c.in_ok-found.ensures.looks_up) refl in
     record { finds = then_fails c.loop-part.invariant lacks (handed_on c.from_residual-in_err-push_all.result c.from_residual-in_err-push_all.ensures.1) }

@@ -1,21 +1,13 @@
-use Rattle.std.proofs.Common.{Ok, subst}
-use Rattle.wb_tables.specs.Scratch.{FindsWhether, has_scratch_rows}
-use Rattle.wb_durable.proofs.OpeningLemmas.{scratch_empty, scratch_left, scratch_unread}
+use Rattle.std.proofs.Common.{inl}
+use Rattle.wb_tables.proofs.OpeningLemmas.{faulted}
+use Rattle.wb_durable.proofs.OpeningLemmas.{none_yet, scratch_both, then_failed}
 use Rattle.wb_durable.proofs.opening.check_scratch.Goals as goal
 
-pub returns-in-Ok-false : goal.returns-in-Ok-false
-returns-in-Ok-false g c =
-    record {
-      checks = scratch_empty (subst (λ found. FindsWhether g.S.Store has_scratch_rows c.args.conn.now c.has_scratch_rows.new.conn (Ok found))
-          c.in-Ok-false.field-0-test c.in-Ok-false.ensures.tests);
-    }
+pub returns-in_err-check_scratch_sources : goal.returns-in_err-check_scratch_sources
+returns-in_err-check_scratch_sources g c = record {
+  checks = then_failed (none_yet g.S.Store c.args.conn.now) c.in_err-check_scratch_sources.ensures.checks
+      (λ machine told. tt) (λ at after good why. inl why) (faulted c.from_residual.result c.from_residual.ensures.1);
+}
 
-pub returns-in-Ok-true : goal.returns-in-Ok-true
-returns-in-Ok-true g c =
-    record {
-      checks = scratch_left (subst (λ found. FindsWhether g.S.Store has_scratch_rows c.args.conn.now c.has_scratch_rows.new.conn (Ok found))
-          c.in-Ok-true.field-0-test c.in-Ok-true.ensures.tests);
-    }
-
-pub returns-in-Err : goal.returns-in-Err
-returns-in-Err g c = record { checks = scratch_unread c.fault_of.ensures.value c.in-Err.ensures.tests }
+pub returns : goal.returns
+returns g c = record { checks = scratch_both c.in_ok-check_scratch_sources.ensures.checks c.check_scratch_binaries.result c.check_scratch_binaries.ensures.checks }

@@ -3,7 +3,6 @@ use Rattle.wb_states.specs.Machine.{Key}
 use Rattle.wb_office.specs.Queries.{item_in}
 use Rattle.wb_office.proofs.QueryLemmas.{item_of-good, item_of-bad}
 use Rattle.wb_tables.proofs.ReadLemmas.{handed_on}
-use Rattle.wb_durable.specs.Applies.{EndsWith}
 use Rattle.wb_durable.specs.Finds.{Finds}
 use Rattle.wb_durable.proofs.AskLemmas.{asked_by_name, asked_found, asked_unread}
 use Rattle.wb_durable.proofs.office.Office.item.Goals as goal
@@ -25,5 +24,5 @@ pub returns-in-Err : goal.returns-in-Err
 returns-in-Err g c = record {
   asks = asked_unread c.if-self.false c.in_ok-arch.ensures.ok
       (subst (Finds g.S.Store (λ machine answer. answer ≡ item_in machine c.in_ok-arch.arch c.in_ok-arch.source) c.args.self.now.conn c.find_item.new.conn) c.in-Err.is c.find_item.ensures.finds)
-      (subst (λ f. EndsWith g.S.Store f c.find_item.new.conn c.end_with-refusal.new.conn c.end_with-refusal.result.0 c.end_with-refusal.result.1) c.fault_of.ensures.value c.end_with-refusal.ensures.ends);
+      c.end_with-refusal.ensures.ends;
 }

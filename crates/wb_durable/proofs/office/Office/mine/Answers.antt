@@ -2,7 +2,6 @@ use Rattle.std.proofs.Common.{◌≡◌, sym, ap, subst, ◌∙◌}
 use Rattle.wb_office.specs.Queries.{mine_in}
 use Rattle.wb_office.proofs.QueryLemmas.{mine_of-good, mine_of-bad}
 use Rattle.wb_tables.proofs.ReadLemmas.{handed_on}
-use Rattle.wb_durable.specs.Applies.{EndsWith}
 use Rattle.wb_durable.specs.Finds.{Finds}
 use Rattle.wb_durable.proofs.AskLemmas.{asked_by_name, asked_found, asked_unread}
 use Rattle.wb_durable.proofs.office.Office.mine.Goals as goal
@@ -24,5 +23,5 @@ pub returns-in-Err : goal.returns-in-Err
 returns-in-Err g c = record {
   asks = asked_unread c.if-self.false c.in_ok-builder.ensures.ok
       (subst (Finds g.S.Store (λ machine answer. answer ≡ mine_in machine c.in_ok-builder.builder) c.args.self.now.conn c.find_mine.new.conn) c.in-Err.is c.find_mine.ensures.finds)
-      (subst (λ f. EndsWith g.S.Store f c.find_mine.new.conn c.end_with-refusal.new.conn c.end_with-refusal.result.0 c.end_with-refusal.result.1) c.fault_of.ensures.value c.end_with-refusal.ensures.ends);
+      c.end_with-refusal.ensures.ends;
 }

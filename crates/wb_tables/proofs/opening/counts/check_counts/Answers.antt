@@ -9,6 +9,9 @@ use Rattle.wb_tables.proofs.opening.counts.check_counts.Goals as goal
 pub returns-in_err-rows-clause-tests : goal.returns-in_err-rows-clause-tests
 returns-in_err-rows-clause-tests g c = tests_nothing (asks_office sql.office_counts c.office_counts.ensures) c.in_err-rows.ensures.reads (faulted c.from_residual.result c.from_residual.ensures.1)
 
+pub returns-in_err-rows-clause-passes : goal.returns-in_err-rows-clause-passes
+returns-in_err-rows-clause-passes g c = counts_pass c.from_residual.result (returns-in_err-rows-clause-tests g c)
+
 pub returns-clause-tests : goal.returns-clause-tests
 returns-clause-tests g c =
     tests_rows (asks_office sql.office_counts c.office_counts.ensures) c.counts_in.result c.in_ok-rows.ensures.reads
