@@ -22,10 +22,10 @@ use Rattle.wb_tables.specs.Faults.{IsBadRow}
 use Rattle.wb_tables.specs.Lookups.{AreRowsOf, ReadsTable}
 use Rattle.wb_tables.specs.Opening.{AreBadRows, HoldsArchs, IsFirstBad, IsFormedArch, IsRowOf, Passes, PassesWith, Tests}
 use Rattle.wb_tables.specs.Stands.{StandsFor}
-use Rattle.wb_tables.specs.Texts.{AsksOffice, table_of}
+use Rattle.wb_tables.specs.Texts.{table_of}
 use Rattle.wb_tables.proofs.ArchLemmas.{archs_found, archs_formed}
 use Rattle.wb_tables.proofs.FormLemmas.{formed_arch_readable}
-use Rattle.wb_tables.proofs.ReadLemmas.{answered, crash_over, fails_to_read, one_of_rows, plain_over, row_read}
+use Rattle.wb_tables.proofs.ReadLemmas.{AsksOf, answered, crash_over, fails_to_read, one_of_rows, plain_over, row_read}
 
 -- a call that hands on the fault of another one
 pub faulted : {T E : Type 0} {e : E} (r : Result T E) → IsErrAnd r (λ d. d ≡ e) → r ≡ Err e
@@ -76,7 +76,7 @@ module _ {X : Type 0} (columns : X → Row) (Fits : X → Type 0) where
 
 -- ---- the test of a table
 
-module _ {S : Type 0} {g : Ghosts S} {text : List ℕ} {q : TableQuery} {table : Table} (asks : AsksOffice text table q) {old new : Held S} where
+module _ {S : Type 0} {g : Ghosts S} {text : List ℕ} {q : TableQuery} {table : Table} (asks : AsksOf text table q) {old new : Held S} where
   -- a test whose rows are had
   pub tests_rows : {A X : Type 0} {rows : Vec Row X} {Good : List Row → A → Type 0} {Bad : List Row → StoreFault → Type 0} (r : Result A StoreFault) → ReadsTable g table text [] old new (Ok rows)
       → IfOk r (Good rows.items) → IfErr r (Bad rows.items) → Tests g (table_of table) q table Good Bad old new r

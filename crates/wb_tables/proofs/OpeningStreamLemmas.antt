@@ -23,8 +23,8 @@ use Rattle.wb_states.specs.declared.store_fault.StoreFault.{StoreFault}
 use Rattle.wb_states.specs.declared.store_fault.Table.{Table}
 use Rattle.wb_tables.specs.Faults.{fault_of}
 use Rattle.wb_tables.specs.Opening.{Tests}
-use Rattle.wb_tables.specs.Texts.{AsksOffice, table_of}
-use Rattle.wb_tables.proofs.ReadLemmas.{answers_of, asked_over, fails_to_read, plain_over}
+use Rattle.wb_tables.specs.Texts.{table_of}
+use Rattle.wb_tables.proofs.ReadLemmas.{AsksOf, answers_of, asked_over, fails_to_read, plain_over}
 
 -- ---- a query that fails later, as one that fails at its start
 
@@ -86,12 +86,12 @@ answer_ends sql q old mid new rows asks same shown =
 -- a query of the table has given these rows so far, and the database is as it was
 pub record IsUnderWay {S : Type 0} (g : Ghosts S) (table : Table) (q : TableQuery) (old now : Held S) (given : List Row) : Type 0 where
   pub text : List ℕ
-  pub asks : AsksOffice text table q
+  pub asks : AsksOf text table q
   pub runs : HasCleanDisk (state g now) → HasOffice old.schema → HasGiven g text [] now given × IsUnchanged (state g old) (state g now)
   pub survives : Survives (state g old) (state g now) (λ _. ¬ HasOffice old.schema)
 
 -- a crash in a query that writes nothing
-crash_plain : {S : Type 0} (g : Ghosts S) {text : List ℕ} {q : TableQuery} {table : Table} (asks : AsksOffice text table q) (old new : Held S) → Survives (state g old) (state g new) (CommitsShowing text [] (state g old))
+crash_plain : {S : Type 0} (g : Ghosts S) {text : List ℕ} {q : TableQuery} {table : Table} (asks : AsksOf text table q) (old new : Held S) → Survives (state g old) (state g new) (CommitsShowing text [] (state g old))
     → Survives (state g old) (state g new) (λ _. ¬ HasOffice old.schema)
 crash_plain g {text} asks old new =
     survives_weaker (state g old) (state g new) (CommitsShowing text [] (state g old)) (λ _. ¬ HasOffice old.schema)
@@ -103,7 +103,7 @@ crash_later : {S : Type 0} (g : Ghosts S) (old now new : Held S) → Survives (s
 crash_later g old now new =
     survives_then (state g old) (state g now) (state g new) (λ _. ¬ HasOffice old.schema) (λ _. ⊥) (λ _. ¬ HasOffice old.schema) (λ clean db other. other) (λ clean db none. absurd none)
 
-module _ {S : Type 0} {g : Ghosts S} {text : List ℕ} {q : TableQuery} {table : Table} (asks : AsksOffice text table q) {old new : Held S}
+module _ {S : Type 0} {g : Ghosts S} {text : List ℕ} {q : TableQuery} {table : Table} (asks : AsksOf text table q) {old new : Held S}
     (survives : Survives (state g old) (state g new) (CommitsShowing text [] (state g old))) where
   -- the query begins
   pub begins : (HasCleanDisk (state g new) → HasBegun g text [] old new) → IsUnderWay g table q old new []

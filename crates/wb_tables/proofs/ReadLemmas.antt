@@ -10,7 +10,7 @@ use Rattle.sqlite.specs.State.{State, Survives}
 use Rattle.sqlite.proofs.StateLemmas.{survives_weaker}
 use Rattle.sqlite_trees.specs.declared.store.Store.{Ghosts}
 use Rattle.wb_sql.specs.Queries.{TableQuery, Asks, Answers}
-use Rattle.wb_schema.specs.Among.{AsksAmong, HasOffice, query_at, query_in, rows_in, tree_named}
+use Rattle.wb_schema.specs.Among.{AsksAmong, HasOffice, HasTable, query_at, query_in, rows_in, table_in, tree_named}
 use Rattle.wb_schema.specs.Tables as tables
 use Rattle.wb_states.specs.declared.store_fault.StoreFault.{StoreFault}
 use Rattle.wb_states.specs.declared.store_fault.StoreFault.TheVariants.{Memory}
@@ -22,7 +22,7 @@ use Rattle.wb_tables.specs.Faults.{IsUnfit}
 use Rattle.wb_tables.specs.Stands.{StandsFor}
 use Rattle.wb_tables.specs.Calls.{FailsToLookUp, FailsToRead, LooksUp}
 use Rattle.wb_tables.specs.Lookups.{AreRecords, AreRowsOf, FailsToReadRecords, IsQueryFault, MayAnswer, ReadsRecords, ReadsTable, keyed_cells}
-use Rattle.wb_tables.specs.Texts.{AsksOffice, table_of}
+use Rattle.wb_tables.specs.Texts.{table_of}
 
 -- a call that hands on the error of another one
 pub handed_on : {T E : Type 0} {e : E} (r : Result T E) → IsErrAnd r (λ d. d ≡ e) → r ≡ Err e
@@ -55,39 +55,31 @@ row_read columns made after new row rest left all whole next pushed is =
 
 -- ---- the run of a query
 
-module _ {sql : List ℕ} (q : TableQuery) where
-  -- a text on the table of the counts
-  pub asks_office : AsksAmong tables.office sql q → AsksOffice sql Office q
-  asks_office asks = record { over = λ schema has. asks schema (tree_named schema tables.office.name) has.office_is }
+-- a schema with the office's tables has each of them
+has_table : (table : Table) {schema : Schema} → HasOffice schema → HasTable schema (table_in schema (table_of table))
+has_table Office has = has.office_is
+has_table Arch has = has.arch_is
+has_table Builder has = has.builder_is
+has_table SourceRecord has = has.record_is
+has_table ScratchSource has = has.source_is
+has_table ScratchBinary has = has.binary_is
 
-  -- a text on the table of the architectures
-  pub asks_arch : AsksAmong tables.arch sql q → AsksOffice sql Arch q
-  asks_arch asks = record { over = λ schema has. asks schema (tree_named schema tables.arch.name) has.arch_is }
+-- the text asks this of one of the office's tables
+pub record AsksOf (sql : List ℕ) (table : Table) (q : TableQuery) : Type 0 where
+  pub among : AsksAmong (table_of table) sql q
 
-  -- a text on the table of the builders
-  pub asks_builder : AsksAmong tables.builder sql q → AsksOffice sql Builder q
-  asks_builder asks = record { over = λ schema has. asks schema (tree_named schema tables.builder.name) has.builder_is }
-
-  -- a text on the table of the records
-  pub asks_record : AsksAmong tables.source_record sql q → AsksOffice sql SourceRecord q
-  asks_record asks = record { over = λ schema has. asks schema (tree_named schema tables.source_record.name) has.record_is }
-
-  -- a text on the table of the source packages of a merge
-  pub asks_source : AsksAmong tables.scratch_source sql q → AsksOffice sql ScratchSource q
-  asks_source asks = record { over = λ schema has. asks schema (tree_named schema tables.scratch_source.name) has.source_is }
-
-  -- a text on the table of the binary packages of a merge
-  pub asks_binary : AsksAmong tables.scratch_binary sql q → AsksOffice sql ScratchBinary q
-  asks_binary asks = record { over = λ schema has. asks schema (tree_named schema tables.scratch_binary.name) has.binary_is }
+-- what a text asks of a table
+pub asks_of : {sql : List ℕ} (table : Table) (q : TableQuery) → AsksAmong (table_of table) sql q → AsksOf sql table q
+asks_of table q asks = record { among = asks }
 
 -- what a query answers does not depend on the tree in which its table is
 pub answers_of : {q : TableQuery} {tree : ℕ} {params : Row} {rows answer : List Row} → Answers (query_at tree q) params rows answer → Answers q params rows answer
 answers_of a = record { ordered = a.ordered; same = a.same; sorted = a.sorted; shown = a.shown }
 
-module _ {sql : List ℕ} {q : TableQuery} {table : Table} (asks : AsksOffice sql table q) where
+module _ {sql : List ℕ} {q : TableQuery} {table : Table} (asks : AsksOf sql table q) where
   -- what a text asks over a schema with the office's tables
   pub asked_over : {schema : Schema} → HasOffice schema → Asks schema sql (query_in schema (table_of table) q)
-  asked_over {schema} has = asks.over schema has
+  asked_over {schema} has = asks.among schema (tree_named schema (table_of table).name) (has_table table has)
 
   pub plain_over : {schema : Schema} → HasOffice schema → IsPlain (understood schema sql)
   plain_over has = (asked_over has).means.plain
@@ -102,9 +94,9 @@ module _ {sql : List ℕ} {q : TableQuery} {table : Table} (asks : AsksOffice sq
       survives_weaker (state g old) (state g new) (λ _. ¬ IsPlain (understood old.schema sql)) (λ _. ¬ HasOffice old.schema) (λ clean db unplain has. unplain (plain_over has))
 
 -- a query on a table that failed, by its text
-pub fails_to_read : {table : Table} {sql : List ℕ} {q : TableQuery} (params : Row) {old new : State} {fault : StoreFault} → AsksOffice sql table q → IsQueryFault table sql params old new fault → FailsToRead table old new fault
+pub fails_to_read : {table : Table} {sql : List ℕ} {q : TableQuery} (params : Row) {old new : State} {fault : StoreFault} → AsksOf sql table q → IsQueryFault table sql params old new fault → FailsToRead table old new fault
 fails_to_read {sql = sql} {q = q} params asks failed =
-    record { error = failed.0; sql = sql; params = params; on = (q, asks); failed = failed.1; left = failed.2; told = failed.3 }
+    record { error = failed.0; sql = sql; params = params; on = (q, asks.among); failed = failed.1; left = failed.2; told = failed.3 }
 
 module _ {S : Type 0} {g : Ghosts S} {sql : List ℕ} {params : Row} {old new : Held S} where
   -- the records in the rows of a query that succeeded
@@ -132,7 +124,7 @@ module _ {S : Type 0} {g : Ghosts S} {sql : List ℕ} {params : Row} {old new : 
     survives = read.survives;
   })
 
-  module _ {q : TableQuery} {table : Table} (asks : AsksOffice sql table q) where
+  module _ {q : TableQuery} {table : Table} (asks : AsksOf sql table q) where
     -- a look-up whose query succeeded, and whose rows are read
     pub looks_up_rows : {A X : Type 0} {rows : Vec Row X} {Answer : Machine → A → Type 0} (Fits : Type 0) (r : Result A StoreFault) → ReadsTable g table sql params old new (Ok rows)
         → ((machine : Machine) → StandsFor machine (state g old).now → Answers q params (rows_in (state g old).now (table_of table)) rows.items → IfOk r (Answer machine)) → IfErr r (IsUnfit table Fits)
@@ -163,7 +155,7 @@ module _ {S : Type 0} {g : Ghosts S} {sql : List ℕ} {params : Row} {old new : 
       survives = crash_over asks g old new read.survives;
     })
 
-  module _ {q : TableQuery} (asks : AsksOffice sql SourceRecord q) where
+  module _ {q : TableQuery} (asks : AsksOf sql SourceRecord q) where
     -- a look-up of records
     pub looks_up : {A X : Type 0} {rows : Vec KeyedRecord X} {Answer : Machine → A → Type 0} {x : A} → ReadsRecords g sql params old new (Ok rows)
         → ((machine : Machine) → StandsFor machine (state g old).now → Answers q params (rows_in (state g old).now tables.source_record) (map keyed_cells rows.items) → Answer machine x)

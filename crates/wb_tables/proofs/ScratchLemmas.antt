@@ -14,9 +14,9 @@ use Rattle.wb_states.specs.declared.store_fault.StoreFault.{StoreFault}
 use Rattle.wb_states.specs.declared.store_fault.Table.{Table}
 use Rattle.wb_tables.specs.Lookups.{ReadsTable}
 use Rattle.wb_tables.specs.Scratch.{TestsForRows, has_row, has_rows}
-use Rattle.wb_tables.specs.Texts.{AsksOffice, table_of}
+use Rattle.wb_tables.specs.Texts.{table_of}
 use Rattle.wb_tables.proofs.OrderLemmas.{none_permuted}
-use Rattle.wb_tables.proofs.ReadLemmas.{answered, crash_over, fails_to_read, plain_over}
+use Rattle.wb_tables.proofs.ReadLemmas.{AsksOf, answered, crash_over, fails_to_read, plain_over}
 
 -- ---- whether a list has a row
 
@@ -58,7 +58,7 @@ module _ (tree : ℕ) (rows answer : List Row) (a : Answers (sql.first_of_scratc
 
 -- ---- what a test promises
 
-module _ {S : Type 0} {g : Ghosts S} {text : List ℕ} {q : TableQuery} {table : Table} (asks : AsksOffice text table q) {old new : Held S} where
+module _ {S : Type 0} {g : Ghosts S} {text : List ℕ} {q : TableQuery} {table : Table} (asks : AsksOf text table q) {old new : Held S} where
   -- a test whose query succeeded
   pub tests_rows : {X : Type 0} {rows : Vec Row X} {found : Bool} → ReadsTable g table text [] old new (Ok rows)
       → (Answers q [] (rows_in (state g old).now (table_of table)) rows.items → found ≡ has_rows table (state g old).now) → TestsForRows g table old new (Ok found)
