@@ -221,7 +221,13 @@ module _ {S : Type 0} (g : Ghosts S) (command : Command) (old mid new : Held S) 
   left_later : (machine : Machine) (failure : Failure) → StaysAs g old mid → IsLeft g machine command mid new failure → IsLeft g machine command old new failure
   left_later machine (Refused refusal) same left = left
   left_later machine (Unread e) same left = ((left.0.0, left.0.1, stays_then g old mid left.0.0 same left.0.2, left.0.3), left.1)
-  left_later machine (Uncommitted e) same left = left
+  left_later machine (Uncommitted e) same left = (
+    left.0,
+    elim left.1 [
+      | inl s ↦ inl (s.0, s.1, s.2, stays_then g old mid s.0 same s.3, s.4, s.5)
+      | inr m ↦ inr (m.0, m.1, m.2, m.3, m.4, stays_then g old mid m.0 same m.5, m.6, m.7, m.8)
+    ],
+  )
 
   -- what the command names is read, and then it is answered in that part
   pub answered_in : {A : Type 0} {Answer : Machine → A → Type 0} {First Given : Machine → Type 0} {x : A} (r : Result Answered Failure) → Finds g Answer old mid (Ok x)
@@ -314,6 +320,6 @@ pub not_committed : {S A B : Type 0} {g : Ghosts S} {command : Command} {key : O
 not_committed {g = g} {key = key} {after = after} {old = old} {new = new} carries = record {
   was_clean = was_clean (state g old) (state g new) carries.survives;
   ok = λ clean machine settled steps. tt;
-  err = λ clean machine settled steps. (carries.err clean machine settled steps, inl (old, key, after, carries.cause clean machine settled steps));
+  err = λ clean machine settled steps. (carries.err clean machine settled steps, inl (old, key, after, inl refl, steps, carries.cause clean machine settled steps));
   others = λ clean machine settled steps. tt;
 }

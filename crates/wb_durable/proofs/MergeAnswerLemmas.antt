@@ -1,5 +1,5 @@
 -- How a merge is carried out over tables: in the part of the office that it looks at, and kept in one transaction.
-use Rattle.std.proofs.Common.{◌≡◌, inr, ℕ, List, Ok, Err, sym, ap, subst, ◌∙◌}
+use Rattle.std.proofs.Common.{◌≡◌, inl, inr, ℕ, List, Ok, Err, refl, sym, ap, subst, ◌∙◌}
 use Rattle.sqlite_trees.specs.declared.store.Store.{Ghosts}
 use Rattle.sqlite.specs.Held.{Held, state}
 use Rattle.sqlite.specs.State.{HasCleanDisk}
@@ -84,9 +84,9 @@ module _ {S : Type 0} (g : Ghosts S) (sources : List ℕ) (parts : List Part) (o
 -- the transaction of a merge was not committed
 pub merge_not_committed : {S A B : Type 0} {g : Ghosts S} {sources : List ℕ} {parts : List Part} {before after : Machine} {old new : Held S} {e : CarryError} → CarriesMerge {A = A} g sources parts before after old new (Err e)
     → KeepsMerge {A = B} g sources parts before after old new (Err (Uncommitted e))
-merge_not_committed {g = g} {after = after} {old = old} {new = new} carries = record {
+merge_not_committed {g = g} {sources = sources} {parts = parts} {before = before} {after = after} {old = old} {new = new} carries = record {
   was_clean = was_clean (state g old) (state g new) carries.survives;
   ok = λ clean machine settled is. tt;
-  err = λ clean machine settled is. (carries.err clean machine settled is, inr (old, after, carries.cause clean machine settled is));
+  err = λ clean machine settled is. (carries.err clean machine settled is, inr (old, sources, parts, before, after, inl refl, refl, is, carries.cause clean machine settled is));
   others = λ clean machine settled is. tt;
 }

@@ -29,7 +29,8 @@ use Rattle.wb_office.proofs.ConsistencyLemmas.{IsConsistent-empty_office}
 use Rattle.wb_rows.specs.Cells.{builder_cells}
 use Rattle.wb_tables.specs.Faults.{fault_of}
 use Rattle.wb_tables.specs.Opening.{AreBadRecords, AreBadRows, AreKept, FailsToTest, HasGoodRecords, HoldsBuilders, HoldsRecords, IsFormedBuilder, PassesWith, ShowsGood, Tests}
-use Rattle.wb_tables.specs.Scratch.{TestsForRows, has_row, has_rows}
+use Rattle.deb_text.specs.Lists.{is_nonempty}
+use Rattle.wb_tables.specs.Scratch.{TestsForRows, has_rows}
 use Rattle.wb_tables.specs.Settled.{IsSettled}
 use Rattle.wb_tables.specs.Stands.{StandsFor, builder_pairs}
 use Rattle.wb_tables.specs.Texts.{table_of}
@@ -110,7 +111,7 @@ module _ {S : Type 0} {g : Ghosts S} {old new : Held S} where
 
 -- ---- the test of the scratch tables
 
-no_row : {X : Type 0} (xs : List X) → has_row xs ≡ false → xs ≡ []
+no_row : {X : Type 0} (xs : List X) → is_nonempty xs ≡ false → xs ≡ []
 no_row [] none = refl
 no_row (x ∷ xs) none = absurd (both_ways true none refl)
 
@@ -137,7 +138,7 @@ module _ {S : Type 0} {g : Ghosts S} (table : Table) {old new : Held S} where
     kept = λ clean office. inl (tests.same clean office);
     told = λ clean. tt;
     fails = λ clean machine consistent stands given.
-        absurd (both_ways (has_rows table (state g old).now) (ap has_row (empty machine stands)) (sym (tests.value clean stands.has)));
+        absurd (both_ways (has_rows table (state g old).now) (ap is_nonempty (empty machine stands)) (sym (tests.value clean stands.has)));
     survives = tests.survives;
   }
 

@@ -25,9 +25,10 @@ use Rattle.wb_durable.specs.declared.answer.Answered.{Answered}
 use Rattle.wb_durable.specs.declared.answer.Failure.{Failure}
 use Rattle.wb_durable.specs.declared.answer.Failure.TheVariants.{Refused, Unread, Uncommitted}
 use Rattle.wb_durable.specs.declared.known.Known.{Known}
+use Rattle.wb_durable.specs.declared.carry.CarryError.{CarryError}
 use Rattle.wb_durable.specs.Carried.{LeavesAs, EndsFor}
 use Rattle.wb_durable.specs.Changed.{IsStepOf}
-use Rattle.wb_durable.specs.Finds.{FailsToFind}
+use Rattle.wb_durable.specs.Finds.{FailsToFind, StaysAs}
 use Rattle.wb_durable.specs.Keys.{key_put}
 use Rattle.wb_durable.specs.MergeCarried.{MergeEndsFor}
 use Rattle.wb_durable.specs.MergeWritten.{IsMergeIn}
@@ -49,14 +50,24 @@ AreOf counts archs machine = AreCountsOf machine counts × (archs ≡ map.entrie
 abbrev pub IsNamed : Command → Machine → Option Key → Machine → Type 0
 IsNamed command part key machine = (part ≡ part_named machine command) × (key ≡ key_put machine command)
 
+-- a step of the command in a part of the office was written in a transaction, which began after look-ups that changed nothing, and ended with this failure
+abbrev pub FailsToKeepStep : {S : Type 0} → Ghosts S → Machine → Command → Held S → Held S → CarryError → Type 0
+FailsToKeepStep {S} g machine command old new failure =
+    (at : Held S) × (key : Option Key) × (after : Machine) × StaysAs g old at × IsStepOf machine command key after × EndsFor g command key after machine at new failure
+
+-- the command is a merge, and what it changed in the part of the office that it looks at was written in such a transaction
+abbrev pub FailsToKeepMerge : {S : Type 0} → Ghosts S → Machine → Command → Held S → Held S → CarryError → Type 0
+FailsToKeepMerge {S} g machine command old new failure =
+    (at : Held S) × (sources : List ℕ) × (parts : List Part) × (before : Machine) × (after : Machine) × StaysAs g old at × (command ≡ Merge sources parts)
+    × IsMergeIn machine sources parts before after × MergeEndsFor g after (step machine command).1 at new failure
+
 -- what a command changed was not committed, for this reason
 abbrev pub IsUncommitted : {S : Type 0} → Ghosts S → Machine → Command → Held S → Held S → Failure → Type 0
 IsUncommitted g machine command old new (Refused refusal) = ⊥
 IsUncommitted g machine command old new (Unread fault) = ⊥
-IsUncommitted {S} g machine command old new (Uncommitted failure) =
+IsUncommitted g machine command old new (Uncommitted failure) =
     LeavesAs machine (step machine command).1 (state g new) failure
-    × (((at : Held S) × (key : Option Key) × (after : Machine) × EndsFor g command key after machine at new failure)
-    ⊎ ((at : Held S) × (after : Machine) × MergeEndsFor g after (step machine command).1 at new failure))
+    × (FailsToKeepStep g machine command old new failure ⊎ FailsToKeepMerge g machine command old new failure)
 
 -- why a command is not carried out, and where the office is left: it is refused, or a look-up failed, and nothing is changed; or what it changed
 -- was not committed, and the office is as it was, or, if the commit is in doubt, as it was or as the command makes it

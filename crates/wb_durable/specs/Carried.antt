@@ -54,7 +54,7 @@ IsEnded {S} g new =
 abbrev pub FailsToRollBack : {S : Type 0} → Ghosts S → Held S → Type 0
 FailsToRollBack {S} g new = (at : Held S) × ((why : Error) × (Executes rollback_text [] (state g at) (state g new) (Err why) × (is_over why ≡ false)))
 
--- the commit failed, which is this fault of the table of the office, since COMMIT names none
+-- the commit failed with an error, of which this is the fault, that of the table of the office, since COMMIT names none
 abbrev pub IsFaultOfCommit : {S : Type 0} → Ghosts S → Held S → StoreFault → Type 0
 IsFaultOfCommit g at fault = (e : Error) × FailsToCommit g at e × (fault ≡ fault_of e Office)
 
@@ -62,7 +62,7 @@ IsFaultOfCommit g at fault = (e : Error) × FailsToCommit g at e × (fault ≡ f
 abbrev pub FailsAtCommit : {S : Type 0} → Ghosts S → Machine → Held S → StoreFault → Type 0
 FailsAtCommit {S} g now old fault = (at : Held S) × (Becomes now (state g (begun old)) (state g at) × IsFaultOfCommit g at fault)
 
--- a write of the change failed with this fault, or was not made
+-- a write of the change failed with this fault, or was not made for this reason
 abbrev pub FailsAtChange : {S : Type 0} → Ghosts S → (StoreFault → Type 0) → Machine → Held S → StoreFault → Type 0
 FailsAtChange {S} g Why between old fault = (at : Held S) × FailsToChange g Why between (begun old) at fault
 

@@ -72,8 +72,8 @@ pub record HasFittingNumbers (after : Machine) (key : Option Key) : Type 0 where
   pub take : HasFittingTakeAt after key
   pub counts : HasFittingCounts after
 
--- why the numbers of a change are not written: memory ran out, or a count, or the take number of the record at the key, is above its limit, for which
--- no row of its table is blamed
+-- why the numbers of a change are not written: memory ran out; or a count is above the limit, which is a fault of the office's table; or the take
+-- number of the record at the key is, which is one of the table of records
 abbrev pub LacksFittingNumbers : Machine → Option Key → StoreFault → Type 0
 LacksFittingNumbers after key fault = IsUnfit Office (HasFittingCounts after) fault ⊎ IsUnfit SourceRecord (HasFittingTakeAt after key) fault
 
@@ -92,7 +92,7 @@ abbrev pub FailsAtOnce : {S : Type 0} → Ghosts S → (StoreFault → Type 0) �
 FailsAtOnce g Why old new fault = FailsToWriteOne (state g old) (state g new) fault ⊎ (Why fault × (old ≡ new))
 
 -- one write in a transaction, or none: if it succeeds, a database that stood for a state that allows it stands for the state after it; if it
--- fails, its change did, or was not made for one of these reasons; and a crash leaves no more than before
+-- fails, the write failed, or was not made for one of these reasons; and a crash leaves no more than before
 pub record Writes {S A : Type 0} (g : Ghosts S) (Why : StoreFault → Type 0) (Allows : Machine → Type 0) (after : Machine → Machine) (old new : Held S) (result : Result A StoreFault) : Type 0 where
   pub ok : HasCleanDisk (state g new) → OnOk result ((machine : Machine) → StandsFor machine (state g old).now → Allows machine → Reaches g (after machine) old new)
   pub err : HasCleanDisk (state g new) → IsTrue old.in_transaction → IfErr result (FailsAtOnce g Why old new)
@@ -104,8 +104,8 @@ pub record Writes {S A : Type 0} (g : Ghosts S) (Why : StoreFault → Type 0) (A
 abbrev pub StandsForStep : {S : Type 0} → Ghosts S → Command → Option Key → Machine → Held S → Type 0
 StandsForStep g command key after held = (whole : Machine) × StandsFor whole (state g held).now × IsStepOf whole command key after
 
--- a change failed with this fault: its first write did, or was not made for this reason; or its second did, after the first had made the database
--- stand for this state
+-- a change failed with this fault: its first write did, or was not made for this reason; or its second did, to the office's table, after the first
+-- had made the database stand for this state
 abbrev pub FailsToChange : {S : Type 0} → Ghosts S → (StoreFault → Type 0) → Machine → Held S → Held S → StoreFault → Type 0
 FailsToChange {S} g Why between old new fault =
     FailsAtOnce g Why old new fault ⊎ ((mid : Held S) × Reaches g between old mid × FailsToWrite Office (state g mid) (state g new) fault)

@@ -81,7 +81,7 @@ abbrev pub FailsOnScratchOf : Table → State → State → StoreFault → Type 
 FailsOnScratchOf table old new fault =
     FailsToRead table old new fault ⊎ ((fault ≡ Damaged table 1) × IsTrue (has_rows table old.now) × IsUnchanged old new)
 
--- why the tests of the scratch tables fail: that of the source packages, or, where it has no row, that of the binary packages
+-- why the tests of the scratch tables fail: that of the source packages does, or, if that table has no row, that of the binary packages
 abbrev pub FailsOnScratch : State → State → StoreFault → Type 0
 FailsOnScratch old new fault =
     FailsOnScratchOf ScratchSource old new fault ⊎ ((rows_in old.now scratch_source ≡ []) × FailsOnScratchOf ScratchBinary old new fault)
@@ -94,7 +94,7 @@ FailsOnOffice old new fault = FailsOnRows old new fault ⊎ (HasGoodRows old.now
 abbrev pub ComesLater : {S : Type 0} → Ghosts S → (State → State → StoreFault → Type 0) → Held S → Held S → StoreFault → Type 0
 ComesLater {S} g Why old new fault = (mid : Held S) × StaysAs g old mid × Why (state g mid) (state g new) fault
 
--- the query of one of the tables failed
+-- the query of one of the tables failed with this fault
 abbrev pub FailsToReadOne : State → State → StoreFault → Type 0
 FailsToReadOne old new fault = (table : Table) × FailsToRead table old new fault
 

@@ -9,12 +9,12 @@ use crate::known::{Known, find_archs, learn};
 use crate::merging::answer_merge;
 use crate::named::{Named, named_part};
 use deb_text::Text;
-use sqlite::{Alter, Connection, Error, ErrorCode};
+use sqlite::{Alter, Connection};
 use std::alloc::Global;
 use wb_office::carry_out;
 use wb_states::{Command, Counts, OsCpu, Refusal, Reply, StoreFault, Table};
 use wb_store::Store;
-use wb_tables::fault_of;
+use wb_tables::unfit;
 
 /// Why a command is not carried out.
 #[derive(Drop)]
@@ -143,11 +143,10 @@ fn keep<S: Alter>(
     ensures keeps { KeepsStep S.Store command.now key.now after.now conn.old conn.new result }
 {
     if !conn.is_autocommit() {
-        let error = Error::SqliteFailure(ErrorCode::TransactionState);
-        return Err(Failure::Unread(fault_of(error, Table::Office)));
+        return Err(Failure::Unread(unfit(Table::Office)));
     }
     match carry(conn, command, key, after) {
         Ok(()) => Ok(()),
-        Err(error) => Err(Failure::Uncommitted(error)),
+        Err(failure) => Err(Failure::Uncommitted(failure)),
     }
 }

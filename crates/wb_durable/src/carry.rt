@@ -23,7 +23,7 @@ use wb_tables::fault_of;
 pub(crate) enum CarryError {
     /// It failed with this fault, and was taken back. The connection can be used on, unless a fault shut it.
     TakenBack(StoreFault),
-    /// It failed with this fault, and another came when it was to be taken back. Nothing of it was committed.
+    /// It failed with this fault, and ROLLBACK failed too. Nothing of it was committed.
     RollBackFailed(StoreFault),
     /// The commit failed with this fault. Whether it was made is not known.
     InDoubt(StoreFault),
@@ -31,8 +31,8 @@ pub(crate) enum CarryError {
 
 /// Writes the change of an accepted command in a transaction of its own, and commits it. `after` is the part of the
 /// office in which the command was carried out, and `key` is that of the record that it put. The errors are those of
-/// [`CarryError`], with that of `write_change` or of the commit; after each but `InDoubt` the office is as it was (this
-/// project's own).
+/// [`CarryError`], with the fault of `write_change` or of the commit; after each but `InDoubt` the office is as it was
+/// (this project's own).
 pub(crate) fn carry<S: Alter>(
     conn: &mut Connection<S>,
     command: &Command,

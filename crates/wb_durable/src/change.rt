@@ -85,7 +85,8 @@ fn write_arch<S: Alter>(
     command: &command::AddArch,
 ) -> Result<(), StoreFault>
     ensures same_reference { writing.new.conn.ghost_name ≡ writing.old.conn.ghost_name }
-    ensures writes { Writes S.Store (λ fault. fault ≡ Memory) (λ machine. map.get machine.archs command.now.name ≡ None)
+    ensures writes { Writes S.Store (λ fault. fault ≡ Memory)
+        (λ machine. map.get machine.archs command.now.name ≡ None)
         (λ machine. record machine {
           archs = map.insert machine.archs command.now.name
               (record { os = command.now.os; cpu = command.now.cpu });

@@ -148,8 +148,8 @@ pub(crate) fn write_merge<S: Alter>(
 }
 
 /// Writes what a merge changed in a transaction of its own, and commits it. `before` is the part of the office that the
-/// merge looks at, and `after` is the same after the merge. The errors are those of [`CarryError`], with that of
-/// `write_merge` or of the commit; after each but `InDoubt` the office is as it was (this project's own).
+/// merge looks at, and `after` is the same after the merge. The errors are those of [`CarryError`], with the fault
+/// of `write_merge` or of the commit; after each but `InDoubt` the office is as it was (this project's own).
 pub(crate) fn carry_merge<S: Alter>(
     alloc: Global,
     conn: &mut Connection<S>,

@@ -9,13 +9,13 @@ use crate::answer::{Answered, Failure, counts_in};
 use crate::merge::carry_merge;
 use crate::merge_part::part_for_merge;
 use deb_text::Text;
-use sqlite::{Alter, Connection, Error, ErrorCode};
+use sqlite::{Alter, Connection};
 use std::alloc::Global;
 use wb_office::carry_out;
 use wb_states::command::Merge;
 use wb_states::{Command, Counts, OsCpu, Table};
 use wb_store::Store;
-use wb_tables::fault_of;
+use wb_tables::unfit;
 
 /// Carries out a merge. The records of its architectures are read twice, to find afterwards which of them differ.
 pub(crate) fn answer_merge<S: Alter>(
@@ -92,11 +92,10 @@ fn keep_merge<S: Alter>(
         conn.old conn.new result }
 {
     if !conn.is_autocommit() {
-        let error = Error::SqliteFailure(ErrorCode::TransactionState);
-        return Err(Failure::Unread(fault_of(error, Table::Office)));
+        return Err(Failure::Unread(unfit(Table::Office)));
     }
     match carry_merge(alloc, conn, merge, before, after) {
         Ok(()) => Ok(()),
-        Err(error) => Err(Failure::Uncommitted(error)),
+        Err(failure) => Err(Failure::Uncommitted(failure)),
     }
 }

@@ -1,7 +1,7 @@
 //! The office over tables: each command is one transaction.
 ghost use Rattle.std.specs.Prelude.{◌≡◌, ◌⊎◌, ⊤, false, not, true, Err, IfOk, IfErr, IsTrue};
 ghost use Rattle.sqlite.specs.Files.{file_state};
-ghost use Rattle.sqlite.specs.Held.{Held, state};
+ghost use Rattle.sqlite.specs.Held.{state};
 ghost use Rattle.sqlite.specs.State.{HasCleanDisk};
 ghost use Rattle.sqlite_wal.specs.Reads.{AreClean};
 ghost use Rattle.wb_states.specs.Machine.{Machine, empty_office};
@@ -276,15 +276,15 @@ fn end<S: Alter>(conn: &mut Connection<S>, failure: Failure) -> (Refusal, bool)
             (refusal, is_closed)
         }
         Failure::Unread(fault) => end_with(conn, fault),
-        Failure::Uncommitted(error) => end_uncommitted(conn, error),
+        Failure::Uncommitted(failure) => end_uncommitted(conn, failure),
     }
 }
 
 /// The same after a transaction that was not committed.
-fn end_uncommitted<S: Alter>(conn: &mut Connection<S>, error: CarryError) -> (Refusal, bool)
-    ensures ends { Ends S.Store (Uncommitted error) conn.old conn.new result.0 result.1 }
+fn end_uncommitted<S: Alter>(conn: &mut Connection<S>, failure: CarryError) -> (Refusal, bool)
+    ensures ends { Ends S.Store (Uncommitted failure) conn.old conn.new result.0 result.1 }
 {
-    match error {
+    match failure {
         CarryError::TakenBack(fault) => end_with(conn, fault),
         CarryError::RollBackFailed(fault) => (refusal_for(fault), true),
         CarryError::InDoubt(fault) => (doubt_for(fault), true),

@@ -14,6 +14,7 @@ use Rattle.sqlite.specs.declared.types.Value.TheVariants.{Text}
 use Rattle.sqlite.specs.Order.{Row}
 use Rattle.sqlite_trees.specs.Tree.{IsAscending}
 use Rattle.sqlite_keyed.proofs.ListLemmas.{ascending-filter, ascending-map, filter-map, filter_same, IsPermutation-same}
+use Rattle.deb_text.specs.Lists.{is_nonempty}
 use Rattle.deb_text.specs.Lists.{IsIn}
 use Rattle.deb_text.specs.Text.{text_cmp, pair_cmp}
 use Rattle.deb_text.proofs.KeyLemmas.{text_cmp_total, text_cmp-same, pair_cmp_total, pair_cmp-same, eq_by_cmp-same}
@@ -27,7 +28,6 @@ use Rattle.wb_rows.specs.Cells.{builder_cells}
 use Rattle.wb_rows.proofs.CellsLemmas.{builder_cells-same}
 use Rattle.wb_tables.specs.Stands.{StandsFor, builder_pairs}
 use Rattle.wb_tables.specs.Lookups.{ArePairs, HaveArchs, IsReadablePair}
-use Rattle.wb_tables.specs.Scratch.{has_row}
 use Rattle.wb_tables.proofs.EqualLemmas.{are_equal, and_true, equal-Text}
 use Rattle.wb_tables.proofs.FormLemmas.{kept_pair_readable}
 use Rattle.wb_tables.proofs.LookupLemmas.{key_params, key_test, second_less, text_order}
@@ -179,9 +179,9 @@ module _ (machine : Machine) where
           ((IsIn-filter (is_of builder) (builder, arch) pairs).1 (in_pairs (builder, arch) added, (bytes_eq-Decides builder builder).1 refl))
 
 -- the columns of a pair, where there is one
-one_there : (key : Key) (b : Bool) (rows : List Row) → rows ≡ map builder_cells (map (λ (e : Key × Unit {0}). e.0) (entry_at key (marked b))) → has_row rows ≡ b
-one_there key true rows is = ap has_row is
-one_there key false rows is = ap has_row is
+one_there : (key : Key) (b : Bool) (rows : List Row) → rows ≡ map builder_cells (map (λ (e : Key × Unit {0}). e.0) (entry_at key (marked b))) → is_nonempty rows ≡ b
+one_there key true rows is = ap is_nonempty is
+one_there key false rows is = ap is_nonempty is
 
 module _ (machine : Machine) (db : Database) (stands : StandsFor machine db) (answer : List Row) where
   abbrev kept : List Key
@@ -199,7 +199,7 @@ module _ (machine : Machine) (db : Database) (stands : StandsFor machine db) (an
 
   module _ {params : Row} where
     -- a builder and an architecture, if the builder was added for it
-    pub pair_found : (key : Key) → params ≡ key_params key → Answers sql.pair_of_builder params (rows_in db tables.builder) answer → has_row answer ≡ set.contains machine.builders key
+    pub pair_found : (key : Key) → params ≡ key_params key → Answers sql.pair_of_builder params (rows_in db tables.builder) answer → is_nonempty answer ≡ set.contains machine.builders key
     pair_found key given a =
         one_there key (set.contains machine.builders key) answer
         (few_answer builder_cells sql.pair_of_builder (key_params key) (skips_pair (key_params key)) (λ x. refl) refl kept (rows_in db tables.builder) answer stands.builders

@@ -12,49 +12,50 @@ use Rattle.wb_schema.specs.Among.{rows_in}
 use Rattle.wb_schema.specs.Statements as sql
 use Rattle.wb_states.specs.declared.store_fault.StoreFault.{StoreFault}
 use Rattle.wb_states.specs.declared.store_fault.Table.{Table}
+use Rattle.deb_text.specs.Lists.{is_nonempty}
 use Rattle.wb_tables.specs.Lookups.{ReadsTable}
-use Rattle.wb_tables.specs.Scratch.{TestsForRows, has_row, has_rows}
+use Rattle.wb_tables.specs.Scratch.{TestsForRows, has_rows}
 use Rattle.wb_tables.specs.Texts.{table_of}
 use Rattle.wb_tables.proofs.OrderLemmas.{none_permuted}
 use Rattle.wb_tables.proofs.ReadLemmas.{AsksOf, answered, crash_over, fails_to_read, plain_over}
 
 -- ---- whether a list has a row
 
-length-has_row : {X : Type 0} (xs : List X) → not (length xs == 0) ≡ has_row xs
-length-has_row [] = refl
-length-has_row (x ∷ xs) = grind arith
+length-is_nonempty : {X : Type 0} (xs : List X) → not (length xs == 0) ≡ is_nonempty xs
+length-is_nonempty [] = refl
+length-is_nonempty (x ∷ xs) = grind arith
 
 -- the length of a vector says it
-pub counted-has_row : {X A : Type 0} (v : Vec X A) → not (vec_len v == 0) ≡ has_row v.items
-counted-has_row v = ap (λ n. not (n == 0)) v.ok.0 ∙ length-has_row v.items
+pub counted-is_nonempty : {X A : Type 0} (v : Vec X A) → not (vec_len v == 0) ≡ is_nonempty v.items
+counted-is_nonempty v = ap (λ n. not (n == 0)) v.ok.0 ∙ length-is_nonempty v.items
 
-permuted-has_row : {X : Type 0} (xs ys : List X) → IsPermutation xs ys → has_row xs ≡ has_row ys
-permuted-has_row xs [] same = go xs same
+permuted-is_nonempty : {X : Type 0} (xs ys : List X) → IsPermutation xs ys → is_nonempty xs ≡ is_nonempty ys
+permuted-is_nonempty xs [] same = go xs same
   where
-    go : {X : Type 0} (xs : List X) → IsPermutation xs [] → has_row xs ≡ false
+    go : {X : Type 0} (xs : List X) → IsPermutation xs [] → is_nonempty xs ≡ false
     go [] same = refl
     go {X} (x ∷ xs) same = absurd (omega (arith, length_permutation {X = X} (x ∷ xs) [] same))
-permuted-has_row [] (y ∷ ys) same = sym (ap has_row (none_permuted (y ∷ ys) same))
-permuted-has_row (x ∷ xs) (y ∷ ys) same = refl
+permuted-is_nonempty [] (y ∷ ys) same = sym (ap is_nonempty (none_permuted (y ∷ ys) same))
+permuted-is_nonempty (x ∷ xs) (y ∷ ys) same = refl
 
-first-has_row : {X : Type 0} (xs : List X) → has_row (take 1 xs) ≡ has_row xs
-first-has_row [] = refl
-first-has_row (x ∷ xs) = refl
+first-is_nonempty : {X : Type 0} (xs : List X) → is_nonempty (take 1 xs) ≡ is_nonempty xs
+first-is_nonempty [] = refl
+first-is_nonempty (x ∷ xs) = refl
 
-map-has_row : {X Y : Type 0} (f : X → Y) (xs : List X) → has_row (map f xs) ≡ has_row xs
-map-has_row f [] = refl
-map-has_row f (x ∷ xs) = refl
+map-is_nonempty : {X Y : Type 0} (f : X → Y) (xs : List X) → is_nonempty (map f xs) ≡ is_nonempty xs
+map-is_nonempty f [] = refl
+map-is_nonempty f (x ∷ xs) = refl
 
 module _ (tree : ℕ) (rows answer : List Row) (a : Answers (sql.first_of_scratch tree) [] rows answer) where
-  outputs-has_row : (all : List Row) → has_row (outputs (sql.first_of_scratch tree) [] all) ≡ has_row all
-  outputs-has_row [] = refl
-  outputs-has_row (row ∷ all) = refl
+  outputs-is_nonempty : (all : List Row) → is_nonempty (outputs (sql.first_of_scratch tree) [] all) ≡ is_nonempty all
+  outputs-is_nonempty [] = refl
+  outputs-is_nonempty (row ∷ all) = refl
 
   -- the query for one row answers one where there is one
-  pub scratch_found : has_row answer ≡ has_row rows
+  pub scratch_found : is_nonempty answer ≡ is_nonempty rows
   scratch_found =
-      ap has_row (first_answer (sql.first_of_scratch tree) [] rows answer a refl refl) ∙ first-has_row (map (λ (o : Output). o.1) a.ordered)
-      ∙ map-has_row (λ (o : Output). o.1) a.ordered ∙ sym (permuted-has_row (outputs (sql.first_of_scratch tree) [] rows) a.ordered a.same) ∙ outputs-has_row rows
+      ap is_nonempty (first_answer (sql.first_of_scratch tree) [] rows answer a refl refl) ∙ first-is_nonempty (map (λ (o : Output). o.1) a.ordered)
+      ∙ map-is_nonempty (λ (o : Output). o.1) a.ordered ∙ sym (permuted-is_nonempty (outputs (sql.first_of_scratch tree) [] rows) a.ordered a.same) ∙ outputs-is_nonempty rows
 
 -- ---- what a test promises
 

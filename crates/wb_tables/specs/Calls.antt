@@ -25,7 +25,7 @@ pub record Becomes (machine : Machine) (old new : State) : Type 0 where
   pub marks : new.marks ≡ old.marks
   pub others : KeepsOthers old.now new.now
 
--- a change of the table failed, which is this fault, and nothing was written, or the whole transaction is taken back
+-- a statement that writes to the table failed with an error, of which this is the fault, and nothing was written, or the whole transaction is taken back
 pub record FailsToWrite (table : Table) (old new : State) (fault : StoreFault) : Type 0 where
   pub error : Error
   pub sql : List ℕ
@@ -43,7 +43,7 @@ pub record Changes {S A : Type 0} (g : Ghosts S) (table : Table) (Allows : Machi
   pub ended : old.in_transaction ≡ false → (result ≡ Err (Damaged table 0)) × (new ≡ old)
   pub survives : Survives (state g old) (state g new) (λ _. ¬ HasOffice old.schema)
 
--- a query on the table failed, which is this fault, and changed nothing or took a transaction back
+-- a query on the table failed with an error, of which this is the fault, and changed nothing or took a transaction back
 pub record FailsToRead (table : Table) (old new : State) (fault : StoreFault) : Type 0 where
   pub error : Error
   pub sql : List ℕ

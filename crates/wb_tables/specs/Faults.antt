@@ -25,6 +25,6 @@ told_of (Err e) table = Err (fault_of e table)
 abbrev pub IsBadRow : Table → ℕ → Type 0 → StoreFault → Type 0
 IsBadRow table place Fits fault = (fault ≡ Memory) ⊎ ((fault ≡ Damaged table place) × ¬ Fits)
 
--- memory ran out, or what is read of the table, or is to be written to it, does not fit, which no row of it is blamed for
+-- memory ran out, or what is read from the table or written to it does not fit; no row is blamed
 abbrev pub IsUnfit : Table → Type 0 → StoreFault → Type 0
 IsUnfit table = IsBadRow table 0

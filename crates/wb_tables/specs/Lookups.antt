@@ -1,4 +1,4 @@
--- What a query on the table of records answers, and when what it answers is not read.
+-- What a query on one of the office's tables answers, and when what it answers is not read.
 use Rattle.std.specs.Prelude.{◌≡◌, ◌⊎◌, ℕ, ◌<◌, pos, List, [], ◌∷◌, length, map, Option, Result, Vec, IfOk, IfErr, OnOk, IsUtf8}
 use Rattle.std.specs.List.{AllByRecursion}
 use Rattle.std.specs.Option.{option_map}
@@ -80,11 +80,11 @@ HaveArchs rows archs = (pairs : List Key) × (rows ≡ map builder_cells pairs) 
 abbrev pub MayAnswer : List ℕ → Row → State → List Row → Type 0
 MayAnswer sql params s rows = (q : TableQuery) → Asks s.now.schema sql q → Answers q params (s.now.trees q.tree) rows
 
--- the query failed, which is this fault of the table, and changed nothing or took a transaction back
+-- the query failed with an error, of which this is the fault if it is on the table, and changed nothing or took a transaction back
 abbrev pub IsQueryFault : Table → List ℕ → Row → State → State → StoreFault → Type 0
 IsQueryFault table sql params old new fault = (e : Error) × FailsToQuery sql params old new e × IsKeptOrUndone old new × (fault ≡ fault_of e table)
 
--- the rows of a query on a table: if it succeeds, they are its answer, and the database stays as it is; if it fails, it fails as the query does;
+-- the rows of a query, whose failure is a fault of this table: if it succeeds, they are its answer, and the database stays as it is; if it fails, it fails as the query does;
 -- and a crash leaves no more than before
 pub record ReadsTable {S X : Type 0} (g : Ghosts S) (table : Table) (sql : List ℕ) (params : Row) (old new : Held S) (result : Result (Vec Row X) StoreFault) : Type 0 where
   pub value : HasCleanDisk (state g new) → IfOk result (λ rows. MayAnswer sql params (state g old) rows.items)

@@ -1,25 +1,21 @@
 -- Whether a scratch table of a merge has rows, and what a call that asks this promises.
-use Rattle.std.specs.Prelude.{◌≡◌, Bool, true, false, List, [], ◌∷◌, Result, IfOk, IfErr, OnOk}
+use Rattle.std.specs.Prelude.{◌≡◌, Bool, Result, IfOk, IfErr, OnOk}
 use Rattle.sqlite_trees.specs.declared.store.Store.{Ghosts}
 use Rattle.sqlite.specs.Effect.{Database}
 use Rattle.sqlite.specs.Held.{Held, state}
 use Rattle.sqlite.specs.State.{HasCleanDisk, IsUnchanged, Survives}
+use Rattle.deb_text.specs.Lists.{is_nonempty}
 use Rattle.wb_schema.specs.Among.{HasOffice, rows_in}
 use Rattle.wb_states.specs.declared.store_fault.StoreFault.{StoreFault}
 use Rattle.wb_states.specs.declared.store_fault.Table.{Table}
 use Rattle.wb_tables.specs.Calls.{FailsToRead}
 use Rattle.wb_tables.specs.Texts.{table_of}
 
--- whether there is a row
-abbrev pub has_row : {X : Type 0} → List X → Bool
-has_row [] = false
-has_row (row ∷ rows) = true
-
 -- whether the table has a row
 abbrev pub has_rows : Table → Database → Bool
-has_rows table db = has_row (rows_in db (table_of table))
+has_rows table db = is_nonempty (rows_in db (table_of table))
 
--- a test of one of the tables of a database with the office's: if it succeeds, its answer is whether the table has a row, and the database stays as
+-- a test whether one of the office's tables has a row: if it succeeds, its answer is that of the database, and the database stays as
 -- it is; if it fails, its query did; and a crash leaves no more than before
 pub record TestsForRows {S : Type 0} (g : Ghosts S) (table : Table) (old new : Held S) (result : Result Bool StoreFault) : Type 0 where
   pub value : HasCleanDisk (state g new) → HasOffice old.schema → IfOk result (λ found. found ≡ has_rows table (state g old).now)

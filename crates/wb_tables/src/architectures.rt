@@ -16,8 +16,8 @@ use wb_states::{OsCpu, StoreFault, Table};
 
 /// The architectures of the office with their words, by name.
 /// The faults are those of the query on the table of the architectures, `Memory` if memory runs out for the answer, and
-/// `Damaged` with row 0 if a row is not that of an architecture. The database stays as it is; only a failed query may take a
-/// transaction back.
+/// `Damaged` with row 0 if a row is not that of an architecture. The database stays as it is; only a failed query may
+/// take a transaction back.
 /// Source: this project's own.
 pub fn archs<S: Alter>(conn: &mut Connection<S>) -> Result<Vec<(Text, OsCpu)>, StoreFault>
     ensures looks_up { LooksUp S.Store Arch (λ machine archs.
@@ -28,23 +28,23 @@ pub fn archs<S: Alter>(conn: &mut Connection<S>) -> Result<Vec<(Text, OsCpu)>, S
 
 /// The words of the architecture, or none if it was never added.
 /// The faults are those of the query on the table of the architectures, `Memory` if memory runs out for the answer, and
-/// `Damaged` with row 0 if a row is not that of an architecture. The database stays as it is; only a failed query may take a
-/// transaction back.
+/// `Damaged` with row 0 if a row is not that of an architecture. The database stays as it is; only a failed query may
+/// take a transaction back.
 /// Source: this project's own.
 pub fn arch<S: Alter>(conn: &mut Connection<S>, name: &Text) -> Result<Option<OsCpu>, StoreFault>
     ensures looks_up { LooksUp S.Store Arch (λ machine found.
         found ≡ map.get machine.archs name.now) conn.old conn.new result }
 {
-    words_in(rows_of(
+    let rows = rows_of(
         conn,
         Table::Arch,
         texts::arch_words(),
         params![name.as_str()],
-    )?)
+    )?;
+    words_in(rows)
 }
 
-/// The words of the first of the architectures in these rows. The table is damaged if a
-/// row is no architecture.
+/// The words of the first of the architectures in these rows. The table is damaged if a row is no architecture.
 fn words_in(rows: Vec<Row>) -> Result<Option<OsCpu>, StoreFault>
     ensures value { IfOk result (λ found. FirstWords rows.items found) }
     ensures err { IfErr result (IsUnfit Arch (AreArchs rows.items)) }

@@ -42,12 +42,13 @@ pub fn archs_of<S: Alter>(conn: &mut Connection<S>, builder: &Text) -> Result<Ve
     ensures looks_up { LooksUp S.Store Builder (λ machine archs. IsConsistent machine
         → archs.items ≡ archs_of machine builder.now) conn.old conn.new result }
 {
-    archs_in(rows_of(
+    let rows = rows_of(
         conn,
         Table::Builder,
         texts::builder_pairs(),
         params![builder.as_str()],
-    )?)
+    )?;
+    archs_in(rows)
 }
 
 /// The architectures in these rows of builders. The table is damaged if a row is no builder.

@@ -1,6 +1,6 @@
-//! The changes of the office's tables, in a transaction. Each fails as `Writing::execute` does, with the fault of its
-//! table, and the caller then rolls back. Each speaks of a database that stands for a state of the office, and makes it
-//! stand for the state after the change.
+//! The changes of the office's tables, in a transaction. Each speaks of a database that stands for a state of the office,
+//! and makes it stand for the state after the change. The fault of each is that of its statement, with its table: `Damaged`
+//! with row 0 also if the transaction is over. The caller then rolls back.
 
 ghost use Rattle.std.specs.Prelude.{◌≡◌, ◌≤◌, ⊤, false, None, IsSome, IfSome};
 ghost use Rattle.std.specs.FinMap as map;
@@ -17,8 +17,8 @@ use wb_schema::texts;
 use wb_sql::Writing;
 use wb_states::{Counts, OsCpu, Record, StoreFault, Table};
 
-/// Sets both counts of the office, each at most [`wb_states::COUNT_LIMIT`]; all else stays. It fails as
-/// `Writing::execute` does, and a transaction that is over refuses it (this project's own).
+/// Sets both counts of the office, each at most [`wb_states::COUNT_LIMIT`]; all else stays. The fault is
+/// that of the statement on the table of the office (this project's own).
 pub fn set_counts<S: Alter>(writing: &mut Writing<'_, S>, counts: Counts) -> Result<(), StoreFault>
     requires fits { (counts.handed ≤ count_limit) × (counts.accepted ≤ count_limit) }
     ensures same_reference { writing.new.conn.ghost_name ≡ writing.old.conn.ghost_name }
@@ -33,8 +33,8 @@ pub fn set_counts<S: Alter>(writing: &mut Writing<'_, S>, counts: Counts) -> Res
     told_of(answered, Table::Office)
 }
 
-/// Adds an architecture, which is not there yet, with its words; all else stays. It fails as `Writing::execute` does,
-/// also for a name that is there, and a transaction that is over refuses it (this project's own).
+/// Adds an architecture, which is not there yet, with its words; all else stays. The fault is that of the statement on
+/// the table of the architectures, also for a name that is there (this project's own).
 pub fn add_arch<S: Alter>(
     writing: &mut Writing<'_, S>,
     name: &Text,
@@ -49,8 +49,8 @@ pub fn add_arch<S: Alter>(
     told_of(answered, Table::Arch)
 }
 
-/// Adds a builder for an architecture, for which it was not added yet; all else stays. It fails as `Writing::execute`
-/// does, also for a pair that is there, and a transaction that is over refuses it (this project's own).
+/// Adds a builder for an architecture, for which it was not added yet; all else stays. The fault is that of the
+/// statement on the table of the builders, also for a pair that is there (this project's own).
 pub fn add_builder<S: Alter>(
     writing: &mut Writing<'_, S>,
     builder: &Text,
@@ -66,8 +66,8 @@ pub fn add_builder<S: Alter>(
     told_of(answered, Table::Builder)
 }
 
-/// Takes out the record of the source package `source` on the architecture `arch`, if there is one; all else stays. It
-/// fails as `Writing::execute` does, and a transaction that is over refuses it (this project's own).
+/// Takes out the record of the source package `source` on the architecture `arch`, if there is one; all else stays. The
+/// fault is that of the statement on the table of the records (this project's own).
 pub fn remove<S: Alter>(
     writing: &mut Writing<'_, S>,
     arch: &Text,
@@ -86,9 +86,8 @@ pub fn remove<S: Alter>(
 }
 
 /// Gives the source package `source` on the architecture `arch` the record `current`, in place of the one that it had,
-/// if any; all else stays. The take number, if there is one, is at most [`wb_states::COUNT_LIMIT`]. It fails as
-/// `Writing::execute` does, also for an architecture that is not there, and a transaction that is over refuses it (this
-/// project's own).
+/// if any; all else stays. The take number, if there is one, is at most [`wb_states::COUNT_LIMIT`]. The fault is
+/// that of the statement on the table of the records, also for an architecture that is not there (this project's own).
 pub fn put<S: Alter>(
     writing: &mut Writing<'_, S>,
     arch: &Text,
@@ -108,9 +107,8 @@ pub fn put<S: Alter>(
 }
 
 /// Gives the source package `source` on the architecture `arch` the record `current` in place of the one that it has; all
-/// else stays. The take number, if there is one, is at most [`wb_states::COUNT_LIMIT`]. It fails as `Writing::execute`
-/// does, and a transaction that is over refuses it. Where there is no such record, nothing is promised (this project's
-/// own).
+/// else stays. The take number, if there is one, is at most [`wb_states::COUNT_LIMIT`]. The fault is that of the
+/// statement on the table of the records. If there is no such record, nothing is promised (this project's own).
 pub fn replace<S: Alter>(
     writing: &mut Writing<'_, S>,
     arch: &Text,

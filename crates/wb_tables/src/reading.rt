@@ -18,7 +18,7 @@ use wb_sql::read;
 use wb_states::{Counts, OsCpu, Record, StoreFault, Table};
 use wb_store::KeyedRecord;
 
-/// The rows that the query answers on the table. The fault is that of the query. The database stays as it is, but for
+/// The rows that the query answers. Its fault names this table. The database stays as it is, but for
 /// a transaction that a failure of the query takes back.
 pub(crate) fn rows_of<S: Alter>(
     conn: &mut Connection<S>,

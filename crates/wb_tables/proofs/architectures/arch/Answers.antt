@@ -9,15 +9,15 @@ use Rattle.wb_tables.proofs.FoundLemmas.{text_bound}
 use Rattle.wb_tables.proofs.ReadLemmas.{asks_of, handed_on, looks_up_nothing, looks_up_rows}
 use Rattle.wb_tables.proofs.architectures.arch.Goals as goal
 
-pub returns-in_err-rows_of : goal.returns-in_err-rows_of
-returns-in_err-rows_of g c = record { looks_up = looks_up_nothing (asks_of Arch sql.arch_of_name c.arch_words.ensures) c.in_err-rows_of.ensures.reads (handed_on c.from_residual.result c.from_residual.ensures.1) }
+pub returns-in_err-rows : goal.returns-in_err-rows
+returns-in_err-rows g c = record { looks_up = looks_up_nothing (asks_of Arch sql.arch_of_name c.arch_words.ensures) c.in_err-rows.ensures.reads (handed_on c.from_residual.result c.from_residual.ensures.1) }
 
 pub returns : goal.returns
 returns g c =
     let db = (state g.S.Store c.args.conn.now).now in
-    let rows = c.in_ok-rows_of.field-0.items in
+    let rows = c.in_ok-rows.rows.items in
     record {
-      looks_up = looks_up_rows (asks_of Arch sql.arch_of_name c.arch_words.ensures) (AreArchs rows) c.words_in.result c.in_ok-rows_of.ensures.reads
+      looks_up = looks_up_rows (asks_of Arch sql.arch_of_name c.arch_words.ensures) (AreArchs rows) c.words_in.result c.in_ok-rows.ensures.reads
           (λ machine stands a. IfOk-weaker c.words_in.result _ _ (λ found first. words_found machine db stands rows c.args.name.now found (ap (λ v. v ∷ []) (text_bound c.params-to_sql.ensures c.as_str.ensures)) a first) c.words_in.ensures.value)
           c.words_in.ensures.err
           (λ machine sound stands a. name_readable machine db stands rows sound a);

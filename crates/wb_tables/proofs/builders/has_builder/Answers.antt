@@ -5,7 +5,7 @@ use Rattle.wb_states.specs.declared.store_fault.Table.TheVariants.{Builder}
 use Rattle.wb_tables.proofs.BuilderLemmas.{pair_found}
 use Rattle.wb_tables.proofs.FoundLemmas.{text_bound}
 use Rattle.wb_tables.proofs.ReadLemmas.{asks_of, handed_on, looks_up_nothing, looks_up_rows}
-use Rattle.wb_tables.proofs.ScratchLemmas.{counted-has_row}
+use Rattle.wb_tables.proofs.ScratchLemmas.{counted-is_nonempty}
 use Rattle.wb_tables.proofs.builders.has_builder.Goals as goal
 
 pub returns-in_err-pairs : goal.returns-in_err-pairs
@@ -17,7 +17,7 @@ returns g c =
     let rows = c.in_ok-pairs.pairs.items in
     record {
       looks_up = looks_up_rows (asks_of Builder sql.pair_of_builder c.builder_pair.ensures) (Unit {0}) (Ok _) c.in_ok-pairs.ensures.reads
-          (λ machine stands a. ap not c.is_empty.ensures ∙ counted-has_row c.in_ok-pairs.pairs ∙ pair_found machine db stands rows (c.args.builder.now, c.args.arch.now)
+          (λ machine stands a. ap not c.is_empty.ensures ∙ counted-is_nonempty c.in_ok-pairs.pairs ∙ pair_found machine db stands rows (c.args.builder.now, c.args.arch.now)
           (ap₂ (λ u v. u ∷ v ∷ []) (text_bound c.params-to_sql.ensures c.as_str.ensures) (text_bound c.params-to_sql-2.ensures c.as_str-2.ensures)) a)
           tt
           (λ machine sound stands a. tt);
