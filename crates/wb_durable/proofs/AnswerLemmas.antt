@@ -40,7 +40,7 @@ use Rattle.wb_durable.specs.Finds.{StaysAs, FailsToFind, Finds}
 use Rattle.wb_durable.specs.Keys.{key_put}
 use Rattle.wb_durable.specs.Opening.{AreCountsOf}
 use Rattle.wb_durable.specs.Standing.{Knows}
-use Rattle.wb_durable.proofs.FindsLemmas.{stays_then}
+use Rattle.wb_durable.proofs.FindsLemmas.{stays_then, stays-now}
 use Rattle.wb_durable.proofs.StaysLemmas.{back_by, no_more, stays_settled_as, undone_after, was_clean}
 use Rattle.wb_durable.proofs.StepOfLemmas.{same_counts}
 
@@ -49,8 +49,7 @@ use Rattle.wb_durable.proofs.StepOfLemmas.{same_counts}
 module _ {S : Type 0} (g : Ghosts S) (old new : Held S) where
   -- what stays as it was keeps the tables of others
   stays_others : StaysAs g old new → KeepsOthers (state g old).now (state g new).now
-  stays_others (inl same) = others_equal (state g old).now (state g new).now (ap (λ (h : Held S). (state g h).now) (sym same))
-  stays_others (inr kept) = others_equal (state g old).now (state g new).now kept.0.now_is
+  stays_others stays = others_equal (state g old).now (state g new).now (stays-now g old new stays)
 
   -- look-ups that succeed leave the connection settled, with the answer of its state
   pub found : {A : Type 0} {Answer : Machine → A → Type 0} {machine : Machine} {x : A} → Finds g Answer old new (Ok x) → HasCleanDisk (state g new) → IsConsistent machine → IsSettled machine (state g old)

@@ -25,7 +25,7 @@ use Rattle.wb_tables.proofs.OthersLemmas.{others_still}
 use Rattle.wb_tables.proofs.SettledLemmas.{begins, office_stands}
 use Rattle.wb_durable.specs.declared.carry.CarryError.{CarryError}
 use Rattle.wb_durable.specs.declared.carry.CarryError.TheVariants.{TakenBack, RollBackFailed, InDoubt}
-use Rattle.wb_durable.specs.Changed.{LacksFittingNumbers, IsStepOf, before_counts, IsLeftOrBack, ChangesBy}
+use Rattle.wb_durable.specs.Changed.{IsStepOf, IsLeftOrBack, ChangesBy}
 use Rattle.wb_durable.specs.Carried.{begun, is_over, failure_of, LeavesAs, FailsAtChange, FailsAtCommit, EndsFor, HoldsStep, CarriesOut}
 use Rattle.wb_durable.proofs.WriteLemmas.{reached_way}
 
@@ -44,7 +44,7 @@ module _ {S : Type 0} (g : Ghosts S) (command : Command) (key : Option Key) (aft
   Settled whole = IsSettled whole (state g old)
 
   abbrev WhyNot : Machine → StoreFault → Type 0
-  WhyNot whole e = FailsAtChange g (LacksFittingNumbers after key) (before_counts command whole) old e ⊎ FailsAtCommit g (step whole command).1 old e
+  WhyNot whole e = FailsAtChange g command key after whole old e ⊎ FailsAtCommit g (step whole command).1 old e
 
   -- ---- the start
 

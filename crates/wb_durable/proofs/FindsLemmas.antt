@@ -8,11 +8,11 @@ use Rattle.sqlite.proofs.StateLemmas.{survives_then}
 use Rattle.wb_schema.specs.Among.{HasOffice}
 use Rattle.wb_states.specs.declared.store_fault.StoreFault.{StoreFault}
 use Rattle.wb_states.specs.declared.store_fault.StoreFault.TheVariants.{Memory}
-use Rattle.wb_states.specs.declared.store_fault.Table.{Table}
-use Rattle.wb_states.specs.declared.store_fault.Table.TheVariants.{Office}
 use Rattle.wb_states.specs.Machine.{Machine, IsConsistent}
 use Rattle.wb_tables.specs.Stands.{StandsFor}
 use Rattle.wb_tables.specs.Calls.{LooksUp}
+use Rattle.wb_tables.specs.Queries as ask
+use Rattle.wb_tables.specs.Queries.{OfficeQuery}
 use Rattle.wb_durable.specs.Finds.{StaysAs, FailsToFind, Finds}
 
 -- ---- states that stay
@@ -43,12 +43,12 @@ module _ {S : Type 0} (g : Ghosts S) (old mid new : Held S) where
   pub stays_then : StaysAs g old mid → StaysAs g mid new → StaysAs g old new
   stays_then (inl same) after = subst (λ x. StaysAs g x new) (sym same) after
   stays_then (inr kept) (inl same) = subst (λ x. StaysAs g old x) same (inr kept)
-  stays_then (inr kept) (inr later) = inr (unchanged_then (state g old) (state g mid) (state g new) kept later)
+  stays_then (inr kept) (inr later) = inr (unchanged_then (state g old) (state g mid) (state g new) kept.0 later.0, later.1 ∙ kept.1)
 
 module _ {S : Type 0} (g : Ghosts S) (old new : Held S) where
-  stays-now : StaysAs g old new → (state g new).now ≡ (state g old).now
+  pub stays-now : StaysAs g old new → (state g new).now ≡ (state g old).now
   stays-now (inl same) = ap (λ x. (state g x).now) (sym same)
-  stays-now (inr kept) = kept.0.now_is
+  stays-now (inr kept) = kept.0.0.now_is
 
   -- what stays has the schema that it had, and stands for what it stood for
   pub stays-schema : StaysAs g old new → HasOffice old.schema → HasOffice new.schema
@@ -60,23 +60,23 @@ module _ {S : Type 0} (g : Ghosts S) (old new : Held S) where
   -- what stays is open as it was
   pub stays-open : StaysAs g old new → IsTrue (state g old).is_open → IsTrue (state g new).is_open
   stays-open (inl same) is_open = subst (λ x. IsTrue (state g x).is_open) same is_open
-  stays-open (inr kept) is_open = kept.0.is_open
+  stays-open (inr kept) is_open = kept.0.0.is_open
 
 -- ---- one look-up, or none
 
 module _ {S : Type 0} {g : Ghosts S} {old new : Held S} where
   -- a look-up alone
-  pub finds_looked_up : {A : Type 0} {table : Table} {Answer : Machine → A → Type 0} (r : Result A StoreFault) → LooksUp g table Answer old new r → Finds g Answer old new r
+  pub finds_looked_up : {A : Type 0} {query : OfficeQuery} {Answer : Machine → A → Type 0} (r : Result A StoreFault) → LooksUp g query Answer old new r → Finds g Answer old new r
   finds_looked_up (Ok x) one = record {
     value = λ clean office machine sound stands. one.value clean machine stands;
-    same = λ clean office. inr (one.same clean office);
+    same = λ clean office. inr (one.same clean office, one.survives.limit);
     err = λ clean office is_open. tt;
     survives = one.survives;
   }
-  finds_looked_up {table = table} (Err e) one = record {
+  finds_looked_up {query = query} (Err e) one = record {
     value = λ clean office. tt;
     same = λ clean office. tt;
-    err = λ clean office is_open. (old, table, inl refl, one.err clean office);
+    err = λ clean office is_open. (old, query, inl refl, one.err clean office);
     survives = one.survives;
   }
 
@@ -119,7 +119,7 @@ module _ {S : Type 0} {g : Ghosts S} {old new : Held S} where
     same = λ clean office. tt;
     err = λ clean office is_open.
         let stays = one.same clean office in
-        (new, Office, stays, inr (inl (refl, unchanged_itself (state g new) (stays-open g old new stays is_open))));
+        (new, ask.Office, stays, inr (inl (refl, unchanged_itself (state g new) (stays-open g old new stays is_open))));
     survives = one.survives;
   })
 

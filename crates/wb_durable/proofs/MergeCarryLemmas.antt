@@ -37,7 +37,7 @@ module _ {S : Type 0} (g : Ghosts S) (sources : List ℕ) (parts : List Part) (b
   Settled whole = IsSettled whole (state g old)
 
   abbrev WhyNot : Machine → StoreFault → Type 0
-  WhyNot whole e = FailsToMerge g after (step whole (Merge sources parts)).1 old e
+  WhyNot whole e = FailsToMerge g before after (step whole (Merge sources parts)).1 old e
 
   -- ---- the start
 
@@ -50,10 +50,10 @@ module _ {S : Type 0} (g : Ghosts S) (sources : List ℕ) (parts : List Part) (b
   -- ---- the end of a transaction that is not committed
 
   ends_for : {A : Type 0} (whole : Machine) (at new : Held S) (e : StoreFault) (ended : Result A Error) → WhyNot whole e → OnOk ended (IsRolledBack (state g at) (state g new))
-      → IfErr ended (λ why. Executes rollback_text [] (state g at) (state g new) (Err why)) → MergeEndsFor g after (step whole (Merge sources parts)).1 old new (failure_of e ended)
+      → IfErr ended (λ why. Executes rollback_text [] (state g at) (state g new) (Err why)) → MergeEndsFor g before after (step whole (Merge sources parts)).1 old new (failure_of e ended)
   ends_for whole at new e (Ok x) why rolled failed = (why, (at, inl rolled))
   ends_for whole at new e (Err told) why rolled failed =
-      (elim (is_over told) as (λ over. is_over told ≡ over → MergeEndsFor g after (step whole (Merge sources parts)).1 old new (if over then TakenBack e else RollBackFailed e)) [
+      (elim (is_over told) as (λ over. is_over told ≡ over → MergeEndsFor g before after (step whole (Merge sources parts)).1 old new (if over then TakenBack e else RollBackFailed e)) [
         | true ↦ λ is. (why, (at, inr (told, (failed, is))))
         | false ↦ λ is. (why, (at, (told, (failed, is))))
       ]) refl
@@ -75,7 +75,7 @@ module _ {S : Type 0} (g : Ghosts S) (sources : List ℕ) (parts : List Part) (b
               | inl still ↦ back.back clean whole still.0 (inl still.1)
               | inr over ↦ back.back clean whole whole (inr over)
             ]));
-        cause = λ clean whole settled made. subst (MergeEndsFor g after (step whole (Merge sources parts)).1 old new) (sym is)
+        cause = λ clean whole settled made. subst (MergeEndsFor g before after (step whole (Merge sources parts)).1 old new) (sym is)
             (ends_for whole at new e ended (why (cleaner clean) whole settled made) (rolled clean) (failed clean));
         others = λ clean whole settled made. tt;
         survives = survives_begin g old (state g new) _

@@ -1,5 +1,5 @@
 -- What differs of the records of a merge's architectures, written to the records of the whole office, makes those after the merge.
-use Rattle.std.proofs.Common.{◌≡◌, ◌∙◌, ◌⊎◌, inl, inr, refl, sym, ap, subst, ℕ, Bool, true, false, cond, not, ◌||◌, List, [], ◌∷◌, bytes_eq, Option, Some, None, is_some, IfSome, option_map}
+use Rattle.std.proofs.Common.{◌≡◌, ◌∙◌, ◌⊎◌, inl, inr, refl, sym, ap, subst, ℕ, Bool, true, false, cond, not, ◌||◌, List, [], ◌∷◌, bytes_eq, Option, Some, None, is_some}
 use Rattle.std.proofs.lemmas.Bool.{or_parts}
 use Rattle.std.proofs.lemmas.Slice.Eq.{bytes_eq-Decides}
 use Rattle.std.specs.List.{list_any}
@@ -13,7 +13,7 @@ use Rattle.deb_text.proofs.SortedLemmas.{IsIn-filter}
 use Rattle.wb_states.specs.declared.command.Part.{Part}
 use Rattle.wb_states.specs.declared.record.Record.{Record}
 use Rattle.wb_states.specs.Forms.{Merge}
-use Rattle.wb_states.specs.Machine.{Machine, Key, IsConsistent}
+use Rattle.wb_states.specs.Machine.{Machine, Key}
 use Rattle.wb_states.specs.Queue.{Entry}
 use Rattle.wb_states.proofs.QueueLemmas.{IsIn-entries}
 use Rattle.wb_merge.specs.Merged.{Records, change_of, is_kept, is_same_record}
@@ -22,12 +22,8 @@ use Rattle.wb_merge.proofs.RecordLemmas.{same-record-is}
 use Rattle.wb_store.specs.Lookups.{is_of, rows_of}
 use Rattle.wb_office.specs.MergedParts.{IsJoined, is_part_for, part_for_merge}
 use Rattle.wb_office.specs.Step.{step}
-use Rattle.wb_office.specs.Utf8.{HasUtf8Texts}
-use Rattle.wb_office.proofs.InvariantLemmas.{step-keeps}
-use Rattle.wb_office.proofs.MergedPartLemmas.{merge_joined, merge_part-consistent, part-get}
-use Rattle.wb_durable.specs.Changed.{HasFittingTake}
-use Rattle.wb_durable.proofs.WriteLemmas.{consistent_fits}
-use Rattle.wb_durable.specs.MergeWritten.{IsMergeIn, IsWithinLimits, entries_changed, entries_gone, is_different, with_arch, with_rows, with_parts, without_rows}
+use Rattle.wb_office.proofs.MergedPartLemmas.{merge_joined, part-get}
+use Rattle.wb_durable.specs.MergeWritten.{IsMergeIn, entries_changed, entries_gone, is_different, with_arch, with_rows, with_parts, without_rows}
 
 clash : {Q : Type 0} → true ≡ false → Q
 clash e = absurd (cc)
@@ -273,18 +269,3 @@ module _ {whole before after : Machine} {sources : List ℕ} {parts : List Part}
     handed = (joined.handed.1 ∙ sym joined.handed.0) i;
     accepted = sym joined.accepted i;
   }
-
--- ---- the numbers of a merge fit
-
-pub consistent_within : (after : Machine) → IsConsistent after → IsWithinLimits after
-consistent_within after is = record {
-  counts = (consistent_fits after None is).counts;
-  takes = λ key current kept.
-      subst (λ (found : Option Record). IfSome (option_map {U = Entry} (λ c. (key, c)) found) (λ entry. HasFittingTake entry.1)) kept (consistent_fits after (Some key) is).take;
-}
-
--- after a merge of a consistent office no number is above the limit
-pub merge_fits : {whole before after : Machine} {sources : List ℕ} {parts : List Part} → IsConsistent whole → HasUtf8Texts (Merge sources parts) → IsMergeIn whole sources parts before after → IsWithinLimits after
-merge_fits {whole} {before} {after} {sources} {parts} is utf8 h =
-    consistent_within after (subst IsConsistent (sym (h.after_is ∙ ap (λ (m : Machine). (step m (Merge sources parts)).1) h.before_is))
-    (step-keeps (part_for_merge whole parts) (Merge sources parts) utf8 (merge_part-consistent whole parts is)))

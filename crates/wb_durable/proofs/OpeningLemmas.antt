@@ -11,19 +11,14 @@ use Rattle.sqlite.specs.Order.{Row}
 use Rattle.sqlite.specs.Schema.{Schema}
 use Rattle.sqlite.specs.State.{State, HasCleanDisk, Survives}
 use Rattle.sqlite.proofs.StateLemmas.{survives_then}
-use Rattle.wb_sql.specs.Queries.{TableQuery}
 use Rattle.wb_sql.specs.Transactions.{IsKeptOrUndone}
-use Rattle.wb_schema.specs.Statements as sql
-use Rattle.sqlite.specs.Table as stored
 use Rattle.wb_schema.specs.Among.{HasOffice, LacksOffice, rows_in}
 use Rattle.wb_schema.proofs.GrowthLemmas.{lacks_none}
-use Rattle.wb_schema.specs.Tables.{builder, source_record}
 use Rattle.wb_states.specs.declared.arch.OsCpu.{OsCpu}
 use Rattle.wb_states.specs.declared.counts.Counts.{Counts}
 use Rattle.wb_states.specs.declared.store_fault.StoreFault.{StoreFault}
 use Rattle.wb_states.specs.declared.store_fault.StoreFault.TheVariants.{Damaged, NotOffice}
-use Rattle.wb_states.specs.declared.store_fault.Table.{Table}
-use Rattle.wb_states.specs.declared.store_fault.Table.TheVariants.{Builder, Office, ScratchBinary, ScratchSource, SourceRecord}
+use Rattle.wb_states.specs.declared.store_fault.Table.TheVariants.{Builder, Office}
 use Rattle.wb_states.specs.Machine.{Key, Machine, empty_office}
 use Rattle.wb_office.proofs.ConsistencyLemmas.{IsConsistent-empty_office}
 use Rattle.wb_rows.specs.Cells.{builder_cells}
@@ -33,50 +28,46 @@ use Rattle.deb_text.specs.Lists.{is_nonempty}
 use Rattle.wb_tables.specs.Scratch.{TestsForRows, has_rows}
 use Rattle.wb_tables.specs.Settled.{IsSettled}
 use Rattle.wb_tables.specs.Stands.{StandsFor, builder_pairs}
-use Rattle.wb_tables.specs.Texts.{table_of}
+use Rattle.wb_tables.specs.Queries as ask
+use Rattle.wb_tables.specs.Queries.{OfficeQuery, table_asked, table_of}
 use Rattle.wb_tables.proofs.SettledLemmas.{office_stands, settled_back}
 use Rattle.wb_durable.specs.Finds.{StaysAs}
 use Rattle.wb_durable.specs.Opening.{AreCountsOf, Checks, ChecksScratch, ChecksScratchOf, ChecksWith, FailsOnOffice, FindsOffice, HasGoodRowsWith, HasNoScratchRows, ShowsBuilders}
 use Rattle.wb_durable.specs.Preparing.{LeavesFound, MakesEmptyOffice}
-use Rattle.wb_durable.proofs.FindsLemmas.{stays-schema, stays-stands, stays_then}
+use Rattle.wb_durable.proofs.FindsLemmas.{stays-schema, stays-stands, stays_then, stays-now}
 use Rattle.wb_durable.proofs.StaysLemmas.{back_by, no_more, stays_settled_as, undone_after, was_clean}
 
 -- ---- what one test promises
 
--- what stays has the database that it had
-same_now : {S : Type 0} (g : Ghosts S) (old new : Held S) → StaysAs g old new → (state g new).now ≡ (state g old).now
-same_now g old new (inl same) = ap (λ h. (state g h).now) (sym same)
-same_now g old new (inr kept) = kept.0.now_is
-
-test_undone : (of : stored.Table) (q : TableQuery) (table : Table) (Bad : List Row → StoreFault → Type 0) (old new : State) (fault : StoreFault)
-    → FailsToTest of q table Bad old new fault → IsKeptOrUndone old new
-test_undone of q table Bad old new fault (inl failed) = failed.left
-test_undone of q table Bad old new fault (inr bad) = inl bad.0
+test_undone : (query : OfficeQuery) (Bad : List Row → StoreFault → Type 0) (old new : State) (fault : StoreFault)
+    → FailsToTest query Bad old new fault → IsKeptOrUndone old new
+test_undone query Bad old new fault (inl failed) = failed.left
+test_undone query Bad old new fault (inr bad) = inl bad.0
 
 module _ {S : Type 0} {g : Ghosts S} {old new : Held S} where
   -- one test of a table
-  pub tested : {A : Type 0} {of : stored.Table} {q : TableQuery} {table : Table} {Given : Machine → Type 0} {Good : List Row → A → Type 0}
+  pub tested : {A : Type 0} {query : OfficeQuery} {Given : Machine → Type 0} {Good : List Row → A → Type 0}
       {Bad : List Row → StoreFault → Type 0} {Outcome : Machine → A → Type 0} (r : Result A StoreFault)
-      → Tests g of q table Good Bad old new r → PassesWith g table Given Outcome old new r
-      → ChecksWith g Given (λ db x. ShowsGood of q db (λ rows. Good rows x)) Outcome (FailsToTest of q table Bad) old new r
+      → Tests g query Good Bad old new r → PassesWith g query Given Outcome old new r
+      → ChecksWith g Given (λ db x. ShowsGood query db (λ rows. Good rows x)) Outcome (FailsToTest query Bad) old new r
   tested (Ok x) tests passes = record {
     good = tests.value;
-    same = λ clean office. inr (tests.same clean office);
+    same = λ clean office. inr (tests.same clean office, tests.survives.limit);
     err = λ clean office. tt;
     kept = λ clean office. tt;
     told = passes.value;
     fails = λ clean. tt;
     survives = tests.survives;
   }
-  tested {of = of} {q = q} {table = table} {Bad = Bad} (Err fault) tests passes = record {
+  tested {query = query} {Bad = Bad} (Err fault) tests passes = record {
     good = λ clean office. tt;
     same = λ clean office. tt;
     err = λ clean office. (old, inl refl, tests.err clean office);
-    kept = λ clean office. test_undone of q table Bad (state g old) (state g new) fault (tests.err clean office);
+    kept = λ clean office. test_undone query Bad (state g old) (state g new) fault (tests.err clean office);
     told = λ clean. tt;
     fails = λ clean machine consistent stands given. elim (passes.err clean machine consistent stands given) [
       | inl memory ↦ inl memory
-      | inr query ↦ inr (old, inl refl, (table, query))
+      | inr failed ↦ inr (old, inl refl, (query, failed))
     ];
     survives = tests.survives;
   }
@@ -86,25 +77,25 @@ module _ {S : Type 0} {g : Ghosts S} {old new : Held S} where
 -- the test of the builders, beside these architectures
 abbrev pub ChecksBuilders : {S X : Type 0} → Ghosts S → List (List ℕ × OsCpu) → Held S → Held S → Result (Vec Key X) StoreFault → Type 0
 ChecksBuilders g archs = ChecksWith g (λ machine. archs ≡ finite.entries machine.archs) (λ db pairs. ShowsBuilders db archs pairs.items)
-    (λ machine pairs. pairs.items ≡ builder_pairs machine) (FailsToTest builder sql.all_builders Builder (AreBadRows Builder builder_cells (IsFormedBuilder archs)))
+    (λ machine pairs. pairs.items ≡ builder_pairs machine) (FailsToTest ask.Builders (AreBadRows Builder builder_cells (IsFormedBuilder archs)))
 
 -- the test of the records, beside these architectures, builders and greatest take number
 abbrev pub ChecksRecords : {S A : Type 0} → Ghosts S → List (List ℕ × OsCpu) → List Key → ℕ → Held S → Held S → Result A StoreFault → Type 0
-ChecksRecords g archs builders handed = ChecksWith g (AreKept archs builders handed) (λ db done. ShowsGood source_record sql.all_records db (HoldsRecords archs builders handed))
-    (λ machine done. AreKept archs builders handed machine → HasGoodRecords machine) (FailsToTest source_record sql.all_records SourceRecord (AreBadRecords archs builders handed))
+ChecksRecords g archs builders handed = ChecksWith g (AreKept archs builders handed) (λ db done. ShowsGood ask.Records db (HoldsRecords archs builders handed))
+    (λ machine done. AreKept archs builders handed machine → HasGoodRecords machine) (FailsToTest ask.Records (AreBadRecords archs builders handed))
 
 module _ {S : Type 0} {g : Ghosts S} {old new : Held S} where
   -- with other words for the architectures
   pub builders_tested : {X : Type 0} {given archs : List (List ℕ × OsCpu)} → given ≡ archs → (r : Result (Vec Key X) StoreFault)
-      → Tests g builder sql.all_builders Builder (λ rows pairs. HoldsBuilders given rows pairs.items) (AreBadRows Builder builder_cells (IsFormedBuilder given)) old new r
-      → PassesWith g Builder (λ machine. given ≡ finite.entries machine.archs) (λ machine pairs. pairs.items ≡ builder_pairs machine) old new r
+      → Tests g ask.Builders (λ rows pairs. HoldsBuilders given rows pairs.items) (AreBadRows Builder builder_cells (IsFormedBuilder given)) old new r
+      → PassesWith g ask.Builders (λ machine. given ≡ finite.entries machine.archs) (λ machine pairs. pairs.items ≡ builder_pairs machine) old new r
       → ChecksBuilders g archs old new r
   builders_tested is r tests passes = subst (λ archs. ChecksBuilders g archs old new r) is (tested r tests passes)
 
   -- with other words for the architectures and the builders
   pub records_tested : {A : Type 0} {given archs : List (List ℕ × OsCpu)} {known builders : List Key} {handed : ℕ} → given ≡ archs → known ≡ builders → (r : Result A StoreFault)
-      → Tests g source_record sql.all_records SourceRecord (λ rows done. HoldsRecords given known handed rows) (AreBadRecords given known handed) old new r
-      → PassesWith g SourceRecord (AreKept given known handed) (λ machine done. AreKept given known handed machine → HasGoodRecords machine) old new r
+      → Tests g ask.Records (λ rows done. HoldsRecords given known handed rows) (AreBadRecords given known handed) old new r
+      → PassesWith g ask.Records (AreKept given known handed) (λ machine done. AreKept given known handed machine → HasGoodRecords machine) old new r
       → ChecksRecords g archs builders handed old new r
   records_tested {archs = archs} {known = known} {handed = handed} is are r tests passes =
       subst (λ builders. ChecksRecords g archs builders handed old new r) are (subst (λ archs. ChecksRecords g archs known handed old new r) is (tested r tests passes))
@@ -115,12 +106,12 @@ no_row : {X : Type 0} (xs : List X) → is_nonempty xs ≡ false → xs ≡ []
 no_row [] none = refl
 no_row (x ∷ xs) none = absurd (both_ways true none refl)
 
-module _ {S : Type 0} {g : Ghosts S} (table : Table) {old new : Held S} where
+module _ {S : Type 0} {g : Ghosts S} (query : OfficeQuery) {old new : Held S} where
   -- the table has no row
-  pub scratch_empty : {A : Type 0} {x : A} → TestsForRows g table old new (Ok false) → ChecksScratchOf g table old new (Ok x)
+  pub scratch_empty : {A : Type 0} {x : A} → TestsForRows g query old new (Ok false) → ChecksScratchOf g query old new (Ok x)
   scratch_empty tests = record {
-    good = λ clean office. no_row (rows_in (state g old).now (table_of table)) (sym (tests.value clean office));
-    same = λ clean office. inr (tests.same clean office);
+    good = λ clean office. no_row (rows_in (state g old).now (table_of (table_asked query))) (sym (tests.value clean office));
+    same = λ clean office. inr (tests.same clean office, tests.survives.limit);
     err = λ clean office. tt;
     kept = λ clean office. tt;
     told = λ clean machine stands. tt;
@@ -129,8 +120,8 @@ module _ {S : Type 0} {g : Ghosts S} (table : Table) {old new : Held S} where
   }
 
   -- it has one
-  pub scratch_left : {A : Type 0} → ((machine : Machine) → StandsFor machine (state g old).now → rows_in (state g old).now (table_of table) ≡ []) → TestsForRows g table old new (Ok true)
-      → ChecksScratchOf {A = A} g table old new (Err (Damaged table 1))
+  pub scratch_left : {A : Type 0} → ((machine : Machine) → StandsFor machine (state g old).now → rows_in (state g old).now (table_of (table_asked query)) ≡ []) → TestsForRows g query old new (Ok true)
+      → ChecksScratchOf {A = A} g query old new (Err (Damaged (table_asked query) 1))
   scratch_left empty tests = record {
     good = λ clean office. tt;
     same = λ clean office. tt;
@@ -138,19 +129,19 @@ module _ {S : Type 0} {g : Ghosts S} (table : Table) {old new : Held S} where
     kept = λ clean office. inl (tests.same clean office);
     told = λ clean. tt;
     fails = λ clean machine consistent stands given.
-        absurd (both_ways (has_rows table (state g old).now) (ap is_nonempty (empty machine stands)) (sym (tests.value clean stands.has)));
+        absurd (both_ways (has_rows (table_asked query) (state g old).now) (ap is_nonempty (empty machine stands)) (sym (tests.value clean stands.has)));
     survives = tests.survives;
   }
 
   -- its query failed
-  pub scratch_unread : {A : Type 0} {fault : StoreFault} → TestsForRows g table old new (Err fault) → ChecksScratchOf {A = A} g table old new (Err fault)
+  pub scratch_unread : {A : Type 0} {fault : StoreFault} → TestsForRows g query old new (Err fault) → ChecksScratchOf {A = A} g query old new (Err fault)
   scratch_unread tests = record {
     good = λ clean office. tt;
     same = λ clean office. tt;
     err = λ clean office. (old, inl refl, inl (tests.err clean office));
     kept = λ clean office. (tests.err clean office).left;
     told = λ clean. tt;
-    fails = λ clean machine consistent stands given. inr (old, inl refl, (table, tests.err clean stands.has));
+    fails = λ clean machine consistent stands given. inr (old, inl refl, (query, tests.err clean stands.has));
     survives = tests.survives;
   }
 
@@ -195,7 +186,7 @@ module _ {S : Type 0} {g : Ghosts S} {old mid : Held S} {Good : Database → Typ
       record {
         good = λ clean office.
             let stays = one.same (before clean) office in
-            (one.good (before clean) office, subst (λ db. Second db y) (same_now g old mid stays) (two.good clean (stays-schema g old mid stays office)));
+            (one.good (before clean) office, subst (λ db. Second db y) (stays-now g old mid stays) (two.good clean (stays-schema g old mid stays office)));
         same = λ clean office.
             let stays = one.same (before clean) office in
             stays_then g old mid new stays (two.same clean (stays-schema g old mid stays office));
@@ -219,7 +210,7 @@ module _ {S : Type 0} {g : Ghosts S} {old mid : Held S} {Good : Database → Typ
             let stays = one.same (before clean) office in
             let later = two.err clean (stays-schema g old mid stays office) in
             let whole = stays_then g old mid later.0 stays later.1 in
-            (later.0, whole, why (state g later.0) (state g new) (subst Good (sym (same_now g old later.0 whole)) (one.good (before clean) office)) later.2);
+            (later.0, whole, why (state g later.0) (state g new) (subst Good (sym (stays-now g old later.0 whole)) (one.good (before clean) office)) later.2);
         kept = λ clean office.
             let stays = one.same (before clean) office in
             undone_after g old mid new stays (two.kept clean (stays-schema g old mid stays office));
@@ -246,12 +237,10 @@ module _ {S : Type 0} {g : Ghosts S} {old mid : Held S} {Good : Database → Typ
     survives = one.survives;
   }
 
--- the tests of both scratch tables
-pub scratch_both : {S A B : Type 0} {g : Ghosts S} {old mid new : Held S} {x : A} → ChecksScratchOf g ScratchSource old mid (Ok x) → (r : Result B StoreFault) → ChecksScratchOf g ScratchBinary mid new r
-    → ChecksScratch g old new r
-scratch_both {g = g} {old = old} one (Ok y) two = all_passed (then_passed (then_passed (none_yet g old) one) two) (λ db good. (good.0.1, good.1)) (λ machine told. tt)
-scratch_both {g = g} {old = old} one (Err fault) two =
-    then_failed (then_passed (none_yet g old) one) two (λ machine told. tt) (λ at after good why. inr (good.1, why)) refl
+-- both scratch tables have no row
+pub scratch_both : {S A B C : Type 0} {g : Ghosts S} {old mid new : Held S} {x : A} {y : B} {z : C} → ChecksScratchOf g ask.OneSource old mid (Ok x) → ChecksScratchOf g ask.OneBinary mid new (Ok y)
+    → ChecksScratch g old new (Ok z)
+scratch_both {g = g} {old = old} one two = all_passed (then_passed (then_passed (none_yet g old) one) two) (λ db good. (good.0.1, good.1)) (λ machine told. tt)
 
 -- ---- the tests of a whole office
 
@@ -375,7 +364,7 @@ module _ {S : Type 0} {g : Ghosts S} {old new : Held S} (none : LacksOffice old.
       | inl settled ↦ no_office none settled.holds.stands.has
       | inr blank ↦
           let settled = (makes.made (h.was_clean clean) blank.1).0 in
-          inr (mid, inr settled, (h.fails clean empty_office IsConsistent-empty_office settled).1)
+          inr (mid, inr (blank.1, settled, makes.limit), (h.fails clean empty_office IsConsistent-empty_office settled).1)
     ];
     good = λ clean office. tt;
     refuses = λ clean office. no_office none office;
@@ -392,7 +381,10 @@ module _ {S : Type 0} {g : Ghosts S} {old new : Held S} (none : LacksOffice old.
       | inl settled ↦ no_office none settled.holds.stands.has
       | inr blank ↦ subst (λ m. LeavesFound m (state g new)) (sym blank.0) (makes.left clean blank.1)
     ];
-    fails = λ clean machine consistent at. inl (e, makes.err clean, is);
+    fails = λ clean machine consistent at. elim at [
+      | inl settled ↦ no_office none settled.holds.stands.has
+      | inr blank ↦ inl (blank.1, (e, makes.err clean blank.1, is))
+    ];
     good = λ clean office. tt;
     refuses = λ clean office. no_office none office;
     known = tt;

@@ -1,5 +1,5 @@
 -- How an empty office is made in a database that lacks its tables, in one transaction.
-use Rattle.std.proofs.Common.{◌≡◌, inl, inr, true, List, [], ◌∷◌, Result, Ok, Err, IfErr, OnOk, ◌||◌, false, length, map, Ordering, refl, sym, ap, subst, ◌∙◌, arith}
+use Rattle.std.proofs.Common.{◌≡◌, inl, inr, true, List, [], ◌∷◌, Result, Ok, Err, IfErr, OnOk, ◌||◌, false, length, map, Ordering, refl, sym, ap, subst, ◌∙◌, arith, IsTrue}
 use Rattle.sqlite_trees.specs.declared.store.Store.{Ghosts}
 use Rattle.sqlite.specs.declared.error.Error.{Error}
 use Rattle.sqlite.specs.Order.{Row}
@@ -12,7 +12,7 @@ use Rattle.sqlite.specs.State.{State, HasCleanDisk, IsLive, Survives}
 use Rattle.wb_sql.specs.declared.writing.CommitError.{CommitError}
 use Rattle.wb_sql.specs.Transactions.{Commits, LeavesAlone, FailsToCommit, cause_of}
 use Rattle.wb_schema.specs.Among.{HasOffice, LacksOffice, IsNumbered, rows_in}
-use Rattle.wb_schema.specs.Making.{HasEmptyTables, MakesOffice, Makes}
+use Rattle.wb_schema.specs.Making.{HasEmptyTables, MakesOffice, Makes, FailsAt}
 use Rattle.wb_schema.specs.Tables.{arch, builder, source_record}
 use Rattle.wb_schema.proofs.GrowthLemmas.{office_made, empty_lacks}
 use Rattle.wb_states.specs.Machine.{Key, empty_office}
@@ -111,12 +111,18 @@ module _ {S : Type 0} (g : Ghosts S) (old begun written new : Held S) (begins : 
       let before : HasCleanDisk (state g new) → HasCleanDisk (state g written) = λ clean. was_clean (state g written) (state g new) survives clean in
       record {
         was_clean = λ clean. subst (λ h. HasCleanDisk (state g h)) begins (was_clean (state g begun) (state g written) any.survives (before clean));
+        limit = survives.limit ∙ any.survives.limit ∙ ap (λ h. (state g h).step_limit) begins;
         made = λ clean blank. tt;
         left = λ clean blank db may. elim (survives.crash clean db may) [
           | inl was ↦ inr (refl, left_blank g old begun written (Err e) begins makes (before clean) blank db was)
           | inr none ↦ absurd none
         ];
-        err = λ clean. (written, inl (any.err (before clean)));
+        err = λ clean blank. (
+          written,
+          inl (subst (λ h. FailsAt g h written e) begins
+              ((makes_there g old begun written (Err e) begins makes blank).err (before clean) (subst (λ h. IsTrue h.in_transaction) (sym begins) refl)
+              (empty_then g old begun written (Err e) begins makes blank))),
+        );
       }
 
   -- what is committed is settled, and what is not leaves no table of the office or all of it
@@ -166,16 +172,21 @@ module _ {S : Type 0} (g : Ghosts S) (old begun written new : Held S) (begins : 
         (was_clean (state g begun) (state g written) (anywhere g old begun written (Ok x) begins makes).survives (was_clean (state g written) (state g new) survives clean));
     made = λ clean blank. ok_mapped (IsMadeFrom (state g old) (state g new)) r (made_office r makes commits alone live survives clean blank).0;
     left = λ clean blank. (made_office r makes commits alone live survives clean blank).1;
-    err = λ clean. err_mapped r (cause clean);
+    limit = survives.limit ∙ (anywhere g old begun written (Ok x) begins makes).survives.limit ∙ ap (λ h. (state g h).step_limit) begins;
+    err = λ clean blank. err_mapped r
+        (subst (λ h. MakesOffice old.schema (state g h) (state g written)) begins
+        ((makes_there g old begun written (Ok x) begins makes blank).made (was_clean (state g written) (state g new) survives clean) (empty_then g old begun written (Ok x) begins makes blank)))
+        (cause clean);
   }
     where
       ok_mapped : {B : Type 0} (P : Type 0) (r : Result B CommitError) → OnOk r P → OnOk (told r) P
       ok_mapped P (Ok x) p = p
       ok_mapped P (Err e) p = tt
 
-      err_mapped : {B : Type 0} (r : Result B CommitError) → IfErr r (λ e. FailsToCommit g written (cause_of e)) → IfErr (told r) (FailsToMake g new)
-      err_mapped (Ok x) none = tt
-      err_mapped (Err e) failed = (written, inr failed)
+      err_mapped : {B : Type 0} (r : Result B CommitError) → MakesOffice old.schema (state g (record old { in_transaction = true })) (state g written)
+          → IfErr r (λ e. FailsToCommit g written (cause_of e)) → IfErr (told r) (FailsToMake g old)
+      err_mapped (Ok x) made none = tt
+      err_mapped (Err e) made failed = (written, inr (made, failed))
 
 -- the same, said of the connection where it is given back
 pub given_back : {S A : Type 0} {g : Ghosts S} {old new at : Held S} {r : Result A Error} → new ≡ at → MakesEmptyOffice g old at r → MakesEmptyOffice g old new r

@@ -32,7 +32,7 @@ undone_then a b c kept (inr undone) = inr (rolled_back_then a b c kept undone)
 -- a failure after calls that left the database as it was changes nothing, or takes the transaction back
 pub undone_after : {S : Type 0} (g : Ghosts S) (old mid new : Held S) → StaysAs g old mid → IsKeptOrUndone (state g mid) (state g new) → IsKeptOrUndone (state g old) (state g new)
 undone_after g old mid new (inl same) failed = subst (λ h. IsKeptOrUndone (state g h) (state g new)) (sym same) failed
-undone_after g old mid new (inr kept) failed = undone_then (state g old) (state g mid) (state g new) kept failed
+undone_after g old mid new (inr kept) failed = undone_then (state g old) (state g mid) (state g new) kept.0 failed
 
 module _ {S : Type 0} (g : Ghosts S) (old new : Held S) where
   -- a crash leaves no more of a database with the office's tables
@@ -42,7 +42,7 @@ module _ {S : Type 0} (g : Ghosts S) (old new : Held S) where
   -- what stays as it was stays settled
   pub stays_settled_as : {machine : Machine} → StaysAs g old new → LeavesNoMore (state g old) (state g new) → IsSettled machine (state g old) → IsSettled machine (state g new)
   stays_settled_as {machine = machine} (inl same) less settled = subst (λ h. IsSettled machine (state g h)) same settled
-  stays_settled_as (inr kept) less settled = stays_settled (state g old) (state g new) kept less settled
+  stays_settled_as (inr kept) less settled = stays_settled (state g old) (state g new) kept.0 less settled
 
   -- what was kept or undone is back at its state
   pub back_by : {machine : Machine} → IsKeptOrUndone (state g old) (state g new) → LeavesNoMore (state g old) (state g new) → IsSettled machine (state g old) → IsBackAt machine (state g new)

@@ -8,11 +8,11 @@ use Rattle.sqlite.proofs.StateLemmas.{survives_then, survives_weaker}
 use Rattle.wb_sql.specs.Transactions.{LeavesNoMore}
 use Rattle.wb_sql.proofs.CallLemmas.{on_ok}
 use Rattle.wb_states.specs.declared.store_fault.StoreFault.{StoreFault}
-use Rattle.wb_states.specs.declared.store_fault.Table.{Table}
 use Rattle.wb_states.specs.Machine.{Machine}
 use Rattle.wb_tables.specs.Stands.{StandsFor}
 use Rattle.wb_tables.specs.Calls.{Becomes, Changes, FailsToWrite}
 use Rattle.wb_tables.specs.Settled.{IsUnderWay, IsBackAt}
+use Rattle.wb_tables.specs.Writes.{OfficeWrite}
 use Rattle.wb_tables.proofs.SettledLemmas.{not_changed}
 use Rattle.wb_durable.specs.Changed.{FailsAtOnce, Reaches}
 use Rattle.wb_durable.specs.Turns.{StopsWith, IsNoOffice, ChangesInTurn}
@@ -24,7 +24,7 @@ module _ {S : Type 0} (g : Ghosts S) where
   comes_then : {between machine : Machine} (old mid new : Held S) → Reaches g between old mid → Reaches g machine mid new → Reaches g machine old new
   comes_then {machine = machine} old mid new (inl nothing) two = subst (λ held. Reaches g machine held new) (sym nothing.0) two
   comes_then {machine = machine} old mid new (inr one) (inl nothing) =
-      inr (subst (λ held. Becomes machine (state g old) (state g held)) nothing.0 (record { stands = subst (λ (held : Held S). StandsFor machine (state g held).now) (sym nothing.0) nothing.1; shown = one.shown; schema_is = one.schema_is; marks = one.marks; others = one.others }))
+      inr (subst (λ held. Becomes machine (state g old) (state g held)) nothing.0 (record { stands = subst (λ (held : Held S). StandsFor machine (state g held).now) (sym nothing.0) nothing.1; shown = one.shown; schema_is = one.schema_is; marks = one.marks; others = one.others; limit = one.limit }))
   comes_then old mid new (inr one) (inr two) = inr (becomes_then g old mid new (inr one) two)
 
   fewer_for : {machine : Machine} (old new : Held S) → Survives (state g old) (state g new) (λ _. IsNoOffice g old) → StandsFor machine (state g old).now → HasCleanDisk (state g new) → LeavesNoMore (state g old) (state g new)
@@ -33,10 +33,11 @@ module _ {S : Type 0} (g : Ghosts S) where
   -- ---- one change, and none
 
   -- one change of the tables
-  pub one_change : {A : Type 0} {table : Table} {Why : StoreFault → Type 0} {after : Machine → Machine} {old new : Held S} (r : Result A StoreFault) → Changes g table (λ _. ⊤) after old new r → ChangesInTurn g Why after old new r
-  one_change {table = table} {after = after} {old = old} {new = new} r h = record {
+  pub one_change : {A : Type 0} {write : OfficeWrite} {Is : OfficeWrite → Type 0} {Why : StoreFault → Type 0} {after : Machine → Machine} {old new : Held S} (r : Result A StoreFault) → Is write → Changes g write (λ _. ⊤) after old new r
+      → ChangesInTurn g Is Why after old new r
+  one_change {write = write} {after = after} {old = old} {new = new} r is h = record {
     ok = λ clean. on_ok {P = (machine : Machine) → StandsFor machine (state g old).now → ⊤ → Becomes (after machine) (state g old) (state g new)} r (λ makes machine stands. inr (makes machine stands tt)) (h.ok clean);
-    cause = λ clean inside machine stands. if_err {P = FailsToWrite table (state g old) (state g new)} r (λ e failed. (machine, old, inl (refl, stands), inl (table, failed))) (h.err clean inside);
+    cause = λ clean inside machine stands. if_err {P = FailsToWrite write (state g old) (state g new)} r (λ e failed. (machine, old, inl (refl, stands), inl (write, is, failed))) (h.err clean inside);
     err = λ clean before now way. on_err {P = IsUnderWay before now (state g new) ⊎ IsBackAt before (state g new)} r
         (λ left. elim left [ inl there ↦ inl (now, there) | inr back ↦ inr back ]) (not_changed g old new r h clean way);
     survives = survives_weaker (state g old) (state g new) _ _ (λ clean db other machine stands. other stands.has) h.survives;
@@ -44,9 +45,9 @@ module _ {S : Type 0} (g : Ghosts S) where
 
   -- ---- several
 
-  module _ {A B : Type 0} {Why : StoreFault → Type 0} {first second : Machine → Machine} {old mid new : Held S} where
-    pub then_changes : (x : A) (r : Result B StoreFault) → ChangesInTurn g Why first old mid (Ok x) → ChangesInTurn g Why second mid new r
-        → ChangesInTurn g Why (λ machine. second (first machine)) old new r
+  module _ {A B : Type 0} {Is : OfficeWrite → Type 0} {Why : StoreFault → Type 0} {first second : Machine → Machine} {old mid new : Held S} where
+    pub then_changes : (x : A) (r : Result B StoreFault) → ChangesInTurn g Is Why first old mid (Ok x) → ChangesInTurn g Is Why second mid new r
+        → ChangesInTurn g Is Why (λ machine. second (first machine)) old new r
     then_changes x r one two =
         let before : HasCleanDisk (state g new) → HasCleanDisk (state g mid) = λ clean. omega (arith, two.survives.clean, clean) in
         record {
@@ -55,7 +56,7 @@ module _ {S : Type 0} (g : Ghosts S) where
               comes_then old mid new made (makes (first machine) (reached_stands g old mid made))) (two.ok clean);
           cause = λ clean inside machine stands.
               let made = one.ok (before clean) machine stands in
-              if_err {P = StopsWith g Why mid new} r (λ e stops. (stops.0, stops.1, comes_then old mid stops.1 made stops.2, stops.3))
+              if_err {P = StopsWith g Is Why mid new} r (λ e stops. (stops.0, stops.1, comes_then old mid stops.1 made stops.2, stops.3))
               (two.cause clean (reached_inside g old mid made inside) (first machine) (reached_stands g old mid made));
           err = λ clean begin now way.
               let made = one.ok (before clean) now way.stands in
@@ -65,7 +66,7 @@ module _ {S : Type 0} (g : Ghosts S) where
         }
 
   -- nothing was to be changed
-  pub no_change : {A : Type 0} {Why : StoreFault → Type 0} {held : Held S} (x : A) → ChangesInTurn g Why (λ machine. machine) held held (Ok x)
+  pub no_change : {A : Type 0} {Is : OfficeWrite → Type 0} {Why : StoreFault → Type 0} {held : Held S} (x : A) → ChangesInTurn g Is Why (λ machine. machine) held held (Ok x)
   no_change {held = held} x = record {
     ok = λ clean machine stands. inl (refl, stands);
     cause = λ clean inside machine stands. tt;
@@ -74,7 +75,7 @@ module _ {S : Type 0} (g : Ghosts S) where
   }
 
   -- a change was not made for a reason
-  pub not_made : {A : Type 0} {Why : StoreFault → Type 0} {after : Machine → Machine} {held : Held S} (e : StoreFault) → Why e → ChangesInTurn {A = A} g Why after held held (Err e)
+  pub not_made : {A : Type 0} {Is : OfficeWrite → Type 0} {Why : StoreFault → Type 0} {after : Machine → Machine} {held : Held S} (e : StoreFault) → Why e → ChangesInTurn {A = A} g Is Why after held held (Err e)
   not_made {held = held} e why = record {
     ok = λ clean. tt;
     cause = λ clean inside machine stands. (machine, held, inl (refl, stands), inr (why, refl));
@@ -82,19 +83,20 @@ module _ {S : Type 0} (g : Ghosts S) where
     survives = survives_itself (state g held);
   }
 
-  -- changes that fail for fewer reasons
-  pub for_more : {A : Type 0} {Why More : StoreFault → Type 0} {after : Machine → Machine} {old new : Held S} (r : Result A StoreFault) → ((e : StoreFault) → Why e → More e) → ChangesInTurn g Why after old new r → ChangesInTurn g More after old new r
-  for_more {Why = Why} {More = More} r more h = record {
+  -- fewer writes, that fail for fewer reasons
+  pub for_more : {A : Type 0} {Is All : OfficeWrite → Type 0} {Why More : StoreFault → Type 0} {after : Machine → Machine} {old new : Held S} (r : Result A StoreFault) → ((write : OfficeWrite) → Is write → All write)
+      → ((e : StoreFault) → Why e → More e) → ChangesInTurn g Is Why after old new r → ChangesInTurn g All More after old new r
+  for_more {Is = Is} {All = All} {Why = Why} {More = More} r all more h = record {
     ok = h.ok;
     cause = λ clean inside machine stands. if_err r (λ e stops. (stops.0, stops.1, stops.2, go_on e stops.3)) (h.cause clean inside machine stands);
     err = h.err;
     survives = h.survives;
   }
     where
-      go_on : (e : StoreFault) {a b : Held S} → FailsAtOnce g Why a b e → FailsAtOnce g More a b e
-      go_on e (inl failed) = inl failed
+      go_on : (e : StoreFault) {a b : Held S} → FailsAtOnce g Is Why a b e → FailsAtOnce g All More a b e
+      go_on e (inl (write, is, failed)) = inl (write, all write is, failed)
       go_on e (inr why) = inr (more e why.0, why.1)
 
   -- changes that failed would have made no matter what
-  pub failed_alike : {A : Type 0} {Why : StoreFault → Type 0} {after other : Machine → Machine} {old new : Held S} (e : StoreFault) → ChangesInTurn {A = A} g Why after old new (Err e) → ChangesInTurn {A = A} g Why other old new (Err e)
+  pub failed_alike : {A : Type 0} {Is : OfficeWrite → Type 0} {Why : StoreFault → Type 0} {after other : Machine → Machine} {old new : Held S} (e : StoreFault) → ChangesInTurn {A = A} g Is Why after old new (Err e) → ChangesInTurn {A = A} g Is Why other old new (Err e)
   failed_alike e h = record { ok = λ clean. tt; cause = h.cause; err = h.err; survives = h.survives }

@@ -1,5 +1,5 @@
 -- How the writes of a change, one after the other, are the whole change.
-use Rattle.std.proofs.Common.{◌≡◌, ◌∙◌, ◌⊎◌, inl, inr, refl, sym, ap, subst, arith, ℕ, ◌≤◌, IsTrue, Result, Ok, Err, OnErr, IfErr, IfSome, Option, Some, None, option_map}
+use Rattle.std.proofs.Common.{◌≡◌, ◌∙◌, ◌⊎◌, inl, inr, refl, sym, ap, subst, arith, ℕ, IsTrue, Result, Ok, Err, OnErr, IfErr, Option, Bool, true, false, ◌↔◌}
 use Rattle.std.specs.Prelude.{⊤}
 use Rattle.sqlite_trees.specs.declared.store.Store.{Ghosts}
 use Rattle.sqlite.specs.Tree.{Trees}
@@ -10,26 +10,19 @@ use Rattle.sqlite.proofs.StateLemmas.{survives_then, survives_weaker}
 use Rattle.wb_sql.specs.Transactions.{LeavesNoMore}
 use Rattle.wb_sql.proofs.CallLemmas.{on_ok}
 use Rattle.wb_states.specs.declared.command.Command.{Command}
-use Rattle.std.specs.FinMap as map
-use Rattle.wb_states.specs.declared.record.Record.{Record}
 use Rattle.wb_states.specs.declared.store_fault.StoreFault.{StoreFault}
-use Rattle.wb_states.specs.declared.store_fault.Table.{Table}
 use Rattle.wb_states.specs.declared.store_fault.Table.TheVariants.{Office}
-use Rattle.wb_states.specs.Limits.{count_limit}
-use Rattle.wb_states.specs.Machine.{Machine, Key, IsRecord, IsConsistent}
-use Rattle.wb_states.specs.Queue.{Entry}
-use Rattle.wb_office.specs.Locality.{IsPartOf}
+use Rattle.wb_states.specs.Machine.{Machine, Key}
 use Rattle.wb_office.specs.Step.{step}
-use Rattle.wb_office.specs.Utf8.{HasUtf8Texts}
-use Rattle.wb_office.proofs.InvariantLemmas.{step-keeps}
-use Rattle.wb_office.proofs.PartOfLemmas.{part_consistent}
 use Rattle.wb_tables.specs.Stands.{StandsFor}
 use Rattle.wb_tables.specs.Calls.{Becomes, Changes, FailsToWrite}
 use Rattle.wb_tables.specs.Faults.{IsUnfit}
 use Rattle.wb_tables.specs.Settled.{IsOffice, IsUnderWay, IsBackAt}
+use Rattle.wb_tables.specs.Writes as write
+use Rattle.wb_tables.specs.Writes.{OfficeWrite}
 use Rattle.wb_tables.proofs.OthersLemmas.{others_then}
 use Rattle.wb_tables.proofs.SettledLemmas.{not_changed, stays_or_goes_back}
-use Rattle.wb_durable.specs.Changed.{HasFittingTake, HasFittingCounts, HasFittingNumbers, LacksFittingNumbers, found_at, IsStepOf, before_counts, Reaches, FailsAtOnce, Writes, IsLeftOrBack, ChangesBy}
+use Rattle.wb_durable.specs.Changed.{HasFittingCounts, LacksFittingNumbers, found_at, IsStepOf, IsWriteOf, before_counts, Reaches, FailsAtOnce, Writes, IsLeftOrBack, ChangesBy, IsEntering, IsWriteOfRecord}
 use Rattle.wb_durable.proofs.StaysLemmas.{no_more}
 use Rattle.wb_durable.proofs.StepOfLemmas.{same_counts}
 
@@ -46,25 +39,26 @@ on_err (Err e) follows h = follows h
 
 module _ {S A : Type 0} {g : Ghosts S} {old new : Held S} {r : Result A StoreFault} where
   -- a write that makes the same of the states that are allowed
-  pub writes_same : {Room Fits : StoreFault → Type 0} {Given Allows : Machine → Type 0} {made after : Machine → Machine} → ((e : StoreFault) → Room e → Fits e) → ((machine : Machine) → Allows machine → Given machine × (made machine ≡ after machine))
-      → Writes g Room Given made old new r → Writes g Fits Allows after old new r
-  writes_same {Room = Room} {Fits = Fits} {Given = Given} {made = made} fits same one = record {
+  pub writes_same : {Is All : OfficeWrite → Type 0} {Room Fits : StoreFault → Type 0} {Given Allows : Machine → Type 0} {made after : Machine → Machine} → ((write : OfficeWrite) → Is write → All write)
+      → ((e : StoreFault) → Room e → Fits e) → ((machine : Machine) → Allows machine → Given machine × (made machine ≡ after machine))
+      → Writes g Is Room Given made old new r → Writes g All Fits Allows after old new r
+  writes_same {Is = Is} {All = All} {Room = Room} {Fits = Fits} {Given = Given} {made = made} all fits same one = record {
     ok = λ clean. on_ok {P = (machine : Machine) → StandsFor machine (state g old).now → Given machine → Reaches g (made machine) old new} r
         (λ makes machine stands allows. subst (λ m. Reaches g m old new) (same machine allows).1 (makes machine stands (same machine allows).0)) (one.ok clean);
-    err = λ clean inside. if_err {P = FailsAtOnce g Room old new} r (λ e failed. unfit e failed) (one.err clean inside);
+    err = λ clean inside. if_err {P = FailsAtOnce g Is Room old new} r (λ e failed. unfit e failed) (one.err clean inside);
     survives = one.survives;
   }
     where
-      unfit : (e : StoreFault) → FailsAtOnce g Room old new e → FailsAtOnce g Fits old new e
-      unfit e (inl failed) = inl failed
+      unfit : (e : StoreFault) → FailsAtOnce g Is Room old new e → FailsAtOnce g All Fits old new e
+      unfit e (inl (write, is, failed)) = inl (write, all write is, failed)
       unfit e (inr (why, same)) = inr (fits e why, same)
 
   -- a change of the tables is a write
-  pub writes_change : {table : Table} {Fits : StoreFault → Type 0} {Allows : Machine → Type 0} {after : Machine → Machine} → Changes g table Allows after old new r → Writes g Fits Allows after old new r
-  writes_change {table = table} {Allows = Allows} {after = after} one = record {
+  pub writes_change : {write : OfficeWrite} {Is : OfficeWrite → Type 0} {Fits : StoreFault → Type 0} {Allows : Machine → Type 0} {after : Machine → Machine} → Is write → Changes g write Allows after old new r → Writes g Is Fits Allows after old new r
+  writes_change {write = write} {Allows = Allows} {after = after} is one = record {
     ok = λ clean. on_ok {P = (machine : Machine) → StandsFor machine (state g old).now → Allows machine → Becomes (after machine) (state g old) (state g new)} r
         (λ makes machine stands allows. inr (makes machine stands allows)) (one.ok clean);
-    err = λ clean inside. if_err {P = FailsToWrite table (state g old) (state g new)} r (λ e failed. inl (table, failed)) (one.err clean inside);
+    err = λ clean inside. if_err {P = FailsToWrite write (state g old) (state g new)} r (λ e failed. inl (write, is, failed)) (one.err clean inside);
     survives = one.survives;
   }
 
@@ -79,14 +73,26 @@ survives_itself s = record {
   crash = λ clean db may. inl may;
 }
 
-module _ {S A : Type 0} {g : Ghosts S} {old : Held S} {Fits : StoreFault → Type 0} where
+module _ {S A : Type 0} {g : Ghosts S} {old : Held S} {Is : OfficeWrite → Type 0} {Fits : StoreFault → Type 0} where
   -- nothing is written where nothing is to be
-  pub writes_nothing : {x : A} {Allows : Machine → Type 0} {after : Machine → Machine} → ((machine : Machine) → Allows machine → machine ≡ after machine) → Writes g Fits Allows after old old (Ok x)
+  pub writes_nothing : {x : A} {Allows : Machine → Type 0} {after : Machine → Machine} → ((machine : Machine) → Allows machine → machine ≡ after machine) → Writes g Is Fits Allows after old old (Ok x)
   writes_nothing same = record {
     ok = λ clean machine stands allows. inl (refl, subst (λ m. StandsFor m (state g old).now) (same machine allows) stands);
     err = λ clean inside. tt;
     survives = survives_itself (state g old);
   }
+
+-- the write of the record that the part of the office has at the key is one of the change
+pub record_written : (command : Command) (key : Option Key) (after : Machine) (is_new : Bool) → IsTrue is_new ↔ IsEntering command → (it : OfficeWrite) → IsWriteOfRecord is_new (found_at after key) it
+    → IsWriteOf command key after it
+record_written command key after is_new same (write.PutsRecord entry) is = (is_new, same, is)
+record_written command key after is_new same (write.ReplacesRecord entry) is = (is_new, same, is)
+record_written command key after is_new same (write.RemovesRecord other) is = (is_new, same, is)
+record_written command key after is_new same (write.SetsCounts handed accepted) is = (is_new, same, is)
+record_written command key after true same (write.AddsArch arch) none = absurd none
+record_written command key after false same (write.AddsArch arch) none = absurd none
+record_written command key after true same (write.AddsBuilder pair) none = absurd none
+record_written command key after false same (write.AddsBuilder pair) none = absurd none
 
 -- ---- two writes
 
@@ -110,12 +116,12 @@ module _ {S : Type 0} (g : Ghosts S) (old new : Held S) where
   }
 
   -- a write that fails leaves the transaction under way as it was, or taken back
-  failed_way : {before now : Machine} (Fits : StoreFault → Type 0) (e : StoreFault) → FailsAtOnce g Fits old new e → LeavesNoMore (state g old) (state g new) → IsUnderWay before now (state g old) → IsLeftOrBack g before new
-  failed_way {before = before} {now = now} Fits e (inl failed) less way = elim (stays_or_goes_back (state g old) (state g new) failed.1.left less way) [
+  failed_way : {before now : Machine} (Is : OfficeWrite → Type 0) (Fits : StoreFault → Type 0) (e : StoreFault) → FailsAtOnce g Is Fits old new e → LeavesNoMore (state g old) (state g new) → IsUnderWay before now (state g old) → IsLeftOrBack g before new
+  failed_way {before = before} {now = now} Is Fits e (inl failed) less way = elim (stays_or_goes_back (state g old) (state g new) failed.2.left less way) [
     | inl still ↦ inl (now, still)
     | inr back ↦ inr back
   ]
-  failed_way {before = before} {now = now} Fits e (inr unwritten) less way = inl (now, subst (λ (h : Held S). IsUnderWay before now (state g h)) unwritten.1 way)
+  failed_way {before = before} {now = now} Is Fits e (inr unwritten) less way = inl (now, subst (λ (h : Held S). IsUnderWay before now (state g h)) unwritten.1 way)
 
 module _ {S : Type 0} (g : Ghosts S) (old mid new : Held S) where
   -- one change after another
@@ -133,6 +139,7 @@ module _ {S : Type 0} (g : Ghosts S) (old mid new : Held S) where
     schema_is = two.schema_is ∙ one.schema_is;
     marks = two.marks ∙ one.marks;
     others = others_then (state g old).now (state g mid).now (state g new).now one.others two.others;
+    limit = two.limit ∙ one.limit;
   }
 
 -- a write leaves the transaction that it was in
@@ -142,7 +149,7 @@ reached_inside g old mid (inr made) inside = subst IsTrue (sym made.shown.mode) 
 
 module _ {S : Type 0} (g : Ghosts S) (command : Command) (key : Option Key) (after : Machine) (old : Held S) where
   abbrev WritesSubject : {A : Type 0} → Held S → Result A StoreFault → Type 0
-  WritesSubject = Writes g (LacksFittingNumbers after key) (λ whole. IsStepOf whole command key after) (before_counts command) old
+  WritesSubject = Writes g (IsWriteOf command key after) (LacksFittingNumbers after key) (λ whole. IsStepOf whole command key after) (before_counts command) old
 
   -- the counts do not fit, or memory ran out for them
   pub changes_nothing : {B : Type 0} (e : StoreFault) (r : Result B StoreFault) → r ≡ Err e → IsUnfit Office (HasFittingCounts after) e → ChangesBy g command key after old old r
@@ -158,13 +165,13 @@ module _ {S : Type 0} (g : Ghosts S) (command : Command) (key : Option Key) (aft
   changes_not new e r is one = subst (λ r. ChangesBy g command key after old new r) (sym is) (record {
     ok = λ clean. tt;
     cause = λ clean inside whole stands made. inl (one.err clean inside);
-    err = λ clean before whole way made. failed_way g old new (LacksFittingNumbers after key) e (one.err clean way.inside) (no_more g old new one.survives way.stands.has clean) way;
+    err = λ clean before whole way made. failed_way g old new (IsWriteOf command key after) (LacksFittingNumbers after key) e (one.err clean way.inside) (no_more g old new one.survives way.stands.has clean) way;
     survives = survives_weaker (state g old) (state g new) _ _ (λ clean db other ready. other ready.1.has) one.survives;
   })
 
   -- the first write succeeded, and then the counts are written
   pub changes_by : {A B : Type 0} (mid new : Held S) {x : A} (r : Result B StoreFault) (handed accepted : ℕ) → (handed ≡ after.handed) × (accepted ≡ after.accepted) → WritesSubject mid (Ok x)
-      → Changes g Office (λ _. ⊤) (λ machine. record machine { handed = handed; accepted = accepted }) mid new r → ChangesBy g command key after old new r
+      → Changes g (write.SetsCounts handed accepted) (λ _. ⊤) (λ machine. record machine { handed = handed; accepted = accepted }) mid new r → ChangesBy g command key after old new r
   changes_by mid new r handed accepted same one two =
       let before : HasCleanDisk (state g new) → HasCleanDisk (state g mid) = λ clean. omega (arith, two.survives.clean, clean) in
       record {
@@ -177,7 +184,8 @@ module _ {S : Type 0} (g : Ghosts S) (command : Command) (key : Option Key) (aft
             (subst (λ m. Becomes m (state g mid) (state g new)) counts (makes (before_counts command whole) (reached_stands g old mid reached) tt))) (two.ok clean);
         cause = λ clean inside whole stands made.
             let reached = one.ok (before clean) whole stands made in
-            if_err {P = FailsToWrite Office (state g mid) (state g new)} r (λ e failed. inr (mid, reached, failed)) (two.err clean (reached_inside g old mid reached inside));
+            if_err {P = FailsToWrite (write.SetsCounts handed accepted) (state g mid) (state g new)} r
+            (λ e failed. inr (mid, reached, subst (λ it. FailsToWrite it (state g mid) (state g new) e) (λ i. write.SetsCounts (same.0 i) (same.1 i)) failed)) (two.err clean (reached_inside g old mid reached inside));
         err = λ clean first whole way made.
             let reached = one.ok (before clean) whole way.stands made in
             let here : IsUnderWay first (before_counts command whole) (state g mid) = reached_way g old mid reached (no_more g old mid one.survives way.stands.has (before clean)) way in
@@ -188,29 +196,3 @@ module _ {S : Type 0} (g : Ghosts S) (command : Command) (key : Option Key) (aft
         survives = survives_then (state g old) (state g mid) (state g new) _ _ _ (λ clean db other ready. other ready.1.has)
             (λ clean db other ready. other (reached_stands g old mid (one.ok (before clean) ready.0 ready.1 ready.2)).has) one.survives two.survives;
       }
-
--- ---- numbers that fit
-
--- the numbers of a consistent office fit
-pub consistent_fits : (after : Machine) (key : Option Key) → IsConsistent after → HasFittingNumbers after key
-consistent_fits after key h = record { take = at_key key; counts = (h.handed, h.accepted) }
-  where
-    within : (current : Record) → IfSome current.take (λ take_number. (1 ≤ take_number) × (take_number ≤ after.handed)) → HasFittingTake current
-    within current given = at_take current.take given
-      where
-        at_take : (take_number : Option ℕ) → IfSome take_number (λ n. (1 ≤ n) × (n ≤ after.handed)) → IfSome take_number (λ n. n ≤ count_limit)
-        at_take None given = tt
-        at_take (Some n) given = omega (arith, given.1, h.handed)
-
-    found_fits : (k : Key) (found : Option Record) → IfSome found (IsRecord after k.0 k.1) → IfSome (option_map {U = Entry} (λ current. (k, current)) found) (λ entry. HasFittingTake entry.1)
-    found_fits k None is = tt
-    found_fits k (Some current) is = within current is.given
-
-    at_key : (key : Option Key) → IfSome (found_at after key) (λ entry. HasFittingTake entry.1)
-    at_key None = tt
-    at_key (Some k) = found_fits k (map.get after.records k) (h.records k.0 k.1)
-
--- so do those of a part of a consistent office after a step in it
-pub step_fits : (part whole : Machine) (command : Command) (key : Option Key) → HasUtf8Texts command → IsPartOf part whole → IsConsistent whole
-    → HasFittingNumbers (step part command).1 key
-step_fits part whole command key utf8 within sound = consistent_fits (step part command).1 key (step-keeps part command utf8 (part_consistent part whole within sound))

@@ -59,7 +59,7 @@ FailsToKeepStep {S} g machine command old new failure =
 abbrev pub FailsToKeepMerge : {S : Type 0} → Ghosts S → Machine → Command → Held S → Held S → CarryError → Type 0
 FailsToKeepMerge {S} g machine command old new failure =
     (at : Held S) × (sources : List ℕ) × (parts : List Part) × (before : Machine) × (after : Machine) × StaysAs g old at × (command ≡ Merge sources parts)
-    × IsMergeIn machine sources parts before after × MergeEndsFor g after (step machine command).1 at new failure
+    × IsMergeIn machine sources parts before after × MergeEndsFor g before after (step machine command).1 at new failure
 
 -- what a command changed was not committed, for this reason
 abbrev pub IsUncommitted : {S : Type 0} → Ghosts S → Machine → Command → Held S → Held S → Failure → Type 0

@@ -20,7 +20,7 @@ use Rattle.wb_tables.specs.Others.{KeepsOthers}
 use Rattle.wb_tables.specs.Settled.{IsSettled, IsBackAt, LeavesEither}
 use Rattle.wb_durable.specs.declared.carry.CarryError.{CarryError}
 use Rattle.wb_durable.specs.declared.carry.CarryError.TheVariants.{TakenBack, RollBackFailed, InDoubt}
-use Rattle.wb_durable.specs.Changed.{LacksFittingNumbers, IsStepOf, before_counts, FailsToChange}
+use Rattle.wb_durable.specs.Changed.{IsStepOf, FailsToChange}
 
 -- the connection in a transaction that has just begun
 abbrev pub begun : {S : Type 0} → Held S → Held S
@@ -62,16 +62,16 @@ IsFaultOfCommit g at fault = (e : Error) × FailsToCommit g at e × (fault ≡ f
 abbrev pub FailsAtCommit : {S : Type 0} → Ghosts S → Machine → Held S → StoreFault → Type 0
 FailsAtCommit {S} g now old fault = (at : Held S) × (Becomes now (state g (begun old)) (state g at) × IsFaultOfCommit g at fault)
 
--- a write of the change failed with this fault, or was not made for this reason
-abbrev pub FailsAtChange : {S : Type 0} → Ghosts S → (StoreFault → Type 0) → Machine → Held S → StoreFault → Type 0
-FailsAtChange {S} g Why between old fault = (at : Held S) × FailsToChange g Why between (begun old) at fault
+-- a write of the change failed with this fault, or was not made
+abbrev pub FailsAtChange : {S : Type 0} → Ghosts S → Command → Option Key → Machine → Machine → Held S → StoreFault → Type 0
+FailsAtChange {S} g command key after whole old fault = (at : Held S) × FailsToChange g command key after whole (begun old) at fault
 
 -- why the transaction was not committed, and how ROLLBACK answered, if it was run
 abbrev pub EndsFor : {S : Type 0} → Ghosts S → Command → Option Key → Machine → Machine → Held S → Held S → CarryError → Type 0
 EndsFor g command key after whole old new (TakenBack fault) =
-    (FailsAtChange g (LacksFittingNumbers after key) (before_counts command whole) old fault ⊎ FailsAtCommit g (step whole command).1 old fault) × IsEnded g new
+    (FailsAtChange g command key after whole old fault ⊎ FailsAtCommit g (step whole command).1 old fault) × IsEnded g new
 EndsFor g command key after whole old new (RollBackFailed fault) =
-    (FailsAtChange g (LacksFittingNumbers after key) (before_counts command whole) old fault ⊎ FailsAtCommit g (step whole command).1 old fault) × FailsToRollBack g new
+    (FailsAtChange g command key after whole old fault ⊎ FailsAtCommit g (step whole command).1 old fault) × FailsToRollBack g new
 EndsFor g command key after whole old new (InDoubt fault) = FailsAtCommit g (step whole command).1 old fault
 
 -- ---- the transaction

@@ -1,5 +1,5 @@
 -- What an accepted command changed in a part of the office, written to the tables of the whole office.
-use Rattle.std.specs.Prelude.{◌≡◌, ◌≢◌, ◌⊎◌, ℕ, ◌≤◌, Option, Result, Ok, IsTrue, IfErr, IfSome, OnOk, OnErr, IsSome, option_and_then}
+use Rattle.std.specs.Prelude.{◌≡◌, ◌≢◌, ◌⊎◌, ◌↔◌, ℕ, ◌≤◌, Bool, true, false, Option, Some, Result, Ok, IsTrue, IfErr, IfSome, OnOk, OnErr, IsSome, option_and_then}
 use Rattle.std.specs.FinMap as map
 use Rattle.std.specs.Option.{option_map}
 use Rattle.sqlite_trees.specs.declared.store.Store.{Ghosts}
@@ -7,13 +7,15 @@ use Rattle.sqlite.specs.Held.{Held, state}
 use Rattle.sqlite.specs.State.{State, HasCleanDisk, Survives}
 use Rattle.wb_schema.specs.Among.{HasOffice}
 use Rattle.wb_states.specs.declared.command.Command.{Command}
+use Rattle.wb_states.specs.declared.command.Command.TheVariants as of
+use Rattle.wb_states.specs.declared.command.Enter.{Enter}
 use Rattle.wb_states.specs.declared.record.Record.{Record}
 use Rattle.wb_states.specs.declared.reply.Assignment.{Assignment}
 use Rattle.wb_states.specs.declared.reply.Reply.{Reply}
 use Rattle.wb_states.specs.declared.reply.Reply.TheVariants.{Again}
 use Rattle.wb_states.specs.declared.store_fault.StoreFault.{StoreFault}
-use Rattle.wb_states.specs.declared.store_fault.Table.{Table}
 use Rattle.wb_states.specs.declared.store_fault.Table.TheVariants.{Office, SourceRecord}
+use Rattle.wb_states.specs.Forms as form
 use Rattle.wb_states.specs.Limits.{count_limit}
 use Rattle.wb_states.specs.Machine.{Machine, Key}
 use Rattle.wb_states.specs.Queue.{Entry}
@@ -23,6 +25,8 @@ use Rattle.wb_tables.specs.Stands.{StandsFor}
 use Rattle.wb_tables.specs.Calls.{Becomes, FailsToWrite}
 use Rattle.wb_tables.specs.Faults.{IsUnfit}
 use Rattle.wb_tables.specs.Settled.{IsUnderWay, IsBackAt}
+use Rattle.wb_tables.specs.Writes as write
+use Rattle.wb_tables.specs.Writes.{OfficeWrite}
 use Rattle.wb_durable.specs.Keys.{key_put}
 
 -- ---- a step
@@ -67,15 +71,29 @@ HasFittingCounts machine = (machine.handed ≤ count_limit) × (machine.accepted
 abbrev pub HasFittingTakeAt : Machine → Option Key → Type 0
 HasFittingTakeAt after key = IfSome (found_at after key) (λ entry. HasFittingTake entry.1)
 
--- the numbers that a change writes fit: those of the record at the key, and the two counts
-pub record HasFittingNumbers (after : Machine) (key : Option Key) : Type 0 where
-  pub take : HasFittingTakeAt after key
-  pub counts : HasFittingCounts after
-
 -- why the numbers of a change are not written: memory ran out; or a count is above the limit, which is a fault of the office's table; or the take
 -- number of the record at the key is, which is one of the table of records
 abbrev pub LacksFittingNumbers : Machine → Option Key → StoreFault → Type 0
 LacksFittingNumbers after key fault = IsUnfit Office (HasFittingCounts after) fault ⊎ IsUnfit SourceRecord (HasFittingTakeAt after key) fault
+
+-- ---- the writes of a change
+
+-- the command enters a source package
+abbrev pub IsEntering : Command → Type 0
+IsEntering command = (fields : Enter) × (command ≡ of.Enter fields)
+
+-- the write puts this record, if it is new, and otherwise puts it in place of the one that is there
+abbrev pub IsWriteOfRecord : Bool → Option Entry → OfficeWrite → Type 0
+IsWriteOfRecord true found (write.PutsRecord entry) = found ≡ Some entry
+IsWriteOfRecord false found (write.ReplacesRecord entry) = found ≡ Some entry
+IsWriteOfRecord is_new found _ = ⊥
+
+-- the write is that of what an accepted command changed but for the counts: it adds the architecture or the builder of the command, or writes the
+-- record that the part of the office has at the key, which is new if the command entered it
+abbrev pub IsWriteOf : Command → Option Key → Machine → OfficeWrite → Type 0
+IsWriteOf command key after (write.AddsArch arch) = command ≡ form.AddArch arch.0 arch.1.os arch.1.cpu
+IsWriteOf command key after (write.AddsBuilder pair) = command ≡ form.AddBuilder pair.0 pair.1
+IsWriteOf command key after it = (is_new : Bool) × (IsTrue is_new ↔ IsEntering command) × IsWriteOfRecord is_new (found_at after key) it
 
 -- ---- a part of a change
 
@@ -83,19 +101,19 @@ LacksFittingNumbers after key fault = IsUnfit Office (HasFittingCounts after) fa
 abbrev pub Reaches : {S : Type 0} → Ghosts S → Machine → Held S → Held S → Type 0
 Reaches g machine old new = ((old ≡ new) × StandsFor machine (state g new).now) ⊎ Becomes machine (state g old) (state g new)
 
--- a change of one of the tables failed with this fault, and nothing was written or the whole transaction is taken back
-abbrev pub FailsToWriteOne : State → State → StoreFault → Type 0
-FailsToWriteOne old new fault = (table : Table) × FailsToWrite table old new fault
+-- one of these writes failed with this fault, and nothing was written or the whole transaction is taken back
+abbrev pub FailsToWriteOne : (OfficeWrite → Type 0) → State → State → StoreFault → Type 0
+FailsToWriteOne Is old new fault = (write : OfficeWrite) × Is write × FailsToWrite write old new fault
 
--- a change failed with this fault; or for this reason none was made
-abbrev pub FailsAtOnce : {S : Type 0} → Ghosts S → (StoreFault → Type 0) → Held S → Held S → StoreFault → Type 0
-FailsAtOnce g Why old new fault = FailsToWriteOne (state g old) (state g new) fault ⊎ (Why fault × (old ≡ new))
+-- one of these writes failed with this fault; or for this reason none was made
+abbrev pub FailsAtOnce : {S : Type 0} → Ghosts S → (OfficeWrite → Type 0) → (StoreFault → Type 0) → Held S → Held S → StoreFault → Type 0
+FailsAtOnce g Is Why old new fault = FailsToWriteOne Is (state g old) (state g new) fault ⊎ (Why fault × (old ≡ new))
 
--- one write in a transaction, or none: if it succeeds, a database that stood for a state that allows it stands for the state after it; if it
+-- one of these writes in a transaction, or none: if it succeeds, a database that stood for a state that allows it stands for the state after it; if it
 -- fails, the write failed, or was not made for one of these reasons; and a crash leaves no more than before
-pub record Writes {S A : Type 0} (g : Ghosts S) (Why : StoreFault → Type 0) (Allows : Machine → Type 0) (after : Machine → Machine) (old new : Held S) (result : Result A StoreFault) : Type 0 where
+pub record Writes {S A : Type 0} (g : Ghosts S) (Is : OfficeWrite → Type 0) (Why : StoreFault → Type 0) (Allows : Machine → Type 0) (after : Machine → Machine) (old new : Held S) (result : Result A StoreFault) : Type 0 where
   pub ok : HasCleanDisk (state g new) → OnOk result ((machine : Machine) → StandsFor machine (state g old).now → Allows machine → Reaches g (after machine) old new)
-  pub err : HasCleanDisk (state g new) → IsTrue old.in_transaction → IfErr result (FailsAtOnce g Why old new)
+  pub err : HasCleanDisk (state g new) → IsTrue old.in_transaction → IfErr result (FailsAtOnce g Is Why old new)
   pub survives : Survives (state g old) (state g new) (λ _. ¬ HasOffice old.schema)
 
 -- ---- the whole change
@@ -104,11 +122,12 @@ pub record Writes {S A : Type 0} (g : Ghosts S) (Why : StoreFault → Type 0) (A
 abbrev pub StandsForStep : {S : Type 0} → Ghosts S → Command → Option Key → Machine → Held S → Type 0
 StandsForStep g command key after held = (whole : Machine) × StandsFor whole (state g held).now × IsStepOf whole command key after
 
--- a change failed with this fault: its first write did, or was not made for this reason; or its second did, to the office's table, after the first
--- had made the database stand for this state
-abbrev pub FailsToChange : {S : Type 0} → Ghosts S → (StoreFault → Type 0) → Machine → Held S → Held S → StoreFault → Type 0
-FailsToChange {S} g Why between old new fault =
-    FailsAtOnce g Why old new fault ⊎ ((mid : Held S) × Reaches g between old mid × FailsToWrite Office (state g mid) (state g new) fault)
+-- the change of an accepted command in this office failed with this fault: its first write did, or was not made, since a number does not fit; or the
+-- write of the counts did, after the first had made the database stand for the office after the command with the counts before it
+abbrev pub FailsToChange : {S : Type 0} → Ghosts S → Command → Option Key → Machine → Machine → Held S → Held S → StoreFault → Type 0
+FailsToChange {S} g command key after whole old new fault =
+    FailsAtOnce g (IsWriteOf command key after) (LacksFittingNumbers after key) old new fault
+    ⊎ ((mid : Held S) × Reaches g (before_counts command whole) old mid × FailsToWrite (write.SetsCounts after.handed after.accepted) (state g mid) (state g new) fault)
 
 -- after a failure the transaction from the state `before` is under way, with some of what it was to write, or it is taken back
 abbrev pub IsLeftOrBack : {S : Type 0} → Ghosts S → Machine → Held S → Type 0
@@ -120,7 +139,7 @@ pub record ChangesBy {S A : Type 0} (g : Ghosts S) (command : Command) (key : Op
   pub ok : HasCleanDisk (state g new)
       → OnOk result ((whole : Machine) → StandsFor whole (state g old).now → IsStepOf whole command key after → Becomes (step whole command).1 (state g old) (state g new))
   pub cause : HasCleanDisk (state g new) → IsTrue old.in_transaction → (whole : Machine) → StandsFor whole (state g old).now → IsStepOf whole command key after
-      → IfErr result (FailsToChange g (LacksFittingNumbers after key) (before_counts command whole) old new)
+      → IfErr result (FailsToChange g command key after whole old new)
   pub err : HasCleanDisk (state g new) → (before whole : Machine) → IsUnderWay before whole (state g old) → IsStepOf whole command key after
       → OnErr result (IsLeftOrBack g before new)
   pub survives : Survives (state g old) (state g new) (λ _. ¬ StandsForStep g command key after old)

@@ -5,18 +5,18 @@ use Rattle.sqlite.specs.Held.{Held, state}
 use Rattle.sqlite.specs.State.{HasCleanDisk, IsUnchanged, Survives}
 use Rattle.wb_schema.specs.Among.{HasOffice}
 use Rattle.wb_states.specs.declared.store_fault.StoreFault.{StoreFault}
-use Rattle.wb_states.specs.declared.store_fault.Table.{Table}
 use Rattle.wb_states.specs.Machine.{Machine, IsConsistent}
 use Rattle.wb_tables.specs.Stands.{StandsFor}
 use Rattle.wb_tables.specs.Calls.{FailsToLookUp}
+use Rattle.wb_tables.specs.Queries.{OfficeQuery}
 
--- nothing was asked of the connection yet, or it was left as it was
+-- nothing was asked of the connection yet, or it was left as it was, with its limit of steps
 abbrev pub StaysAs : {S : Type 0} → Ghosts S → Held S → Held S → Type 0
-StaysAs g old new = (old ≡ new) ⊎ IsUnchanged (state g old) (state g new)
+StaysAs g old new = (old ≡ new) ⊎ (IsUnchanged (state g old) (state g new) × ((state g new).step_limit ≡ (state g old).step_limit))
 
--- a look-up in one of the tables failed with this fault, after others that left the database as it was
+-- a look-up by one of the office's queries failed with this fault, after others that left the database as it was
 abbrev pub FailsToFind : {S : Type 0} → Ghosts S → Held S → Held S → StoreFault → Type 0
-FailsToFind {S} g old new fault = (mid : Held S) × (table : Table) × StaysAs g old mid × FailsToLookUp table (state g mid) (state g new) fault
+FailsToFind {S} g old new fault = (mid : Held S) × (query : OfficeQuery) × StaysAs g old mid × FailsToLookUp query (state g mid) (state g new) fault
 
 -- look-ups, one after another: if they succeed, the answer is that of the state of a consistent office for which the database stands, and the
 -- database stays as it is; if they fail over an open connection, one of them did, after others that changed nothing; and a crash leaves no more

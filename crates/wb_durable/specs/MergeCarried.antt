@@ -15,18 +15,18 @@ use Rattle.wb_tables.specs.Settled.{IsSettled}
 use Rattle.wb_durable.specs.declared.carry.CarryError.{CarryError}
 use Rattle.wb_durable.specs.declared.carry.CarryError.TheVariants.{TakenBack, RollBackFailed, InDoubt}
 use Rattle.wb_durable.specs.Carried.{begun, FailsAtCommit, FailsToRollBack, IsEnded, LeavesAs}
-use Rattle.wb_durable.specs.MergeWritten.{CannotBeWritten, IsMergeIn}
+use Rattle.wb_durable.specs.MergeWritten.{CannotBeWritten, IsMergeIn, IsWriteOfMerge}
 use Rattle.wb_durable.specs.Turns.{StopsWith}
 
--- a change of a merge failed with this fault, or was not made, or all were written and the commit failed with it
-abbrev pub FailsToMerge : {S : Type 0} → Ghosts S → Machine → Machine → Held S → StoreFault → Type 0
-FailsToMerge {S} g after now old fault = ((at : Held S) × StopsWith g (CannotBeWritten after) (begun old) at fault) ⊎ FailsAtCommit g now old fault
+-- a write of a merge failed with this fault, or was not made, or all were written and the commit failed with it
+abbrev pub FailsToMerge : {S : Type 0} → Ghosts S → Machine → Machine → Machine → Held S → StoreFault → Type 0
+FailsToMerge {S} g before after now old fault = ((at : Held S) × StopsWith g (IsWriteOfMerge before after) (CannotBeWritten after) (begun old) at fault) ⊎ FailsAtCommit g now old fault
 
 -- why the transaction of a merge was not committed, and how ROLLBACK answered, if it was run
-abbrev pub MergeEndsFor : {S : Type 0} → Ghosts S → Machine → Machine → Held S → Held S → CarryError → Type 0
-MergeEndsFor g after now old new (TakenBack fault) = FailsToMerge g after now old fault × IsEnded g new
-MergeEndsFor g after now old new (RollBackFailed fault) = FailsToMerge g after now old fault × FailsToRollBack g new
-MergeEndsFor g after now old new (InDoubt fault) = FailsAtCommit g now old fault
+abbrev pub MergeEndsFor : {S : Type 0} → Ghosts S → Machine → Machine → Machine → Held S → Held S → CarryError → Type 0
+MergeEndsFor g before after now old new (TakenBack fault) = FailsToMerge g before after now old fault × IsEnded g new
+MergeEndsFor g before after now old new (RollBackFailed fault) = FailsToMerge g before after now old fault × FailsToRollBack g new
+MergeEndsFor g before after now old new (InDoubt fault) = FailsAtCommit g now old fault
 
 -- these trees hold the tables of the office after a merge of the one for which the database stands
 abbrev pub HoldsMerge : {S : Type 0} → Ghosts S → List ℕ → List Part → Machine → Machine → Held S → Trees → Type 0
@@ -44,7 +44,7 @@ pub record CarriesMerge {S A : Type 0} (g : Ghosts S) (sources : List ℕ) (part
   pub err : HasCleanDisk (state g new) → (whole : Machine) → IsSettled whole (state g old) → IsMergeIn whole sources parts before after
       → IfErr result (LeavesAs whole (step whole (Merge sources parts)).1 (state g new))
   pub cause : HasCleanDisk (state g new) → (whole : Machine) → IsSettled whole (state g old) → IsMergeIn whole sources parts before after
-      → IfErr result (MergeEndsFor g after (step whole (Merge sources parts)).1 old new)
+      → IfErr result (MergeEndsFor g before after (step whole (Merge sources parts)).1 old new)
   pub others : HasCleanDisk (state g new) → (whole : Machine) → IsSettled whole (state g old) → IsMergeIn whole sources parts before after
       → OnOk result (KeepsOthers (state g old).now (state g new).now)
   pub survives : Survives (state g old) (state g new) (HoldsMerge g sources parts before after old)

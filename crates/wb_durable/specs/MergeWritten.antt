@@ -1,5 +1,5 @@
 -- What a merge changed of the records of its architectures, and that it is written to the tables.
-use Rattle.std.specs.Prelude.{◌≡◌, ◌⊎◌, ℕ, Bool, not, List, [], ◌∷◌, filter, Some, Result, IsTrue, IfErr, OnOk, OnErr}
+use Rattle.std.specs.Prelude.{◌≡◌, ◌⊎◌, ℕ, Bool, true, false, not, List, [], ◌∷◌, filter, Some, Result, IsTrue, IfErr, OnOk, OnErr}
 use Rattle.std.specs.FinMap as map
 use Rattle.sqlite_trees.specs.declared.store.Store.{Ghosts}
 use Rattle.sqlite.specs.Held.{Held, state}
@@ -8,7 +8,6 @@ use Rattle.deb_text.specs.Lists.{IsIn}
 use Rattle.wb_states.specs.declared.command.Part.{Part}
 use Rattle.wb_states.specs.declared.record.Record.{Record}
 use Rattle.wb_states.specs.declared.store_fault.StoreFault.{StoreFault}
-use Rattle.wb_states.specs.declared.store_fault.StoreFault.TheVariants.{Damaged}
 use Rattle.wb_states.specs.declared.store_fault.Table.TheVariants.{Office, SourceRecord}
 use Rattle.wb_states.specs.Forms.{Merge}
 use Rattle.wb_states.specs.Machine.{Machine, Key}
@@ -20,7 +19,9 @@ use Rattle.wb_office.specs.Step.{step}
 use Rattle.wb_tables.specs.Stands.{StandsFor}
 use Rattle.wb_tables.specs.Calls.{Becomes}
 use Rattle.wb_tables.specs.Settled.{IsUnderWay}
-use Rattle.wb_tables.specs.Faults.{IsUnfit}
+use Rattle.wb_tables.specs.Faults.{IsUnfit, unfit}
+use Rattle.wb_tables.specs.Writes as write
+use Rattle.wb_tables.specs.Writes.{OfficeWrite}
 use Rattle.wb_durable.specs.Changed.{HasFittingCounts, HasFittingTake, IsLeftOrBack}
 use Rattle.wb_durable.specs.Turns.{IsNoOffice, StopsWith}
 
@@ -59,6 +60,24 @@ abbrev pub with_parts : Machine → Machine → List Part → Records → Record
 with_parts before after [] records = records
 with_parts before after (part ∷ parts) records = with_parts before after parts (with_arch before after part.arch records)
 
+-- the write takes out one of these records
+abbrev pub RemovesOne : List Entry → OfficeWrite → Type 0
+RemovesOne entries (write.RemovesRecord key) = (entry : Entry) × IsIn entry entries × (key ≡ entry.0)
+RemovesOne entries _ = ⊥
+
+-- the write puts one of these records
+abbrev pub PutsOne : List Entry → OfficeWrite → Type 0
+PutsOne entries (write.PutsRecord entry) = IsIn entry entries
+PutsOne entries _ = ⊥
+
+-- the write is one of a merge that made the second state of the first: it takes out a record at a key where the second has none, puts a record of the
+-- second that differs from that of the first, or sets the counts of the second
+abbrev pub IsWriteOfMerge : Machine → Machine → OfficeWrite → Type 0
+IsWriteOfMerge before after (write.RemovesRecord key) = map.contains_key after.records key ≡ false
+IsWriteOfMerge before after (write.PutsRecord entry) = (map.get after.records entry.0 ≡ Some entry.1) × (is_different before entry ≡ true)
+IsWriteOfMerge before after (write.SetsCounts handed accepted) = (handed ≡ after.handed) × (accepted ≡ after.accepted)
+IsWriteOfMerge before after _ = ⊥
+
 -- ---- what is not written
 
 -- the take numbers of these records fit
@@ -67,16 +86,11 @@ HaveFittingTakes entries = (entry : Entry) → IsIn entry entries → HasFitting
 
 -- the records are not written, since a take number of them is above the limit, for which no row of their table is blamed
 abbrev pub HasTakeOverLimit : List Entry → StoreFault → Type 0
-HasTakeOverLimit entries fault = (fault ≡ Damaged SourceRecord 0) × ¬ HaveFittingTakes entries
+HasTakeOverLimit entries fault = (fault ≡ unfit SourceRecord) × ¬ HaveFittingTakes entries
 
 -- the take number of each record of an office fits
 abbrev pub AllTakesFit : Machine → Type 0
 AllTakesFit machine = (key : Key) (current : Record) → map.get machine.records key ≡ Some current → HasFittingTake current
-
--- the counts of an office fit, and so does the take number of each of its records
-pub record IsWithinLimits (machine : Machine) : Type 0 where
-  pub counts : HasFittingCounts machine
-  pub takes : AllTakesFit machine
 
 -- why the office after a merge is not written: memory ran out, or a count or a take number in it is above the limit
 abbrev pub CannotBeWritten : Machine → StoreFault → Type 0
@@ -90,13 +104,13 @@ pub record IsMergeIn (whole : Machine) (sources : List ℕ) (parts : List Part) 
   pub after_is : after ≡ (step before (Merge sources parts)).1
 
 -- what a merge changed, written in a transaction: if it succeeds, a database that stood for the whole office stands for it after the merge; if it
--- fails, one of its changes failed or cannot be written, and the transaction is under way or taken back; and a crash leaves no more than before
+-- fails, one of its writes failed or cannot be made, and the transaction is under way or taken back; and a crash leaves no more than before
 pub record WritesMerge {S A : Type 0} (g : Ghosts S) (parts : List Part) (before after : Machine) (old new : Held S)
     (result : Result A StoreFault) : Type 0 where
   pub ok : HasCleanDisk (state g new)
       → OnOk result ((whole : Machine) (sources : List ℕ) → StandsFor whole (state g old).now → IsMergeIn whole sources parts before after
       → Becomes (step whole (Merge sources parts)).1 (state g old) (state g new))
   pub cause : HasCleanDisk (state g new) → IsTrue old.in_transaction → (machine : Machine) → StandsFor machine (state g old).now
-      → IfErr result (StopsWith g (CannotBeWritten after) old new)
+      → IfErr result (StopsWith g (IsWriteOfMerge before after) (CannotBeWritten after) old new)
   pub err : HasCleanDisk (state g new) → (first now : Machine) → IsUnderWay first now (state g old) → OnErr result (IsLeftOrBack g first new)
   pub survives : Survives (state g old) (state g new) (λ _. IsNoOffice g old)

@@ -6,26 +6,25 @@ use Rattle.sqlite.specs.Effect.{Database}
 use Rattle.sqlite.specs.Held.{Held, state}
 use Rattle.sqlite.specs.State.{State, HasCleanDisk, IsUnchanged, Survives}
 use Rattle.wb_sql.specs.Transactions.{IsKeptOrUndone}
-use Rattle.wb_schema.specs.Statements as sql
 use Rattle.wb_schema.specs.Among.{HasOffice, LacksOffice, rows_in}
-use Rattle.wb_schema.specs.Tables.{arch, builder, office, scratch_binary, scratch_source, source_record}
+use Rattle.wb_schema.specs.Tables.{scratch_binary, scratch_source}
 use Rattle.wb_states.specs.declared.arch.OsCpu.{OsCpu}
 use Rattle.wb_states.specs.declared.counts.Counts.{Counts}
 use Rattle.wb_states.specs.declared.store_fault.StoreFault.{StoreFault}
 use Rattle.wb_states.specs.declared.store_fault.StoreFault.TheVariants.{Damaged, Memory, NotOffice}
-use Rattle.wb_states.specs.declared.store_fault.Table.{Table}
-use Rattle.wb_states.specs.declared.store_fault.Table.TheVariants.{Office, Arch, Builder, SourceRecord, ScratchSource, ScratchBinary}
+use Rattle.wb_states.specs.declared.store_fault.Table.TheVariants.{Office, Arch, Builder}
 use Rattle.wb_states.specs.Machine.{Key, Machine, IsConsistent, empty_office}
 use Rattle.wb_rows.specs.Cells.{arch_cells, builder_cells}
 use Rattle.wb_tables.specs.Calls.{FailsToRead}
 use Rattle.wb_tables.specs.Faults.{fault_of}
 use Rattle.wb_tables.specs.Opening.{AreBadCounts, AreBadRecords, AreBadRows, FailsToTest, HasGoodRows, HoldsArchs, HoldsBuilders, HoldsCounts, IsFormedArch, IsFormedBuilder, ShowsGood}
+use Rattle.wb_tables.specs.Queries as ask
+use Rattle.wb_tables.specs.Queries.{OfficeQuery, table_asked, table_of}
 use Rattle.wb_tables.specs.Scratch.{has_rows}
 use Rattle.wb_tables.specs.Settled.{IsBackAt, IsSettled}
 use Rattle.wb_tables.specs.Stands.{StandsFor}
-use Rattle.wb_tables.specs.Texts.{table_of}
 use Rattle.wb_durable.specs.Finds.{StaysAs}
-use Rattle.wb_durable.specs.Preparing.{FailsToMake, IsFoundAt, LeavesFound}
+use Rattle.wb_durable.specs.Preparing.{FailsToMake, IsBlank, IsFoundAt, LeavesFound}
 
 -- these counts are those of the state
 abbrev pub AreCountsOf : Machine → Counts → Type 0
@@ -33,15 +32,15 @@ AreCountsOf machine counts = (counts.handed ≡ machine.handed) × (counts.accep
 
 -- the office's row in a database is good, with these counts
 abbrev pub ShowsCounts : Database → Counts → Type 0
-ShowsCounts db counts = ShowsGood office sql.office_counts db (λ rows. HoldsCounts rows counts)
+ShowsCounts db counts = ShowsGood ask.Office db (λ rows. HoldsCounts rows counts)
 
 -- the rows of the architectures in a database are good, and the architectures are these
 abbrev pub ShowsArchs : Database → List (List ℕ × OsCpu) → Type 0
-ShowsArchs db archs = ShowsGood arch sql.all_archs db (λ rows. HoldsArchs rows archs)
+ShowsArchs db archs = ShowsGood ask.Archs db (λ rows. HoldsArchs rows archs)
 
 -- the rows of the builders in a database are good beside these architectures, and the builders are these
 abbrev pub ShowsBuilders : Database → List (List ℕ × OsCpu) → List Key → Type 0
-ShowsBuilders db archs builders = ShowsGood builder sql.all_builders db (λ rows. HoldsBuilders archs rows builders)
+ShowsBuilders db archs builders = ShowsGood ask.Builders db (λ rows. HoldsBuilders archs rows builders)
 
 -- the rows of the office's tables are good, with these counts
 abbrev pub HasGoodRowsWith : Database → Counts → Type 0
@@ -55,36 +54,36 @@ HasNoScratchRows db = (rows_in db scratch_source ≡ []) × (rows_in db scratch_
 abbrev pub FailsOnArchs : State → State → StoreFault → Type 0
 FailsOnArchs old new fault =
     (counts : Counts) × ShowsCounts old.now counts
-    × FailsToTest arch sql.all_archs Arch (AreBadRows Arch arch_cells IsFormedArch) old new fault
+    × FailsToTest ask.Archs (AreBadRows Arch arch_cells IsFormedArch) old new fault
 
 -- the test of the builders fails, after good rows of the office and of the architectures
 abbrev pub FailsOnBuilders : State → State → StoreFault → Type 0
 FailsOnBuilders old new fault =
     (counts : Counts) × (archs : List (List ℕ × OsCpu)) × ShowsCounts old.now counts × ShowsArchs old.now archs
-    × FailsToTest builder sql.all_builders Builder (AreBadRows Builder builder_cells (IsFormedBuilder archs)) old new fault
+    × FailsToTest ask.Builders (AreBadRows Builder builder_cells (IsFormedBuilder archs)) old new fault
 
 -- the test of the records fails, after good rows of all the other tables
 abbrev pub FailsOnRecords : State → State → StoreFault → Type 0
 FailsOnRecords old new fault =
     (counts : Counts) × (archs : List (List ℕ × OsCpu)) × (builders : List Key)
     × ShowsCounts old.now counts × ShowsArchs old.now archs × ShowsBuilders old.now archs builders
-    × FailsToTest source_record sql.all_records SourceRecord (AreBadRecords archs builders counts.handed) old new fault
+    × FailsToTest ask.Records (AreBadRecords archs builders counts.handed) old new fault
 
 -- why the tests of the rows fail: the first of the four that fails, after good rows of the tables before it
 abbrev pub FailsOnRows : State → State → StoreFault → Type 0
 FailsOnRows old new fault =
-    FailsToTest office sql.office_counts Office AreBadCounts old new fault
+    FailsToTest ask.Office AreBadCounts old new fault
     ⊎ (FailsOnArchs old new fault ⊎ (FailsOnBuilders old new fault ⊎ FailsOnRecords old new fault))
 
--- why the test of a scratch table fails: its query failed; or it has a row, of which the first is damaged, and nothing is changed
-abbrev pub FailsOnScratchOf : Table → State → State → StoreFault → Type 0
-FailsOnScratchOf table old new fault =
-    FailsToRead table old new fault ⊎ ((fault ≡ Damaged table 1) × IsTrue (has_rows table old.now) × IsUnchanged old new)
+-- why the test of a scratch table fails, which is by this query: the query failed; or the table has a row, of which the first is damaged, and nothing is changed
+abbrev pub FailsOnScratchOf : OfficeQuery → State → State → StoreFault → Type 0
+FailsOnScratchOf query old new fault =
+    FailsToRead query old new fault ⊎ ((fault ≡ Damaged (table_asked query) 1) × IsTrue (has_rows (table_asked query) old.now) × IsUnchanged old new)
 
 -- why the tests of the scratch tables fail: that of the source packages does, or, if that table has no row, that of the binary packages
 abbrev pub FailsOnScratch : State → State → StoreFault → Type 0
 FailsOnScratch old new fault =
-    FailsOnScratchOf ScratchSource old new fault ⊎ ((rows_in old.now scratch_source ≡ []) × FailsOnScratchOf ScratchBinary old new fault)
+    FailsOnScratchOf ask.OneSource old new fault ⊎ ((rows_in old.now scratch_source ≡ []) × FailsOnScratchOf ask.OneBinary old new fault)
 
 -- why the tests of an office fail: one of the rows, or, after good rows, that of the scratch tables
 abbrev pub FailsOnOffice : State → State → StoreFault → Type 0
@@ -94,9 +93,9 @@ FailsOnOffice old new fault = FailsOnRows old new fault ⊎ (HasGoodRows old.now
 abbrev pub ComesLater : {S : Type 0} → Ghosts S → (State → State → StoreFault → Type 0) → Held S → Held S → StoreFault → Type 0
 ComesLater {S} g Why old new fault = (mid : Held S) × StaysAs g old mid × Why (state g mid) (state g new) fault
 
--- the query of one of the tables failed with this fault
+-- one of the queries failed with this fault
 abbrev pub FailsToReadOne : State → State → StoreFault → Type 0
-FailsToReadOne old new fault = (table : Table) × FailsToRead table old new fault
+FailsToReadOne old new fault = (query : OfficeQuery) × FailsToRead query old new fault
 
 -- memory ran out, or a query failed, after tests that left the database as it was
 abbrev pub LacksMemoryOrQuery : {S : Type 0} → Ghosts S → Held S → Held S → StoreFault → Type 0
@@ -120,9 +119,9 @@ pub record ChecksWith {S A : Type 0} (g : Ghosts S) (Given : Machine → Type 0)
 abbrev pub ChecksRows : {S : Type 0} → Ghosts S → Held S → Held S → Result Counts StoreFault → Type 0
 ChecksRows g = ChecksWith g (λ _. ⊤) HasGoodRowsWith AreCountsOf FailsOnRows
 
--- the test of one scratch table
-abbrev pub ChecksScratchOf : {S A : Type 0} → Ghosts S → Table → Held S → Held S → Result A StoreFault → Type 0
-ChecksScratchOf g table = ChecksWith g (λ _. ⊤) (λ db _. rows_in db (table_of table) ≡ []) (λ _ _. ⊤) (FailsOnScratchOf table)
+-- the test of one scratch table, by this query
+abbrev pub ChecksScratchOf : {S A : Type 0} → Ghosts S → OfficeQuery → Held S → Held S → Result A StoreFault → Type 0
+ChecksScratchOf g query = ChecksWith g (λ _. ⊤) (λ db _. rows_in db (table_of (table_asked query)) ≡ []) (λ _ _. ⊤) (FailsOnScratchOf query)
 
 -- the tests of the scratch tables
 abbrev pub ChecksScratch : {S A : Type 0} → Ghosts S → Held S → Held S → Result A StoreFault → Type 0
@@ -141,13 +140,17 @@ pub record Checks {S : Type 0} (g : Ghosts S) (old new : Held S) (result : Resul
   pub refuses : HasCleanDisk (state g new) → HasOffice old.schema → IfErr result (ComesLater g FailsOnOffice old new)
   pub survives : Survives (state g old) (state g new) (λ _. ¬ HasOffice old.schema)
 
--- no office is made: a statement or the commit failed, which is the fault of the office's table
+-- no office is made in a database that lacks it: a statement or the commit failed, which is the fault of the office's table
 abbrev pub IsFaultOfMaking : {S : Type 0} → Ghosts S → Held S → StoreFault → Type 0
-IsFaultOfMaking g new fault = (e : Error) × FailsToMake g new e × (fault ≡ fault_of e Office)
+IsFaultOfMaking g old fault = IsBlank (state g old) × ((e : Error) × FailsToMake g old e × (fault ≡ fault_of e Office))
+
+-- an empty office was made in a database that lacked it, under the step limit that there was
+abbrev pub IsMadeAt : {S : Type 0} → Ghosts S → Held S → Held S → Type 0
+IsMadeAt g old at = IsBlank (state g old) × IsSettled empty_office (state g at) × ((state g at).step_limit ≡ (state g old).step_limit)
 
 -- the tests of the office that was there, or of the one that was made, fail because memory ran out or a query failed
 abbrev pub LacksAfter : {S : Type 0} → Ghosts S → Held S → Held S → StoreFault → Type 0
-LacksAfter {S} g old new fault = (at : Held S) × ((old ≡ at) ⊎ IsSettled empty_office (state g at)) × LacksMemoryOrQuery g at new fault
+LacksAfter {S} g old new fault = (at : Held S) × ((old ≡ at) ⊎ IsMadeAt g old at) × LacksMemoryOrQuery g at new fault
 
 -- an office is found, or made in a database that lacks it, each perhaps beside tables of others: if that succeeds, it is settled at its state, with its
 -- counts; whatever it answers, a crash leaves that state; it fails only if it could not be made, or if memory ran out or a query failed; an office
@@ -159,7 +162,7 @@ pub record FindsOffice {S : Type 0} (g : Ghosts S) (old new : Held S) (result : 
       → IfOk result (λ counts. AreCountsOf machine counts × IsSettled machine (state g new))
   pub left : HasCleanDisk (state g new) → (machine : Machine) → IsConsistent machine → IsFoundAt machine (state g old) → LeavesFound machine (state g new)
   pub fails : HasCleanDisk (state g new) → (machine : Machine) → IsConsistent machine → IsFoundAt machine (state g old)
-      → IfErr result (λ fault. IsFaultOfMaking g new fault ⊎ LacksAfter g old new fault)
+      → IfErr result (λ fault. IsFaultOfMaking g old fault ⊎ LacksAfter g old new fault)
   pub good : HasCleanDisk (state g new) → HasOffice old.schema
       → IfOk result (λ counts. HasGoodRowsWith (state g old).now counts × HasNoScratchRows (state g old).now × StaysAs g old new)
   pub refuses : HasCleanDisk (state g new) → HasOffice old.schema → IfErr result (ComesLater g FailsOnOffice old new)

@@ -10,8 +10,9 @@ use Rattle.sqlite.specs.Held.{Held, state}
 use Rattle.sqlite.specs.State.{State, HasCleanDisk}
 use Rattle.wb_sql.specs.Transactions.{LeavesAlone, FailsToCommit}
 use Rattle.wb_schema.specs.Among.{LacksOffice}
-use Rattle.wb_schema.specs.Making.{FailsAt}
+use Rattle.wb_schema.specs.Making.{FailsAt, MakesOffice}
 use Rattle.wb_states.specs.Machine.{Machine, empty_office}
+use Rattle.wb_durable.specs.Carried.{begun}
 use Rattle.wb_tables.specs.Settled.{StandsForTrees, IsSettled}
 
 -- a connection without a transaction, whose database lacks the office's tables, and of which a crash leaves only that
@@ -41,17 +42,18 @@ IsFoundAt machine s = IsSettled machine s ⊎ ((machine ≡ empty_office) × IsB
 abbrev pub LeavesFound : Machine → State → Type 0
 LeavesFound machine s = (db : Trees) → s.may_leave db → HoldOffice machine db
 
--- why an office is not made: a statement failed, or the commit
+-- why an office is not made in the transaction that began: a statement of the making failed, or, after all of them, the commit
 abbrev pub FailsToMake : {S : Type 0} → Ghosts S → Held S → Error → Type 0
-FailsToMake {S} g new e = (at : Held S) × (FailsAt g at e ⊎ FailsToCommit g at e)
+FailsToMake {S} g old e = (at : Held S) × (FailsAt g (begun old) at e ⊎ (MakesOffice old.schema (state g (begun old)) (state g at) × FailsToCommit g at e))
 
 -- an empty office is settled, and the tables that were there before keep their rows
 abbrev pub IsMadeFrom : State → State → Type 0
 IsMadeFrom old new = IsSettled empty_office new × KeepsRows old.now.schema.tables old.now.trees new.now.trees
 
--- an empty office is made in a database that lacks its tables, whole or not at all, also after a crash
+-- an empty office is made in a database that lacks its tables, whole or not at all, also after a crash; the limit of steps stays
 pub record MakesEmptyOffice {S A : Type 0} (g : Ghosts S) (old new : Held S) (result : Result A Error) : Type 0 where
   pub was_clean : HasCleanDisk (state g new) → HasCleanDisk (state g old)
+  pub limit : (state g new).step_limit ≡ (state g old).step_limit
   pub made : HasCleanDisk (state g new) → IsBlank (state g old) → OnOk result (IsMadeFrom (state g old) (state g new))
   pub left : HasCleanDisk (state g new) → IsBlank (state g old) → LeavesFound empty_office (state g new)
-  pub err : HasCleanDisk (state g new) → IfErr result (FailsToMake g new)
+  pub err : HasCleanDisk (state g new) → IsBlank (state g old) → IfErr result (FailsToMake g old)

@@ -7,7 +7,8 @@ ghost use Rattle.wb_states.specs.declared.store_fault.StoreFault.TheVariants.{Me
 ghost use Rattle.wb_states.specs.declared.store_fault.Table.TheVariants.{Office, SourceRecord};
 ghost use Rattle.wb_office.specs.Locality.{with_entry};
 ghost use Rattle.wb_tables.specs.Faults.{IsUnfit};
-ghost use Rattle.wb_durable.specs.Changed.{ChangesBy, IsStepOf, IsThere, Writes};
+ghost use Rattle.wb_tables.specs.Writes as write;
+ghost use Rattle.wb_durable.specs.Changed.{ChangesBy, IsStepOf, IsThere, IsWriteOf, IsWriteOfRecord, Writes};
 ghost use Rattle.wb_durable.specs.Changed.{before_counts, found_at};
 ghost use Rattle.wb_durable.specs.Changed.{HasFittingCounts, HasFittingTake, HasFittingTakeAt, LacksFittingNumbers};
 
@@ -60,7 +61,7 @@ fn write_subject<S: Alter>(
     after: &Store,
 ) -> Result<(), StoreFault>
     ensures same_reference { writing.new.conn.ghost_name ≡ writing.old.conn.ghost_name }
-    ensures writes { Writes S.Store (LacksFittingNumbers after.now key.now)
+    ensures writes { Writes S.Store (IsWriteOf command.now key.now after.now) (LacksFittingNumbers after.now key.now)
         (λ whole. IsStepOf whole command.now key.now after.now) (before_counts command.now)
         writing.old.conn.now writing.new.conn.now result }
 {
@@ -85,7 +86,9 @@ fn write_arch<S: Alter>(
     command: &command::AddArch,
 ) -> Result<(), StoreFault>
     ensures same_reference { writing.new.conn.ghost_name ≡ writing.old.conn.ghost_name }
-    ensures writes { Writes S.Store (λ fault. fault ≡ Memory)
+    ensures writes { Writes S.Store
+        (λ it. it ≡ write.AddsArch (command.now.name, record { os = command.now.os; cpu = command.now.cpu }))
+        (λ fault. fault ≡ Memory)
         (λ machine. map.get machine.archs command.now.name ≡ None)
         (λ machine. record machine {
           archs = map.insert machine.archs command.now.name
@@ -111,6 +114,7 @@ fn write_record<S: Alter>(
 ) -> Result<(), StoreFault>
     ensures same_reference { writing.new.conn.ghost_name ≡ writing.old.conn.ghost_name }
     ensures writes { Writes S.Store
+        (IsWriteOfRecord is_new (found_at after.now (Some (arch.now, source.now))))
         (IsUnfit SourceRecord (HasFittingTakeAt after.now (Some (arch.now, source.now))))
         (λ machine. is_new ≡ false → IsThere machine (found_at after.now (Some (arch.now, source.now))))
         (λ machine. record machine {

@@ -4,6 +4,7 @@ ghost use Rattle.wb_states.specs.declared.store_fault.StoreFault.TheVariants.{Me
 ghost use Rattle.wb_store.specs.Lookups.{entry_of};
 ghost use Rattle.wb_durable.specs.MergeCarried.{CarriesMerge};
 ghost use Rattle.wb_durable.specs.MergeWritten.{CannotBeWritten, HasTakeOverLimit, WritesMerge};
+ghost use Rattle.wb_durable.specs.MergeWritten.{IsWriteOfMerge, PutsOne, RemovesOne};
 ghost use Rattle.wb_durable.specs.MergeWritten.{entries_changed, entries_gone, is_different};
 ghost use Rattle.wb_durable.specs.MergeWritten.{with_arch, with_rows, without_rows};
 ghost use Rattle.wb_durable.specs.Turns.{ChangesInTurn};
@@ -76,7 +77,7 @@ fn remove_all<S: Alter>(
     rows: &[KeyedRecord],
 ) -> Result<(), StoreFault>
     ensures same_reference { writing.new.conn.ghost_name ≡ writing.old.conn.ghost_name }
-    ensures changes { ChangesInTurn S.Store (λ _. ⊥)
+    ensures changes { ChangesInTurn S.Store (RemovesOne (each entry_of rows.now)) (λ _. ⊥)
         (λ machine. record machine { records = without_rows machine.records (each entry_of rows.now) })
         writing.old.conn.now writing.new.conn.now result }
 {
@@ -90,7 +91,7 @@ fn remove_all<S: Alter>(
 /// with row 0 of the records at one whose take number is above the limit.
 fn put_all<S: Alter>(writing: &mut Writing<'_, S>, rows: &[KeyedRecord]) -> Result<(), StoreFault>
     ensures same_reference { writing.new.conn.ghost_name ≡ writing.old.conn.ghost_name }
-    ensures changes { ChangesInTurn S.Store (HasTakeOverLimit (each entry_of rows.now))
+    ensures changes { ChangesInTurn S.Store (PutsOne (each entry_of rows.now)) (HasTakeOverLimit (each entry_of rows.now))
         (λ machine. record machine { records = with_rows machine.records (each entry_of rows.now) })
         writing.old.conn.now writing.new.conn.now result }
 {
@@ -113,7 +114,7 @@ fn write_arch<S: Alter>(
     after: &Store,
 ) -> Result<(), StoreFault>
     ensures same_reference { writing.new.conn.ghost_name ≡ writing.old.conn.ghost_name }
-    ensures changes { ChangesInTurn S.Store (CannotBeWritten after.now)
+    ensures changes { ChangesInTurn S.Store (IsWriteOfMerge before.now after.now) (CannotBeWritten after.now)
         (λ machine. record machine { records = with_arch before.now after.now arch.now machine.records })
         writing.old.conn.now writing.new.conn.now result }
 {

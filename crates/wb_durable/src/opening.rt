@@ -1,7 +1,6 @@
 //! What an opening tests of the tables of an office, in one call; and how an office is found in them, or made.
 ghost use Rattle.std.specs.Prelude.{◌≡◌, false};
-ghost use Rattle.wb_states.specs.declared.store_fault.Table.TheVariants.{ScratchBinary, ScratchSource};
-ghost use Rattle.wb_durable.specs.Opening.{Checks, ChecksRows, ChecksScratch, ChecksScratchOf, FindsOffice};
+ghost use Rattle.wb_durable.specs.Opening.{Checks, ChecksRows, ChecksScratch, FindsOffice};
 
 use crate::preparing::make_office;
 use sqlite::{Alter, Connection};
@@ -63,34 +62,17 @@ fn check_rows<S: Alter>(conn: &mut Connection<S>) -> Result<Counts, StoreFault>
 fn check_scratch<S: Alter>(conn: &mut Connection<S>) -> Result<(), StoreFault>
     ensures checks { ChecksScratch S.Store conn.old conn.new result }
 {
-    check_scratch_sources(conn)?;
-    check_scratch_binaries(conn)
-}
-
-/// Tests that the scratch table of source packages has no row.
-fn check_scratch_sources<S: Alter>(conn: &mut Connection<S>) -> Result<(), StoreFault>
-    ensures checks { ChecksScratchOf S.Store ScratchSource conn.old conn.new result }
-{
-    match has_scratch_sources(conn) {
-        Ok(false) => Ok(()),
-        Ok(true) => Err(StoreFault::Damaged {
+    if has_scratch_sources(conn)? {
+        return Err(StoreFault::Damaged {
             table: Table::ScratchSource,
             row: 1,
-        }),
-        Err(fault) => Err(fault),
+        });
     }
-}
-
-/// Tests that the scratch table of binary packages has no row.
-fn check_scratch_binaries<S: Alter>(conn: &mut Connection<S>) -> Result<(), StoreFault>
-    ensures checks { ChecksScratchOf S.Store ScratchBinary conn.old conn.new result }
-{
-    match has_scratch_binaries(conn) {
-        Ok(false) => Ok(()),
-        Ok(true) => Err(StoreFault::Damaged {
+    if has_scratch_binaries(conn)? {
+        return Err(StoreFault::Damaged {
             table: Table::ScratchBinary,
             row: 1,
-        }),
-        Err(fault) => Err(fault),
+        });
     }
+    Ok(())
 }

@@ -1,5 +1,6 @@
 -- The office's texts over a schema that may have tables, indexes and views of others.
-use Rattle.std.proofs.Common.{◌≡◌, refl, sym, subst, ap, ◌∙◌, ◌&&◌, ℕ, negsuc, List, [], ◌∷◌, map, Ok, Some, true, false}
+use Rattle.std.proofs.Common.{◌≡◌, refl, sym, subst, ap, ◌∙◌, ◌&&◌, ℕ, nat_le, negsuc, List, [], ◌∷◌, length, map, Ok, Some, true, false}
+use Rattle.std.proofs.lemmas.Bool.{leb-true}
 use Rattle.sqlite.specs.Schema.{Schema}
 use Rattle.sqlite.specs.Table.{Table}
 use Rattle.sqlite.specs.Term.{Term, lit}
@@ -23,7 +24,7 @@ use Rattle.sqlite_ast.specs.declared.Select.{Select}
 use Rattle.sqlite_ast.specs.declared.Statement.TheVariants as written
 use Rattle.wb_sql.specs.Queries.{TableQuery, query_of, rowids_where}
 use Rattle.wb_sql.specs.Changes.{IsPlainTable, IsOneRow, never_acts_on}
-use Rattle.wb_sql.specs.Statements.{Means, command_in}
+use Rattle.wb_sql.specs.Statements.{Means, IsWhole, command_in, parameters_in}
 use Rattle.wb_schema.specs.Among.{table_at, query_at, HasTable, AsksAmong, InsertsAmong, ReplacesAmong, DeletesAmong}
 use Rattle.wb_schema.proofs.SelectForm.{parsed, where_of}
 use Rattle.wb_schema.proofs.ShownLemmas.{outputs_after}
@@ -31,15 +32,18 @@ use Rattle.wb_schema.proofs.CompiledLemmas.{compiled_of, compiled_is, understood
 use Rattle.wb_schema.proofs.SelectLemmas.{Test, AreTests, IsSelect, IsTyped, asked, asked_is, suffices_for, term_of, test_of}
 use Rattle.wb_schema.proofs.ChangeLemmas.{base_of, rowids, change_is, insert_timed, insert_returns, insert_is, replace_is, delete_is, delete_returns, delete_timed}
 
--- a text that was compiled to a command, without RETURNING and without the time, means that command
-pub means_is : (schema : Schema) (sql : List ℕ) (c : Command) (names : List (List ℕ)) (start stop tail : ℕ) → understood schema sql ≡ Ok (compiled_of c names start stop tail) → Means schema sql c
-means_is schema sql c names start stop tail is = record {
+-- a text that was compiled to a command, with these parameters and nothing after it, without RETURNING and without the time, means that command
+pub means_is : (schema : Schema) (sql : List ℕ) (c : Command) (names : List (List ℕ)) (start stop tail : ℕ) {count : ℕ} → nat_le (length sql) tail ≡ true → length names ≡ count
+    → understood schema sql ≡ Ok (compiled_of c names start stop tail) → Means schema sql c count
+means_is schema sql c names start stop tail {count} ends counted is = record {
   is = ap command_in is;
   plain = subst IsPlain (sym is) (refl, refl);
+  whole = subst (IsWhole sql) (sym is) (leb-true (length sql) tail ends);
+  counted = ap parameters_in is ∙ counted;
 }
 
--- the text is a SELECT of these columns of the table, with these tests, in this order and with this limit, which is what the query asks
-pub record IsQuery (table : Table) (sql : List ℕ) (q : TableQuery) : Type 0 where
+-- the text, which has so many parameters, is a SELECT of these columns of the table, with these tests, in this order and with this limit, which is what the query asks
+pub record IsQuery (table : Table) (sql : List ℕ) (q : TableQuery) (count : ℕ) : Type 0 where
   pub columns : List (ℕ × Column)
   pub tests : List Test
   pub order : List (ℕ × Column)
@@ -49,12 +53,14 @@ pub record IsQuery (table : Table) (sql : List ℕ) (q : TableQuery) : Type 0 wh
   pub start : ℕ
   pub stop : ℕ
   pub tail : ℕ
+  pub ends : nat_le (length sql) tail ≡ true
+  pub counted : length names ≡ count
   pub first_is : first sql ≡ Ok (parsed (written.Select statement) names start stop tail)
   pub select_is : (tree : ℕ) → IsSelect (table_at tree table) statement columns tests order limit
   pub typed : (tree : ℕ) → IsTyped (table_at tree table) columns tests order limit
   pub asks : (tree : ℕ) → drafted (asked (table_at tree table) columns tests order limit) ≡ query_of (query_at tree q)
 
-pub asks_among : (table : Table) (sql : List ℕ) (q : TableQuery) → IsQuery table sql q → AsksAmong table sql q
+pub asks_among : (table : Table) (sql : List ℕ) (q : TableQuery) {count : ℕ} → IsQuery table sql q count → AsksAmong table sql q count
 asks_among table sql q is schema tree has =
     let shown : List (List ℕ) = map (λ o. o.name) (outputs_after (table_at tree table) [] is.columns) in
     let c : Command = does.Select (record { lets = []; body = query_of (query_at tree q) }) shown in
@@ -65,7 +71,7 @@ asks_among table sql q is schema tree has =
     compiled_is schema sql is.statement is.names is.start is.stop is.tail c is.first_is reads in
     record {
       names = shown;
-      means = means_is schema sql c is.names is.start is.stop is.tail (understood_is schema sql (compiled_of c is.names is.start is.stop is.tail) all);
+      means = means_is schema sql c is.names is.start is.stop is.tail is.ends is.counted (understood_is schema sql (compiled_of c is.names is.start is.stop is.tail) all);
       unlisted = unlisted_is schema sql (compiled_of c is.names is.start is.stop is.tail) all;
       stored = has.stored;
     }
@@ -76,8 +82,8 @@ pub record IsStill (table : Table) : Type 0 where
   pub unstamped : table.stamps.terms ≡ []
   pub untimed : table.stamps.formats ≡ []
 
--- the text is an INSERT of one row into the table, which does this where a row with its key is there
-pub record IsInsert (way : Conflict) (table : Table) (sql : List ℕ) (terms : List Term) : Type 0 where
+-- the text, which has so many parameters, is an INSERT of one row into the table, which does this where a row with its key is there
+pub record IsInsert (way : Conflict) (table : Table) (sql : List ℕ) (terms : List Term) (count : ℕ) : Type 0 where
   pub width : ℕ
   pub columns : List (List ℕ)
   pub rows : Rows
@@ -85,18 +91,22 @@ pub record IsInsert (way : Conflict) (table : Table) (sql : List ℕ) (terms : L
   pub start : ℕ
   pub stop : ℕ
   pub tail : ℕ
+  pub ends : nat_le (length sql) tail ≡ true
+  pub counted : length names ≡ count
   pub first_is : first sql ≡ Ok (parsed (written.Insert way table.name columns rows [] []) names start stop tail)
   pub rows_are : (schema : Schema) (tree : ℕ) → new_rows schema (table_at tree table) (base_of names) columns rows ≡ Ok (Values terms width)
   pub one_row : IsOneRow terms width
   pub still : IsStill table
 
--- the text is a DELETE of the rows of the table that pass these tests
-pub record IsDelete (table : Table) (sql : List ℕ) (terms : List Term) : Type 0 where
+-- the text, which has so many parameters, is a DELETE of the rows of the table that pass these tests
+pub record IsDelete (table : Table) (sql : List ℕ) (terms : List Term) (count : ℕ) : Type 0 where
   pub tests : List Test
   pub names : List (List ℕ)
   pub start : ℕ
   pub stop : ℕ
   pub tail : ℕ
+  pub ends : nat_le (length sql) tail ≡ true
+  pub counted : length names ≡ count
   pub first_is : first sql ≡ Ok (parsed (written.Delete table.name (where_of (map test_of tests)) []) names start stop tail)
   pub tests_are : (tree : ℕ) → AreTests (table_at tree table) tests
   pub small : suffices_for max_budget tests ≡ true
@@ -108,7 +118,7 @@ pub record IsDelete (table : Table) (sql : List ℕ) (terms : List Term) : Type 
 pub plain_table : (schema : Schema) (table : Table) (tree : ℕ) (has : HasTable schema (table_at tree table)) → never_acts_on schema tree ≡ true → IsStill table → IsPlainTable schema has.at (table_at tree table)
 plain_table schema table tree has quiet still = record { listed = has.listed; uncounted = still.uncounted; unstamped = still.unstamped; quiet = quiet }
 
-pub inserts_among : (table : Table) (sql : List ℕ) (terms : List Term) → IsInsert conflict.Abort table sql terms → InsertsAmong table sql terms
+pub inserts_among : (table : Table) (sql : List ℕ) (terms : List Term) {count : ℕ} → IsInsert conflict.Abort table sql terms count → InsertsAmong table sql terms count
 inserts_among table sql terms is schema tree has quiet =
     let c : Command = does.Insert has.at (Values terms is.width) in
     let all : compiled schema sql ≡ Ok (compiled_of c is.names is.start is.stop is.tail) =
@@ -121,10 +131,10 @@ inserts_among table sql terms is schema tree has quiet =
       width = is.width;
       table_is = plain_table schema table tree has quiet is.still;
       one_row = is.one_row;
-      means = means_is schema sql c is.names is.start is.stop is.tail (understood_is schema sql (compiled_of c is.names is.start is.stop is.tail) all);
+      means = means_is schema sql c is.names is.start is.stop is.tail is.ends is.counted (understood_is schema sql (compiled_of c is.names is.start is.stop is.tail) all);
     }
 
-pub replaces_among : (table : Table) (sql : List ℕ) (terms : List Term) → IsInsert conflict.Replace table sql terms → ReplacesAmong table sql terms
+pub replaces_among : (table : Table) (sql : List ℕ) (terms : List Term) {count : ℕ} → IsInsert conflict.Replace table sql terms count → ReplacesAmong table sql terms count
 replaces_among table sql terms is schema tree has quiet =
     let c : Command = does.InsertOr has.at how.Replace (Values terms is.width) [] in
     let all : compiled schema sql ≡ Ok (compiled_of c is.names is.start is.stop is.tail) =
@@ -137,10 +147,10 @@ replaces_among table sql terms is schema tree has quiet =
       width = is.width;
       table_is = plain_table schema table tree has quiet is.still;
       one_row = is.one_row;
-      means = means_is schema sql c is.names is.start is.stop is.tail (understood_is schema sql (compiled_of c is.names is.start is.stop is.tail) all);
+      means = means_is schema sql c is.names is.start is.stop is.tail is.ends is.counted (understood_is schema sql (compiled_of c is.names is.start is.stop is.tail) all);
     }
 
-pub deletes_among : (table : Table) (sql : List ℕ) (terms : List Term) → IsDelete table sql terms → DeletesAmong table sql terms
+pub deletes_among : (table : Table) (sql : List ℕ) (terms : List Term) {count : ℕ} → IsDelete table sql terms count → DeletesAmong table sql terms count
 deletes_among table sql terms is schema tree has quiet =
     let c : Command = does.Delete has.at (record { lets = []; body = query_of (rowids_where tree terms) }) in
     let deletes : command schema [] (base_of is.names) (written.Delete table.name (where_of (map test_of is.tests)) []) ≡ Ok c =
@@ -156,5 +166,5 @@ deletes_among table sql terms is schema tree has quiet =
       at = has.at;
       table_is = plain_table schema table tree has quiet is.still;
       stored = has.stored;
-      means = means_is schema sql c is.names is.start is.stop is.tail (understood_is schema sql (compiled_of c is.names is.start is.stop is.tail) all);
+      means = means_is schema sql c is.names is.start is.stop is.tail is.ends is.counted (understood_is schema sql (compiled_of c is.names is.start is.stop is.tail) all);
     }

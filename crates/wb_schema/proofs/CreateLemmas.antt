@@ -1,5 +1,5 @@
 -- The CREATE texts of the office over a schema that may have tables, indexes and views of others.
-use Rattle.std.proofs.Common.{◌≡◌, refl, sym, subst, ap, ◌∙◌, ℕ, zero, suc, ◌+◌, ◌==◌, Bool, true, false, not, ◌&&◌, ◌||◌, cond}
+use Rattle.std.proofs.Common.{◌≡◌, refl, sym, subst, ap, ◌∙◌, ℕ, zero, suc, ◌+◌, ◌==◌, nat_le, Bool, true, false, not, ◌&&◌, ◌||◌, cond}
 use Rattle.std.proofs.Common.{List, [], ◌∷◌, ◌++◌, length, codes, slice_get, slice_range, Option, None, Some, is_some, option_and_then, Ok}
 use Rattle.std.specs.List.{position_from, list_any}
 use Rattle.std.proofs.lemmas.List.Folds.{list_any-append}
@@ -64,6 +64,7 @@ pub record IsCreateTable (table : Table) (sql : List ℕ) : Type 0 where
   pub start : ℕ
   pub stop : ℕ
   pub tail : ℕ
+  pub ends : nat_le (length sql) tail ≡ true
   pub first_is : compile.first sql ≡ Ok (parsed (written.CreateTable def) [] start stop tail)
   pub name_is : def.name ≡ table.name
   pub own : compile.is_reserved def.name ≡ false
@@ -78,6 +79,7 @@ pub record IsCreateIndex (table : Table) (index : Index) (sql : List ℕ) : Type
   pub start : ℕ
   pub stop : ℕ
   pub tail : ℕ
+  pub ends : nat_le (length sql) tail ≡ true
   pub first_is : compile.first sql ≡ Ok (parsed (written.CreateIndex def) [] start stop tail)
   pub on : def.table ≡ table.name
   pub name_is : def.name ≡ index.name
@@ -179,7 +181,7 @@ table_among table sql is schema free fine =
     let made = table_made schema is.def (table_at 0 table) unused is.own is.defined is.plain in
     let all = table_understood schema sql is.def is.start is.stop is.tail is.first_is made in
     record {
-      means = means_is schema sql does.CreateTable [] is.start is.stop is.tail all;
+      means = means_is schema sql does.CreateTable [] is.start is.stop is.tail is.ends refl all;
       alone = alone_is schema sql does.CreateTable is.start is.stop is.tail all is.alone;
       defines = table_defined sql is.def (table_at 0 table) is.start is.stop is.tail is.first_is is.defined;
       uncounted = still_uncounted schema (table_at 0 table) fine is.uncounted;
@@ -195,13 +197,13 @@ index_among table index sql is schema tree has free =
     record {
       at = has.at;
       listed = has.listed;
-      means = means_is schema sql (does.CreateIndex has.at) [] is.start is.stop is.tail all;
+      means = means_is schema sql (does.CreateIndex has.at) [] is.start is.stop is.tail is.ends refl all;
       alone = alone_is schema sql (does.CreateIndex has.at) is.start is.stop is.tail all is.alone;
       defines = index_defined sql is.def (table_at tree table) (index_at 0 tree index) is.start is.stop is.tail is.first_is (is.defined tree);
     }
 
 -- the row of an empty office is put into the office's table, over each schema that has it
-pub first_row_among : ReplacesAmong office (codes "INSERT OR REPLACE INTO office(id, format, handed, accepted) VALUES (1, 2, 0, 0)") first_office_row
+pub first_row_among : ReplacesAmong office (codes "INSERT OR REPLACE INTO office(id, format, handed, accepted) VALUES (1, 2, 0, 0)") first_office_row 0
 unfolding compile.first everything
 first_row_among = replaces_among office _ first_office_row (record {
   width = 5;
@@ -211,6 +213,8 @@ first_row_among = replaces_among office _ first_office_row (record {
   start = 0;
   stop = 79;
   tail = 79;
+  ends = refl;
+  counted = refl;
   first_is = refl;
   rows_are = λ schema tree. refl;
   one_row = record { count = refl; all = refl };

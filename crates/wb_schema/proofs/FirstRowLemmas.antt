@@ -58,7 +58,7 @@ first_row_made base lacks numbered old new was h =
     let tree : ℕ = tree_named schema office.name in
     let stored : IsStored (old.now.trees tree) = subst IsStored (sym was.empty.0) (record { whole = refl; rising = tt }) in
     let text = first_row_among schema tree has.office_is (office_quiet schema has) in
-    let set = (h (table_in schema office) first_office_row text stored (first_row_typed tree)).0 in
+    let set = (h (table_in schema office) first_office_row 0 text stored (first_row_typed tree)).0 in
     let rest = was.empty.1 in
     let other : (t : Table) → HasTable schema (table_in schema t) → length t.columns ≢ 4 → rows_in new.now t ≡ rows_in old.now t =
     λ t there differ. other_rows old new (table_in schema office) _ t has.office_is set there differ in
@@ -94,6 +94,7 @@ first_row_makes {g} {base} {old} {new} lacks numbered =
     let tree : ℕ = tree_named schema office.name in
     statement_makes (Replaces first_row_text [])
     (replaces_writes schema first_row_text (table_in schema office) first_office_row (first_row_among schema tree has.office_is (office_quiet schema has)))
+    (inr (inr (first_row_among, has.office_is, office_quiet schema has)))
     (first_row_made base lacks numbered (state g old) (state g new))
 
 pub office_follows : (base : Schema) → Follows base.tables (MakesOffice base)

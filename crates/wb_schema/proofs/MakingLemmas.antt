@@ -1,17 +1,14 @@
 -- A CREATE in a transaction, over a database that has some of the office's tables, which have no row.
-use Rattle.std.proofs.Common.{◌≡◌, inl, inr, ℕ, true, false, List, [], ◌∷◌, ◌++◌, Result, Ok, Err, IsErr, IsErrAnd, IfErr, OnOk, refl, arith, sym, ap, subst, ◌∙◌}
+use Rattle.std.proofs.Common.{◌≡◌, inl, inr, ℕ, List, [], ◌∷◌, ◌++◌, Result, Ok, Err, IsErr, IsErrAnd, IfErr, OnOk, refl, arith, sym, ap, subst, ◌∙◌, IsTrue}
 use Rattle.std.specs.List.{AllByRecursion}
 use Rattle.sqlite_trees.specs.declared.store.Store.{Ghosts}
 use Rattle.sqlite_trees.proofs.ListLemmas.{all-slice_get}
 use Rattle.sqlite_schema.specs.declared.schema.Index.{Index}
-use Rattle.sqlite.specs.Order.{Row}
 use Rattle.sqlite.specs.Schema.{Schema}
 use Rattle.sqlite.specs.Table.{Table}
 use Rattle.sqlite.specs.Tree.{Trees}
 use Rattle.sqlite.specs.Change.{created, indexed, next_tree, KeepsRows}
 use Rattle.sqlite.specs.declared.error.Error.{Error}
-use Rattle.sqlite.specs.declared.error.Error.TheVariants.{SqliteFailure}
-use Rattle.sqlite.specs.declared.error.ErrorCode.TheVariants.{TransactionState}
 use Rattle.sqlite.specs.Held.{Held, state}
 use Rattle.sqlite.specs.State.{State, HasCleanDisk, Survives}
 use Rattle.sqlite.proofs.StateLemmas.{survives_weaker, survives_then}
@@ -21,8 +18,10 @@ use Rattle.wb_sql.specs.Definitions.{DefinesTable, DefinesIndex, CreatesTable, C
 use Rattle.wb_sql.proofs.CallLemmas.{on_ok}
 use Rattle.wb_sql.proofs.DefinitionLemmas.{defines_table_writes, defines_index_writes}
 use Rattle.wb_schema.specs.Among.{HasTable, table_at, table_in, index_at, rows_in, tree_named}
-use Rattle.wb_schema.specs.Making.{CreatesAmong, IndexesAmong, with_index, HasEmptyTables, MakesTables, FailsAt, Makes}
+use Rattle.wb_schema.specs.Making.{CreatesAmong, IndexesAmong, with_index, HasEmptyTables, MakesTables, FailsAt, Makes, IsMaking}
 use Rattle.wb_schema.proofs.AppendLemmas.{all_append, all_split, all_both}
+use Rattle.sqlite_rules.specs.Lists.{Has}
+use Rattle.wb_schema.specs.Tables.{office_schema}
 use Rattle.wb_schema.proofs.GrowthLemmas.{IsGrown, new_tree, same_tree}
 
 -- ---- rows that are kept
@@ -92,45 +91,43 @@ module _ (base from to : Schema) (tables : List Table) (sql : List ℕ) (old new
         marks = set.marks;
       }
 
-abbrev error_in : {A : Type 0} → Result A Error → Error
-error_in (Ok x) = SqliteFailure TransactionState
-error_in (Err e) = e
+-- a statement of a transaction fails as itself
+failed_at : {S A : Type 0} {g : Ghosts S} {sql : List ℕ} {old new : Held S} {r : Result A Error} → RunsStatement g sql [] old new r → IsMaking (state g old).now.schema sql → IsTrue old.in_transaction → HasCleanDisk (state g new)
+    → IfErr r (FailsAt g old new)
+failed_at {r = Ok x} ran makes inside clean = tt
+failed_at {sql = sql} {old = old} {r = Err e} ran makes inside clean = (old, sql, inside, refl, makes, (ran.err clean inside).0)
 
--- a statement of a transaction fails as itself, or finds the transaction over
-failed_at : {S A : Type 0} {g : Ghosts S} {sql : List ℕ} {params : Row} {old new : Held S} {r : Result A Error} → RunsStatement g sql params old new r → HasCleanDisk (state g new) → IfErr r (FailsAt g new)
-failed_at {r = Ok x} ran clean = tt
-failed_at {g = g} {sql = sql} {params = params} {old = old} {new = new} {r = Err e} ran clean =
-    elim old.in_transaction as (λ b. old.in_transaction ≡ b → FailsAt g new e) [
-      | true ↦ λ inside. (old, inl (sql, params, (ran.err clean inside).0))
-      | false ↦ λ over. (old, inr (over, ap error_in (ran.ended over).0, (ran.ended over).1))
-    ] refl
+-- what fails later fails under the step limit from before
+failed_later : {S A : Type 0} (g : Ghosts S) (a b c : Held S) (r : Result A Error) → (state g b).step_limit ≡ (state g a).step_limit → IfErr r (FailsAt g b c) → IfErr r (FailsAt g a c)
+failed_later g a b c (Ok x) same h = tt
+failed_later g a b c (Err e) same h = (h.0, h.1, h.2, h.3 ∙ same, h.4, h.5)
 
 module _ {S A : Type 0} {g : Ghosts S} where
   -- what a statement that writes makes of tables without a row
-  pub statement_makes : {sql : List ℕ} {params : Row} (Done : State → State → Type 0) {from : Schema} {tables : List Table} {Made : State → State → Type 0} {old new : Held S} {r : Result A Error} → IsWriting from sql
-      → (HasEmptyTables from tables (state g old) → Done (state g old) (state g new) → Made (state g old) (state g new)) → RunsStatement g sql params old new r
+  pub statement_makes : {sql : List ℕ} (Done : State → State → Type 0) {from : Schema} {tables : List Table} {Made : State → State → Type 0} {old new : Held S} {r : Result A Error} → IsWriting from sql → IsMaking from sql
+      → (HasEmptyTables from tables (state g old) → Done (state g old) (state g new) → Made (state g old) (state g new)) → RunsStatement g sql [] old new r
       → (HasCleanDisk (state g new) → OnOk r (Done (state g old) (state g new))) → Makes g from tables Made old new r
-  statement_makes {sql} Done {from} {tables} {old} {new} {r} writes makes ran ok = record {
+  statement_makes {sql} Done {from} {tables} {old} {new} {r} writes making makes ran ok = record {
     made = λ clean was. on_ok r (makes was) (ok clean);
-    err = failed_at ran;
+    err = λ clean inside was. failed_at ran (subst (λ s. IsMaking s sql) (sym was.schema_is) making) inside clean;
     survives = survives_weaker (state g old) (state g new) _ _ (λ clean db none was. none (subst (λ s. IsWriting s sql) (sym was.schema_is) writes)) ran.survives;
   }
 
   -- a CREATE TABLE
   pub table_makes : {sql : List ℕ} {base from to : Schema} {tables : List Table} (table : Table) {names : List (List ℕ)} {old new : Held S} {r : Result A Error}
-      → IsGrown base from tables (table.name ∷ names) → to ≡ created from table → CreatesAmong table sql → RunsStatement g sql [] old new r
+      → Has office_schema.tables table → IsGrown base from tables (table.name ∷ names) → to ≡ created from table → CreatesAmong table sql → RunsStatement g sql [] old new r
       → (HasCleanDisk (state g new) → OnOk r (CreatesTable sql (state g old) (state g new))) → Makes g from tables (MakesTables base.tables to (tables ++ table ∷ [])) old new r
-  table_makes {sql} {base} {from} {to} {tables} table {old = old} {new = new} grown is text =
-      statement_makes (CreatesTable sql) (defines_table_writes from sql (table_at 0 table) (text from grown.free.0 grown.counted))
+  table_makes {sql} {base} {from} {to} {tables} table {old = old} {new = new} own grown is text =
+      statement_makes (CreatesTable sql) (defines_table_writes from sql (table_at 0 table) (text from grown.free.0 grown.counted)) (inl (table, own, text, grown.free.0, grown.counted))
       (λ was. table_made base from to tables sql (state g old) (state g new) was table grown is text)
 
   -- a CREATE INDEX
   pub index_makes : {sql : List ℕ} {base from to : Schema} {tables : List Table} (table : Table) (index : Index) {names : List (List ℕ)} {old new : Held S} {r : Result A Error}
-      → IsGrown base from tables (index.name ∷ names) → HasTable from (table_in from table) → to ≡ with_index from table index → IndexesAmong table index sql → RunsStatement g sql [] old new r
+      → Has office_schema.indexes index → IsGrown base from tables (index.name ∷ names) → HasTable from (table_in from table) → to ≡ with_index from table index → IndexesAmong table index sql → RunsStatement g sql [] old new r
       → (HasCleanDisk (state g new) → OnOk r (CreatesIndex sql (state g old) (state g new))) → Makes g from tables (MakesTables base.tables to tables) old new r
-  index_makes {sql} {base} {from} {to} {tables} table index {old = old} {new = new} grown has is text =
+  index_makes {sql} {base} {from} {to} {tables} table index {old = old} {new = new} own grown has is text =
       statement_makes (CreatesIndex sql)
-      (defines_index_writes from sql (table_in from table) (index_at 0 (table_in from table).tree index) (text from (table_in from table).tree has grown.free.0))
+      (defines_index_writes from sql (table_in from table) (index_at 0 (table_in from table).tree index) (text from (table_in from table).tree has grown.free.0)) (inr (inl (table, index, own, text, has, grown.free.0)))
       (λ was. index_made base from to tables sql (state g old) (state g new) was table index grown has is text)
 
 no_ok : {B E : Type 0} (P : Type 0) (r : Result B E) → IsErr r → OnOk r P
@@ -147,7 +144,7 @@ if_err P e (Err x) is p = subst P (sym is) p
 -- a call that fails makes nothing
 pub fails : {S A B : Type 0} {g : Ghosts S} {from : Schema} {tables : List Table} {Made Other : State → State → Type 0} {old new : Held S} {e : Error} {f : Result B Error} → IsErr f × IsErrAnd f (λ x. x ≡ e)
     → Makes {A = A} g from tables Made old new (Err e) → Makes g from tables Other old new f
-fails {g = g} {new = new} {e = e} {f = f} failed step = record { made = λ clean was. no_ok _ f failed.0; err = λ clean. if_err (FailsAt g new) e f failed.1 (step.err clean); survives = step.survives }
+fails {g = g} {old = old} {new = new} {e = e} {f = f} failed step = record { made = λ clean was. no_ok _ f failed.0; err = λ clean inside was. if_err (FailsAt g old new) e f failed.1 (step.err clean inside was); survives = step.survives }
 
 -- what may come after tables were made, and then comes from the tables before them
 abbrev pub Follows : List Table → (State → State → Type 0) → Type 1
@@ -172,6 +169,6 @@ pub makes_then : {S A B : Type 0} {g : Ghosts S} {others : List Table} {from mid
     → Makes g from before (MakesTables others mid between) a b (Ok x) → Makes g mid between Made b c r → Makes g from before Made a c r
 makes_then {g} {others} {mid = mid} {between = between} {a = a} {b = b} {c = c} {r = r} follows one two = record {
   made = λ clean was. let step = one.made (early two.survives clean) was in on_ok r (follows mid between (state g a) (state g b) (state g c) step) (two.made clean step.made);
-  err = two.err;
+  err = λ clean inside was. let step = one.made (early two.survives clean) was in failed_later g a b c r one.survives.limit (two.err clean (subst IsTrue (sym step.shown.mode) refl) step.made);
   survives = survives_then (state g a) (state g b) (state g c) _ _ _ (λ clean db none. none) (λ clean db none was. none (one.made (early two.survives clean) was).made) one.survives two.survives;
 }

@@ -1,5 +1,5 @@
 -- The texts that set columns of the rows of a table (UPDATE), over a schema that may have tables, indexes and views of others.
-use Rattle.std.proofs.Common.{◌≡◌, refl, subst, ℕ, negsuc, ◌&&◌, List, [], ◌∷◌, map, Ok, None, Some, Option, true, false, slice_get}
+use Rattle.std.proofs.Common.{◌≡◌, refl, subst, ℕ, nat_le, negsuc, ◌&&◌, List, [], ◌∷◌, length, map, Ok, None, Some, Option, true, false, slice_get}
 use Rattle.sqlite.specs.Schema.{Schema}
 use Rattle.sqlite.specs.Table.{Table}
 use Rattle.sqlite.specs.Term.{Term, lit, col}
@@ -80,8 +80,8 @@ update_timed schema name assignments test = refl
 
 -- ---- the text
 
--- the text is an UPDATE of the rows of the table that pass these tests, which sets each column to its term
-pub record IsUpdate (table : Table) (sql : List ℕ) (terms sets : List Term) : Type 0 where
+-- the text, which has so many parameters, is an UPDATE of the rows of the table that pass these tests, which sets each column to its term
+pub record IsUpdate (table : Table) (sql : List ℕ) (terms sets : List Term) (count : ℕ) : Type 0 where
   pub tests : List Test
   pub assignments : List (Name × Expr)
   pub places : List ℕ
@@ -92,6 +92,8 @@ pub record IsUpdate (table : Table) (sql : List ℕ) (terms sets : List Term) : 
   pub start : ℕ
   pub stop : ℕ
   pub tail : ℕ
+  pub ends : nat_le (length sql) tail ≡ true
+  pub counted : length names ≡ count
   pub first_is : compile.first sql ≡ Ok (parsed (written.Update table.name assignments (where_of (map test_of tests)) []) names start stop tail)
   pub assigns : (schema : Schema) (at tree : ℕ) → Assigns (table_at tree table) assignments places values budget last schema at
   pub row_is : (tree : ℕ) → row (table_at tree table) None places (col 1 0 ∷ []) values ≡ Ok (col 1 0 ∷ col 1 0 ∷ sets)
@@ -101,7 +103,7 @@ pub record IsUpdate (table : Table) (sql : List ℕ) (terms sets : List Term) : 
   pub terms_are : (tree : ℕ) → map (term_of (table_at tree table)) tests ≡ terms
   pub still : IsStill table
 
-pub updates_among : (table : Table) (sql : List ℕ) (terms sets : List Term) → IsUpdate table sql terms sets → UpdatesAmong table sql terms sets
+pub updates_among : (table : Table) (sql : List ℕ) (terms sets : List Term) {count : ℕ} → IsUpdate table sql terms sets count → UpdatesAmong table sql terms sets count
 updates_among table sql terms sets is schema tree has quiet =
     let test : Option Expr = where_of (map test_of is.tests) in
     let c : Command = does.Update has.at (record { lets = []; body = query_of (rows_renewed tree terms sets) }) in
@@ -117,5 +119,5 @@ updates_among table sql terms sets is schema tree has quiet =
       at = has.at;
       table_is = plain_table schema table tree has quiet is.still;
       stored = has.stored;
-      means = means_is schema sql c is.names is.start is.stop is.tail (understood_is schema sql (compiled_of c is.names is.start is.stop is.tail) all);
+      means = means_is schema sql c is.names is.start is.stop is.tail is.ends is.counted (understood_is schema sql (compiled_of c is.names is.start is.stop is.tail) all);
     }

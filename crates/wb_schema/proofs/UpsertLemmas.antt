@@ -1,15 +1,14 @@
 -- The texts that put a record in, or write it over the one with its key (INSERT ON CONFLICT DO UPDATE), over a schema that may have tables, indexes and
 -- views of others.
-use Rattle.std.proofs.Common.{◌≡◌, refl, sym, ap, ◌∙◌, ℕ, ◌==◌, negsuc, true, false, not, ◌&&◌, List, [], ◌∷◌, length, find, Ok, None, Some}
+use Rattle.std.proofs.Common.{◌≡◌, refl, sym, ap, ◌∙◌, ℕ, ◌==◌, nat_le, true, false, not, List, [], ◌∷◌, length, find, Ok, None, Some}
 use Rattle.std.specs.List.{list_all}
 use Rattle.std.specs.Str.{bytes_eq}
 use Rattle.std.proofs.lemmas.Bool.{and_left, and_right, eq-eqb}
 use Rattle.sqlite.specs.Schema.{Schema}
 use Rattle.sqlite.specs.Table.{Table}
-use Rattle.sqlite.specs.Term.{Term, lit, col}
+use Rattle.sqlite.specs.Term.{Term, col}
 use Rattle.sqlite.specs.Source.TheVariants.{Values}
 use Rattle.sqlite.specs.Collation.TheVariants.{Binary}
-use Rattle.sqlite.specs.declared.types.Value.TheVariants.{Int}
 use Rattle.sqlite_schema.specs.declared.schema.Index.{Index}
 use Rattle.sqlite_schema.specs.declared.command.Command.{Command}
 use Rattle.sqlite_schema.specs.declared.command.Command.TheVariants as does
@@ -17,14 +16,13 @@ use Rattle.sqlite_schema.specs.declared.command.Conflict.TheVariants as how
 use Rattle.sqlite_schema.specs.declared.command.Source.{Source}
 use Rattle.sqlite_schema.specs.declared.command.Upsert as found
 use Rattle.sqlite_schema.specs.declared.program.Program.{Program}
-use Rattle.sqlite_typing.specs.Types.{accepts_program, accepts_after, row_classes, is_count}
+use Rattle.sqlite_typing.specs.Types.{accepts_program}
 use Rattle.sqlite_catalog.specs.Listing.{automatic}
 use Rattle.sqlite_catalog.proofs.ListFacts.{find_within}
 use Rattle.sqlite_draft.specs.declared.query.Draft.{Draft}
-use Rattle.sqlite_draft.specs.declared.join.Step.TheVariants.{Inner}
 use Rattle.sqlite_draft.specs.Query.{query_of as drafted}
-use Rattle.sqlite_resolve.specs.Terms.{number, equal}
-use Rattle.sqlite_resolve.specs.Write.{places, simple}
+use Rattle.sqlite_resolve.specs.Terms.{equal}
+use Rattle.sqlite_resolve.specs.Write.{places}
 use Rattle.sqlite_resolve.specs.Given.{is_key_at, key_at, key_meant, do_update, update, upsert, upserts}
 use Rattle.sqlite_resolve.specs.Compile as compile
 use Rattle.sqlite_ast.specs.declared.Expr.{Expr}
@@ -92,7 +90,7 @@ upsert_is schema table base columns rows source u all has new clauses = rw (has.
 abbrev pub clause_of : List Name → List (Name × Expr) → Upsert
 clause_of target sets = record { target = target; sets = sets; filter = None }
 
--- the text is an INSERT of one row into the table, ON CONFLICT (key) DO UPDATE SET each column to its term
+-- the text, which has so many parameters, is an INSERT of one row into the table, ON CONFLICT (key) DO UPDATE SET each column to its term
 pub record IsUpsert (table : Table) (sql : List ℕ) (terms sets : List Term) (key : List ℕ) (count : ℕ) : Type 0 where
   pub width : ℕ
   pub columns : List Name
@@ -103,6 +101,8 @@ pub record IsUpsert (table : Table) (sql : List ℕ) (terms sets : List Term) (k
   pub start : ℕ
   pub stop : ℕ
   pub tail : ℕ
+  pub ends : nat_le (length sql) tail ≡ true
+  pub counted : length names ≡ count
   pub first_is : compile.first sql ≡ Ok (parsed (written.Insert conflict.Abort table.name columns rows (clause_of target assigned ∷ []) []) names start stop tail)
   pub rows_are : (schema : Schema) (tree : ℕ) → compile.new_rows schema (table_at tree table) (base_of names) columns rows ≡ Ok (Values terms width)
   pub aims : (length target == 0) ≡ false
@@ -139,7 +139,7 @@ upserts_among table sql terms sets key count is schema tree index more has index
       stored = has.stored;
       one_row = is.one_row;
       columns = is.key_columns;
-      means = means_is schema sql c is.names is.start is.stop is.tail (understood_is schema sql (compiled_of c is.names is.start is.stop is.tail) all);
+      means = means_is schema sql c is.names is.start is.stop is.tail is.ends is.counted (understood_is schema sql (compiled_of c is.names is.start is.stop is.tail) all);
     }
 
 -- ---- the records

@@ -136,17 +136,20 @@ pub record IsNumbered (schema : Schema) : Type 0 where
   pub bounded : next_tree schema ≤ 2 ^ 16
   pub indexes : AllByRecursion (λ index. index.table < next_tree schema) schema.indexes
 
--- over each schema that has the table, in whatever tree and beside whatever else, the text asks this
-abbrev pub AsksAmong : Table → List ℕ → TableQuery → Type 0
-AsksAmong table sql q = (schema : Schema) (tree : ℕ) → HasTable schema (table_at tree table) → Asks schema sql (query_at tree q)
+-- over each schema that has the table, in whatever tree and beside whatever else, the text, which has so many parameters, asks this
+abbrev pub AsksAmong : Table → List ℕ → TableQuery → ℕ → Type 0
+AsksAmong table sql q count = (schema : Schema) (tree : ℕ) → HasTable schema (table_at tree table) → Asks schema sql (query_at tree q) count
 
--- over each schema that has the table, and in which no foreign key that refers to it does anything, the text is INSERT OR REPLACE INTO the table VALUES (terms)
-abbrev pub ReplacesAmong : Table → List ℕ → List Term → Type 0
-ReplacesAmong table sql terms = (schema : Schema) (tree : ℕ) → HasTable schema (table_at tree table) → never_acts_on schema tree ≡ true → ReplacesInto schema sql (table_at tree table) terms
+-- over each schema that has the table, and in which no foreign key that refers to it does anything, the text, which has so many parameters, is
+-- INSERT OR REPLACE INTO the table VALUES (terms)
+abbrev pub ReplacesAmong : Table → List ℕ → List Term → ℕ → Type 0
+ReplacesAmong table sql terms count =
+    (schema : Schema) (tree : ℕ) → HasTable schema (table_at tree table) → never_acts_on schema tree ≡ true → ReplacesInto schema sql (table_at tree table) terms count
 
--- over each such schema the text is INSERT INTO the table VALUES (terms)
-abbrev pub InsertsAmong : Table → List ℕ → List Term → Type 0
-InsertsAmong table sql terms = (schema : Schema) (tree : ℕ) → HasTable schema (table_at tree table) → never_acts_on schema tree ≡ true → InsertsInto schema sql (table_at tree table) terms
+-- over each such schema the text, which has so many parameters, is INSERT INTO the table VALUES (terms)
+abbrev pub InsertsAmong : Table → List ℕ → List Term → ℕ → Type 0
+InsertsAmong table sql terms count =
+    (schema : Schema) (tree : ℕ) → HasTable schema (table_at tree table) → never_acts_on schema tree ≡ true → InsertsInto schema sql (table_at tree table) terms count
 
 -- over each such schema that has the table of records with its indexes, the text is INSERT INTO the table VALUES (a record) ON CONFLICT (its key) DO UPDATE SET
 -- each column that is not of the key
@@ -155,11 +158,12 @@ UpsertsRecords sql =
     (schema : Schema) (tree : ℕ) (at : IndexTrees) → HasTable schema (table_at tree source_record) → HasIndexes schema tree (record_indexes at tree) → never_acts_on schema tree ≡ true
     → UpsertsInto schema sql (table_at tree source_record) record_row record_sets record_key 16
 
--- over each such schema the text is DELETE FROM the table WHERE each of these tests
-abbrev pub DeletesAmong : Table → List ℕ → List Term → Type 0
-DeletesAmong table sql tests = (schema : Schema) (tree : ℕ) → HasTable schema (table_at tree table) → never_acts_on schema tree ≡ true → DeletesFrom schema sql (table_at tree table) tests
+-- over each such schema the text, which has so many parameters, is DELETE FROM the table WHERE each of these tests
+abbrev pub DeletesAmong : Table → List ℕ → List Term → ℕ → Type 0
+DeletesAmong table sql tests count =
+    (schema : Schema) (tree : ℕ) → HasTable schema (table_at tree table) → never_acts_on schema tree ≡ true → DeletesFrom schema sql (table_at tree table) tests count
 
--- over each such schema the text is UPDATE the table SET each column to its term WHERE each of these tests
-abbrev pub UpdatesAmong : Table → List ℕ → List Term → List Term → Type 0
-UpdatesAmong table sql tests sets =
-    (schema : Schema) (tree : ℕ) → HasTable schema (table_at tree table) → never_acts_on schema tree ≡ true → UpdatesIn schema sql (table_at tree table) tests sets
+-- over each such schema the text, which has so many parameters, is UPDATE the table SET each column to its term WHERE each of these tests
+abbrev pub UpdatesAmong : Table → List ℕ → List Term → List Term → ℕ → Type 0
+UpdatesAmong table sql tests sets count =
+    (schema : Schema) (tree : ℕ) → HasTable schema (table_at tree table) → never_acts_on schema tree ≡ true → UpdatesIn schema sql (table_at tree table) tests sets count

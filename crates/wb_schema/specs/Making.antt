@@ -1,5 +1,5 @@
 -- The office's tables, made in a database that lacks them, beside the tables of others, with no row but that of an empty office.
-use Rattle.std.specs.Prelude.{◌≡◌, ◌⊎◌, ℕ, true, false, List, [], ◌∷◌, pos, Result, Err, IfErr, OnOk}
+use Rattle.std.specs.Prelude.{◌≡◌, ◌⊎◌, ℕ, true, false, List, [], ◌∷◌, pos, Result, Err, IsTrue, IfErr, OnOk}
 use Rattle.std.specs.List.{AllByRecursion}
 use Rattle.sqlite.specs.Change.{created, indexed, is_used, KeepsRows}
 use Rattle.sqlite.specs.Does.{lacks_sequence}
@@ -7,17 +7,18 @@ use Rattle.sqlite.specs.Schema.{Schema}
 use Rattle.sqlite.specs.Order.{Row}
 use Rattle.sqlite.specs.Table.{Table}
 use Rattle.sqlite.specs.declared.error.Error.{Error}
-use Rattle.sqlite.specs.declared.error.Error.TheVariants.{SqliteFailure}
-use Rattle.sqlite.specs.declared.error.ErrorCode.TheVariants.{TransactionState}
 use Rattle.sqlite.specs.declared.types.Value.TheVariants.{Null, Int}
 use Rattle.sqlite.specs.Held.{Held, state}
 use Rattle.sqlite.specs.State.{State, HasCleanDisk, Shows, Survives, Executes}
 use Rattle.sqlite_schema.specs.declared.schema.Index.{Index}
 use Rattle.sqlite_trees.specs.declared.store.Store.{Ghosts}
 use Rattle.wb_sql.specs.Definitions.{DefinesTable, DefinesIndex}
-use Rattle.wb_schema.specs.Tables.{office, arch, builder, source_record, scratch_source, scratch_binary}
+use Rattle.wb_schema.specs.Tables.{office, arch, builder, source_record, scratch_source, scratch_binary, office_schema}
 use Rattle.wb_schema.specs.Tables.{record_order, record_take, source_name, binary_source, binary_name}
-use Rattle.wb_schema.specs.Among.{HasTable, table_at, table_in, index_at, rows_in}
+use Rattle.wb_schema.specs.Statements.{first_office_row}
+use Rattle.wb_sql.specs.Changes.{never_acts_on}
+use Rattle.sqlite_rules.specs.Lists.{Has}
+use Rattle.wb_schema.specs.Among.{HasTable, table_at, table_in, index_at, rows_in, ReplacesAmong, tree_named}
 
 -- ---- the schema, one CREATE after another: what is made stands after what was there
 
@@ -110,16 +111,23 @@ pub record MakesOffice (base : Schema) (old new : State) : Type 0 where
   pub shown : Shows old new new.now old.committed true
   pub marks : new.marks ≡ old.marks
 
--- a statement of the call failed with this error, or found the transaction over
-abbrev pub FailsAt : {S : Type 0} → Ghosts S → Held S → Error → Type 0
-FailsAt {S} g new e =
-    (at : Held S)
-    × (((sql : List ℕ) × (params : Row) × Executes sql params (state g at) (state g new) (Err e))
-    ⊎ ((at.in_transaction ≡ false) × (e ≡ SqliteFailure TransactionState) × (new ≡ at)))
+-- over this schema the text makes one of the office's tables, or one of its indexes on a table that is there, whose name is free; or it puts the first
+-- row into the table of the office, which is there, and no foreign key that refers to it does anything
+abbrev pub IsMaking : Schema → List ℕ → Type 0
+IsMaking schema sql =
+    ((table : Table) × Has office_schema.tables table × CreatesAmong table sql × (is_used schema table.name ≡ false) × (lacks_sequence schema ≡ false))
+    ⊎ (((table : Table) × (index : Index) × Has office_schema.indexes index × IndexesAmong table index sql × HasTable schema (table_in schema table) × (is_used schema index.name ≡ false))
+    ⊎ (ReplacesAmong office sql first_office_row 0 × HasTable schema (table_in schema office) × (never_acts_on schema (tree_named schema office.name) ≡ true)))
+
+-- a statement of the call, which makes something of the office, failed with this error in the transaction, under the step limit that there was
+abbrev pub FailsAt : {S : Type 0} → Ghosts S → Held S → Held S → Error → Type 0
+FailsAt {S} g old new e =
+    (at : Held S) × (sql : List ℕ) × IsTrue at.in_transaction × ((state g at).step_limit ≡ (state g old).step_limit) × IsMaking (state g at).now.schema sql
+    × Executes sql [] (state g at) (state g new) (Err e)
 
 -- a call that, in a transaction over this schema, in which these tables of the office have no row, makes this if it succeeds; if it fails, it fails as
 -- one of its statements does; and a crash leaves no more than before
 pub record Makes {S A : Type 0} (g : Ghosts S) (from : Schema) (tables : List Table) (Made : State → State → Type 0) (old new : Held S) (result : Result A Error) : Type 0 where
   pub made : HasCleanDisk (state g new) → HasEmptyTables from tables (state g old) → OnOk result (Made (state g old) (state g new))
-  pub err : HasCleanDisk (state g new) → IfErr result (FailsAt g new)
+  pub err : HasCleanDisk (state g new) → IsTrue old.in_transaction → HasEmptyTables from tables (state g old) → IfErr result (FailsAt g old new)
   pub survives : Survives (state g old) (state g new) (λ _. ¬ HasEmptyTables from tables (state g old))

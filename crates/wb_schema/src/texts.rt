@@ -22,7 +22,7 @@ pub fn put_record() -> &'static str
 
 /// Writes a record over the one with its key, which is there. The parameters are its 16 columns.
 pub fn replace_record() -> &'static str
-    ensures { UpdatesAmong source_record result.now has_record_key record_sets }
+    ensures { UpdatesAmong source_record result.now has_record_key record_sets 16 }
 {
     "UPDATE source_record SET state = ?3, version = ?4, priority = ?5, section = ?6, earlier = ?7, number = ?8, \
      holder = ?9, take = ?10, waits = ?11, depends = ?12, note = ?13, message = ?14, build_priority = ?15, rank = ?16 \
@@ -31,14 +31,14 @@ pub fn replace_record() -> &'static str
 
 /// Takes out the record of an architecture and a source package.
 pub fn remove_record() -> &'static str
-    ensures { DeletesAmong source_record result.now has_record_key }
+    ensures { DeletesAmong source_record result.now has_record_key 2 }
 {
     "DELETE FROM source_record WHERE arch = ?1 AND source = ?2"
 }
 
 /// The record of an architecture and a source package.
 pub fn record() -> &'static str
-    ensures { AsksAmong source_record result.now record_of_key }
+    ensures { AsksAmong source_record result.now record_of_key 2 }
 {
     "SELECT arch, source, state, version, priority, section, earlier, number, holder, take, waits, \
      depends, note, message, build_priority, rank \
@@ -47,7 +47,7 @@ pub fn record() -> &'static str
 
 /// The records of an architecture in a state, by rank and then by source package.
 pub fn queue() -> &'static str
-    ensures { AsksAmong source_record result.now queue_of }
+    ensures { AsksAmong source_record result.now queue_of 2 }
 {
     "SELECT arch, source, state, version, priority, section, earlier, number, holder, take, waits, \
      depends, note, message, build_priority, rank \
@@ -56,7 +56,7 @@ pub fn queue() -> &'static str
 
 /// The first record of an architecture in a state, by rank and then by source package.
 pub fn head() -> &'static str
-    ensures { AsksAmong source_record result.now head_of }
+    ensures { AsksAmong source_record result.now head_of 2 }
 {
     "SELECT arch, source, state, version, priority, section, earlier, number, holder, take, waits, \
      depends, note, message, build_priority, rank \
@@ -65,7 +65,7 @@ pub fn head() -> &'static str
 
 /// The record with a take number.
 pub fn record_of_take() -> &'static str
-    ensures { AsksAmong source_record result.now record_of_take }
+    ensures { AsksAmong source_record result.now record_of_take 1 }
 {
     "SELECT arch, source, state, version, priority, section, earlier, number, holder, take, waits, \
      depends, note, message, build_priority, rank \
@@ -74,7 +74,7 @@ pub fn record_of_take() -> &'static str
 
 /// The records that a builder holds, by architecture and then by source package.
 pub fn held_by() -> &'static str
-    ensures { AsksAmong source_record result.now held_by }
+    ensures { AsksAmong source_record result.now held_by 1 }
 {
     "SELECT arch, source, state, version, priority, section, earlier, number, holder, take, waits, \
      depends, note, message, build_priority, rank \
@@ -83,7 +83,7 @@ pub fn held_by() -> &'static str
 
 /// The records of an architecture, by source package.
 pub fn records_of_arch() -> &'static str
-    ensures { AsksAmong source_record result.now records_of_arch }
+    ensures { AsksAmong source_record result.now records_of_arch 1 }
 {
     "SELECT arch, source, state, version, priority, section, earlier, number, holder, take, waits, \
      depends, note, message, build_priority, rank \
@@ -92,7 +92,7 @@ pub fn records_of_arch() -> &'static str
 
 /// All records, by architecture and then by source package.
 pub fn all_records() -> &'static str
-    ensures { AsksAmong source_record result.now all_records }
+    ensures { AsksAmong source_record result.now all_records 0 }
 {
     "SELECT arch, source, state, version, priority, section, earlier, number, holder, take, waits, \
      depends, note, message, build_priority, rank \
@@ -101,77 +101,77 @@ pub fn all_records() -> &'static str
 
 /// All architectures with their two words, by name.
 pub fn all_archs() -> &'static str
-    ensures { AsksAmong arch result.now all_archs }
+    ensures { AsksAmong arch result.now all_archs 0 }
 {
     "SELECT name, os, cpu FROM arch ORDER BY name"
 }
 
 /// The architecture of a name with its two words.
 pub fn arch_words() -> &'static str
-    ensures { AsksAmong arch result.now arch_of_name }
+    ensures { AsksAmong arch result.now arch_of_name 1 }
 {
     "SELECT name, os, cpu FROM arch WHERE name = ?1"
 }
 
 /// The pair of a builder and an architecture, if the builder was added for it.
 pub fn builder_pair() -> &'static str
-    ensures { AsksAmong builder result.now pair_of_builder }
+    ensures { AsksAmong builder result.now pair_of_builder 2 }
 {
     "SELECT name, arch FROM builder WHERE name = ?1 AND arch = ?2"
 }
 
 /// A builder with the architectures for which it was added, by architecture.
 pub fn builder_pairs() -> &'static str
-    ensures { AsksAmong builder result.now pairs_of_builder }
+    ensures { AsksAmong builder result.now pairs_of_builder 1 }
 {
     "SELECT name, arch FROM builder WHERE name = ?1 ORDER BY arch"
 }
 
 /// All builders with the architectures for which they were added, by builder and then by architecture.
 pub fn all_builders() -> &'static str
-    ensures { AsksAmong builder result.now all_builders }
+    ensures { AsksAmong builder result.now all_builders 0 }
 {
     "SELECT name, arch FROM builder ORDER BY name, arch"
 }
 
 /// The format and the two counts of the office.
 pub fn office_counts() -> &'static str
-    ensures { AsksAmong office result.now office_counts }
+    ensures { AsksAmong office result.now office_counts 0 }
 {
     "SELECT format, handed, accepted FROM office"
 }
 
 /// The place of one source package of a merge, if there is one.
 pub fn first_scratch_source() -> &'static str
-    ensures { AsksAmong scratch_source result.now first_source }
+    ensures { AsksAmong scratch_source result.now first_source 0 }
 {
     "SELECT seq FROM scratch_source LIMIT 1"
 }
 
 /// The place of one binary package of a merge, if there is one.
 pub fn first_scratch_binary() -> &'static str
-    ensures { AsksAmong scratch_binary result.now first_binary }
+    ensures { AsksAmong scratch_binary result.now first_binary 0 }
 {
     "SELECT seq FROM scratch_binary LIMIT 1"
 }
 
 /// Puts an architecture in. The parameters are its name and its two words.
 pub fn add_arch() -> &'static str
-    ensures { InsertsAmong arch result.now arch_row }
+    ensures { InsertsAmong arch result.now arch_row 3 }
 {
     "INSERT INTO arch(name, os, cpu) VALUES (?1, ?2, ?3)"
 }
 
 /// Puts a builder in, for an architecture. The parameters are the two names.
 pub fn add_builder() -> &'static str
-    ensures { InsertsAmong builder result.now builder_row }
+    ensures { InsertsAmong builder result.now builder_row 2 }
 {
     "INSERT INTO builder(name, arch) VALUES (?1, ?2)"
 }
 
 /// Sets the two counts of the office, which are the parameters: take numbers handed out, and commands accepted.
 pub fn set_counts() -> &'static str
-    ensures { UpdatesAmong office result.now [] office_sets }
+    ensures { UpdatesAmong office result.now [] office_sets 2 }
 {
     "UPDATE office SET handed = ?1, accepted = ?2"
 }

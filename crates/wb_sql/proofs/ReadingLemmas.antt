@@ -60,8 +60,8 @@ same_command (Ok c) = refl
 same_command (Err e) = refl
 
 -- the command of a text, as the kit's lemmas speak of it
-pub means_as : (schema : Schema) (sql : List ℕ) (command : Command) → Means schema sql command → command_of (understood schema sql) ≡ command
-means_as schema sql command m = same_command (understood schema sql) ∙ m.is
+pub means_as : (schema : Schema) (sql : List ℕ) (command : Command) {count : ℕ} → Means schema sql command count → command_of (understood schema sql) ≡ command
+means_as schema sql command {count} m = same_command (understood schema sql) ∙ m.is
 
 -- an answer of the kit to a query on one table, over its rows
 pub answers_from : (q : TableQuery) (db : Trees) (params : Row) (answer : List Row) → nat_le (2 ^ 31) q.tree ≡ false → IsAnswer (query_of q) (overlay db []) params answer → Answers q params (db q.tree) answer
@@ -74,12 +74,12 @@ answers_from q db params answer low a =
     record { ordered = a.ordered; same = subst (λ k. IsPermutation k a.ordered) kept a.same; sorted = a.sorted; shown = a.shown }
 
 -- what a query on one table shows is its answer
-pub answers_query : (sql : List ℕ) (params : Row) (old new : State) (q : TableQuery) (rows : List Row) → Asks old.now.schema sql q → Shown sql params old new rows → Answers q params (old.now.trees q.tree) rows
-answers_query sql params old new q rows asks h =
+pub answers_query : (sql : List ℕ) (params : Row) (old new : State) (q : TableQuery) {count : ℕ} (rows : List Row) → Asks old.now.schema sql q count → Shown sql params old new rows → Answers q params (old.now.trees q.tree) rows
+answers_query sql params old new q {count} rows asks h =
     let read = reads_as sql params old new old.now.schema refl (Select (record { lets = []; body = query_of q }) asks.names) (means_as old.now.schema sql _ asks.means) asks.means.plain asks.unlisted rows h in
     answers_from q old.now.trees params rows asks.stored (read.answer Null)
 
 pub answered : (sql : List ℕ) (params : Row) (old new : State) {X : Type 0} (r : Result (Vec Row X) Error) → IfOk r (λ rows. Shown sql params old new rows.items)
-    → IfOk r (λ rows. (q : TableQuery) → Asks old.now.schema sql q → Answers q params (old.now.trees q.tree) rows.items)
-answered sql params old new (Ok rows) h = λ q asks. answers_query sql params old new q rows.items asks h
+    → IfOk r (λ rows. (q : TableQuery) (count : ℕ) → Asks old.now.schema sql q count → Answers q params (old.now.trees q.tree) rows.items)
+answered sql params old new (Ok rows) h = λ q count asks. answers_query sql params old new q rows.items asks h
 answered sql params old new (Err e) h = tt

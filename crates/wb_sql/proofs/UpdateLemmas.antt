@@ -152,7 +152,7 @@ module _ (limit : Option ℕ) (schema : Schema) (at : ℕ) (table : Table) (para
 
 -- UPDATE of one row, in a transaction: the row keeps its rowid
 pub updates_rows : (sql : List ℕ) (params : Row) (old after : State) → RanInside sql params old after → UpdatesRows sql params old after
-updates_rows sql params old after ran table tests set_terms row text stored only typed =
+updates_rows sql params old after ran table tests set_terms count row text stored only typed =
     let plain = text.table_is in
     let limit = old.step_limit in
     let schema = old.now.schema in
@@ -170,5 +170,5 @@ updates_rows sql params old after ran table tests set_terms row text stored only
     )
 
 -- such a text writes
-pub updates_writes : (schema : Schema) (sql : List ℕ) (table : Table) (tests sets : List Term) → UpdatesIn schema sql table tests sets → IsWriting schema sql
+pub updates_writes : (schema : Schema) (sql : List ℕ) (table : Table) (tests sets : List Term) {count : ℕ} → UpdatesIn schema sql table tests sets count → IsWriting schema sql
 updates_writes schema sql table tests sets text = ap changes text.means.is

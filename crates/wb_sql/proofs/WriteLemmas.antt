@@ -376,10 +376,10 @@ module _ (sql : List ℕ) (params : Row) (old new : State) (ran : RanInside sql 
   rows = old.now.trees table.tree
 
   -- INSERT OR REPLACE of one row, in a transaction
-  pub replaces : ReplacesInto old.now.schema sql table terms → IsStored rows → IsTyped table source
+  pub replaces : (count : ℕ) → ReplacesInto old.now.schema sql table terms count → IsStored rows → IsTyped table source
       → SetsTable table (replaced old.now.schema table source rows) old new × IsStored (new.now.trees table.tree)
       × IsPermutation (cells source ∷ cells_of (apart old.now.schema table source rows)) (cells_of (new.now.trees table.tree))
-  replaces text stored typed =
+  replaces count text stored typed =
       let plain = text.table_is in
       let command = InsertOr text.at Replace (Values terms text.width) [] in
       let w = runs_as sql params old new old.now.schema refl command (means_as old.now.schema sql command text.means) text.means.plain ran.1.0 ran.1.1 in
@@ -394,9 +394,9 @@ module _ (sql : List ℕ) (params : Row) (old new : State) (ran : RanInside sql 
       )
 
   -- INSERT of one row, in a transaction
-  pub inserts_one : InsertsInto old.now.schema sql table terms → IsStored rows → IsTyped table source
+  pub inserts_one : (count : ℕ) → InsertsInto old.now.schema sql table terms count → IsStored rows → IsTyped table source
       → SetsTable table (inserted source rows) old new × IsStored (new.now.trees table.tree) × IsPermutation (cells source ∷ cells_of rows) (cells_of (new.now.trees table.tree))
-  inserts_one text stored typed =
+  inserts_one count text stored typed =
       let plain = text.table_is in
       let command = Insert text.at (Values terms text.width) in
       let w = runs_as sql params old new old.now.schema refl command (means_as old.now.schema sql command text.means) text.means.plain ran.1.0 ran.1.1 in
@@ -410,7 +410,7 @@ module _ (sql : List ℕ) (params : Row) (old new : State) (ran : RanInside sql 
 
 -- DELETE, in a transaction
 pub deletes_rows : (sql : List ℕ) (params : Row) (old after : State) → RanInside sql params old after → DeletesRows sql params old after
-deletes_rows sql params old after ran table tests text stored =
+deletes_rows sql params old after ran table tests count text stored =
     let plain = text.table_is in
     let command = Delete text.at (record { lets = []; body = query_of (rowids_where table.tree tests) }) in
     let w = runs_as sql params old after old.now.schema refl command (means_as old.now.schema sql command text.means) text.means.plain ran.1.0 ran.1.1 in
@@ -422,13 +422,13 @@ deletes_rows sql params old after ran table tests text stored =
 
 -- ---- such texts write
 
-pub replaces_writes : (schema : Schema) (sql : List ℕ) (table : Table) (terms : List Term) → ReplacesInto schema sql table terms → IsWriting schema sql
+pub replaces_writes : (schema : Schema) (sql : List ℕ) (table : Table) (terms : List Term) {count : ℕ} → ReplacesInto schema sql table terms count → IsWriting schema sql
 replaces_writes schema sql table terms text = ap changes text.means.is
 
-pub inserts_writes : (schema : Schema) (sql : List ℕ) (table : Table) (terms : List Term) → InsertsInto schema sql table terms → IsWriting schema sql
+pub inserts_writes : (schema : Schema) (sql : List ℕ) (table : Table) (terms : List Term) {count : ℕ} → InsertsInto schema sql table terms count → IsWriting schema sql
 inserts_writes schema sql table terms text = ap changes text.means.is
 
-pub deletes_writes : (schema : Schema) (sql : List ℕ) (table : Table) (tests : List Term) → DeletesFrom schema sql table tests → IsWriting schema sql
+pub deletes_writes : (schema : Schema) (sql : List ℕ) (table : Table) (tests : List Term) {count : ℕ} → DeletesFrom schema sql table tests count → IsWriting schema sql
 deletes_writes schema sql table tests text = ap changes text.means.is
 
 -- a DELETE with no test leaves no row

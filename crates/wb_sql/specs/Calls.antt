@@ -29,7 +29,7 @@ pub record RunsStatement {S A : Type 0} (g : Ghosts S) (sql : List ℕ) (params 
 -- a query on a connection: its rows are the answer of the table query that it asks, and it leaves the database as it is; if it fails, it fails
 -- as such a query fails, and has changed nothing or taken a transaction back
 pub record RunsQuery {S X : Type 0} (g : Ghosts S) (sql : List ℕ) (params : Row) (old new : Held S) (result : Result (Vec Row X) Error) : Type 0 where
-  pub answers : HasCleanDisk (state g new) → IfOk result (λ rows. (q : TableQuery) → Asks old.schema sql q → Answers q params ((state g old).now.trees q.tree) rows.items)
+  pub answers : HasCleanDisk (state g new) → IfOk result (λ rows. (q : TableQuery) (count : ℕ) → Asks old.schema sql q count → Answers q params ((state g old).now.trees q.tree) rows.items)
   pub shown : HasCleanDisk (state g new) → IfOk result (λ rows. Shown sql params (state g old) (state g new) rows.items)
   pub same : HasCleanDisk (state g new) → IsPlain (understood old.schema sql) → OnOk result (IsUnchanged (state g old) (state g new))
   pub err : HasCleanDisk (state g new) → IfErr result (λ e. FailsToQuery sql params (state g old) (state g new) e × IsKeptOrUndone (state g old) (state g new))

@@ -56,21 +56,21 @@ pub record IsOneRow (terms : List Term) (width : ℕ) : Type 0 where
   pub count : length terms / width ≡ 1
   pub all : take width terms ≡ terms
 
--- over this schema the text is INSERT OR REPLACE INTO the table VALUES (terms)
-pub record ReplacesInto (schema : Schema) (sql : List ℕ) (table : Table) (terms : List Term) : Type 0 where
+-- over this schema the text, which has so many parameters, is INSERT OR REPLACE INTO the table VALUES (terms)
+pub record ReplacesInto (schema : Schema) (sql : List ℕ) (table : Table) (terms : List Term) (count : ℕ) : Type 0 where
   pub at : ℕ
   pub width : ℕ
   pub table_is : IsPlainTable schema at table
   pub one_row : IsOneRow terms width
-  pub means : Means schema sql (InsertOr at Replace (Values terms width) [])
+  pub means : Means schema sql (InsertOr at Replace (Values terms width) []) count
 
--- over this schema the text is INSERT INTO the table VALUES (terms)
-pub record InsertsInto (schema : Schema) (sql : List ℕ) (table : Table) (terms : List Term) : Type 0 where
+-- over this schema the text, which has so many parameters, is INSERT INTO the table VALUES (terms)
+pub record InsertsInto (schema : Schema) (sql : List ℕ) (table : Table) (terms : List Term) (count : ℕ) : Type 0 where
   pub at : ℕ
   pub width : ℕ
   pub table_is : IsPlainTable schema at table
   pub one_row : IsOneRow terms width
-  pub means : Means schema sql (Insert at (Values terms width))
+  pub means : Means schema sql (Insert at (Values terms width)) count
 
 -- SELECT rowid, rowid, terms FROM the table WHERE each of these tests: each row that passes, and what it is to be
 abbrev pub rows_renewed : ℕ → List Term → List Term → TableQuery
@@ -102,7 +102,7 @@ pub record UpsertsInto (schema : Schema) (sql : List ℕ) (table : Table) (terms
   pub stored : nat_le (2 ^ 31) table.tree ≡ false
   pub one_row : IsOneRow terms width
   pub columns : list_all (λ place. not (place == 0)) key ≡ true
-  pub means : Means schema sql (InsertOr at Abort (Values terms width) (renewal table.tree key count sets ∷ []))
+  pub means : Means schema sql (InsertOr at Abort (Values terms width) (renewal table.tree key count sets ∷ [])) count
 
 -- a row of the table has the key of the new one
 abbrev pub has_key : Schema → Table → List ℕ → Row → Row → Bool
@@ -123,19 +123,19 @@ pub record SetsTable (table : Table) (rows : List Row) (old new : State) : Type 
   pub shown : Shows old new new.now old.committed true
   pub marks : new.marks ≡ old.marks
 
--- over this schema the text is DELETE FROM the table WHERE each of these tests
-pub record DeletesFrom (schema : Schema) (sql : List ℕ) (table : Table) (tests : List Term) : Type 0 where
+-- over this schema the text, which has so many parameters, is DELETE FROM the table WHERE each of these tests
+pub record DeletesFrom (schema : Schema) (sql : List ℕ) (table : Table) (tests : List Term) (count : ℕ) : Type 0 where
   pub at : ℕ
   pub table_is : IsPlainTable schema at table
   pub stored : nat_le (2 ^ 31) table.tree ≡ false
-  pub means : Means schema sql (Delete at (record { lets = []; body = query_of (rowids_where table.tree tests) }))
+  pub means : Means schema sql (Delete at (record { lets = []; body = query_of (rowids_where table.tree tests) })) count
 
--- over this schema the text is UPDATE the table SET each column to its term WHERE each of these tests
-pub record UpdatesIn (schema : Schema) (sql : List ℕ) (table : Table) (tests sets : List Term) : Type 0 where
+-- over this schema the text, which has so many parameters, is UPDATE the table SET each column to its term WHERE each of these tests
+pub record UpdatesIn (schema : Schema) (sql : List ℕ) (table : Table) (tests sets : List Term) (count : ℕ) : Type 0 where
   pub at : ℕ
   pub table_is : IsPlainTable schema at table
   pub stored : nat_le (2 ^ 31) table.tree ≡ false
-  pub means : Means schema sql (Update at (record { lets = []; body = query_of (rows_renewed table.tree tests sets) }))
+  pub means : Means schema sql (Update at (record { lets = []; body = query_of (rows_renewed table.tree tests sets) })) count
 
 -- one row of the table, and no other, passes the tests
 pub record IsOnlyOne (tests : List Term) (params : Row) (rows : List Row) (row : Row) : Type 0 where
@@ -147,7 +147,7 @@ pub record IsOnlyOne (tests : List Term) (params : Row) (rows : List Row) (row :
 -- that do not meet it, all without rowids
 abbrev pub Replaces : List ℕ → Row → State → State → Type 0
 Replaces sql params old new =
-    (table : Table) (terms : List Term) → ReplacesInto old.now.schema sql table terms → IsStored (old.now.trees table.tree) → IsTyped table (eval_all terms (params ∷ []))
+    (table : Table) (terms : List Term) (count : ℕ) → ReplacesInto old.now.schema sql table terms count → IsStored (old.now.trees table.tree) → IsTyped table (eval_all terms (params ∷ []))
     → SetsTable table (replaced old.now.schema table (eval_all terms (params ∷ [])) (old.now.trees table.tree)) old new × IsStored (new.now.trees table.tree)
     × IsPermutation (cells (eval_all terms (params ∷ [])) ∷ cells_of (apart old.now.schema table (eval_all terms (params ∷ [])) (old.now.trees table.tree))) (cells_of (new.now.trees table.tree))
 
@@ -163,20 +163,20 @@ Upserts sql params old new =
 -- an INSERT of one row leaves this
 abbrev pub Inserts : List ℕ → Row → State → State → Type 0
 Inserts sql params old new =
-    (table : Table) (terms : List Term) → InsertsInto old.now.schema sql table terms → IsStored (old.now.trees table.tree) → IsTyped table (eval_all terms (params ∷ []))
+    (table : Table) (terms : List Term) (count : ℕ) → InsertsInto old.now.schema sql table terms count → IsStored (old.now.trees table.tree) → IsTyped table (eval_all terms (params ∷ []))
     → SetsTable table (inserted (eval_all terms (params ∷ [])) (old.now.trees table.tree)) old new × IsStored (new.now.trees table.tree)
     × IsPermutation (cells (eval_all terms (params ∷ [])) ∷ cells_of (old.now.trees table.tree)) (cells_of (new.now.trees table.tree))
 
 -- a DELETE leaves this
 abbrev pub Deletes : List ℕ → Row → State → State → Type 0
 Deletes sql params old new =
-    (table : Table) (tests : List Term) → DeletesFrom old.now.schema sql table tests → IsStored (old.now.trees table.tree)
+    (table : Table) (tests : List Term) (count : ℕ) → DeletesFrom old.now.schema sql table tests count → IsStored (old.now.trees table.tree)
     → SetsTable table (without (λ row. list_all (holds (params ∷ row ∷ [])) tests) (old.now.trees table.tree)) old new × IsStored (new.now.trees table.tree)
 
 -- an UPDATE whose tests one row passes leaves this: that row, with its rowid and what each of its columns is set to, and the others
 abbrev pub Updates : List ℕ → Row → State → State → Type 0
 Updates sql params old new =
-    (table : Table) (tests sets : List Term) (row : Row) → UpdatesIn old.now.schema sql table tests sets → IsStored (old.now.trees table.tree)
+    (table : Table) (tests sets : List Term) (count : ℕ) (row : Row) → UpdatesIn old.now.schema sql table tests sets count → IsStored (old.now.trees table.tree)
     → IsOnlyOne tests params (old.now.trees table.tree) row → IsTyped table (rowid row ∷ eval_all sets (params ∷ row ∷ []))
     → SetsTable table (put_row (rowid row ∷ eval_all sets (params ∷ row ∷ [])) (without (λ other. list_all (holds (params ∷ other ∷ [])) tests) (old.now.trees table.tree))) old new
     × IsStored (new.now.trees table.tree)

@@ -13,7 +13,7 @@ use Rattle.wb_sql.specs.Statements.{Means, statement_in}
 
 -- over this schema the text is the CREATE TABLE of this table, which has no AUTOINCREMENT
 pub record DefinesTable (schema : Schema) (sql : List ℕ) (table : Table) : Type 0 where
-  pub means : Means schema sql CreateTable
+  pub means : Means schema sql CreateTable 0
   pub alone : statement_in sql (understood schema sql) ≡ sql
   pub defines : table_defined_by sql ≡ Ok table
   pub uncounted : lacks_sequence (created schema table) ≡ false
@@ -22,7 +22,7 @@ pub record DefinesTable (schema : Schema) (sql : List ℕ) (table : Table) : Typ
 pub record DefinesIndex (schema : Schema) (sql : List ℕ) (table : Table) (index : Index) : Type 0 where
   pub at : ℕ
   pub listed : slice_get schema.tables at ≡ Some table
-  pub means : Means schema sql (CreateIndex at)
+  pub means : Means schema sql (CreateIndex at) 0
   pub alone : statement_in sql (understood schema sql) ≡ sql
   pub defines : index_defined_by table sql ≡ Ok index
 

@@ -36,10 +36,10 @@ query_of q = record {
   offset = q.offset;
 }
 
--- over this schema the text asks this, of a table that is stored
-pub record Asks (schema : Schema) (sql : List ℕ) (q : TableQuery) : Type 0 where
+-- over this schema the text, which has so many parameters, asks this, of a table that is stored
+pub record Asks (schema : Schema) (sql : List ℕ) (q : TableQuery) (count : ℕ) : Type 0 where
   pub names : List (List ℕ)
-  pub means : Means schema sql (Select (record { lets = []; body = query_of q }) names)
+  pub means : Means schema sql (Select (record { lets = []; body = query_of q }) names) count
   pub unlisted : reads_listing schema sql ≡ false
   pub stored : nat_le (2 ^ 31) q.tree ≡ false
 

@@ -1,6 +1,6 @@
 -- What a statement on one of the office's tables makes of the state for which the database stands.
 use Rattle.std.specs.Prelude.{⊤}
-use Rattle.std.proofs.Common.{◌≡◌, ◌≢◌, inl, inr, ℕ, ℤ, pos, true, false, not, List, [], ◌∷◌, length, map, filter, drop, None, Result, Ok, Err, IfErr, OnOk, refl, arith, sym, ap, ap₂, subst, ◌∙◌, IsPermutation}
+use Rattle.std.proofs.Common.{◌≡◌, ◌≢◌, ℕ, ℤ, pos, true, false, not, List, [], ◌∷◌, length, map, filter, drop, None, Result, Ok, Err, IfErr, OnOk, refl, arith, sym, ap, ap₂, subst, ◌∙◌, IsPermutation}
 use Rattle.std.specs.FinMap as finite
 use Rattle.std.specs.FinSet as set
 use Rattle.std.specs.Option.{IsSome}
@@ -23,7 +23,6 @@ use Rattle.deb_text.proofs.KeyLemmas.{text_cmp_total, text_cmp-same, pair_cmp_to
 use Rattle.wb_states.specs.declared.arch.OsCpu.{OsCpu}
 use Rattle.wb_states.specs.declared.record.Record.{Record}
 use Rattle.wb_states.specs.declared.store_fault.StoreFault.{StoreFault}
-use Rattle.wb_states.specs.declared.store_fault.Table as fault
 use Rattle.wb_states.specs.declared.store_fault.Table.TheVariants.{Office, Arch, Builder, SourceRecord}
 use Rattle.wb_states.specs.Machine.{Machine}
 use Rattle.wb_states.specs.Queue.{Entry}
@@ -44,8 +43,9 @@ use Rattle.wb_schema.proofs.RecordLemmas.{arch_typed, builder_typed}
 use Rattle.wb_rows.specs.Cells.{record_cells, arch_cells, builder_cells, number}
 use Rattle.wb_tables.specs.Stands.{HoldsRows, StandsFor, office_row, record_rows, arch_rows, builder_rows, builder_pairs}
 use Rattle.wb_tables.specs.Calls.{Becomes, Changes, FailsToWrite}
-use Rattle.wb_tables.specs.Faults.{told_of}
-use Rattle.wb_tables.specs.Texts.{IsChangeOf}
+use Rattle.wb_tables.specs.Faults.{answer_on}
+use Rattle.wb_tables.specs.Writes as write
+use Rattle.wb_tables.specs.Writes.{IsTextOfWrite, OfficeWrite, table_written, written_by}
 use Rattle.wb_tables.proofs.OthersLemmas.{others_kept, office_named, arch_named, builder_named, record_named}
 use Rattle.wb_tables.proofs.MapLemmas.{entries-insert, entries-added, items-added}
 use Rattle.wb_tables.proofs.ChangeRowLemmas.{begins_with, passes, cells_without, cells_apart, records_without, record_decides, office_typed, entry_typed, typed_at}
@@ -55,26 +55,33 @@ use Rattle.wb_schema.proofs.ApartLemmas.{other_rows, own_rows}
 -- ---- any statement that writes
 
 -- what a statement that writes makes of the state
-pub statement_changes : {S A : Type 0} {g : Ghosts S} {sql : List ℕ} {params : Row} {table : fault.Table} {Allows : Machine → Type 0} {after : Machine → Machine} {old new : Held S} {r : Result A Error} {told : Result A StoreFault} (Done : State → State → Type 0)
-    → IsChangeOf table sql → ((schema : Schema) → HasOffice schema → IsWriting schema sql)
-    → ((machine : Machine) → StandsFor machine (state g old).now → Allows machine → Done (state g old) (state g new) → Becomes (after machine) (state g old) (state g new))
-    → RunsStatement g sql params old new r → (HasCleanDisk (state g new) → OnOk r (Done (state g old) (state g new))) → told ≡ told_of r table → Changes g table Allows after old new told
-statement_changes {A = A} {g = g} {sql = sql} {params = params} {table = table} {Allows = Allows} {after = after} {old = old} {new = new} {r = r} Done on writes makes ran ok is =
-    subst (λ (t : Result A StoreFault). Changes g table Allows after old new t) (sym is) (record {
-      ok = λ clean. ok_told _ r (on_ok r (λ done machine stands allows. makes machine stands allows done) (ok clean));
-      err = λ clean inside. err_told r (ran.err clean inside);
-      ended = λ over. let ended = ran.ended over in (ap (λ answered. told_of answered table) ended.0, ended.1);
+pub statement_changes : {S A : Type 0} {g : Ghosts S} {sql : List ℕ} {params : Row} {Allows : Machine → Type 0} {after : Machine → Machine} {old new : Held S} {r : Result A Error} {answer : Result A StoreFault} (write : OfficeWrite) (Done : State → State → Type 0)
+    → IsTextOfWrite write sql → params ≡ written_by write → ((schema : Schema) → HasOffice schema → IsWriting schema sql)
+    → ((machine : Machine) → StandsFor machine (state g old).now → Allows machine → (state g new).step_limit ≡ (state g old).step_limit → Done (state g old) (state g new) → Becomes (after machine) (state g old) (state g new))
+    → RunsStatement g sql params old new r → (HasCleanDisk (state g new) → OnOk r (Done (state g old) (state g new))) → answer ≡ answer_on r (table_written write) → Changes g write Allows after old new answer
+statement_changes {A = A} {g = g} {sql = sql} {params = params} {Allows = Allows} {after = after} {old = old} {new = new} {r = r} write Done text given writes makes ran ok is =
+    subst (λ (t : Result A StoreFault). Changes g write Allows after old new t) (sym is) (record {
+      ok = λ clean. ok_on _ r (on_ok r (λ done machine stands allows. makes machine stands allows ran.survives.limit done) (ok clean));
+      err = λ clean inside. err_on r (ran.err clean inside);
+      ended = λ over. let ended = ran.ended over in (ap (λ answered. answer_on answered (table_written write)) ended.0, ended.1);
       survives = survives_weaker (state g old) (state g new) _ _ (λ clean db none has. none (writes old.schema has)) ran.survives;
     })
   where
-    ok_told : (P : Type 0) (answered : Result A Error) → OnOk answered P → OnOk (told_of answered table) P
-    ok_told P (Ok x) h = h
-    ok_told P (Err e) h = tt
+    ok_on : (P : Type 0) (answered : Result A Error) → OnOk answered P → OnOk (answer_on answered (table_written write)) P
+    ok_on P (Ok x) h = h
+    ok_on P (Err e) h = tt
 
-    err_told : (answered : Result A Error) → IfErr answered (λ e. Executes sql params (state g old) (state g new) (Err e) × IsKeptOrUndone (state g old) (state g new))
-        → IfErr (told_of answered table) (FailsToWrite table (state g old) (state g new))
-    err_told (Ok x) h = tt
-    err_told (Err e) h = record { error = e; sql = sql; params = params; on = on; failed = h.0; told = refl; left = h.1 }
+    err_on : (answered : Result A Error) → IfErr answered (λ e. Executes sql params (state g old) (state g new) (Err e) × IsKeptOrUndone (state g old) (state g new))
+        → IfErr (answer_on answered (table_written write)) (FailsToWrite write (state g old) (state g new))
+    err_on (Ok x) h = tt
+    err_on (Err e) h = record {
+      error = e;
+      sql = sql;
+      text = text;
+      failed = subst (λ row. Executes sql row (state g old) (state g new) (Err e)) given h.0;
+      fault_is = refl;
+      left = h.1;
+    }
 
 -- ---- the other tables
 
@@ -115,12 +122,12 @@ rows_beside columns x xs ys left rows same kept stored put = record {
 
 -- ---- each statement
 
-module _ (sql : List ℕ) (machine : Machine) (old new : State) (stands : StandsFor machine old.now) where
+module _ (sql : List ℕ) (machine : Machine) (old new : State) (stands : StandsFor machine old.now) (limit : new.step_limit ≡ old.step_limit) where
   abbrev schema : Schema
   schema = old.now.schema
 
   -- the office's row with these counts, under the same rowid
-  pub counts_set : (handed accepted : ℕ) → UpdatesAmong office sql [] office_sets → Updates sql (number handed ∷ number accepted ∷ []) old new
+  pub counts_set : (handed accepted : ℕ) → UpdatesAmong office sql [] office_sets 2 → Updates sql (number handed ∷ number accepted ∷ []) old new
       → Becomes (record machine { handed = handed; accepted = accepted }) old new
   counts_set handed accepted text does =
       let after : Machine = record machine { handed = handed; accepted = accepted } in
@@ -129,7 +136,7 @@ module _ (sql : List ℕ) (machine : Machine) (old new : State) (stands : Stands
       let only : IsOnlyOne [] params (rows_in old.now office) (office_row machine) = subst (λ all. IsOnlyOne [] params all (office_row machine)) (sym stands.counts) (only_row params (office_row machine)) in
       let tree = tree_named schema office.name in
       let typed = typed_at tree office (office_row after) (office_typed after) in
-      let made = (does (table_in schema office) [] office_sets (office_row machine) (text schema tree stands.has.office_is (office_quiet schema stands.has)) stored only typed).0 in
+      let made = (does (table_in schema office) [] office_sets 2 (office_row machine) (text schema tree stands.has.office_is (office_quiet schema stands.has)) stored only typed).0 in
       let rows = put_row (office_row after) (without (λ other. true) (rows_in old.now office)) in
       let row : rows ≡ office_row after ∷ [] = ap (λ all. put_row (office_row after) (without (λ other. true) all)) stands.counts in
       record {
@@ -144,17 +151,18 @@ module _ (sql : List ℕ) (machine : Machine) (old new : State) (stands : Stands
         };
         schema_is = made.schema;
         shown = made.shown;
+        limit = limit;
         marks = made.marks;
         others = others_kept old new (table_in schema office) rows stands.has.office_is (office_named schema) made;
       }
 
   -- one more architecture
-  pub arch_put : (name : List ℕ) (words : OsCpu) → InsertsAmong arch sql arch_terms → finite.get machine.archs name ≡ None → Inserts sql (arch_cells (name, words)) old new
+  pub arch_put : (name : List ℕ) (words : OsCpu) → InsertsAmong arch sql arch_terms 3 → finite.get machine.archs name ≡ None → Inserts sql (arch_cells (name, words)) old new
       → Becomes (record machine { archs = finite.insert machine.archs name words }) old new
   arch_put name words text unknown does =
       let tree = tree_named schema arch.name in
       let typed = typed_at tree arch (Null ∷ arch_cells (name, words)) (arch_typed name words.os words.cpu) in
-      let put = does (table_in schema arch) arch_terms (text schema tree stands.has.arch_is (arch_quiet schema stands.has)) stands.archs.stored typed in
+      let put = does (table_in schema arch) arch_terms 3 (text schema tree stands.has.arch_is (arch_quiet schema stands.has)) stands.archs.stored typed in
       let made = put.0 in
       let after = finite.insert machine.archs name words in
       let holds : HoldsRows (map arch_cells (finite.entries after)) (new.now.trees tree) =
@@ -172,18 +180,19 @@ module _ (sql : List ℕ) (machine : Machine) (old new : State) (stands : Stands
         };
         schema_is = made.schema;
         shown = made.shown;
+        limit = limit;
         marks = made.marks;
         others = others_kept old new (table_in schema arch) _ stands.has.arch_is (arch_named schema) made;
       }
 
   -- one more pair of a builder and an architecture
-  pub builder_put : (name of : List ℕ) → InsertsAmong builder sql builder_terms → set.contains machine.builders (name, of) ≡ false → Inserts sql (builder_cells (name, of)) old new
+  pub builder_put : (name of : List ℕ) → InsertsAmong builder sql builder_terms 2 → set.contains machine.builders (name, of) ≡ false → Inserts sql (builder_cells (name, of)) old new
       → Becomes (record machine { builders = set.insert machine.builders (name, of) }) old new
   builder_put name of text unknown does =
       let after : Machine = record machine { builders = set.insert machine.builders (name, of) } in
       let tree = tree_named schema builder.name in
       let typed = typed_at tree builder (Null ∷ builder_cells (name, of)) (builder_typed name of) in
-      let put = does (table_in schema builder) builder_terms (text schema tree stands.has.builder_is (builder_quiet schema stands.has)) stands.builders.stored typed in
+      let put = does (table_in schema builder) builder_terms 2 (text schema tree stands.has.builder_is (builder_quiet schema stands.has)) stands.builders.stored typed in
       let made = put.0 in
       let holds : HoldsRows (builder_rows after) (new.now.trees tree) =
       rows_beside builder_cells (name, of) (builder_pairs machine) (builder_pairs after) (cells_of (rows_in old.now builder)) (new.now.trees tree)
@@ -200,6 +209,7 @@ module _ (sql : List ℕ) (machine : Machine) (old new : State) (stands : Stands
         };
         schema_is = made.schema;
         shown = made.shown;
+        limit = limit;
         marks = made.marks;
         others = others_kept old new (table_in schema builder) _ stands.has.builder_is (builder_named schema) made;
       }
@@ -220,15 +230,16 @@ module _ (sql : List ℕ) (machine : Machine) (old new : State) (stands : Stands
         };
         schema_is = made.schema;
         shown = made.shown;
+        limit = limit;
         marks = made.marks;
         others = others_kept old new (table_in schema source_record) rows stands.has.record_is (record_named schema) made;
       }
 
   -- a record less
-  pub record_removed : (of source : List ℕ) → DeletesAmong source_record sql has_record_key → Deletes sql (Text of ∷ Text source ∷ []) old new
+  pub record_removed : (of source : List ℕ) → DeletesAmong source_record sql has_record_key 2 → Deletes sql (Text of ∷ Text source ∷ []) old new
       → Becomes (record machine { records = finite.remove machine.records (of, source) }) old new
   record_removed of source text does =
-      let put = does (table_in schema source_record) has_record_key (text schema (tree_named schema source_record.name) stands.has.record_is (record_quiet schema stands.has)) stands.records.stored in
+      let put = does (table_in schema source_record) has_record_key 2 (text schema (tree_named schema source_record.name) stands.has.record_is (record_quiet schema stands.has)) stands.records.stored in
       let columns = map record_cells (finite.entries (finite.remove machine.records (of, source))) in
       let was = rows_in old.now source_record in
       let rows = without (passes of source) was in
@@ -264,14 +275,14 @@ module _ (sql : List ℕ) (machine : Machine) (old new : State) (stands : Stands
       record_beside of source current _ put.0 put.1 (subst (λ left. IsPermutation (record_cells entry ∷ left) (cells_of (new.now.trees tree))) apart_is put.2)
 
   -- another record in place of the one that has its key
-  pub record_renewed : (of source : List ℕ) (current : Record) → UpdatesAmong source_record sql has_record_key record_sets → IsSome (finite.get machine.records (of, source))
+  pub record_renewed : (of source : List ℕ) (current : Record) → UpdatesAmong source_record sql has_record_key record_sets 16 → IsSome (finite.get machine.records (of, source))
       → Updates sql (record_cells ((of, source), current)) old new → Becomes (record machine { records = finite.insert machine.records (of, source) current }) old new
   record_renewed of source current text there does =
       let tree = tree_named schema source_record.name in
       let rows = rows_in old.now source_record in
       let found = row_renewed machine of source rows stands.records current there in
       let is = found.1 in
-      let put = does (table_in schema source_record) has_record_key record_sets found.0 (text schema tree stands.has.record_is (record_quiet schema stands.has)) stands.records.stored
+      let put = does (table_in schema source_record) has_record_key record_sets 16 found.0 (text schema tree stands.has.record_is (record_quiet schema stands.has)) stands.records.stored
       is.only (typed_at tree source_record _ is.typed) in
       let made = subst (λ all. SetsTable (table_in schema source_record) all old new) (sym put.0.rows_are) put.0 in
       record_beside of source current _ made put.1 (subst (λ columns. IsPermutation columns (cells_of (new.now.trees tree))) (ap₂ ◌∷◌ is.sets (cells_without of source rows)) put.2)
@@ -288,47 +299,47 @@ number_bound value cast kept is same = ap bound_value is ∙ ap Int same
 
 -- ---- each call
 
-module _ {S A : Type 0} {g : Ghosts S} {sql : List ℕ} {params : Row} {old new : Held S} {r : Result A Error} {told : Result A StoreFault} where
-  pub counts_change : (handed accepted : ℕ) → UpdatesAmong office sql [] office_sets → params ≡ number handed ∷ number accepted ∷ [] → RunsStatement g sql params old new r
+module _ {S A : Type 0} {g : Ghosts S} {sql : List ℕ} {params : Row} {old new : Held S} {r : Result A Error} {answer : Result A StoreFault} where
+  pub counts_change : (handed accepted : ℕ) → UpdatesAmong office sql [] office_sets 2 → params ≡ number handed ∷ number accepted ∷ [] → RunsStatement g sql params old new r
       → (HasCleanDisk (state g new) → OnOk r (Updates sql params (state g old) (state g new)))
-      → told ≡ told_of r Office → Changes g Office (λ _. ⊤) (λ machine. record machine { handed = handed; accepted = accepted }) old new told
+      → answer ≡ answer_on r Office → Changes g (write.SetsCounts handed accepted) (λ _. ⊤) (λ machine. record machine { handed = handed; accepted = accepted }) old new answer
   counts_change handed accepted text is =
-      statement_changes (Updates sql params) (inr (inr (inl ([], office_sets, text)))) (λ schema has. updates_writes schema sql (table_in schema office) [] office_sets (text schema (tree_named schema office.name) has.office_is (office_quiet schema has)))
-      (λ machine stands allows does. counts_set sql machine (state g old) (state g new) stands handed accepted text (subst (λ p. Updates sql p (state g old) (state g new)) is does))
+      statement_changes (write.SetsCounts handed accepted) (Updates sql params) text is (λ schema has. updates_writes schema sql (table_in schema office) [] office_sets (text schema (tree_named schema office.name) has.office_is (office_quiet schema has)))
+      (λ machine stands allows limit does. counts_set sql machine (state g old) (state g new) stands limit handed accepted text (subst (λ p. Updates sql p (state g old) (state g new)) is does))
 
-  pub arch_change : (name : List ℕ) (words : OsCpu) → InsertsAmong arch sql arch_terms → params ≡ arch_cells (name, words) → RunsStatement g sql params old new r
+  pub arch_change : (name : List ℕ) (words : OsCpu) → InsertsAmong arch sql arch_terms 3 → params ≡ arch_cells (name, words) → RunsStatement g sql params old new r
       → (HasCleanDisk (state g new) → OnOk r (Inserts sql params (state g old) (state g new)))
-      → told ≡ told_of r Arch → Changes g Arch (λ machine. finite.get machine.archs name ≡ None) (λ machine. record machine { archs = finite.insert machine.archs name words }) old new told
+      → answer ≡ answer_on r Arch → Changes g (write.AddsArch (name, words)) (λ machine. finite.get machine.archs name ≡ None) (λ machine. record machine { archs = finite.insert machine.archs name words }) old new answer
   arch_change name words text is =
-      statement_changes (Inserts sql params) (inl (arch_terms, text)) (λ schema has. inserts_writes schema sql (table_in schema arch) arch_terms (text schema (tree_named schema arch.name) has.arch_is (arch_quiet schema has)))
-      (λ machine stands unknown does. arch_put sql machine (state g old) (state g new) stands name words text unknown (subst (λ p. Inserts sql p (state g old) (state g new)) is does))
+      statement_changes (write.AddsArch (name, words)) (Inserts sql params) text is (λ schema has. inserts_writes schema sql (table_in schema arch) arch_terms (text schema (tree_named schema arch.name) has.arch_is (arch_quiet schema has)))
+      (λ machine stands unknown limit does. arch_put sql machine (state g old) (state g new) stands limit name words text unknown (subst (λ p. Inserts sql p (state g old) (state g new)) is does))
 
-  pub builder_change : (name of : List ℕ) → InsertsAmong builder sql builder_terms → params ≡ builder_cells (name, of) → RunsStatement g sql params old new r
+  pub builder_change : (name of : List ℕ) → InsertsAmong builder sql builder_terms 2 → params ≡ builder_cells (name, of) → RunsStatement g sql params old new r
       → (HasCleanDisk (state g new) → OnOk r (Inserts sql params (state g old) (state g new)))
-      → told ≡ told_of r Builder → Changes g Builder (λ machine. set.contains machine.builders (name, of) ≡ false) (λ machine. record machine { builders = set.insert machine.builders (name, of) }) old new told
+      → answer ≡ answer_on r Builder → Changes g (write.AddsBuilder (name, of)) (λ machine. set.contains machine.builders (name, of) ≡ false) (λ machine. record machine { builders = set.insert machine.builders (name, of) }) old new answer
   builder_change name of text is =
-      statement_changes (Inserts sql params) (inl (builder_terms, text)) (λ schema has. inserts_writes schema sql (table_in schema builder) builder_terms (text schema (tree_named schema builder.name) has.builder_is (builder_quiet schema has)))
-      (λ machine stands unknown does. builder_put sql machine (state g old) (state g new) stands name of text unknown (subst (λ p. Inserts sql p (state g old) (state g new)) is does))
+      statement_changes (write.AddsBuilder (name, of)) (Inserts sql params) text is (λ schema has. inserts_writes schema sql (table_in schema builder) builder_terms (text schema (tree_named schema builder.name) has.builder_is (builder_quiet schema has)))
+      (λ machine stands unknown limit does. builder_put sql machine (state g old) (state g new) stands limit name of text unknown (subst (λ p. Inserts sql p (state g old) (state g new)) is does))
 
-  pub removal_change : (of source : List ℕ) → DeletesAmong source_record sql has_record_key → params ≡ Text of ∷ Text source ∷ [] → RunsStatement g sql params old new r
+  pub removal_change : (of source : List ℕ) → DeletesAmong source_record sql has_record_key 2 → params ≡ Text of ∷ Text source ∷ [] → RunsStatement g sql params old new r
       → (HasCleanDisk (state g new) → OnOk r (Deletes sql params (state g old) (state g new)))
-      → told ≡ told_of r SourceRecord → Changes g SourceRecord (λ _. ⊤) (λ machine. record machine { records = finite.remove machine.records (of, source) }) old new told
+      → answer ≡ answer_on r SourceRecord → Changes g (write.RemovesRecord (of, source)) (λ _. ⊤) (λ machine. record machine { records = finite.remove machine.records (of, source) }) old new answer
   removal_change of source text is =
-      statement_changes (Deletes sql params) (inr (inr (inr (has_record_key, text)))) (λ schema has. deletes_writes schema sql (table_in schema source_record) has_record_key (text schema (tree_named schema source_record.name) has.record_is (record_quiet schema has)))
-      (λ machine stands allows does. record_removed sql machine (state g old) (state g new) stands of source text (subst (λ p. Deletes sql p (state g old) (state g new)) is does))
+      statement_changes (write.RemovesRecord (of, source)) (Deletes sql params) text is (λ schema has. deletes_writes schema sql (table_in schema source_record) has_record_key (text schema (tree_named schema source_record.name) has.record_is (record_quiet schema has)))
+      (λ machine stands allows limit does. record_removed sql machine (state g old) (state g new) stands limit of source text (subst (λ p. Deletes sql p (state g old) (state g new)) is does))
 
   pub record_change : (of source : List ℕ) (current : Record) → UpsertsRecords sql → params ≡ record_cells ((of, source), current) → RunsStatement g sql params old new r
       → (HasCleanDisk (state g new) → OnOk r (Upserts sql params (state g old) (state g new)))
-      → told ≡ told_of r SourceRecord → Changes g SourceRecord (λ _. ⊤) (λ machine. record machine { records = finite.insert machine.records (of, source) current }) old new told
+      → answer ≡ answer_on r SourceRecord → Changes g (write.PutsRecord ((of, source), current)) (λ _. ⊤) (λ machine. record machine { records = finite.insert machine.records (of, source) current }) old new answer
   record_change of source current text is =
-      statement_changes (Upserts sql params) (inr (inl (refl, text))) (λ schema has. upserts_writes schema sql (table_in schema source_record) record_terms record_sets record_key 16
+      statement_changes (write.PutsRecord ((of, source), current)) (Upserts sql params) text is (λ schema has. upserts_writes schema sql (table_in schema source_record) record_terms record_sets record_key 16
       (text schema (tree_named schema source_record.name) has.at has.record_is has.records_indexed (record_quiet schema has)))
-      (λ machine stands allows does. record_put sql machine (state g old) (state g new) stands of source current text (subst (λ p. Upserts sql p (state g old) (state g new)) is does))
+      (λ machine stands allows limit does. record_put sql machine (state g old) (state g new) stands limit of source current text (subst (λ p. Upserts sql p (state g old) (state g new)) is does))
 
-  pub renewal_change : (of source : List ℕ) (current : Record) → UpdatesAmong source_record sql has_record_key record_sets → params ≡ record_cells ((of, source), current) → RunsStatement g sql params old new r
+  pub renewal_change : (of source : List ℕ) (current : Record) → UpdatesAmong source_record sql has_record_key record_sets 16 → params ≡ record_cells ((of, source), current) → RunsStatement g sql params old new r
       → (HasCleanDisk (state g new) → OnOk r (Updates sql params (state g old) (state g new)))
-      → told ≡ told_of r SourceRecord → Changes g SourceRecord (λ machine. IsSome (finite.get machine.records (of, source))) (λ machine. record machine { records = finite.insert machine.records (of, source) current }) old new told
+      → answer ≡ answer_on r SourceRecord → Changes g (write.ReplacesRecord ((of, source), current)) (λ machine. IsSome (finite.get machine.records (of, source))) (λ machine. record machine { records = finite.insert machine.records (of, source) current }) old new answer
   renewal_change of source current text is =
-      statement_changes (Updates sql params) (inr (inr (inl (has_record_key, record_sets, text)))) (λ schema has. updates_writes schema sql (table_in schema source_record) has_record_key record_sets
+      statement_changes (write.ReplacesRecord ((of, source), current)) (Updates sql params) text is (λ schema has. updates_writes schema sql (table_in schema source_record) has_record_key record_sets
       (text schema (tree_named schema source_record.name) has.record_is (record_quiet schema has)))
-      (λ machine stands there does. record_renewed sql machine (state g old) (state g new) stands of source current text there (subst (λ p. Updates sql p (state g old) (state g new)) is does))
+      (λ machine stands there limit does. record_renewed sql machine (state g old) (state g new) stands limit of source current text there (subst (λ p. Updates sql p (state g old) (state g new)) is does))

@@ -31,6 +31,7 @@ use Rattle.wb_rows.proofs.CellsLemmas.{builder_cells-same}
 use Rattle.wb_tables.specs.Lookups.{AreRowsOf}
 use Rattle.wb_tables.specs.Opening.{AreBadRows, HoldsBuilders, IsFormedBuilder, IsRowOf, PassesWith, Tests, has_arch}
 use Rattle.wb_tables.specs.Stands.{StandsFor, builder_pairs}
+use Rattle.wb_tables.specs.Queries as ask
 use Rattle.wb_tables.proofs.ArchLemmas.{name_test}
 use Rattle.wb_tables.proofs.FormLemmas.{arch_known, arch_utf8, builder_utf8}
 use Rattle.wb_tables.proofs.LookupLemmas.{text_order}
@@ -106,8 +107,8 @@ module _ (machine : Machine) (db : Database) (stands : StandsFor machine db) (an
 
 -- what the test of the builders says of an office
 pub builders_pass : {S : Type 0} {g : Ghosts S} {old new : Held S} {X : Type 0} (archs : List (List ℕ × OsCpu)) (r : Result (Vec Key X) StoreFault)
-    → Tests g tables.builder sql.all_builders Builder (λ rows pairs. HoldsBuilders archs rows pairs.items) (AreBadRows Builder builder_cells (IsFormedBuilder archs)) old new r
-    → PassesWith g Builder (λ machine. archs ≡ finite.entries machine.archs) (λ machine pairs. pairs.items ≡ builder_pairs machine) old new r
+    → Tests g ask.Builders (λ rows pairs. HoldsBuilders archs rows pairs.items) (AreBadRows Builder builder_cells (IsFormedBuilder archs)) old new r
+    → PassesWith g ask.Builders (λ machine. archs ≡ finite.entries machine.archs) (λ machine pairs. pairs.items ≡ builder_pairs machine) old new r
 builders_pass {g} {old} archs r tests =
     passes_from r tests (λ machine stands rows a made holds. builders_found machine (state g old).now stands rows a made.items holds.same)
     (λ machine sound stands given rows a fault bad.

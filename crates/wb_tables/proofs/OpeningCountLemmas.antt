@@ -3,18 +3,16 @@ use Rattle.std.proofs.Common.{◌≡◌, ◌≤◌, inl, inr, ℕ, List, [], ◌
 use Rattle.sqlite.specs.Held.{Held, state}
 use Rattle.sqlite.specs.Order.{Row, column}
 use Rattle.sqlite_trees.specs.declared.store.Store.{Ghosts}
-use Rattle.wb_schema.specs.Statements as sql
-use Rattle.wb_schema.specs.Tables as tables
 use Rattle.wb_states.specs.declared.counts.Counts.{Counts}
 use Rattle.wb_states.specs.declared.store_fault.StoreFault.{StoreFault}
 use Rattle.wb_states.specs.declared.store_fault.StoreFault.TheVariants.{Memory, NotOffice}
-use Rattle.wb_states.specs.declared.store_fault.Table.TheVariants.{Office}
 use Rattle.wb_states.specs.Limits.{count_limit}
 use Rattle.wb_states.specs.Machine.{Machine, IsConsistent}
 use Rattle.wb_rows.specs.Cells.{number}
 use Rattle.wb_rows.proofs.CellsLemmas.{number-same}
 use Rattle.wb_tables.specs.Lookups.{counts_row, AreCounts}
 use Rattle.wb_tables.specs.Opening.{AreBadCounts, HasFormat, HoldsCounts, Passes, Tests}
+use Rattle.wb_tables.specs.Queries as ask
 use Rattle.wb_tables.proofs.FoundLemmas.{counts_found}
 use Rattle.wb_tables.proofs.OpeningLemmas.{passes_from}
 
@@ -63,8 +61,8 @@ never_bad machine sound rows is fault (inr (inr (two, damaged))) =
     absurd ((damaged (counts_row machine.handed machine.accepted) is).1 (record { handed = machine.handed; accepted = machine.accepted }) (record { same = refl; handed = sound.handed; accepted = sound.accepted }))
 
 -- what the test of the counts says of an office
-pub counts_pass : {S : Type 0} {g : Ghosts S} {old new : Held S} (r : Result Counts StoreFault) → Tests g tables.office sql.office_counts Office HoldsCounts AreBadCounts old new r
-    → Passes g Office (λ machine counts. (counts.handed ≡ machine.handed) × (counts.accepted ≡ machine.accepted)) old new r
+pub counts_pass : {S : Type 0} {g : Ghosts S} {old new : Held S} (r : Result Counts StoreFault) → Tests g ask.Office HoldsCounts AreBadCounts old new r
+    → Passes g ask.Office (λ machine counts. (counts.handed ≡ machine.handed) × (counts.accepted ≡ machine.accepted)) old new r
 counts_pass {g} {old} r tests =
     passes_from r tests (λ machine stands rows a counts holds. counts_are rows machine.handed machine.accepted counts (counts_found machine (state g old).now stands rows a) holds)
     (λ machine sound stands given rows a fault bad. never_bad machine sound rows (counts_found machine (state g old).now stands rows a) fault bad)

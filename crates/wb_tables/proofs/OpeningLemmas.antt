@@ -4,12 +4,7 @@ use Rattle.std.specs.List.{AllByRecursion}
 use Rattle.std.specs.FinMap as finite
 use Rattle.sqlite.specs.Held.{Held, state}
 use Rattle.sqlite.specs.Order.{Row}
-use Rattle.sqlite.specs.Table as stored
 use Rattle.sqlite_trees.specs.declared.store.Store.{Ghosts}
-use Rattle.wb_sql.specs.Queries.{TableQuery, Answers}
-use Rattle.wb_schema.specs.Among.{rows_in}
-use Rattle.wb_schema.specs.Statements as sql
-use Rattle.wb_schema.specs.Tables as tables
 use Rattle.wb_states.specs.declared.arch.OsCpu.{OsCpu}
 use Rattle.wb_states.specs.declared.store_fault.StoreFault.{StoreFault}
 use Rattle.wb_states.specs.declared.store_fault.StoreFault.TheVariants.{Memory}
@@ -22,7 +17,8 @@ use Rattle.wb_tables.specs.Faults.{IsBadRow}
 use Rattle.wb_tables.specs.Lookups.{AreRowsOf, ReadsTable}
 use Rattle.wb_tables.specs.Opening.{AreBadRows, HoldsArchs, IsFirstBad, IsFormedArch, IsRowOf, Passes, PassesWith, Tests}
 use Rattle.wb_tables.specs.Stands.{StandsFor}
-use Rattle.wb_tables.specs.Texts.{table_of}
+use Rattle.wb_tables.specs.Queries as ask
+use Rattle.wb_tables.specs.Queries.{AnswersTo, OfficeQuery, table_asked}
 use Rattle.wb_tables.proofs.ArchLemmas.{archs_found, archs_formed}
 use Rattle.wb_tables.proofs.FormLemmas.{formed_arch_readable}
 use Rattle.wb_tables.proofs.ReadLemmas.{AsksOf, answered, crash_over, fails_to_read, one_of_rows, plain_over, row_read}
@@ -76,10 +72,10 @@ module _ {X : Type 0} (columns : X → Row) (Fits : X → Type 0) where
 
 -- ---- the test of a table
 
-module _ {S : Type 0} {g : Ghosts S} {text : List ℕ} {q : TableQuery} {table : Table} (asks : AsksOf text table q) {old new : Held S} where
+module _ {S : Type 0} {g : Ghosts S} {text : List ℕ} {query : OfficeQuery} (asks : AsksOf text [] query) {old new : Held S} where
   -- a test whose rows are had
-  pub tests_rows : {A X : Type 0} {rows : Vec Row X} {Good : List Row → A → Type 0} {Bad : List Row → StoreFault → Type 0} (r : Result A StoreFault) → ReadsTable g table text [] old new (Ok rows)
-      → IfOk r (Good rows.items) → IfErr r (Bad rows.items) → Tests g (table_of table) q table Good Bad old new r
+  pub tests_rows : {A X : Type 0} {rows : Vec Row X} {Good : List Row → A → Type 0} {Bad : List Row → StoreFault → Type 0} (r : Result A StoreFault) → ReadsTable g (table_asked query) text [] old new (Ok rows)
+      → IfOk r (Good rows.items) → IfErr r (Bad rows.items) → Tests g query Good Bad old new r
   tests_rows {rows} (Ok x) read good bad = record {
     value = λ clean office. (rows.items, answered asks (state g old) office (read.value clean), good);
     same = λ clean office. read.same clean (plain_over asks office);
@@ -94,22 +90,22 @@ module _ {S : Type 0} {g : Ghosts S} {text : List ℕ} {q : TableQuery} {table :
   }
 
   -- a test whose rows are not had
-  pub tests_nothing : {A X : Type 0} {fault : StoreFault} {Good : List Row → A → Type 0} {Bad : List Row → StoreFault → Type 0} {r : Result A StoreFault} → ReadsTable {X = X} g table text [] old new (Err fault)
-      → r ≡ Err fault → Tests g (table_of table) q table Good Bad old new r
-  tests_nothing {A} {Good = Good} {Bad = Bad} read is = subst (λ (r : Result A StoreFault). Tests g (table_of table) q table Good Bad old new r) (sym is) (record {
+  pub tests_nothing : {A X : Type 0} {fault : StoreFault} {Good : List Row → A → Type 0} {Bad : List Row → StoreFault → Type 0} {r : Result A StoreFault} → ReadsTable {X = X} g (table_asked query) text [] old new (Err fault)
+      → r ≡ Err fault → Tests g query Good Bad old new r
+  tests_nothing {A} {Good = Good} {Bad = Bad} read is = subst (λ (r : Result A StoreFault). Tests g query Good Bad old new r) (sym is) (record {
     value = λ clean office. tt;
     same = λ clean office. tt;
-    err = λ clean office. inl (fails_to_read [] asks (read.err clean));
+    err = λ clean office. inl (fails_to_read asks (read.err clean));
     survives = crash_over asks g old new read.survives;
   })
 
 -- what a test says of an office
-pub passes_from : {S A : Type 0} {g : Ghosts S} {of : stored.Table} {q : TableQuery} {table : Table} {old new : Held S} {Good : List Row → A → Type 0} {Bad : List Row → StoreFault → Type 0} {Given : Machine → Type 0} {Outcome : Machine → A → Type 0}
-    (r : Result A StoreFault) → Tests g of q table Good Bad old new r
-    → ((machine : Machine) → StandsFor machine (state g old).now → (rows : List Row) → Answers q [] (rows_in (state g old).now of) rows → (x : A) → Good rows x → Outcome machine x)
-    → ((machine : Machine) → IsConsistent machine → StandsFor machine (state g old).now → Given machine → (rows : List Row) → Answers q [] (rows_in (state g old).now of) rows
+pub passes_from : {S A : Type 0} {g : Ghosts S} {query : OfficeQuery} {old new : Held S} {Good : List Row → A → Type 0} {Bad : List Row → StoreFault → Type 0} {Given : Machine → Type 0} {Outcome : Machine → A → Type 0}
+    (r : Result A StoreFault) → Tests g query Good Bad old new r
+    → ((machine : Machine) → StandsFor machine (state g old).now → (rows : List Row) → AnswersTo query (state g old).now rows → (x : A) → Good rows x → Outcome machine x)
+    → ((machine : Machine) → IsConsistent machine → StandsFor machine (state g old).now → Given machine → (rows : List Row) → AnswersTo query (state g old).now rows
     → (fault : StoreFault) → Bad rows fault → fault ≡ Memory)
-    → PassesWith g table Given Outcome old new r
+    → PassesWith g query Given Outcome old new r
 passes_from (Ok x) tests finds fits = record {
   value = λ clean machine stands. let found = tests.value clean stands.has in finds machine stands found.0 found.1 x found.2;
   err = λ clean. tt;
@@ -126,8 +122,8 @@ passes_from (Err fault) tests finds fits = record {
 
 -- what the test of the architectures says of an office
 pub archs_pass : {S : Type 0} {g : Ghosts S} {old new : Held S} {X : Type 0} (r : Result (Vec (List ℕ × OsCpu) X) StoreFault)
-    → Tests g tables.arch sql.all_archs Arch (λ rows archs. HoldsArchs rows archs.items) (AreBadRows Arch arch_cells IsFormedArch) old new r
-    → Passes g Arch (λ machine archs. archs.items ≡ finite.entries machine.archs) old new r
+    → Tests g ask.Archs (λ rows archs. HoldsArchs rows archs.items) (AreBadRows Arch arch_cells IsFormedArch) old new r
+    → Passes g ask.Archs (λ machine archs. archs.items ≡ finite.entries machine.archs) old new r
 archs_pass {g} {old} r tests =
     passes_from r tests (λ machine stands rows a made holds. archs_found machine (state g old).now stands rows a made.items holds.same)
     (λ machine sound stands given rows a fault bad. only_memory arch_cells IsFormedArch Arch rows fault (archs_formed machine (state g old).now stands rows a sound) bad)

@@ -39,6 +39,7 @@ use Rattle.wb_rows.proofs.CellsLemmas.{record_cells-same}
 use Rattle.wb_tables.specs.Faults.{IsBadRow}
 use Rattle.wb_tables.specs.Opening.{AllAfter, AreBadRecords, AreKept, FitsBeside, FitsRecords, HasGoodRecords, HasOwnTake, HoldsRecords, IsFormedRecord, IsRowOf, IsTestedRow, PassesWith, Tests, has_pair, words_among}
 use Rattle.wb_tables.specs.Stands.{StandsFor, builder_pairs}
+use Rattle.wb_tables.specs.Queries as ask
 use Rattle.wb_tables.proofs.ArchLemmas.{name_test}
 use Rattle.wb_tables.proofs.FormLemmas.{arch_known, formed_readable}
 use Rattle.wb_tables.proofs.LookupLemmas.{key_test, take_few, text_order}
@@ -308,8 +309,8 @@ module _ (machine : Machine) (db : Database) (stands : StandsFor machine db) (an
 
 -- what the test of the records says of an office
 pub records_pass : {S : Type 0} {g : Ghosts S} {old new : Held S} (archs : List (List ℕ × OsCpu)) (builders : List Key) (handed : ℕ) (r : Result ⊤ StoreFault)
-    → Tests g tables.source_record sql.all_records SourceRecord (λ rows done. HoldsRecords archs builders handed rows) (AreBadRecords archs builders handed) old new r
-    → PassesWith g SourceRecord (AreKept archs builders handed) (λ machine done. AreKept archs builders handed machine → HasGoodRecords machine) old new r
+    → Tests g ask.Records (λ rows done. HoldsRecords archs builders handed rows) (AreBadRecords archs builders handed) old new r
+    → PassesWith g ask.Records (AreKept archs builders handed) (λ machine done. AreKept archs builders handed machine → HasGoodRecords machine) old new r
 records_pass {g} {old} archs builders handed r tests =
     passes_from r tests (λ machine stands rows a done holds given. records_good machine (state g old).now stands rows a archs builders handed holds given)
     (λ machine sound stands given rows a fault bad. only_memory_after record_cells record_cells-same (FitsRecords archs builders handed) SourceRecord rows fault

@@ -1,28 +1,30 @@
 -- From the run of a query to the records that it answers, and to what a look-up promises.
-use Rattle.std.proofs.Common.{◌≡◌, inl, inr, ℕ, List, [], ◌∷◌, ◌++◌, append_assoc, map, Result, Ok, Err, IfOk, IfErr, IsErrAnd, Vec, refl, sym, ap, subst, ◌∙◌}
+use Rattle.std.proofs.Common.{◌≡◌, inl, inr, ℕ, List, [], ◌∷◌, ◌++◌, length, append_assoc, map, Result, Ok, Err, IfOk, IfErr, IsErrAnd, Vec, refl, sym, ap, subst, ◌∙◌}
 use Rattle.std.proofs.lemmas.List.{map-append}
+use Rattle.sqlite.specs.Effect.{Database}
 use Rattle.sqlite.specs.Given.{IsPlain}
 use Rattle.sqlite.specs.Held.{Held, state}
 use Rattle.sqlite.specs.Listing.{understood}
 use Rattle.sqlite.specs.Order.{Row}
 use Rattle.sqlite.specs.Schema.{Schema}
-use Rattle.sqlite.specs.State.{State, Survives}
+use Rattle.sqlite.specs.State.{State, FailsToQuery, Survives}
 use Rattle.sqlite.proofs.StateLemmas.{survives_weaker}
 use Rattle.sqlite_trees.specs.declared.store.Store.{Ghosts}
 use Rattle.wb_sql.specs.Queries.{TableQuery, Asks, Answers}
-use Rattle.wb_schema.specs.Among.{AsksAmong, HasOffice, HasTable, query_at, query_in, rows_in, table_in, tree_named}
-use Rattle.wb_schema.specs.Tables as tables
+use Rattle.wb_schema.specs.Among.{HasOffice, HasTable, query_at, query_in, rows_in, table_in, tree_named}
 use Rattle.wb_states.specs.declared.store_fault.StoreFault.{StoreFault}
 use Rattle.wb_states.specs.declared.store_fault.StoreFault.TheVariants.{Memory}
 use Rattle.wb_states.specs.declared.store_fault.Table.{Table}
 use Rattle.wb_states.specs.declared.store_fault.Table.TheVariants.{Office, Arch, Builder, SourceRecord, ScratchSource, ScratchBinary}
 use Rattle.wb_states.specs.Machine.{Machine, IsConsistent}
 use Rattle.wb_store.specs.declared.keyed.KeyedRecord.{KeyedRecord}
-use Rattle.wb_tables.specs.Faults.{IsUnfit}
+use Rattle.wb_tables.specs.Faults.{IsUnfit, unfit, answer_on}
 use Rattle.wb_tables.specs.Stands.{StandsFor}
 use Rattle.wb_tables.specs.Calls.{FailsToLookUp, FailsToRead, LooksUp}
 use Rattle.wb_tables.specs.Lookups.{AreRecords, AreRowsOf, FailsToReadRecords, IsQueryFault, MayAnswer, ReadsRecords, ReadsTable, keyed_cells}
-use Rattle.wb_tables.specs.Texts.{table_of}
+use Rattle.sqlite.specs.declared.error.Error.{Error}
+use Rattle.wb_sql.specs.Calls.{RunsQuery}
+use Rattle.wb_tables.specs.Queries.{AnswersTo, IsTextOfQuery, OfficeQuery, given_to, query_asked, table_asked, table_of}
 
 -- a call that hands on the error of another one
 pub handed_on : {T E : Type 0} {e : E} (r : Result T E) → IsErrAnd r (λ d. d ≡ e) → r ≡ Err e
@@ -64,41 +66,62 @@ has_table SourceRecord has = has.record_is
 has_table ScratchSource has = has.source_is
 has_table ScratchBinary has = has.binary_is
 
--- the text asks this of one of the office's tables
-pub record AsksOf (sql : List ℕ) (table : Table) (q : TableQuery) : Type 0 where
-  pub among : AsksAmong (table_of table) sql q
+-- the text and the parameters are those of a query on one of the office's tables
+pub record AsksOf (sql : List ℕ) (params : Row) (query : OfficeQuery) : Type 0 where
+  pub text : IsTextOfQuery query sql
+  pub given : params ≡ given_to query
 
--- what a text asks of a table
-pub asks_of : {sql : List ℕ} (table : Table) (q : TableQuery) → AsksAmong (table_of table) sql q → AsksOf sql table q
-asks_of table q asks = record { among = asks }
+-- what a text asks, with these parameters
+pub asks_of : {sql : List ℕ} {params : Row} (query : OfficeQuery) → IsTextOfQuery query sql → params ≡ given_to query → AsksOf sql params query
+asks_of query text given = record { text = text; given = given }
 
 -- what a query answers does not depend on the tree in which its table is
-pub answers_of : {q : TableQuery} {tree : ℕ} {params : Row} {rows answer : List Row} → Answers (query_at tree q) params rows answer → Answers q params rows answer
+answers_of : {q : TableQuery} {tree : ℕ} {params : Row} {rows answer : List Row} → Answers (query_at tree q) params rows answer → Answers q params rows answer
 answers_of a = record { ordered = a.ordered; same = a.same; sorted = a.sorted; shown = a.shown }
 
-module _ {sql : List ℕ} {q : TableQuery} {table : Table} (asks : AsksOf sql table q) where
+module _ {sql : List ℕ} {params : Row} {query : OfficeQuery} (asks : AsksOf sql params query) where
   -- what a text asks over a schema with the office's tables
-  pub asked_over : {schema : Schema} → HasOffice schema → Asks schema sql (query_in schema (table_of table) q)
-  asked_over {schema} has = asks.among schema (tree_named schema (table_of table).name) (has_table table has)
+  pub asked_over : {schema : Schema} → HasOffice schema → Asks schema sql (query_in schema (table_of (table_asked query)) (query_asked query)) (length (given_to query))
+  asked_over {schema} has = asks.text schema (tree_named schema (table_of (table_asked query)).name) (has_table (table_asked query) has)
 
   pub plain_over : {schema : Schema} → HasOffice schema → IsPlain (understood schema sql)
   plain_over has = (asked_over has).means.plain
 
+  -- an answer to it over the tree in which its table is
+  pub answer_of : (db : Database) (rows : List Row) → Answers (query_in db.schema (table_of (table_asked query)) (query_asked query)) params (rows_in db (table_of (table_asked query))) rows → AnswersTo query db rows
+  answer_of db rows a = subst (λ given. Answers (query_asked query) given (rows_in db (table_of (table_asked query))) rows) asks.given (answers_of a)
+
   -- what it may answer, it answers of the rows of the table
-  pub answered : {params : Row} {rows : List Row} (at : State) → HasOffice at.now.schema → MayAnswer sql params at rows → Answers q params (rows_in at.now (table_of table)) rows
-  answered at has answers = answers_of (answers (query_in at.now.schema (table_of table) q) (asked_over has))
+  pub answered : {rows : List Row} (at : State) → HasOffice at.now.schema → MayAnswer sql params at rows → AnswersTo query at.now rows
+  answered {rows} at has answers =
+      answer_of at.now rows (answers (query_in at.now.schema (table_of (table_asked query)) (query_asked query)) (length (given_to query)) (asked_over has))
 
   pub crash_over : {S : Type 0} (g : Ghosts S) (old new : Held S) → Survives (state g old) (state g new) (λ _. ¬ IsPlain (understood old.schema sql))
       → Survives (state g old) (state g new) (λ _. ¬ HasOffice old.schema)
   crash_over g old new =
       survives_weaker (state g old) (state g new) (λ _. ¬ IsPlain (understood old.schema sql)) (λ _. ¬ HasOffice old.schema) (λ clean db unplain has. unplain (plain_over has))
 
--- a query on a table that failed, by its text
-pub fails_to_read : {table : Table} {sql : List ℕ} {q : TableQuery} (params : Row) {old new : State} {fault : StoreFault} → AsksOf sql table q → IsQueryFault table sql params old new fault → FailsToRead table old new fault
-fails_to_read {sql = sql} {q = q} params asks failed =
-    record { error = failed.0; sql = sql; params = params; on = (q, asks.among); failed = failed.1; left = failed.2; told = failed.3 }
+-- a query that failed, by its text and its parameters
+pub fails_to_read : {sql : List ℕ} {params : Row} {query : OfficeQuery} {old new : State} {fault : StoreFault} → AsksOf sql params query → IsQueryFault (table_asked query) sql params old new fault → FailsToRead query old new fault
+fails_to_read {sql} {old = old} {new = new} asks failed = record {
+  error = failed.0;
+  sql = sql;
+  text = asks.text;
+  failed = subst (λ given. FailsToQuery sql given old new failed.0) asks.given failed.1;
+  left = failed.2;
+  fault_is = failed.3;
+}
 
 module _ {S : Type 0} {g : Ghosts S} {sql : List ℕ} {params : Row} {old new : Held S} where
+  -- the rows of a query on a table
+  pub reads_table : {X : Type 0} {answered : Result (Vec Row X) StoreFault} (table : Table) (r : Result (Vec Row X) Error) → RunsQuery g sql params old new r → answered ≡ answer_on r table
+      → ReadsTable g table sql params old new answered
+  reads_table {X} {answered} table r runs is = subst (λ (answer : Result (Vec Row X) StoreFault). ReadsTable g table sql params old new answer) (sym is) (of r runs)
+    where
+      of : (r : Result (Vec Row X) Error) → RunsQuery g sql params old new r → ReadsTable g table sql params old new (answer_on r table)
+      of (Ok rows) runs = record { value = λ clean. runs.answers clean; same = runs.same; err = λ clean. tt; survives = runs.survives }
+      of (Err e) runs = record { value = λ clean. tt; same = λ clean plain. tt; err = λ clean. let failed = runs.err clean in (e, failed.0, failed.1, refl); survives = runs.survives }
+
   -- the records in the rows of a query that succeeded
   pub reads_rows : {X Y : Type 0} {rows : Vec Row X} (r : Result (Vec KeyedRecord Y) StoreFault) → ReadsTable g SourceRecord sql params old new (Ok rows)
       → IfOk r (λ made. rows.items ≡ map keyed_cells made.items) → IfErr r (IsUnfit SourceRecord (AreRecords rows.items)) → ReadsRecords g sql params old new r
@@ -124,12 +147,12 @@ module _ {S : Type 0} {g : Ghosts S} {sql : List ℕ} {params : Row} {old new : 
     survives = read.survives;
   })
 
-  module _ {q : TableQuery} {table : Table} (asks : AsksOf sql table q) where
+  module _ {query : OfficeQuery} (asks : AsksOf sql params query) where
     -- a look-up whose query succeeded, and whose rows are read
-    pub looks_up_rows : {A X : Type 0} {rows : Vec Row X} {Answer : Machine → A → Type 0} (Fits : Type 0) (r : Result A StoreFault) → ReadsTable g table sql params old new (Ok rows)
-        → ((machine : Machine) → StandsFor machine (state g old).now → Answers q params (rows_in (state g old).now (table_of table)) rows.items → IfOk r (Answer machine)) → IfErr r (IsUnfit table Fits)
-        → ((machine : Machine) → IsConsistent machine → StandsFor machine (state g old).now → Answers q params (rows_in (state g old).now (table_of table)) rows.items → Fits)
-        → LooksUp g table Answer old new r
+    pub looks_up_rows : {A X : Type 0} {rows : Vec Row X} {Answer : Machine → A → Type 0} (Fits : Type 0) (r : Result A StoreFault) → ReadsTable g (table_asked query) sql params old new (Ok rows)
+        → ((machine : Machine) → StandsFor machine (state g old).now → AnswersTo query (state g old).now rows.items → IfOk r (Answer machine)) → IfErr r (IsUnfit (table_asked query) Fits)
+        → ((machine : Machine) → IsConsistent machine → StandsFor machine (state g old).now → AnswersTo query (state g old).now rows.items → Fits)
+        → LooksUp g query Answer old new r
     looks_up_rows Fits (Ok x) read finds fault fits = record {
       value = λ clean machine stands. finds machine stands (answered asks (state g old) stands.has (read.value clean));
       same = λ clean office. read.same clean (plain_over asks office);
@@ -147,19 +170,19 @@ module _ {S : Type 0} {g : Ghosts S} {sql : List ℕ} {params : Row} {old new : 
     }
 
     -- a look-up whose query failed
-    pub looks_up_nothing : {A X : Type 0} {fault : StoreFault} {Answer : Machine → A → Type 0} {r : Result A StoreFault} → ReadsTable {X = X} g table sql params old new (Err fault) → r ≡ Err fault → LooksUp g table Answer old new r
-    looks_up_nothing {A} {Answer = Answer} read is = subst (λ (r : Result A StoreFault). LooksUp g table Answer old new r) (sym is) (record {
+    pub looks_up_nothing : {A X : Type 0} {fault : StoreFault} {Answer : Machine → A → Type 0} {r : Result A StoreFault} → ReadsTable {X = X} g (table_asked query) sql params old new (Err fault) → r ≡ Err fault → LooksUp g query Answer old new r
+    looks_up_nothing {A} {Answer = Answer} read is = subst (λ (r : Result A StoreFault). LooksUp g query Answer old new r) (sym is) (record {
       value = λ clean. tt;
       same = λ clean office. tt;
-      err = λ clean office. inl (fails_to_read params asks (read.err clean));
+      err = λ clean office. inl (fails_to_read asks (read.err clean));
       survives = crash_over asks g old new read.survives;
     })
 
-  module _ {q : TableQuery} (asks : AsksOf sql SourceRecord q) where
+  module _ {query : OfficeQuery} (asks : AsksOf sql params query) (on_records : SourceRecord ≡ table_asked query) where
     -- a look-up of records
     pub looks_up : {A X : Type 0} {rows : Vec KeyedRecord X} {Answer : Machine → A → Type 0} {x : A} → ReadsRecords g sql params old new (Ok rows)
-        → ((machine : Machine) → StandsFor machine (state g old).now → Answers q params (rows_in (state g old).now tables.source_record) (map keyed_cells rows.items) → Answer machine x)
-        → LooksUp g SourceRecord Answer old new (Ok x)
+        → ((machine : Machine) → StandsFor machine (state g old).now → AnswersTo query (state g old).now (map keyed_cells rows.items) → Answer machine x)
+        → LooksUp g query Answer old new (Ok x)
     looks_up read finds = record {
       value = λ clean machine stands. finds machine stands (answered asks (state g old) stands.has (read.value clean));
       same = λ clean office. read.same clean (plain_over asks office);
@@ -169,25 +192,25 @@ module _ {S : Type 0} {g : Ghosts S} {sql : List ℕ} {params : Row} {old new : 
 
     -- a look-up whose records are not had
     pub fails_to_look_up : {A X : Type 0} {fault : StoreFault} {Answer : Machine → A → Type 0} {r : Result A StoreFault} → ReadsRecords {X = X} g sql params old new (Err fault) → r ≡ Err fault
-        → ((machine : Machine) → IsConsistent machine → StandsFor machine (state g old).now → (rows : List Row) → Answers q params (rows_in (state g old).now tables.source_record) rows → AreRecords rows)
-        → LooksUp g SourceRecord Answer old new r
-    fails_to_look_up {A} {fault = fault} {Answer = Answer} read is fits = subst (λ (r : Result A StoreFault). LooksUp g SourceRecord Answer old new r) (sym is) (record {
+        → ((machine : Machine) → IsConsistent machine → StandsFor machine (state g old).now → (rows : List Row) → AnswersTo query (state g old).now rows → AreRecords rows)
+        → LooksUp g query Answer old new r
+    fails_to_look_up {A} {fault = fault} {Answer = Answer} read is fits = subst (λ (r : Result A StoreFault). LooksUp g query Answer old new r) (sym is) (record {
       value = λ clean. tt;
       same = λ clean office. tt;
       err = λ clean office. why office (read.err clean (plain_over asks office));
       survives = crash_over asks g old new read.survives;
     })
       where
-        why : HasOffice old.schema → FailsToReadRecords sql params (state g old) (state g new) fault → FailsToLookUp SourceRecord (state g old) (state g new) fault
-        why office (inl failed) = inl (fails_to_read params asks failed)
+        why : HasOffice old.schema → FailsToReadRecords sql params (state g old) (state g new) fault → FailsToLookUp query (state g old) (state g new) fault
+        why office (inl failed) = inl (fails_to_read asks (subst (λ table. IsQueryFault table sql params (state g old) (state g new) fault) on_records failed))
         why office (inr (kept, (rows, answers, inl memory))) = inr (inl (memory, kept))
-        why office (inr (kept, (rows, answers, inr unfit))) =
-            inr (inr (unfit.0, kept, λ machine sound stands. unfit.1 (fits machine sound stands rows (answered asks (state g old) stands.has answers))))
+        why office (inr (kept, (rows, answers, inr bad))) =
+            inr (inr (subst (λ table. fault ≡ unfit table) on_records bad.0, kept, λ machine sound stands. bad.1 (fits machine sound stands rows (answered asks (state g old) stands.has answers))))
 
     -- a look-up that is out of memory for its answer
     pub lacks_memory : {A X : Type 0} {rows : Vec KeyedRecord X} {Answer : Machine → A → Type 0} {r : Result A StoreFault} → ReadsRecords g sql params old new (Ok rows)
-        → r ≡ Err Memory → LooksUp g SourceRecord Answer old new r
-    lacks_memory {A} {Answer = Answer} read is = subst (λ (r : Result A StoreFault). LooksUp g SourceRecord Answer old new r) (sym is) (record {
+        → r ≡ Err Memory → LooksUp g query Answer old new r
+    lacks_memory {A} {Answer = Answer} read is = subst (λ (r : Result A StoreFault). LooksUp g query Answer old new r) (sym is) (record {
       value = λ clean. tt;
       same = λ clean office. tt;
       err = λ clean office. inr (inl (refl, read.same clean (plain_over asks office)));
@@ -196,8 +219,8 @@ module _ {S : Type 0} {g : Ghosts S} {sql : List ℕ} {params : Row} {old new : 
 
     -- all the records of a look-up
     pub looks_up_all : {X : Type 0} {Answer : Machine → Vec KeyedRecord X → Type 0} (r : Result (Vec KeyedRecord X) StoreFault) → ReadsRecords g sql params old new r
-        → ((machine : Machine) (rows : Vec KeyedRecord X) → StandsFor machine (state g old).now → Answers q params (rows_in (state g old).now tables.source_record) (map keyed_cells rows.items) → Answer machine rows)
-        → ((machine : Machine) → IsConsistent machine → StandsFor machine (state g old).now → (rows : List Row) → Answers q params (rows_in (state g old).now tables.source_record) rows → AreRecords rows)
-        → LooksUp g SourceRecord Answer old new r
+        → ((machine : Machine) (rows : Vec KeyedRecord X) → StandsFor machine (state g old).now → AnswersTo query (state g old).now (map keyed_cells rows.items) → Answer machine rows)
+        → ((machine : Machine) → IsConsistent machine → StandsFor machine (state g old).now → (rows : List Row) → AnswersTo query (state g old).now rows → AreRecords rows)
+        → LooksUp g query Answer old new r
     looks_up_all (Ok rows) read finds fits = looks_up read (λ machine. finds machine rows)
     looks_up_all (Err fault) read finds fits = fails_to_look_up read refl fits

@@ -13,11 +13,12 @@ use Rattle.wb_sql.specs.Transactions.{IsKeptOrUndone, IsTakenBack, Commits, Leav
 use Rattle.wb_sql.proofs.CallLemmas.{on_ok}
 use Rattle.wb_schema.specs.Among.{HasOffice}
 use Rattle.wb_states.specs.declared.store_fault.StoreFault.{StoreFault}
-use Rattle.wb_states.specs.declared.store_fault.Table.{Table}
 use Rattle.wb_states.specs.Machine.{Machine}
 use Rattle.wb_tables.specs.Stands.{StandsFor}
 use Rattle.wb_tables.specs.Calls.{Becomes, Changes, FailsToWrite, LooksUp, FailsToLookUp}
 use Rattle.wb_tables.specs.Settled.{StandsForTrees, IsOffice, IsSettled, IsUnderWay, LeavesOnly, IsBackAt, SettlesBy, TakesBack}
+use Rattle.wb_tables.specs.Queries.{OfficeQuery}
+use Rattle.wb_tables.specs.Writes.{OfficeWrite}
 
 -- ---- a database and its trees
 
@@ -192,14 +193,14 @@ module _ {S : Type 0} (g : Ghosts S) (old new : Held S) where
   fewer_by survives has = fewer_of (state g old) (state g new) survives (λ db other. other has)
 
   -- a look-up that fails changes nothing, or takes the transaction back
-  pub kept_or_undone_in : (table : Table) (fault : StoreFault) → FailsToLookUp table (state g old) (state g new) fault → IsKeptOrUndone (state g old) (state g new)
-  kept_or_undone_in table fault (inl read) = read.left
-  kept_or_undone_in table fault (inr (inl full)) = inl full.1
-  kept_or_undone_in table fault (inr (inr unfit)) = inl unfit.1
+  pub kept_or_undone_in : (query : OfficeQuery) (fault : StoreFault) → FailsToLookUp query (state g old) (state g new) fault → IsKeptOrUndone (state g old) (state g new)
+  kept_or_undone_in query fault (inl read) = read.left
+  kept_or_undone_in query fault (inr (inl full)) = inl full.1
+  kept_or_undone_in query fault (inr (inr unfit)) = inl unfit.1
 
 module _ {S A : Type 0} (g : Ghosts S) (old new : Held S) where
   -- a change that succeeds leaves the transaction under way, with what it made of the state
-  pub changed : {table : Table} {Allows : Machine → Type 0} {after : Machine → Machine} {before now : Machine} (r : Result A StoreFault) → Changes g table Allows after old new r → HasCleanDisk (state g new) → IsUnderWay before now (state g old) → Allows now
+  pub changed : {write : OfficeWrite} {Allows : Machine → Type 0} {after : Machine → Machine} {before now : Machine} (r : Result A StoreFault) → Changes g write Allows after old new r → HasCleanDisk (state g new) → IsUnderWay before now (state g old) → Allows now
       → OnOk r (IsUnderWay before (after now) (state g new))
   changed {Allows = Allows} {after = after} {before = before} {now = now} r h clean way allows = on_ok {P = (machine : Machine) → StandsFor machine (state g old).now → Allows machine → Becomes (after machine) (state g old) (state g new)} r (λ makes.
       let made : Becomes (after now) (state g old) (state g new) = makes now way.stands allows in
@@ -212,21 +213,21 @@ module _ {S A : Type 0} (g : Ghosts S) (old new : Held S) where
       }) (h.ok clean)
 
   -- a change that fails leaves the transaction under way as it was, or taken back
-  pub not_changed : {table : Table} {Allows : Machine → Type 0} {after : Machine → Machine} {before now : Machine} (r : Result A StoreFault) → Changes g table Allows after old new r → HasCleanDisk (state g new) → IsUnderWay before now (state g old)
+  pub not_changed : {write : OfficeWrite} {Allows : Machine → Type 0} {after : Machine → Machine} {before now : Machine} (r : Result A StoreFault) → Changes g write Allows after old new r → HasCleanDisk (state g new) → IsUnderWay before now (state g old)
       → OnErr r (IsUnderWay before now (state g new) ⊎ IsBackAt before (state g new))
-  not_changed {table = table} r h clean way = on_err {P = FailsToWrite table (state g old) (state g new)} r
+  not_changed {write = write} r h clean way = on_err {P = FailsToWrite write (state g old) (state g new)} r
       (λ fault failed. stays_or_goes_back (state g old) (state g new) failed.left (fewer_by g old new h.survives way.stands.has clean) way) (h.err clean way.inside)
 
   -- a look-up that succeeds leaves the connection settled
-  pub looked_up : {table : Table} {Answer : Machine → A → Type 0} {machine : Machine} (r : Result A StoreFault) → LooksUp g table Answer old new r → HasCleanDisk (state g new) → IsSettled machine (state g old) → OnOk r (IsSettled machine (state g new))
+  pub looked_up : {query : OfficeQuery} {Answer : Machine → A → Type 0} {machine : Machine} (r : Result A StoreFault) → LooksUp g query Answer old new r → HasCleanDisk (state g new) → IsSettled machine (state g old) → OnOk r (IsSettled machine (state g new))
   looked_up r h clean settled = on_ok r (λ same. stays_settled (state g old) (state g new) same (fewer_by g old new h.survives settled.holds.stands.has clean) settled) (h.same clean settled.holds.stands.has)
 
   -- a look-up that fails leaves the connection at its state, unless a fault shut it
-  pub not_looked_up : {table : Table} {Answer : Machine → A → Type 0} {machine : Machine} (r : Result A StoreFault) → LooksUp g table Answer old new r → HasCleanDisk (state g new) → IsSettled machine (state g old) → OnErr r (IsBackAt machine (state g new))
-  not_looked_up {table = table} {machine = machine} r h clean settled =
+  pub not_looked_up : {query : OfficeQuery} {Answer : Machine → A → Type 0} {machine : Machine} (r : Result A StoreFault) → LooksUp g query Answer old new r → HasCleanDisk (state g new) → IsSettled machine (state g old) → OnErr r (IsBackAt machine (state g new))
+  not_looked_up {query = query} {machine = machine} r h clean settled =
       let fewer = fewer_by g old new h.survives settled.holds.stands.has clean in
-      on_err {P = FailsToLookUp table (state g old) (state g new)} r
-      (λ fault failed. back_at (kept_or_undone_in g old new table fault failed) fewer) (h.err clean settled.holds.stands.has)
+      on_err {P = FailsToLookUp query (state g old) (state g new)} r
+      (λ fault failed. back_at (kept_or_undone_in g old new query fault failed) fewer) (h.err clean settled.holds.stands.has)
     where
       back_at : IsKeptOrUndone (state g old) (state g new) → LeavesNoMore (state g old) (state g new) → IsBackAt machine (state g new)
       back_at (inl same) fewer = stays_back (state g old) (state g new) same fewer (settled_back (state g old) settled)

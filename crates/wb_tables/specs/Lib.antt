@@ -3,7 +3,8 @@ pub mod Faults
 pub mod Lookups
 pub mod Opening
 pub mod Others
+pub mod Queries
 pub mod Scratch
 pub mod Settled
 pub mod Stands
-pub mod Texts
+pub mod Writes

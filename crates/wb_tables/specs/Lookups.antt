@@ -78,7 +78,7 @@ HaveArchs rows archs = (pairs : List Key) × (rows ≡ map builder_cells pairs) 
 
 -- the rows that a query may answer
 abbrev pub MayAnswer : List ℕ → Row → State → List Row → Type 0
-MayAnswer sql params s rows = (q : TableQuery) → Asks s.now.schema sql q → Answers q params (s.now.trees q.tree) rows
+MayAnswer sql params s rows = (q : TableQuery) (count : ℕ) → Asks s.now.schema sql q count → Answers q params (s.now.trees q.tree) rows
 
 -- the query failed with an error, of which this is the fault if it is on the table, and changed nothing or took a transaction back
 abbrev pub IsQueryFault : Table → List ℕ → Row → State → State → StoreFault → Type 0

@@ -8,12 +8,8 @@ use Rattle.sqlite.specs.declared.types.Value.{Value}
 use Rattle.sqlite.specs.Effect.{Database}
 use Rattle.sqlite.specs.Held.{Held, state}
 use Rattle.sqlite.specs.Order.{Row}
-use Rattle.sqlite.specs.Table as stored
 use Rattle.sqlite.specs.State.{State, HasCleanDisk, IsUnchanged, Survives}
-use Rattle.wb_sql.specs.Queries.{TableQuery, Answers}
-use Rattle.wb_schema.specs.Statements as sql
-use Rattle.wb_schema.specs.Among.{HasOffice, rows_in}
-use Rattle.wb_schema.specs.Tables.{office, arch, builder, source_record}
+use Rattle.wb_schema.specs.Among.{HasOffice}
 use Rattle.wb_states.specs.declared.arch.OsCpu.{OsCpu}
 use Rattle.wb_states.specs.declared.counts.Counts.{Counts}
 use Rattle.wb_states.specs.declared.store_fault.StoreFault.{StoreFault}
@@ -32,6 +28,8 @@ use Rattle.wb_rows.specs.Cells.{arch_cells, builder_cells, number, record_cells}
 use Rattle.wb_tables.specs.Stands.{StandsFor, builder_pairs}
 use Rattle.wb_tables.specs.Calls.{FailsToRead}
 use Rattle.wb_tables.specs.Lookups.{AreRowsOf, counts_row}
+use Rattle.wb_tables.specs.Queries as ask
+use Rattle.wb_tables.specs.Queries.{AnswersTo, OfficeQuery}
 
 -- the row has the columns of one that fits
 abbrev pub IsRowOf : {X : Type 0} → (X → Row) → (X → Type 0) → Row → Type 0
@@ -56,30 +54,29 @@ pub record Holds {X : Type 0} (columns : X → Row) (Fits : X → Type 0) (rows 
 abbrev pub AreBadRows : {X : Type 0} → Table → (X → Row) → (X → Type 0) → List Row → StoreFault → Type 0
 AreBadRows table columns Fits rows fault = (fault ≡ Memory) ⊎ ((place : ℕ) × (fault ≡ Damaged table place) × IsFirstBad columns Fits rows place)
 
--- why a test of a table fails: its query failed; or memory ran out or a row is damaged, and nothing is changed
-abbrev pub FailsToTest : stored.Table → TableQuery → Table → (List Row → StoreFault → Type 0) → State → State → StoreFault → Type 0
-FailsToTest of q table Bad old new fault =
-    FailsToRead table old new fault ⊎ (IsUnchanged old new × ((rows : List Row) × Answers q [] (rows_in old.now of) rows × Bad rows fault))
+-- why a test of the rows that a query answers fails: the query failed; or memory ran out or a row is damaged, and nothing is changed
+abbrev pub FailsToTest : OfficeQuery → (List Row → StoreFault → Type 0) → State → State → StoreFault → Type 0
+FailsToTest query Bad old new fault = FailsToRead query old new fault ⊎ (IsUnchanged old new × ((rows : List Row) × AnswersTo query old.now rows × Bad rows fault))
 
 -- a test of the rows of a table, which a query answers: if it succeeds, they are good, and the database stays as it is; if it fails, it fails
 -- for one of the reasons above; and a crash leaves no more than before
-pub record Tests {S A : Type 0} (g : Ghosts S) (of : stored.Table) (q : TableQuery) (table : Table) (Good : List Row → A → Type 0) (Bad : List Row → StoreFault → Type 0) (old new : Held S) (result : Result A StoreFault) : Type 0 where
-  pub value : HasCleanDisk (state g new) → HasOffice old.schema → IfOk result (λ x. (rows : List Row) × Answers q [] (rows_in (state g old).now of) rows × Good rows x)
+pub record Tests {S A : Type 0} (g : Ghosts S) (query : OfficeQuery) (Good : List Row → A → Type 0) (Bad : List Row → StoreFault → Type 0) (old new : Held S) (result : Result A StoreFault) : Type 0 where
+  pub value : HasCleanDisk (state g new) → HasOffice old.schema → IfOk result (λ x. (rows : List Row) × AnswersTo query (state g old).now rows × Good rows x)
   pub same : HasCleanDisk (state g new) → HasOffice old.schema → OnOk result (IsUnchanged (state g old) (state g new))
-  pub err : HasCleanDisk (state g new) → HasOffice old.schema → IfErr result (FailsToTest of q table Bad (state g old) (state g new))
+  pub err : HasCleanDisk (state g new) → HasOffice old.schema → IfErr result (FailsToTest query Bad (state g old) (state g new))
   pub survives : Survives (state g old) (state g new) (λ _. ¬ HasOffice old.schema)
 
 -- if this is true of the state, the tables of a consistent office pass the test, with this outcome: it fails only if memory ran out or its query
 -- failed
-pub record PassesWith {S A : Type 0} (g : Ghosts S) (table : Table) (Given : Machine → Type 0) (Outcome : Machine → A → Type 0) (old new : Held S) (result : Result A StoreFault) : Type 0 where
+pub record PassesWith {S A : Type 0} (g : Ghosts S) (query : OfficeQuery) (Given : Machine → Type 0) (Outcome : Machine → A → Type 0) (old new : Held S) (result : Result A StoreFault) : Type 0 where
   pub value : HasCleanDisk (state g new) → IfOk result (λ x. (machine : Machine) → StandsFor machine (state g old).now → Outcome machine x)
   pub err : HasCleanDisk (state g new)
       → IfErr result (λ fault. (machine : Machine) → IsConsistent machine → StandsFor machine (state g old).now → Given machine
-      → (fault ≡ Memory) ⊎ FailsToRead table (state g old) (state g new) fault)
+      → (fault ≡ Memory) ⊎ FailsToRead query (state g old) (state g new) fault)
 
 -- the tables of a consistent office pass the test, with this outcome
-abbrev pub Passes : {S A : Type 0} → Ghosts S → Table → (Machine → A → Type 0) → Held S → Held S → Result A StoreFault → Type 0
-Passes g table = PassesWith g table (λ _. ⊤)
+abbrev pub Passes : {S A : Type 0} → Ghosts S → OfficeQuery → (Machine → A → Type 0) → Held S → Held S → Result A StoreFault → Type 0
+Passes g query = PassesWith g query (λ _. ⊤)
 
 -- an architecture whose name and words have their forms
 abbrev pub IsFormedArch : List ℕ × OsCpu → Type 0
@@ -222,15 +219,15 @@ pub record HasGoodRecords (machine : Machine) : Type 0 where
   pub takes : HasDistinctTakes machine
 
 -- the rows that a query shows of a database are good
-abbrev pub ShowsGood : stored.Table → TableQuery → Database → (List Row → Type 0) → Type 0
-ShowsGood of q db Good = (rows : List Row) × Answers q [] (rows_in db of) rows × Good rows
+abbrev pub ShowsGood : OfficeQuery → Database → (List Row → Type 0) → Type 0
+ShowsGood query db Good = (rows : List Row) × AnswersTo query db rows × Good rows
 
 -- the rows of the office's tables are good, those of each table beside those of the others
 pub record HasGoodRows (db : Database) : Type 0 where
   pub counts : Counts
   pub archs : List (List ℕ × OsCpu)
   pub builders : List Key
-  pub counts_held : ShowsGood office sql.office_counts db (λ rows. HoldsCounts rows counts)
-  pub archs_held : ShowsGood arch sql.all_archs db (λ rows. HoldsArchs rows archs)
-  pub builders_held : ShowsGood builder sql.all_builders db (λ rows. HoldsBuilders archs rows builders)
-  pub records_held : ShowsGood source_record sql.all_records db (HoldsRecords archs builders counts.handed)
+  pub counts_held : ShowsGood ask.Office db (λ rows. HoldsCounts rows counts)
+  pub archs_held : ShowsGood ask.Archs db (λ rows. HoldsArchs rows archs)
+  pub builders_held : ShowsGood ask.Builders db (λ rows. HoldsBuilders archs rows builders)
+  pub records_held : ShowsGood ask.Records db (HoldsRecords archs builders counts.handed)

@@ -7,6 +7,7 @@ ghost use Rattle.wb_states.specs.declared.store_fault.Table.TheVariants.{Arch};
 ghost use Rattle.wb_tables.specs.Calls.{LooksUp};
 ghost use Rattle.wb_tables.specs.Faults.{IsUnfit};
 ghost use Rattle.wb_tables.specs.Lookups.{AreArchs, FirstWords};
+ghost use Rattle.wb_tables.specs.Queries as ask;
 
 use crate::reading::{archs_in, rows_of};
 use deb_text::Text;
@@ -20,7 +21,7 @@ use wb_states::{OsCpu, StoreFault, Table};
 /// take a transaction back.
 /// Source: this project's own.
 pub fn archs<S: Alter>(conn: &mut Connection<S>) -> Result<Vec<(Text, OsCpu)>, StoreFault>
-    ensures looks_up { LooksUp S.Store Arch (λ machine archs.
+    ensures looks_up { LooksUp S.Store ask.Archs (λ machine archs.
         archs.items ≡ map.entries machine.archs) conn.old conn.new result }
 {
     archs_in(rows_of(conn, Table::Arch, texts::all_archs(), &[])?)
@@ -32,7 +33,7 @@ pub fn archs<S: Alter>(conn: &mut Connection<S>) -> Result<Vec<(Text, OsCpu)>, S
 /// take a transaction back.
 /// Source: this project's own.
 pub fn arch<S: Alter>(conn: &mut Connection<S>, name: &Text) -> Result<Option<OsCpu>, StoreFault>
-    ensures looks_up { LooksUp S.Store Arch (λ machine found.
+    ensures looks_up { LooksUp S.Store (ask.ArchNamed name.now) (λ machine found.
         found ≡ map.get machine.archs name.now) conn.old conn.new result }
 {
     let rows = rows_of(

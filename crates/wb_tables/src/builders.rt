@@ -7,6 +7,7 @@ ghost use Rattle.wb_states.specs.Machine.{IsConsistent, archs_of};
 ghost use Rattle.wb_tables.specs.Calls.{LooksUp};
 ghost use Rattle.wb_tables.specs.Faults.{IsUnfit};
 ghost use Rattle.wb_tables.specs.Lookups.{ArePairs, HasPair, HaveArchs};
+ghost use Rattle.wb_tables.specs.Queries as ask;
 
 use crate::fault::unfit;
 use crate::reading::rows_of;
@@ -23,7 +24,7 @@ pub fn has_builder<S: Alter>(
     builder: &Text,
     arch: &Text,
 ) -> Result<bool, StoreFault>
-    ensures looks_up { LooksUp S.Store Builder (λ machine is_there.
+    ensures looks_up { LooksUp S.Store (ask.Pair (builder.now, arch.now)) (λ machine is_there.
         is_there ≡ set.contains machine.builders (builder.now, arch.now)) conn.old conn.new result }
 {
     let pairs = rows_of(
@@ -39,7 +40,7 @@ pub fn has_builder<S: Alter>(
 /// builders, `Memory`, and `Damaged` with row 0 if a row is no builder. The database stays as it is, but for a
 /// transaction that a failure of the query takes back (this project's own).
 pub fn archs_of<S: Alter>(conn: &mut Connection<S>, builder: &Text) -> Result<Vec<Text>, StoreFault>
-    ensures looks_up { LooksUp S.Store Builder (λ machine archs. IsConsistent machine
+    ensures looks_up { LooksUp S.Store (ask.PairsOf builder.now) (λ machine archs. IsConsistent machine
         → archs.items ≡ archs_of machine builder.now) conn.old conn.new result }
 {
     let rows = rows_of(

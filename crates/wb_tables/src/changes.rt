@@ -5,11 +5,11 @@
 ghost use Rattle.std.specs.Prelude.{◌≡◌, ◌≤◌, ⊤, false, None, IsSome, IfSome};
 ghost use Rattle.std.specs.FinMap as map;
 ghost use Rattle.std.specs.FinSet as set;
-ghost use Rattle.wb_states.specs.declared.store_fault.Table.TheVariants.{Arch, Builder, Office, SourceRecord};
 ghost use Rattle.wb_states.specs.Limits.{count_limit};
 ghost use Rattle.wb_tables.specs.Calls.{Changes};
+ghost use Rattle.wb_tables.specs.Writes as write;
 
-use crate::fault::told_of;
+use crate::fault::answer_on;
 use deb_text::Text;
 use sqlite::{Alter, params};
 use wb_rows::{arch_values, builder_values, record_values};
@@ -22,7 +22,7 @@ use wb_states::{Counts, OsCpu, Record, StoreFault, Table};
 pub fn set_counts<S: Alter>(writing: &mut Writing<'_, S>, counts: Counts) -> Result<(), StoreFault>
     requires fits { (counts.handed ≤ count_limit) × (counts.accepted ≤ count_limit) }
     ensures same_reference { writing.new.conn.ghost_name ≡ writing.old.conn.ghost_name }
-    ensures changes { Changes S.Store Office (λ _. ⊤)
+    ensures changes { Changes S.Store (write.SetsCounts counts.handed counts.accepted) (λ _. ⊤)
         (λ machine. record machine { handed = counts.handed; accepted = counts.accepted })
         writing.old.conn.now writing.new.conn.now result }
 {
@@ -30,7 +30,7 @@ pub fn set_counts<S: Alter>(writing: &mut Writing<'_, S>, counts: Counts) -> Res
         texts::set_counts(),
         params![counts.handed as i64, counts.accepted as i64],
     );
-    told_of(answered, Table::Office)
+    answer_on(answered, Table::Office)
 }
 
 /// Adds an architecture, which is not there yet, with its words; all else stays. The fault is that of the statement on
@@ -41,12 +41,12 @@ pub fn add_arch<S: Alter>(
     words: &OsCpu,
 ) -> Result<(), StoreFault>
     ensures same_reference { writing.new.conn.ghost_name ≡ writing.old.conn.ghost_name }
-    ensures changes { Changes S.Store Arch (λ machine. map.get machine.archs name.now ≡ None)
+    ensures changes { Changes S.Store (write.AddsArch (name.now, words.now)) (λ machine. map.get machine.archs name.now ≡ None)
         (λ machine. record machine { archs = map.insert machine.archs name.now words.now })
         writing.old.conn.now writing.new.conn.now result }
 {
     let answered = writing.insert(texts::add_arch(), &arch_values(name, words));
-    told_of(answered, Table::Arch)
+    answer_on(answered, Table::Arch)
 }
 
 /// Adds a builder for an architecture, for which it was not added yet; all else stays. The fault is that of the
@@ -57,13 +57,13 @@ pub fn add_builder<S: Alter>(
     arch: &Text,
 ) -> Result<(), StoreFault>
     ensures same_reference { writing.new.conn.ghost_name ≡ writing.old.conn.ghost_name }
-    ensures changes { Changes S.Store Builder
+    ensures changes { Changes S.Store (write.AddsBuilder (builder.now, arch.now))
         (λ machine. set.contains machine.builders (builder.now, arch.now) ≡ false)
         (λ machine. record machine { builders = set.insert machine.builders (builder.now, arch.now) })
         writing.old.conn.now writing.new.conn.now result }
 {
     let answered = writing.insert(texts::add_builder(), &builder_values(builder, arch));
-    told_of(answered, Table::Builder)
+    answer_on(answered, Table::Builder)
 }
 
 /// Takes out the record of the source package `source` on the architecture `arch`, if there is one; all else stays. The
@@ -74,7 +74,7 @@ pub fn remove<S: Alter>(
     source: &Text,
 ) -> Result<(), StoreFault>
     ensures same_reference { writing.new.conn.ghost_name ≡ writing.old.conn.ghost_name }
-    ensures changes { Changes S.Store SourceRecord (λ _. ⊤)
+    ensures changes { Changes S.Store (write.RemovesRecord (arch.now, source.now)) (λ _. ⊤)
         (λ machine. record machine { records = map.remove machine.records (arch.now, source.now) })
         writing.old.conn.now writing.new.conn.now result }
 {
@@ -82,7 +82,7 @@ pub fn remove<S: Alter>(
         texts::remove_record(),
         params![arch.as_str(), source.as_str()],
     );
-    told_of(answered, Table::SourceRecord)
+    answer_on(answered, Table::SourceRecord)
 }
 
 /// Gives the source package `source` on the architecture `arch` the record `current`, in place of the one that it had,
@@ -96,14 +96,14 @@ pub fn put<S: Alter>(
 ) -> Result<(), StoreFault>
     requires given { IfSome current.now.take (λ take_number. take_number ≤ count_limit) }
     ensures same_reference { writing.new.conn.ghost_name ≡ writing.old.conn.ghost_name }
-    ensures changes { Changes S.Store SourceRecord (λ _. ⊤)
+    ensures changes { Changes S.Store (write.PutsRecord ((arch.now, source.now), current.now)) (λ _. ⊤)
         (λ machine. record machine {
           records = map.insert machine.records (arch.now, source.now) current.now;
         })
         writing.old.conn.now writing.new.conn.now result }
 {
     let answered = writing.upsert(texts::put_record(), &record_values(arch, source, current));
-    told_of(answered, Table::SourceRecord)
+    answer_on(answered, Table::SourceRecord)
 }
 
 /// Gives the source package `source` on the architecture `arch` the record `current` in place of the one that it has; all
@@ -117,7 +117,7 @@ pub fn replace<S: Alter>(
 ) -> Result<(), StoreFault>
     requires given { IfSome current.now.take (λ take_number. take_number ≤ count_limit) }
     ensures same_reference { writing.new.conn.ghost_name ≡ writing.old.conn.ghost_name }
-    ensures changes { Changes S.Store SourceRecord
+    ensures changes { Changes S.Store (write.ReplacesRecord ((arch.now, source.now), current.now))
         (λ machine. IsSome (map.get machine.records (arch.now, source.now)))
         (λ machine. record machine {
           records = map.insert machine.records (arch.now, source.now) current.now;
@@ -126,5 +126,5 @@ pub fn replace<S: Alter>(
 {
     let values = record_values(arch, source, current);
     let answered = writing.update(texts::replace_record(), &values);
-    told_of(answered, Table::SourceRecord)
+    answer_on(answered, Table::SourceRecord)
 }

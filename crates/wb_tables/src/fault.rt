@@ -1,7 +1,6 @@
 //! What a refusal of the database, and a row that is none of an office, are to the store of the office.
 ghost use Rattle.std.specs.Prelude.{◌≡◌};
-ghost use Rattle.wb_states.specs.declared.store_fault.StoreFault.TheVariants.{Damaged};
-ghost use Rattle.wb_tables.specs.Faults.{fault_of, told_of};
+ghost use Rattle.wb_tables.specs.Faults.{answer_on, fault_of, unfit};
 
 use sqlite::{Error, ErrorCode};
 use wb_states::{StoreFault, Table};
@@ -20,16 +19,16 @@ pub fn fault_of(error: Error, table: Table) -> StoreFault
             | ErrorCode::TooBig
             | ErrorCode::Closed,
         ) => StoreFault::Device,
-        _ => StoreFault::Damaged { table, row: 0 },
+        _ => unfit(table),
     }
 }
 
 /// What a statement on the table answered, with the fault of the store in place of an error.
-pub(crate) fn told_of(answered: Result<(), Error>, table: Table) -> Result<(), StoreFault>
-    ensures value { result ≡ told_of answered table }
+pub(crate) fn answer_on<T: Drop>(answered: Result<T, Error>, table: Table) -> Result<T, StoreFault>
+    ensures value { result ≡ answer_on answered table }
 {
     match answered {
-        Ok(()) => Ok(()),
+        Ok(value) => Ok(value),
         Err(error) => Err(fault_of(error, table)),
     }
 }
@@ -37,7 +36,7 @@ pub(crate) fn told_of(answered: Result<(), Error>, table: Table) -> Result<(), S
 /// The fault of a table if what is read of it, or is to be written to it, is not what an office keeps: `Damaged`, with
 /// row 0, since no row of it is blamed. Takes no memory (this project's own).
 pub fn unfit(table: Table) -> StoreFault
-    ensures { result ≡ Damaged table 0 }
+    ensures { result ≡ unfit table }
 {
     StoreFault::Damaged { table, row: 0 }
 }

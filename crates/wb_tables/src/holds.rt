@@ -1,9 +1,9 @@
 //! The records that builders hold, as the tables have them.
 ghost use Rattle.std.specs.Prelude.{◌≡◌, map as each};
-ghost use Rattle.wb_states.specs.declared.store_fault.Table.TheVariants.{SourceRecord};
 ghost use Rattle.wb_states.specs.Holds.{held_of};
 ghost use Rattle.wb_store.specs.Lookups.{entry_of};
 ghost use Rattle.wb_tables.specs.Calls.{LooksUp};
+ghost use Rattle.wb_tables.specs.Queries as ask;
 
 use crate::reading::records;
 use deb_text::Text;
@@ -21,7 +21,7 @@ pub fn held_by<S: Alter>(
     conn: &mut Connection<S>,
     builder: &Text,
 ) -> Result<Vec<KeyedRecord>, StoreFault>
-    ensures looks_up { LooksUp S.Store SourceRecord (λ machine rows.
+    ensures looks_up { LooksUp S.Store (ask.HeldBy builder.now) (λ machine rows.
         each entry_of rows.items ≡ held_of machine builder.now) conn.old conn.new result }
 {
     let mut rows = records(conn, texts::held_by(), params![builder.as_str()])?;

@@ -2,11 +2,11 @@
 ghost use Rattle.std.specs.Prelude.{◌≡◌, map as each};
 ghost use Rattle.std.specs.Option.{option_map};
 ghost use Rattle.std.specs.FinMap as map;
-ghost use Rattle.wb_states.specs.declared.store_fault.Table.TheVariants.{Office, SourceRecord};
 ghost use Rattle.wb_states.specs.Machine.{IsConsistent};
 ghost use Rattle.wb_states.specs.Holds.{taken_as};
 ghost use Rattle.wb_store.specs.Lookups.{entry_of, rows_of};
 ghost use Rattle.wb_tables.specs.Calls.{LooksUp};
+ghost use Rattle.wb_tables.specs.Queries as ask;
 
 use crate::reading::{counts_in, current_in, first_in, records, rows_of, stored_number};
 use deb_text::Text;
@@ -21,7 +21,7 @@ use wb_store::KeyedRecord;
 /// transaction back.
 /// Source: this project's own.
 pub fn counts<S: Alter>(conn: &mut Connection<S>) -> Result<Counts, StoreFault>
-    ensures looks_up { LooksUp S.Store Office (λ machine counts. (counts.handed ≡ machine.handed)
+    ensures looks_up { LooksUp S.Store ask.Office (λ machine counts. (counts.handed ≡ machine.handed)
         × (counts.accepted ≡ machine.accepted)) conn.old conn.new result }
 {
     let rows = rows_of(conn, Table::Office, texts::office_counts(), &[])?;
@@ -38,7 +38,7 @@ pub fn get<S: Alter>(
     arch: &Text,
     source: &Text,
 ) -> Result<Option<Record>, StoreFault>
-    ensures looks_up { LooksUp S.Store SourceRecord (λ machine found. found
+    ensures looks_up { LooksUp S.Store (ask.RecordAt (arch.now, source.now)) (λ machine found. found
         ≡ map.get machine.records (arch.now, source.now)) conn.old conn.new result }
 {
     let rows = records(
@@ -58,7 +58,7 @@ pub fn by_take<S: Alter>(
     conn: &mut Connection<S>,
     take_number: u64,
 ) -> Result<Option<KeyedRecord>, StoreFault>
-    ensures looks_up { LooksUp S.Store SourceRecord (λ machine found. IsConsistent machine
+    ensures looks_up { LooksUp S.Store (ask.TakenAs take_number) (λ machine found. IsConsistent machine
         → option_map entry_of found ≡ taken_as machine take_number) conn.old conn.new result }
 {
     let rows = records(
@@ -78,7 +78,7 @@ pub fn all_of<S: Alter>(
     conn: &mut Connection<S>,
     arch: &Text,
 ) -> Result<Vec<KeyedRecord>, StoreFault>
-    ensures looks_up { LooksUp S.Store SourceRecord (λ machine rows.
+    ensures looks_up { LooksUp S.Store (ask.RecordsOf arch.now) (λ machine rows.
         each entry_of rows.items ≡ rows_of machine arch.now) conn.old conn.new result }
 {
     records(conn, texts::records_of_arch(), params![arch.as_str()])

@@ -1,11 +1,11 @@
 //! The queue of an architecture, as the tables have it.
 ghost use Rattle.std.specs.Prelude.{◌≡◌, map as each};
 ghost use Rattle.std.specs.Option.{option_map};
-ghost use Rattle.wb_states.specs.declared.store_fault.Table.TheVariants.{SourceRecord};
 ghost use Rattle.wb_states.specs.Machine.{IsConsistent};
 ghost use Rattle.wb_states.specs.Queue.{head_of, queue_of};
 ghost use Rattle.wb_store.specs.Lookups.{entry_of};
 ghost use Rattle.wb_tables.specs.Calls.{LooksUp};
+ghost use Rattle.wb_tables.specs.Queries as ask;
 
 use crate::reading::{first_in, records};
 use deb_text::Text;
@@ -24,7 +24,7 @@ pub fn head<S: Alter>(
     conn: &mut Connection<S>,
     arch: &Text,
 ) -> Result<Option<KeyedRecord>, StoreFault>
-    ensures looks_up { LooksUp S.Store SourceRecord (λ machine found. IsConsistent machine
+    ensures looks_up { LooksUp S.Store (ask.HeadOf arch.now) (λ machine found. IsConsistent machine
         → option_map entry_of found ≡ head_of machine arch.now) conn.old conn.new result }
 {
     let waiting = u32::from(State::NeedsBuild.code());
@@ -42,7 +42,7 @@ pub fn queue_of<S: Alter>(
     conn: &mut Connection<S>,
     arch: &Text,
 ) -> Result<Vec<KeyedRecord>, StoreFault>
-    ensures looks_up { LooksUp S.Store SourceRecord (λ machine rows. IsConsistent machine
+    ensures looks_up { LooksUp S.Store (ask.QueueOf arch.now) (λ machine rows. IsConsistent machine
         → each entry_of rows.items ≡ queue_of machine arch.now) conn.old conn.new result }
 {
     let waiting = u32::from(State::NeedsBuild.code());

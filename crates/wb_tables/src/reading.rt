@@ -9,7 +9,7 @@ ghost use Rattle.wb_tables.specs.Lookups.{AreArchs, AreCounts, AreRecords, HasAr
 ghost use Rattle.wb_rows.specs.Cells.{arch_cells, number};
 ghost use Rattle.sqlite.specs.Order.{column};
 
-use crate::fault::{fault_of, unfit};
+use crate::fault::{answer_on, unfit};
 use deb_text::Text;
 use sqlite::types::ValueRef;
 use sqlite::{Alter, Connection, Error, ErrorCode, Row};
@@ -28,10 +28,8 @@ pub(crate) fn rows_of<S: Alter>(
 ) -> Result<Vec<Row>, StoreFault>
     ensures reads { ReadsTable S.Store table sql.now (bound params.now) conn.old conn.new result }
 {
-    match read(conn, sql, params) {
-        Ok(rows) => Ok(rows),
-        Err(error) => Err(fault_of(error, table)),
-    }
+    let answered = read(conn, sql, params);
+    answer_on(answered, table)
 }
 
 /// The number from 0 in a column; columns are counted from 0. The table of the office is damaged if the column has none.

@@ -1,5 +1,6 @@
 //! The scratch tables of a merge.
-ghost use Rattle.wb_states.specs.declared.store_fault.Table.TheVariants.{ScratchBinary, ScratchSource};
+ghost use Rattle.std.specs.Prelude.{◌≡◌};
+ghost use Rattle.wb_tables.specs.Queries as ask;
 ghost use Rattle.wb_tables.specs.Scratch.{TestsForRows};
 
 use crate::reading::rows_of;
@@ -11,28 +12,25 @@ use wb_states::{StoreFault, Table};
 /// those of the query on the table. The database stays as it is, but for a transaction that a failure of the query takes
 /// back (this project's own).
 pub fn has_scratch_sources<S: Alter>(conn: &mut Connection<S>) -> Result<bool, StoreFault>
-    ensures tests { TestsForRows S.Store ScratchSource conn.old conn.new result }
+    ensures tests { TestsForRows S.Store ask.OneSource conn.old conn.new result }
 {
-    let rows = rows_of(
-        conn,
-        Table::ScratchSource,
-        texts::first_scratch_source(),
-        &[],
-    )?;
-    Ok(!rows.is_empty())
+    has_row(conn, Table::ScratchSource, texts::first_scratch_source())
 }
 
 /// Whether the scratch table of binary packages has a row, which a merge that was cut off may have left. The faults are
 /// those of the query on the table. The database stays as it is, but for a transaction that a failure of the query takes
 /// back (this project's own).
 pub fn has_scratch_binaries<S: Alter>(conn: &mut Connection<S>) -> Result<bool, StoreFault>
-    ensures tests { TestsForRows S.Store ScratchBinary conn.old conn.new result }
+    ensures tests { TestsForRows S.Store ask.OneBinary conn.old conn.new result }
 {
-    let rows = rows_of(
-        conn,
-        Table::ScratchBinary,
-        texts::first_scratch_binary(),
-        &[],
-    )?;
+    has_row(conn, Table::ScratchBinary, texts::first_scratch_binary())
+}
+
+/// Whether the query for one row of the table, which is a scratch table, answers one.
+fn has_row<S: Alter>(conn: &mut Connection<S>, table: Table, sql: &str) -> Result<bool, StoreFault>
+    ensures tests { (asked : ask.OfficeQuery) → ask.IsScratch asked → table ≡ ask.table_asked asked
+        → ask.IsTextOfQuery asked sql.now → TestsForRows S.Store asked conn.old conn.new result }
+{
+    let rows = rows_of(conn, table, sql, &[])?;
     Ok(!rows.is_empty())
 }

@@ -3,11 +3,10 @@ ghost use Rattle.std.specs.Prelude.{◌≡◌, ◌↔◌, ◌+◌, IsTrue, IfOk,
 ghost use Rattle.std.specs.FinMap as map;
 ghost use Rattle.wb_states.specs.Machine.{IsArch};
 ghost use Rattle.wb_states.specs.declared.store_fault.Table.TheVariants.{Arch};
-ghost use Rattle.wb_schema.specs.Statements.{all_archs};
-ghost use Rattle.wb_schema.specs.Tables as tables;
 ghost use Rattle.wb_rows.specs.Cells.{arch_cells};
 ghost use Rattle.wb_tables.specs.Faults.{IsBadRow};
 ghost use Rattle.wb_tables.specs.Opening.{AreBadRows, HoldsArchs, IsFormedArch, IsRowOf, Passes, Tests};
+ghost use Rattle.wb_tables.specs.Queries as ask;
 
 use crate::reading::rows_of;
 use deb_text::Text;
@@ -21,9 +20,9 @@ use wb_states::{OsCpu, StoreFault, Table, is_arch, is_os_cpu};
 /// the order of the names, `Memory`, and those of the query. The database stays as it is, but for a transaction that a
 /// failure of the query takes back (this project's own).
 pub fn check_archs<S: Alter>(conn: &mut Connection<S>) -> Result<Vec<(Text, OsCpu)>, StoreFault>
-    ensures tests { Tests S.Store tables.arch all_archs Arch (λ rows archs. HoldsArchs rows archs.items)
+    ensures tests { Tests S.Store ask.Archs (λ rows archs. HoldsArchs rows archs.items)
         (AreBadRows Arch arch_cells IsFormedArch) conn.old conn.new result }
-    ensures passes { Passes S.Store Arch (λ machine archs.
+    ensures passes { Passes S.Store ask.Archs (λ machine archs.
         archs.items ≡ map.entries machine.archs) conn.old conn.new result }
 {
     archs_in(rows_of(conn, Table::Arch, texts::all_archs(), &[])?)

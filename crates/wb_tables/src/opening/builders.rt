@@ -2,12 +2,11 @@
 ghost use Rattle.std.specs.Prelude.{◌≡◌, ◌↔◌, IfOk, IfErr, IsTrue};
 ghost use Rattle.std.specs.FinMap as map;
 ghost use Rattle.wb_states.specs.declared.store_fault.Table.TheVariants.{Builder};
-ghost use Rattle.wb_schema.specs.Statements.{all_builders};
-ghost use Rattle.wb_schema.specs.Tables as tables;
 ghost use Rattle.wb_rows.specs.Cells.{builder_cells};
 ghost use Rattle.wb_tables.specs.Stands.{builder_pairs};
 ghost use Rattle.wb_tables.specs.Faults.{IsBadRow};
 ghost use Rattle.wb_tables.specs.Opening.{AreBadRows, HoldsBuilders, IsFormedBuilder, IsRowOf, PassesWith, Tests, has_arch};
+ghost use Rattle.wb_tables.specs.Queries as ask;
 
 use crate::reading::rows_of;
 use deb_text::Text;
@@ -25,9 +24,9 @@ pub fn check_builders<S: Alter>(
     conn: &mut Connection<S>,
     archs: &[(Text, OsCpu)],
 ) -> Result<Vec<(Text, Text)>, StoreFault>
-    ensures tests { Tests S.Store tables.builder all_builders Builder (λ rows pairs. HoldsBuilders archs.now rows pairs.items)
+    ensures tests { Tests S.Store ask.Builders (λ rows pairs. HoldsBuilders archs.now rows pairs.items)
         (AreBadRows Builder builder_cells (IsFormedBuilder archs.now)) conn.old conn.new result }
-    ensures passes { PassesWith S.Store Builder (λ machine. archs.now ≡ map.entries machine.archs)
+    ensures passes { PassesWith S.Store ask.Builders (λ machine. archs.now ≡ map.entries machine.archs)
         (λ machine pairs. pairs.items ≡ builder_pairs machine) conn.old conn.new result }
 {
     let rows = rows_of(conn, Table::Builder, texts::all_builders(), &[])?;

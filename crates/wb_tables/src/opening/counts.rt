@@ -3,10 +3,9 @@ ghost use Rattle.std.specs.Prelude.{◌≡◌, ◌≢◌, ℕ, ◌<◌, ◌≤�
 ghost use Rattle.sqlite.specs.Order.{column};
 ghost use Rattle.wb_states.specs.declared.store_fault.Table.TheVariants.{Office};
 ghost use Rattle.wb_states.specs.Limits.{count_limit};
-ghost use Rattle.wb_schema.specs.Statements.{office_counts};
-ghost use Rattle.wb_schema.specs.Tables as tables;
 ghost use Rattle.wb_rows.specs.Cells.{number};
 ghost use Rattle.wb_tables.specs.Opening.{AreBadCounts, HasFormat, HoldsCounts, IsDamagedOffice, IsOfficeRow, Passes, Tests};
+ghost use Rattle.wb_tables.specs.Queries as ask;
 
 use crate::reading::rows_of;
 use sqlite::types::ValueRef;
@@ -23,8 +22,8 @@ const FORMAT: u64 = 2;
 /// the query. The database stays as it is, but for a transaction that a failure of the query takes back (this
 /// project's own).
 pub fn check_counts<S: Alter>(conn: &mut Connection<S>) -> Result<Counts, StoreFault>
-    ensures tests { Tests S.Store tables.office office_counts Office HoldsCounts AreBadCounts conn.old conn.new result }
-    ensures passes { Passes S.Store Office (λ machine counts. (counts.handed ≡ machine.handed)
+    ensures tests { Tests S.Store ask.Office HoldsCounts AreBadCounts conn.old conn.new result }
+    ensures passes { Passes S.Store ask.Office (λ machine counts. (counts.handed ≡ machine.handed)
         × (counts.accepted ≡ machine.accepted)) conn.old conn.new result }
 {
     let rows = rows_of(conn, Table::Office, texts::office_counts(), &[])?;

@@ -5,13 +5,12 @@ ghost use Rattle.std.specs.Ordering.{nat_cmp};
 ghost use Rattle.deb_text.specs.Options.{has_value};
 ghost use Rattle.wb_states.specs.declared.store_fault.StoreFault.TheVariants.{Damaged};
 ghost use Rattle.wb_states.specs.declared.store_fault.Table.TheVariants.{SourceRecord};
-ghost use Rattle.wb_schema.specs.Statements.{all_records};
-ghost use Rattle.wb_schema.specs.Tables as tables;
 ghost use Rattle.wb_store.specs.Lookups.{entry_of};
 ghost use Rattle.wb_rows.specs.Cells.{record_cells};
 ghost use Rattle.wb_tables.specs.Lookups.{keyed_cells};
 ghost use Rattle.wb_tables.specs.Faults.{IsBadRow};
 ghost use Rattle.wb_tables.specs.Opening.{AreBadRecords, AreKept, FitsBeside, HasGoodRecords, HoldsRecords, IsFormedRecord, IsRowOf, IsTestedRow, PassesWith, Tests};
+ghost use Rattle.wb_tables.specs.Queries as ask;
 
 use super::forms::{Kept, is_formed};
 use crate::fault::fault_of;
@@ -40,10 +39,10 @@ pub fn check_records<S: Alter>(
     builders: &[(Text, Text)],
     handed: u64,
 ) -> Result<(), StoreFault>
-    ensures tests { Tests S.Store tables.source_record all_records SourceRecord
+    ensures tests { Tests S.Store ask.Records
         (λ rows done. HoldsRecords archs.now builders.now handed rows)
         (AreBadRecords archs.now builders.now handed) conn.old conn.new result }
-    ensures passes { PassesWith S.Store SourceRecord (AreKept archs.now builders.now handed)
+    ensures passes { PassesWith S.Store ask.Records (AreKept archs.now builders.now handed)
         (λ machine done. AreKept archs.now builders.now handed machine → HasGoodRecords machine)
         conn.old conn.new result }
 {
@@ -58,7 +57,7 @@ pub fn check_records<S: Alter>(
 
 /// Tests the rows of the records, each as it is read.
 fn test_rows<S: Alter>(conn: &mut Connection<S>, kept: &Kept<'_>) -> Result<(), StoreFault>
-    ensures tests { Tests S.Store tables.source_record all_records SourceRecord
+    ensures tests { Tests S.Store ask.Records
         (λ rows done. HoldsRecords kept.now.archs.now kept.now.builders.now kept.now.handed rows)
         (AreBadRecords kept.now.archs.now kept.now.builders.now kept.now.handed) conn.old conn.new result }
 {

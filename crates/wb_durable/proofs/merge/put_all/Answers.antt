@@ -2,7 +2,7 @@ use Rattle.std.proofs.Common.{sym, subst, ◌∙◌, map as each}
 use Rattle.std.proofs.lemmas.Bool.{both_ways}
 use Rattle.wb_store.specs.Lookups.{entry_of}
 use Rattle.wb_tables.proofs.ReadLemmas.{handed_on}
-use Rattle.wb_durable.specs.MergeWritten.{HasTakeOverLimit}
+use Rattle.wb_durable.specs.MergeWritten.{HasTakeOverLimit, PutsOne}
 use Rattle.wb_durable.specs.Turns.{ChangesInTurn}
 use Rattle.wb_durable.proofs.TurnLemmas.{not_made}
 use Rattle.wb_durable.proofs.WrittenRowLemmas.{fails_among, having, in_place, put_all, put_next}
@@ -18,9 +18,9 @@ returns-then-not-fits-clause-changes g c =
 
 pub returns-in_err-put-clause-changes : goal.returns-in_err-put-clause-changes
 returns-in_err-put-clause-changes g c =
-    subst (λ r. ChangesInTurn g.S.Store (HasTakeOverLimit (each entry_of c.args.rows.now)) (having (each entry_of c.args.rows.now)) c.args.writing.now.conn.now c.put.new.writing.conn.now r)
+    subst (λ r. ChangesInTurn g.S.Store (PutsOne (each entry_of c.args.rows.now)) (HasTakeOverLimit (each entry_of c.args.rows.now)) (having (each entry_of c.args.rows.now)) c.args.writing.now.conn.now c.put.new.writing.conn.now r)
     (sym (handed_on c.from_residual.result c.from_residual.ensures.1))
-    (c.loop-row.invariant.rest _ _ (fails_among g.S.Store _ c.in_err-put.ensures.changes))
+    (c.loop-row.invariant.rest _ _ (fails_among g.S.Store _ (in_place entry_of c.args.rows.now c.loop-row.row-index c.row-item.result c.loop-row-test.true c.row-item.is) c.in_err-put.ensures.changes))
 
 pub loop-row-preserved : goal.loop-row-preserved
 loop-row-preserved g c = record {

@@ -4,7 +4,7 @@ use Rattle.std.proofs.Common.{map as each}
 use Rattle.sqlite.specs.Held.{Held}
 use Rattle.wb_states.specs.declared.store_fault.StoreFault.{StoreFault}
 use Rattle.wb_store.specs.Lookups.{entry_of}
-use Rattle.wb_durable.specs.MergeWritten.{with_rows, HasTakeOverLimit}
+use Rattle.wb_durable.specs.MergeWritten.{with_rows, HasTakeOverLimit, PutsOne}
 use Rattle.wb_durable.specs.Turns.{ChangesInTurn}
 use Rattle.wb_durable.proofs.merge.put_all.Given as goal
 
@@ -12,6 +12,6 @@ abbrev pub invariant-loop-row : goal.invariant-loop-row
 invariant-loop-row g l = record {
   same_reference : l.writing.conn.ghost_name ≡ l.fn.writing.conn.ghost_name;
   rest : (new : Held g.row.S.Denot) (r : Result (Unit {0}) StoreFault)
-      → ChangesInTurn g.S.Store (HasTakeOverLimit (each entry_of l.rows)) (λ machine. record machine { records = with_rows machine.records (each entry_of (drop l.row-index l.rows)) }) l.writing.conn.now new r
-      → ChangesInTurn g.S.Store (HasTakeOverLimit (each entry_of l.rows)) (λ machine. record machine { records = with_rows machine.records (each entry_of l.rows) }) l.fn.writing.conn.now new r;
+      → ChangesInTurn g.S.Store (PutsOne (each entry_of l.rows)) (HasTakeOverLimit (each entry_of l.rows)) (λ machine. record machine { records = with_rows machine.records (each entry_of (drop l.row-index l.rows)) }) l.writing.conn.now new r
+      → ChangesInTurn g.S.Store (PutsOne (each entry_of l.rows)) (HasTakeOverLimit (each entry_of l.rows)) (λ machine. record machine { records = with_rows machine.records (each entry_of l.rows) }) l.fn.writing.conn.now new r;
 }

@@ -1,15 +1,16 @@
-use Rattle.std.proofs.Common.{sym, subst, ◌∙◌, map as each}
+use Rattle.std.proofs.Common.{sym, subst, ◌∙◌, map as each, refl}
 use Rattle.wb_store.specs.Lookups.{entry_of}
 use Rattle.wb_tables.proofs.ReadLemmas.{handed_on}
 use Rattle.wb_durable.specs.Turns.{ChangesInTurn}
-use Rattle.wb_durable.proofs.WrittenRowLemmas.{fails_among, removed_all, removed_next, without}
+use Rattle.wb_durable.proofs.WrittenRowLemmas.{fails_among, removed_all, removed_next, without, in_place}
+use Rattle.wb_durable.specs.MergeWritten.{RemovesOne}
 use Rattle.wb_durable.proofs.merge.remove_all.Goals as goal
 
 pub returns-in_err-remove-clause-changes : goal.returns-in_err-remove-clause-changes
 returns-in_err-remove-clause-changes g c =
-    subst (λ r. ChangesInTurn g.S.Store (λ _. ⊥) (without (each entry_of c.args.rows.now)) c.args.writing.now.conn.now c.remove.new.writing.conn.now r)
+    subst (λ r. ChangesInTurn g.S.Store (RemovesOne (each entry_of c.args.rows.now)) (λ _. ⊥) (without (each entry_of c.args.rows.now)) c.args.writing.now.conn.now c.remove.new.writing.conn.now r)
     (sym (handed_on c.from_residual.result c.from_residual.ensures.1))
-    (c.loop-row.invariant.rest _ _ (fails_among g.S.Store _ c.in_err-remove.ensures.changes))
+    (c.loop-row.invariant.rest _ _ (fails_among g.S.Store _ (entry_of c.row-item.result, in_place entry_of c.args.rows.now c.loop-row.row-index c.row-item.result c.loop-row-test.true c.row-item.is, refl) c.in_err-remove.ensures.changes))
 
 pub loop-row-preserved : goal.loop-row-preserved
 loop-row-preserved g c = record {

@@ -12,6 +12,7 @@ returns c = index_among source_record record_order _ (record {
   start = _;
   stop = _;
   tail = _;
+  ends = refl;
   first_is = refl;
   on = refl;
   name_is = refl;

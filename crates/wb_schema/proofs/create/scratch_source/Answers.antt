@@ -12,6 +12,7 @@ returns c = table_among scratch_source _ (record {
   start = _;
   stop = _;
   tail = _;
+  ends = refl;
   first_is = refl;
   name_is = refl;
   own = refl;

@@ -12,6 +12,7 @@ returns c = index_among scratch_source source_name _ (record {
   start = _;
   stop = _;
   tail = _;
+  ends = refl;
   first_is = refl;
   on = refl;
   name_is = refl;

@@ -23,6 +23,8 @@ returns c = inserts_among arch _ arch_row (record {
   start = 0;
   stop = 51;
   tail = 51;
+  ends = refl;
+  counted = refl;
   first_is = refl;
   rows_are = λ schema tree. refl;
   one_row = record { count = refl; all = refl };

@@ -21,6 +21,8 @@ returns c = asks_among builder _ all_builders (record {
   start = 0;
   stop = 50;
   tail = 50;
+  ends = refl;
+  counted = refl;
   first_is = refl;
   select_is = λ tree. record { none = refl; others = refl; distinct = refl; shown = refl; from = refl; filter = refl; group = refl; having = refl; sorted = refl; paged = λ schema. refl };
   typed = λ tree. record {

@@ -21,6 +21,8 @@ returns c = asks_among arch _ arch_of_name (record {
   start = 0;
   stop = 46;
   tail = 46;
+  ends = refl;
+  counted = refl;
   first_is = refl;
   select_is = λ tree. record { none = refl; others = refl; distinct = refl; shown = refl; from = refl; filter = refl; group = refl; having = refl; sorted = refl; paged = λ schema. refl };
   typed = λ tree. record {

@@ -25,6 +25,8 @@ returns c = asks_among scratch_binary _ first_binary (record {
   start = 0;
   stop = 38;
   tail = 38;
+  ends = refl;
+  counted = refl;
   first_is = refl;
   select_is = λ tree. record { none = refl; others = refl; distinct = refl; shown = refl; from = refl; filter = refl; group = refl; having = refl; sorted = refl; paged = λ schema. refl };
   typed = λ tree. record {

@@ -21,6 +21,8 @@ returns c = asks_among source_record _ records_of_arch (record {
   start = 0;
   stop = 189;
   tail = 189;
+  ends = refl;
+  counted = refl;
   first_is = refl;
   select_is = λ tree. record { none = refl; others = refl; distinct = refl; shown = refl; from = refl; filter = refl; group = refl; having = refl; sorted = refl; paged = λ schema. refl };
   typed = λ tree. record {

@@ -14,6 +14,8 @@ returns c = deletes_among source_record _ has_record_key (record {
   start = 0;
   stop = 57;
   tail = 57;
+  ends = refl;
+  counted = refl;
   first_is = refl;
   tests_are = λ tree. (record { column = record { named = refl; is = refl }; place = refl; plain = refl }, record { column = record { named = refl; is = refl }; place = refl; plain = refl });
   small = refl;

@@ -8,4 +8,4 @@ returns-clause-changes g c =
     let params =
     ap₂ ◌∷◌ (number_bound _ _ c.args.counts.handed c.params-to_sql.ensures (omega (arith, ints)))
     (ap₂ ◌∷◌ (number_bound _ _ c.args.counts.accepted c.params-to_sql-2.ensures (omega (arith, ints))) refl) in
-    counts_change c.args.counts.handed c.args.counts.accepted c.set_counts.ensures params c.update-answered.ensures.runs c.update-answered.ensures.ok c.told_of.ensures.value
+    counts_change c.args.counts.handed c.args.counts.accepted c.set_counts.ensures params c.update-answered.ensures.runs c.update-answered.ensures.ok c.answer_on.ensures.value

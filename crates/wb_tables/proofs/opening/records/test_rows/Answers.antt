@@ -1,7 +1,6 @@
 use Rattle.std.proofs.Common.{◌∙◌, ◌+◌, Err, [], ◌∷◌, ◌++◌, ap, inl, refl, rules, arith}
-use Rattle.wb_schema.specs.Statements as sql
 use Rattle.wb_states.specs.declared.store_fault.StoreFault.TheVariants.{Memory}
-use Rattle.wb_states.specs.declared.store_fault.Table.TheVariants.{SourceRecord}
+use Rattle.wb_tables.specs.Queries as ask
 use Rattle.wb_tables.proofs.OpeningLemmas.{faulted}
 use Rattle.wb_tables.proofs.OpeningRecordLemmas.{fits_too, holds_tested, is_bad, none_tested}
 use Rattle.wb_tables.proofs.OpeningStreamLemmas.{begins, moves, tests_at, tests_bad, tests_ended, tests_failed, tests_refused}
@@ -11,13 +10,13 @@ use Rattle.wb_tables.proofs.opening.records.test_rows.Goals as goal
 pub returns-in-Err : goal.returns-in-Err
 returns-in-Err g c =
     let held = rw c.in-Err.is at c.query.follows.holds-at-none in
-    record { tests = tests_refused (asks_of SourceRecord sql.all_records c.all_records.ensures) held.survives c.in-Err.error held.err (ap Err c.fault_of.ensures.value) }
+    record { tests = tests_refused (asks_of ask.Records c.all_records.ensures refl) held.survives c.in-Err.error held.err (ap Err c.fault_of.ensures.value) }
 
 pub rows-init : goal.rows-init
 rows-init g c =
     let kept = c.args.kept.now in
     let made = c.in-Ok.ensures in
-    (refl, ([], begins (asks_of SourceRecord sql.all_records c.all_records.ensures) made.survives made.begun, none_tested kept.archs.now kept.builders.now kept.handed (λ n. rw c.new-takes.ensures.empty refl)))
+    (refl, ([], begins (asks_of ask.Records c.all_records.ensures refl) made.survives made.begun, none_tested kept.archs.now kept.builders.now kept.handed (λ n. rw c.new-takes.ensures.empty refl)))
 
 pub rows-preserved : goal.rows-preserved
 rows-preserved g c =
