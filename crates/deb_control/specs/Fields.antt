@@ -8,7 +8,6 @@ use Rattle.std.specs.Option.{option_or, option_map_or}
 use Rattle.deb_control.specs.declared.fault.ControlFaultKind.{ControlFaultKind}
 use Rattle.deb_control.specs.declared.fault.ControlFaultKind.TheVariants.{TooLarge, NotUtf8, Orphan, NoColon, BadName, Duplicate}
 use Rattle.deb_control.specs.Lines.{is_continuation, body_of, lines_in, trim_end, trim, is_nonempty}
-use Rattle.deb_control.specs.declared.paragraph.TheConstants.{PARAGRAPH_LIMIT}
 
 -- a field with its name, what stands after the colon, and its continuation lines (Policy 5.1)
 pub record FieldText : Type 0 where
@@ -94,7 +93,7 @@ first_fault names (line ∷ lines) = option_or (line_fault names line) (first_fa
 
 -- the greatest number of bytes of a paragraph, line feeds included (this project's own)
 abbrev pub paragraph_limit : ℕ
-paragraph_limit = PARAGRAPH_LIMIT
+paragraph_limit = 4194304
 
 -- what is wrong with a paragraph: its size, its encoding, or its first bad line
 unfoldable pub fault_of : List (List ℕ) → Option ControlFaultKind

@@ -15,7 +15,6 @@ use Rattle.deb_relations.specs.declared.relations.Alternative.{Alternative}
 use Rattle.deb_relations.specs.Names.{is_arch_char, is_arch_word, is_package_name}
 use Rattle.deb_relations.specs.Printing.{term_text}
 use Rattle.deb_text.specs.Lists.{is_nonempty}
-use Rattle.deb_relations.specs.declared.relations.TheConstants.{RELATIONS_LIMIT}
 
 -- a space, a tab, a line feed or a carriage return (Policy 7.1)
 unfoldable pub is_white : ℕ → Bool
@@ -154,7 +153,7 @@ is_not_blank text = not (is_blank_text text)
 
 -- the most bytes of relations
 abbrev pub relations_limit : ℕ
-relations_limit = RELATIONS_LIMIT
+relations_limit = 65536
 
 -- a text within the limit with its groups between commas, where blank groups are skipped (Policy 7.1, the limit and the skipping this project's own)
 unfoldable pub Reads : List ℕ → List (List Alternative) → Type 0

@@ -7,7 +7,6 @@ use Rattle.std.specs.List.{list_any, list_all, fold, before_first, after_first, 
 use Rattle.std.specs.Option.{option_map, option_or}
 use Rattle.deb_version.specs.declared.fault.VersionFault.{VersionFault}
 use Rattle.deb_version.specs.declared.fault.VersionFault.TheVariants.{Empty, EpochEmpty, EpochNotNumber, EpochTooLarge, UpstreamEmpty, UpstreamBad, RevisionEmpty, RevisionBad, TooLong}
-use Rattle.deb_version.specs.declared.parse.TheConstants.{EPOCH_LIMIT, VERSION_LIMIT}
 
 -- an epoch, an upstream version, and a revision if one is written (Policy 5.6.12)
 pub record Parts : Type 0 where
@@ -93,11 +92,11 @@ parts_of text = record {
 
 -- how many bytes the text of a version may have
 abbrev pub version_limit : ℕ
-version_limit = VERSION_LIMIT
+version_limit = 1000
 
 -- how large an epoch may be
 abbrev pub epoch_limit : ℕ
-epoch_limit = EPOCH_LIMIT
+epoch_limit = 2147483647
 
 -- no text, or one above the limit (this project's own)
 unfoldable pub length_fault : List ℕ → Option VersionFault

@@ -8,8 +8,8 @@ use sqlite_std_file::OpenError;
 use std::fmt::Display;
 use std::hash::{BuildHasher, RandomState};
 use std::io;
-use wb_durable::opening_fault;
 use wb_states::StoreFault;
+use wb_store::opening_fault;
 
 /// How many pages of 4,096 bytes are kept in memory after they were read, and how many that a command wrote before they
 /// go to the log.

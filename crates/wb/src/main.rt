@@ -2,10 +2,11 @@
 #![tactic(auto)]
 
 mod files;
+mod memory;
 mod serve;
 mod store;
 
-use serve::MayClose;
+use sqlite::Alter;
 use std::alloc::{AllocError, Global};
 use std::io::{self, BufReader, Read};
 use std::net::TcpListener;
@@ -14,7 +15,7 @@ use std::rt::{Env, Files};
 use std::{env, fs};
 use wb_api::line_fault_json;
 use wb_daemon::{Cause, Lists, Message, run_lines, status};
-use wb_office::{CarryOut, Office};
+use wb_office::Office;
 use wb_streams::{WatchedReader, WatchedWriter};
 use wb_words::{HELP, Start, start_of};
 
@@ -122,16 +123,16 @@ pub(crate) enum Work {
     },
 }
 
-/// Has an office do its work, over the records in the file if one is named, and otherwise over records in memory.
+/// Has an office do its work, over the tables in the file if one is named, and otherwise over tables in memory.
 fn open_for(rt: &HostRuntime, store: Option<&str>, work: Work) -> u8 {
     match store {
         Some(file) => store::open_for(rt, file, work),
-        None => act(rt, &mut Office::new(rt.alloc()), work),
+        None => memory::open_for(rt, work),
     }
 }
 
 /// Has the office do this work.
-pub(crate) fn act<O: CarryOut + MayClose>(rt: &HostRuntime, office: &mut O, work: Work) -> u8 {
+pub(crate) fn act<S: Alter + Drop>(rt: &HostRuntime, office: &mut Office<S>, work: Work) -> u8 {
     match work {
         Work::Run => run(rt, office),
         Work::Serve { listener, requests } => serve::serve(rt, office, &listener, requests),
@@ -153,7 +154,7 @@ fn texts_of<'a>(alloc: Global, arguments: &'a [String]) -> Option<Vec<&'a str>> 
 }
 
 /// Answers the lines of standard input on standard output.
-fn run<O: CarryOut>(rt: &HostRuntime, office: &mut O) -> u8 {
+fn run<S: Alter + Drop>(rt: &HostRuntime, office: &mut Office<S>) -> u8 {
     let Ok(buffered) = BufReader::new(rt.alloc(), rt.reader()) else {
         say(rt, Message::Stopped { cause: Cause::Room });
         return status::STOPPED;

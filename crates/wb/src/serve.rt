@@ -6,9 +6,9 @@ use std::alloc::Global;
 use std::io::{self, Read};
 use std::net::{Ipv4Addr, Shutdown, SocketAddr, TcpListener, TcpStream};
 use std::time::Duration;
+use wb_api::serve_one;
 use wb_daemon::{Cause, Message, status};
-use wb_office::CarryOut;
-use wb_serve::serve_one;
+use wb_office::Office;
 use wb_streams::{WatchedReader, WatchedWriter};
 
 /// How many seconds one read or write of a connection may take; then it counts as one that failed.
@@ -19,24 +19,6 @@ const CLOSING_SECONDS: u64 = 1;
 
 /// How many reads are made of what a client sends after its answer.
 const CLOSING_READS: usize = 1024;
-
-/// An office that a fault of its store may close.
-pub(crate) trait MayClose {
-    /// Whether it is closed: it answers `Closed` until it is opened again.
-    fn is_closed(&self) -> bool;
-}
-
-impl MayClose for wb_office::Office {
-    fn is_closed(&self) -> bool {
-        false
-    }
-}
-
-impl<S: Alter + Drop> MayClose for wb_durable::Office<S> {
-    fn is_closed(&self) -> bool {
-        self.closed()
-    }
-}
 
 /// Takes the port of 127.0.0.1, or says on standard error why it cannot be taken.
 pub(crate) fn listen(rt: &HostRuntime, port: u16) -> Option<TcpListener> {
@@ -52,9 +34,9 @@ pub(crate) fn listen(rt: &HostRuntime, port: u16) -> Option<TcpListener> {
 
 /// Serves this many connections, one after another, and ends early if the office is closed then. A connection that cannot be
 /// accepted counts too.
-pub(crate) fn serve<O: CarryOut + MayClose>(
+pub(crate) fn serve<S: Alter + Drop>(
     rt: &HostRuntime,
-    office: &mut O,
+    office: &mut Office<S>,
     listener: &TcpListener,
     requests: u32,
 ) -> u8 {
@@ -62,7 +44,7 @@ pub(crate) fn serve<O: CarryOut + MayClose>(
         if let Ok((stream, _)) = listener.accept() {
             serve_stream(rt.alloc(), office, &stream);
         }
-        if office.is_closed() {
+        if office.closed() {
             say(
                 rt,
                 Message::Stopped {
@@ -76,7 +58,7 @@ pub(crate) fn serve<O: CarryOut + MayClose>(
 }
 
 /// Answers the request of one connection, and closes the connection.
-fn serve_stream<O: CarryOut>(alloc: Global, office: &mut O, stream: &TcpStream) {
+fn serve_stream<S: Alter + Drop>(alloc: Global, office: &mut Office<S>, stream: &TcpStream) {
     if limit_times(stream).is_err() {
         return;
     }

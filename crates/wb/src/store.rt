@@ -6,8 +6,8 @@ use std::alloc::AllocError;
 use std::fs::{self, File, OpenOptions, TryLockError};
 use std::io::{self, Read};
 use wb_daemon::status;
-use wb_durable::Office;
-use wb_schema::lacks_office;
+use wb_office::Office;
+use wb_sql::lacks_office;
 use wb_states::StoreFault;
 
 /// How many bytes the log of a file has if it holds no commit: those of its header.
@@ -183,7 +183,7 @@ fn refuse_held(rt: &HostRuntime, file: &str) -> u8 {
 }
 
 /// Writes the line for a store that cannot be opened.
-fn said_store(rt: &HostRuntime, name: &str) -> u8 {
+pub(crate) fn said_store(rt: &HostRuntime, name: &str) -> u8 {
     let printed: io::Result<()> = println!(rt; "{{\"fault\":\"store\",\"store\":\"{name}\"}}");
     said(printed, status::STOPPED)
 }

@@ -1,5 +1,14 @@
-mod EncodingLemmas
+pub mod AcknowledgedLemmas
+pub mod EncodingLemmas
+pub mod ExchangeLemmas
+pub mod LawLemmas
+pub mod LiteralLemmas
 pub mod OneLineLemmas
 pub mod PlainLemmas
-mod QueryLemmas
+pub mod QueryLemmas
 pub mod QueryLineLemmas
+pub mod ReadLemmas
+pub mod RequestLemmas
+pub mod RouteLemmas
+pub mod RunLemmas
+pub mod Utf8Lemmas

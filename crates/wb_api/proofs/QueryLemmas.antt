@@ -8,9 +8,9 @@ use Rattle.serde_json.specs.Find.{is_float, of_integer}
 use Rattle.serde_json.specs.Written.{compact_text, number_text, items_text, has_float, items_have_float}
 use Rattle.serde_json.proofs.OnLiterals.{serde_json_on_literals}
 use Rattle.wb_states.specs.declared.record.Record.{Record}
-use Rattle.wb_store.specs.declared.keyed.KeyedRecord.{KeyedRecord}
-use Rattle.wb_office.specs.declared.query.Answer.{Answer}
-use Rattle.wb_office.specs.declared.query.Answer.TheVariants.{Item, Mine}
+use Rattle.wb_states.specs.declared.keyed.KeyedRecord.{KeyedRecord}
+use Rattle.wb_states.specs.declared.query.Answer.{Answer}
+use Rattle.wb_states.specs.declared.query.Answer.TheVariants.{Item, Mine}
 use Rattle.wb_api.specs.Queries.{truth_text, quoted_or_null, decimal_or_null, fields_text, record_text, records_text, query_text}
 use Rattle.wb_api.specs.QueryValues.{number_or_null, string_or_null, value_of_answer, value_of_fields, value_of_record, values_of_records}
 

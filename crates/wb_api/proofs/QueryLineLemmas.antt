@@ -7,9 +7,9 @@ use Rattle.deb_text.specs.Lines.{IsOneLine}
 use Rattle.wb_states.specs.Moves.{build_text_of}
 use Rattle.wb_states.specs.State.{name_of}
 use Rattle.wb_states.specs.declared.record.Record.{Record}
-use Rattle.wb_store.specs.declared.keyed.KeyedRecord.{KeyedRecord}
-use Rattle.wb_office.specs.declared.query.Answer.{Answer}
-use Rattle.wb_office.specs.declared.query.Answer.TheVariants.{Item, Mine}
+use Rattle.wb_states.specs.declared.keyed.KeyedRecord.{KeyedRecord}
+use Rattle.wb_states.specs.declared.query.Answer.{Answer}
+use Rattle.wb_states.specs.declared.query.Answer.TheVariants.{Item, Mine}
 use Rattle.wb_api.specs.Queries.{truth_text, quoted_or_null, decimal_or_null, fields_text, record_text, records_text, query_text}
 use Rattle.wb_api.proofs.OneLineLemmas.{behind, decimal-one, quoted-one}
 

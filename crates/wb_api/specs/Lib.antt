@@ -1,5 +1,11 @@
+pub mod Commands
 pub mod Encoding
+pub mod Exchange
 pub mod Memory
+pub mod Outcomes
 pub mod Queries
 pub mod QueryValues
+pub mod Requests
+pub mod Routes
+pub mod Runs
 pub mod Values

@@ -7,9 +7,9 @@ use Rattle.json.specs.Print.{quoted}
 use Rattle.wb_states.specs.Moves.{build_text_of}
 use Rattle.wb_states.specs.State.{name_of}
 use Rattle.wb_states.specs.declared.record.Record.{Record}
-use Rattle.wb_store.specs.declared.keyed.KeyedRecord.{KeyedRecord}
-use Rattle.wb_office.specs.declared.query.Answer.{Answer}
-use Rattle.wb_office.specs.declared.query.Answer.TheVariants.{Item, Mine}
+use Rattle.wb_states.specs.declared.keyed.KeyedRecord.{KeyedRecord}
+use Rattle.wb_states.specs.declared.query.Answer.{Answer}
+use Rattle.wb_states.specs.declared.query.Answer.TheVariants.{Item, Mine}
 
 -- the text of a truth value (RFC 8259, section 3)
 abbrev pub truth_text : Bool → List ℕ

@@ -6,9 +6,9 @@ use Rattle.serde_json.specs.View.{items_of}
 use Rattle.wb_states.specs.Moves.{build_text_of}
 use Rattle.wb_states.specs.State.{name_of}
 use Rattle.wb_states.specs.declared.record.Record.{Record}
-use Rattle.wb_store.specs.declared.keyed.KeyedRecord.{KeyedRecord}
-use Rattle.wb_office.specs.declared.query.Answer.{Answer}
-use Rattle.wb_office.specs.declared.query.Answer.TheVariants.{Item, Mine}
+use Rattle.wb_states.specs.declared.keyed.KeyedRecord.{KeyedRecord}
+use Rattle.wb_states.specs.declared.query.Answer.{Answer}
+use Rattle.wb_states.specs.declared.query.Answer.TheVariants.{Item, Mine}
 
 -- the value of a text that may be missing (RFC 8259, section 3)
 abbrev pub string_or_null : Option (List ℕ) → Data

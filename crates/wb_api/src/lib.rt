@@ -1,13 +1,25 @@
-//! What the office answers, as JSON.
+//! What the office answers, as JSON; and one exchange over HTTP (RFC 9112): a request is read, carried out by an office,
+//! and answered.
 #![tactic(auto)]
 
+mod answer;
+mod ask;
+mod command;
 mod encode;
+mod failure;
 mod fault;
 pub mod laws;
 mod query;
 mod refusal;
+mod request;
+mod route;
+mod serve;
+mod status;
 
 pub use encode::reply_json;
 pub use fault::{file_fault_json, line_fault_json};
 pub use query::query_json;
 pub use refusal::{refusal_json, try_refusal_json};
+pub use request::{Received, Request, read_request};
+pub use serve::{Served, serve_one};
+pub use status::status_of;

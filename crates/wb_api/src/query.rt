@@ -13,9 +13,7 @@ use crate::encode::array_of;
 use deb_text::Text;
 use serde_json::{Map, Value, json, put};
 use std::alloc::{AllocError, Global};
-use wb_office::Answer;
-use wb_states::{Record, build_text};
-use wb_store::KeyedRecord;
+use wb_states::{Answer, KeyedRecord, Record, build_text};
 
 /// The answer to a query as one JSON object (RFC 8259), with no space and no line feed.
 ///

@@ -14,26 +14,27 @@ use Rattle.wb_states.specs.declared.refusal.Refusal.{Refusal}
 use Rattle.wb_states.specs.declared.refusal.Refusal.TheVariants.{Closed, Memory, Store}
 use Rattle.wb_states.specs.declared.reply.Reply.{Reply}
 use Rattle.wb_states.specs.declared.store_fault.StoreFault.{StoreFault}
-use Rattle.wb_office.proofs.CountedLemmas.{step-accepted, step-unchanged}
-use Rattle.wb_office.proofs.PassLemmas.{step-either}
-use Rattle.wb_office.specs.Ends.{is_of_store}
-use Rattle.wb_office.specs.Step.{step}
+use Rattle.wb_step.proofs.CountedLemmas.{step-accepted, step-unchanged}
+use Rattle.wb_step.proofs.PassLemmas.{step-either}
+use Rattle.wb_states.specs.Refusals.{is_of_store}
+use Rattle.wb_step.specs.Step.{step}
 use Rattle.wb_words.specs.Words.{invocation_in}
 use Rattle.wb_words.specs.declared.words.Invocation.{Invocation}
 use Rattle.wb_words.specs.declared.words.Invocation.TheVariants.{Command as invocation_Command, Merge as invocation_Merge}
 use Rattle.wb_words.specs.declared.words.PartNames.{PartNames}
 use Rattle.wb_api.specs.Encoding.{line_fault_text, refusal_text, reply_text, is_plain, IsMemoryText}
 use Rattle.deb_text.specs.Lines.{words_in, is_blank_line}
-use Rattle.wb_daemon.specs.Line.{is_long, with_line_feed}
+use Rattle.wb_streams.specs.Line.{is_long, with_line_feed}
 use Rattle.wb_daemon.specs.Lists.{MayRead, MayReadMerge, MayReadLess}
-use Rattle.wb_office.specs.Offices.{Standing, InDoubt, Open, Shut}
+use Rattle.wb_step.specs.Offices.{Standing, InDoubt, Open, Shut}
 use Rattle.wb_daemon.specs.Run.{LineResponse, IsLineResponse, IsSaidTo, InvokesAs, LineInvokes, IsRefusedByStore, IsResponseOfKind, LineKind, Blank, Fault, Request, answer_response, command_response, kind_of_line, kind_of_invocation, invocation_of_line, line_fault_response, memory_response, needs_memory, refusal_response}
-use Rattle.wb_daemon.specs.Turn.{Answers, IsCommandResponseOrMemory, IsInvocationResponseOrMemory, AnswersInPart, AppendsFront, TookEndedLine, TookLastLine, StopsAtLine, StopsTurn, Turns}
+use Rattle.wb_daemon.specs.Turn.{Answers, IsCommandResponseOrMemory, IsInvocationResponseOrMemory, AnswersInPart, TookEndedLine, TookLastLine, StopsAtLine, StopsTurn, Turns}
+use Rattle.wb_streams.specs.Streams.{AppendsFront}
 use Rattle.wb_daemon.specs.declared.message.Cause.{Cause}
 use Rattle.wb_daemon.specs.declared.message.Cause.TheVariants as why
 use Rattle.wb_daemon.specs.declared.run.Turn.{Turn}
 use Rattle.wb_daemon.specs.declared.run.Turn.TheVariants.{More, End, Stop}
-use Rattle.wb_daemon.proofs.LineLemmas.{Appends-same}
+use Rattle.wb_streams.proofs.LineLemmas.{Appends-same}
 use Rattle.wb_daemon.proofs.ListLemmas.{MayReadParts-more, LacksMerge-more}
 
 -- ---- the kind of a line
@@ -86,11 +87,11 @@ utf8-invocation line invocation false u e =
     cc
 
 -- what may be said to what a line asks for may be said to the line
-pub IsLineResponse-invocation : (may_want : Command → Type 0) (may_read : MayRead) (machine : Machine) (line : List ℕ) (invocation : Invocation) (response : LineResponse) → is_long line ≡ false → is_blank_line line ≡ false
-    → invocation_of_line line ≡ Some invocation → IsInvocationResponseOrMemory may_want may_read machine invocation response → IsLineResponse may_read machine line response
-IsLineResponse-invocation may_want may_read machine line invocation response h k e (inl p) =
+pub IsLineResponse-invocation : (may_read : MayRead) (machine : Machine) (line : List ℕ) (invocation : Invocation) (response : LineResponse) → is_long line ≡ false → is_blank_line line ≡ false
+    → invocation_of_line line ≡ Some invocation → IsInvocationResponseOrMemory may_read machine invocation response → IsLineResponse may_read machine line response
+IsLineResponse-invocation may_read machine line invocation response h k e (inl p) =
     IsLineResponse-kind may_read machine line (Request invocation) response (kind_of_line-read line h k ∙ ap kind_of_invocation e) p
-IsLineResponse-invocation may_want may_read machine line invocation response h k e (inr p) =
+IsLineResponse-invocation may_read machine line invocation response h k e (inr p) =
     inr (needs_memory-read line h k (utf8-invocation line invocation (is_utf8 line) refl e), p.1)
 
 pub IsLineResponse-fault : (may_read : MayRead) (machine : Machine) (line : List ℕ) (response : LineResponse) → is_long line ≡ false → is_blank_line line ≡ false
@@ -201,13 +202,13 @@ answers-long_cut may_read line machine old new h p =
     (line_fault_response machine, inl (IsLineResponse-kind may_read machine line Fault _ (kind_of_line-long line h) refl, refl), refl, p)
 
 -- what may be said to the command of a merge may be said to the merge
-pub merge-response : (may_want : Command → Type 0) (may_read : MayRead) (machine : Machine) (invocation : Invocation) (sources : List ℕ) (parts : List PartNames) (command : Command)
+pub merge-response : (may_read : MayRead) (machine : Machine) (invocation : Invocation) (sources : List ℕ) (parts : List PartNames) (command : Command)
     (response : LineResponse) → invocation ≡ invocation_Merge sources parts → MayReadMerge may_read sources parts command
-    → IsCommandResponseOrMemory may_want machine command response → IsInvocationResponseOrMemory may_want may_read machine invocation response
-merge-response may_want may_read machine invocation sources parts command response is given (inl same) =
-    subst (λ a. IsInvocationResponseOrMemory may_want may_read machine a response) (sym is) (inl (inl (command, given, same)))
-merge-response may_want may_read machine invocation sources parts command response is given (inr short) =
-    subst (λ a. IsInvocationResponseOrMemory may_want may_read machine a response) (sym is) (inr (tt, short.1))
+    → IsCommandResponseOrMemory machine command response → IsInvocationResponseOrMemory may_read machine invocation response
+merge-response may_read machine invocation sources parts command response is given (inl same) =
+    subst (λ a. IsInvocationResponseOrMemory may_read machine a response) (sym is) (inl (inl (command, given, same)))
+merge-response may_read machine invocation sources parts command response is given (inr short) =
+    subst (λ a. IsInvocationResponseOrMemory may_read machine a response) (sym is) (inr (tt, short.1))
 
 -- ---- what is said to a refused command
 
@@ -223,22 +224,22 @@ refused-response machine command refusal e =
     ∙ ap (answer_response (name_of_command command) (Err refusal)) (step-unchanged machine command refusal e)
 
 -- a refusal that `step` gives is said, or that there is no memory for it
-pub refusal-said : (may_want : Command → Type 0) (machine : Machine) (command : Command) (refusal : Refusal) (text : CowStr Global) → (step machine command).0 ≡ Err refusal
+pub refusal-said : (machine : Machine) (command : Command) (refusal : Refusal) (text : CowStr Global) → (step machine command).0 ≡ Err refusal
     → (cow_str_bytes text ≡ refusal_text refusal) ⊎ IsMemoryText text → (is_plain refusal ≡ true → IsBorrowedStr text × (cow_str_bytes text ≡ refusal_text refusal))
-    → IsCommandResponseOrMemory may_want machine command (record { text = with_line_feed (cow_str_bytes text); machine = machine; status = 1 })
-refusal-said may_want machine command refusal text e (inl same) plain = inl (said-same same ∙ sym (refused-response machine command refusal e))
-refusal-said may_want machine command refusal text e (inr short) plain =
+    → IsCommandResponseOrMemory machine command (record { text = with_line_feed (cow_str_bytes text); machine = machine; status = 1 })
+refusal-said machine command refusal text e (inl same) plain = inl (said-same same ∙ sym (refused-response machine command refusal e))
+refusal-said machine command refusal text e (inr short) plain =
     (elim (is_plain refusal) as (λ b. is_plain refusal ≡ b
-    → IsCommandResponseOrMemory may_want machine command (record { text = with_line_feed (cow_str_bytes text); machine = machine; status = 1 })) [
+    → IsCommandResponseOrMemory machine command (record { text = with_line_feed (cow_str_bytes text); machine = machine; status = 1 })) [
       | true ↦ λ is. inl (said-same (plain is).1 ∙ sym (refused-response machine command refusal e))
       | false ↦ λ is. inr (inl (inr (refusal, e, is)), said-same short.1)
     ]) refl
 
 -- a reply is said
-pub reply-said : (may_want : Command → Type 0) (machine : Machine) (command : Command) (reply : Reply) (text : List ℕ) → (step machine command).0 ≡ Ok reply
+pub reply-said : (machine : Machine) (command : Command) (reply : Reply) (text : List ℕ) → (step machine command).0 ≡ Ok reply
     → text ≡ reply_text (name_of_command command) reply
-    → IsCommandResponseOrMemory may_want machine command (record { text = with_line_feed text; machine = (step machine command).1; status = 0 })
-reply-said may_want machine command reply text e said =
+    → IsCommandResponseOrMemory machine command (record { text = with_line_feed text; machine = (step machine command).1; status = 0 })
+reply-said machine command reply text e said =
     inl (ap (λ t. record { text = with_line_feed t; machine = (step machine command).1; status = 0 }) said
     ∙ sym (ap (λ (r : Result Reply Refusal). answer_response (name_of_command command) r (step machine command).1) e))
 
@@ -257,6 +258,6 @@ store-said machine command refusal fault text e (inl same) = inr (fault, inl (sa
 store-said machine command refusal fault text e (inr short) = inr (fault, inr (said-same short.1), refl)
 
 -- that there is no memory is said to a command that may want some
-pub memory-said : (may_want : Command → Type 0) (machine : Machine) (command : Command) (text : CowStr Global) → may_want command → IsMemoryText text
-    → IsCommandResponseOrMemory may_want machine command (record { text = with_line_feed (cow_str_bytes text); machine = machine; status = 1 })
-memory-said may_want machine command text wants short = inr (inl (inl wants), said-same short.1)
+pub memory-said : (machine : Machine) (command : Command) (text : CowStr Global) → MayWantMemory command → IsMemoryText text
+    → IsCommandResponseOrMemory machine command (record { text = with_line_feed (cow_str_bytes text); machine = machine; status = 1 })
+memory-said machine command text wants short = inr (inl (inl wants), said-same short.1)

@@ -7,13 +7,13 @@ use Rattle.wb_states.specs.Machine.{Machine}
 use Rattle.wb_states.specs.declared.command.Command.{Command}
 use Rattle.wb_states.specs.declared.refusal.Refusal.{Refusal}
 use Rattle.wb_states.specs.declared.reply.Reply.{Reply}
-use Rattle.wb_office.specs.Step.{step}
+use Rattle.wb_step.specs.Step.{step}
 use Rattle.wb_words.specs.declared.words.Invocation.{Invocation}
 use Rattle.wb_words.specs.declared.words.Invocation.TheVariants.{Command as invocation_Command, Merge as invocation_Merge}
 use Rattle.wb_api.specs.Encoding.{reply_text, refusal_text, memory_text, line_fault_text, file_fault_text}
 use Rattle.wb_api.proofs.OneLineLemmas.{reply_text-one, refusal_text-one}
 use Rattle.wb_daemon.specs.Answered.{HasLines, is_answered}
-use Rattle.wb_daemon.specs.Line.{is_long, with_line_feed}
+use Rattle.wb_streams.specs.Line.{is_long, with_line_feed}
 use Rattle.wb_daemon.specs.Lists.{MayRead}
 use Rattle.wb_daemon.specs.Run.{Fault, Runs, LineResponse, IsLineResponse, IsInvocationResponse, IsResponseOfKind, Blank, answer_response, invocation_of_line, command_response, kind_of_line, kind_of_invocation}
 

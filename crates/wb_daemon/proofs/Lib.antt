@@ -1,6 +1,5 @@
-pub mod AnsweredLemmas
 pub mod AnswerLemmas
-pub mod LineLemmas
+pub mod AnsweredLemmas
 pub mod ListLemmas
 pub mod ReplayedLemmas
 pub mod RunLemmas

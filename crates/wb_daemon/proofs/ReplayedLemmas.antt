@@ -5,13 +5,13 @@ use Rattle.wb_states.specs.Machine.{Machine}
 use Rattle.wb_states.specs.declared.command.Command.{Command}
 use Rattle.wb_states.specs.declared.refusal.Refusal.{Refusal}
 use Rattle.wb_states.specs.declared.reply.Reply.{Reply}
-use Rattle.wb_office.specs.Replay.{replay}
-use Rattle.wb_office.specs.Step.{step}
+use Rattle.wb_step.specs.Replay.{replay}
+use Rattle.wb_step.specs.Step.{step}
 use Rattle.wb_words.specs.declared.words.Invocation.{Invocation}
 use Rattle.wb_words.specs.declared.words.Invocation.TheVariants.{Command as invocation_Command, Merge as invocation_Merge}
-use Rattle.wb_daemon.specs.Line.{ended_in, input_lines}
+use Rattle.wb_streams.specs.Line.{ended_in, input_lines}
 use Rattle.wb_daemon.specs.Lists.{MayRead}
-use Rattle.wb_office.specs.Offices.{Standing, Open, IsSoOfEach}
+use Rattle.wb_step.specs.Offices.{Standing, Open, IsSoOfEach}
 use Rattle.wb_daemon.specs.Replays.{IsReplay, IsReplayCut, IsReplayRefused, LeavesReplay, IsResponseWithoutReply}
 use Rattle.wb_daemon.specs.Run.{Request, InvokesAs, EndsInput, Fault, LineKind, LineInvokes, Runs, LineResponse, IsLineResponse, IsInvocationResponse, IsRefusedByStore, IsResponseOfKind, IsSaidTo, Blank, RunStopsFor, StopsInLine, answer_response, command_response, followed, kind_of_line, no_response}
 use Rattle.wb_daemon.specs.declared.message.Cause.{Cause}

@@ -11,15 +11,16 @@ use Rattle.std.specs.List.{list_any, onto_first, slice_split}
 use Rattle.wb_states.specs.Machine.{Machine}
 use Rattle.deb_text.proofs.ListLemmas.{slice_split-run, slice_split-end}
 use Rattle.deb_text.specs.Lines.{is_line_feed, IsOneLine}
-use Rattle.wb_daemon.specs.Line.{ended_in, is_long, input_lines, line_limit, lines_limit, through_long, with_line_feed, with_line_feeds, AreWithinLimit}
+use Rattle.wb_streams.specs.Line.{ended_in, is_long, input_lines, line_limit, through_long, with_line_feed, with_line_feeds}
+use Rattle.wb_daemon.specs.Limits.{lines_limit, AreWithinLimit}
 use Rattle.wb_daemon.specs.Lists.{MayRead, IsAllOf}
-use Rattle.wb_office.specs.Offices.{Standing, Open}
+use Rattle.wb_step.specs.Offices.{Standing, Open}
 use Rattle.wb_daemon.specs.Run.{LineResponse, IsLineResponse, Runs, EndsInput, FailsFor, StopsAfter, StopsBeforeReply, StopsBetween, RunStopsFor, StopsWithin, WereActedOn, followed, no_response}
 use Rattle.wb_streams.specs.Streams.{Flags, Stream}
 use Rattle.wb_daemon.specs.Turn.{Answers, AnswersInPart, AnswersLast, IsCauseAtLine, TookEndedLine, TookLastLine, StopsAtLine, LacksReply, StopsTurn, fails_to_write}
 use Rattle.wb_daemon.specs.declared.message.Cause.{Cause}
 use Rattle.wb_daemon.specs.declared.message.Cause.TheVariants.{Read, Write, Reply, Store, Lines, Room}
-use Rattle.wb_daemon.proofs.LineLemmas.{Appends-same, Appends-then, Consumes-then}
+use Rattle.wb_streams.proofs.LineLemmas.{Appends-same, Appends-then, Consumes-then}
 use Rattle.wb_daemon.proofs.AnswerLemmas.{IsLineResponse-long, answers-blank}
 use lib.Seq.{take-append_seam}
 

@@ -2,7 +2,7 @@
 use Rattle.std.specs.Prelude.{◌≡◌, ℕ, Bool, not, ◌||◌, List, length}
 use Rattle.std.specs.List.{AllByRecursion}
 use Rattle.deb_text.specs.Lines.{IsOneLine, is_blank_line}
-use Rattle.wb_daemon.specs.Line.{is_long, with_line_feeds}
+use Rattle.wb_streams.specs.Line.{is_long, with_line_feeds}
 
 -- a line that is answered: it is too long, or it has more than spaces and tabs
 abbrev pub is_answered : List ℕ → Bool

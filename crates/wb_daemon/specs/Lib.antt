@@ -1,5 +1,4 @@
 pub mod Answered
-pub mod Line
 pub mod Lists
 pub mod Replays
 pub mod Run

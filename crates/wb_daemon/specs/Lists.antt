@@ -7,7 +7,6 @@ use Rattle.wb_states.specs.declared.command.Part.{Part}
 use Rattle.wb_words.specs.declared.words.PartNames.{PartNames}
 use Rattle.wb_daemon.specs.declared.lists.ListRead.{ListRead}
 use Rattle.wb_daemon.specs.declared.lists.ListRead.TheVariants.{Whole, TooLong, Failed}
-use Rattle.wb_daemon.specs.declared.lists.TheConstants.{LIST_LIMIT}
 
 -- what is known of the lists: which bytes the list of a name may be read as, and which names have a list that may not be opened or whose reading may fail
 pub record MayRead : Type 1 where
@@ -20,7 +19,7 @@ any_lists = record { reads = λ _ _. ⊤; fails = λ _. ⊤ }
 
 -- the greatest length of a list
 abbrev pub list_limit : ℕ
-list_limit = LIST_LIMIT
+list_limit = 2147483648
 
 -- these are all the bytes that a reader has left, if those are known
 abbrev pub IsAllOf : Option (List ℕ) → List ℕ → Type 0

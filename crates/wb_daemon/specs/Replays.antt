@@ -2,9 +2,9 @@
 use Rattle.std.specs.Prelude.{◌≡◌, ℕ, ◌⊎◌, List, [], ◌∷◌, ◌++◌, Option}
 use Rattle.wb_states.specs.Machine.{Machine}
 use Rattle.wb_states.specs.declared.command.Command.{Command}
-use Rattle.wb_office.specs.Replay.{replay}
+use Rattle.wb_step.specs.Replay.{replay}
 use Rattle.wb_daemon.specs.Lists.{MayRead}
-use Rattle.wb_office.specs.Offices.{Standing, Open}
+use Rattle.wb_step.specs.Offices.{Standing, Open}
 use Rattle.wb_daemon.specs.Run.{LineResponse, LineInvokes, IsRefusedByStore, WereActedOn, command_response, line_fault_response, file_fault_response, followed, memory_response, no_response}
 
 -- nothing is carried out for a line: it is blank, or at fault, or a list of it cannot be read, or there is no memory for it

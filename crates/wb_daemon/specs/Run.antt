@@ -10,16 +10,17 @@ use Rattle.wb_states.specs.declared.refusal.Refusal.{Refusal}
 use Rattle.wb_states.specs.declared.refusal.Refusal.TheVariants.{Closed, Store}
 use Rattle.wb_states.specs.declared.reply.Reply.{Reply}
 use Rattle.wb_states.specs.declared.store_fault.StoreFault.{StoreFault}
-use Rattle.wb_office.specs.Step.{step}
+use Rattle.wb_step.specs.Step.{step}
 use Rattle.wb_words.specs.Words.{invocation_in}
 use Rattle.wb_words.specs.declared.words.Invocation.{Invocation}
 use Rattle.wb_words.specs.declared.words.Invocation.TheVariants.{Command as invocation_Command, Merge as invocation_Merge}
 use Rattle.wb_words.specs.declared.words.PartNames.{PartNames}
 use Rattle.wb_api.specs.Encoding.{reply_text, refusal_text, memory_text, line_fault_text, file_fault_text}
 use Rattle.deb_text.specs.Lines.{words_in, is_blank_line}
-use Rattle.wb_daemon.specs.Line.{is_long, input_lines, ended_in, lines_limit, with_line_feed, AreWithinLimit}
+use Rattle.wb_streams.specs.Line.{is_long, input_lines, ended_in, with_line_feed}
+use Rattle.wb_daemon.specs.Limits.{lines_limit, AreWithinLimit}
 use Rattle.wb_daemon.specs.Lists.{MayRead, MayReadMerge, IsAllOf, LacksMerge}
-use Rattle.wb_office.specs.Offices.{Accepts, Standing, Open, Shut, InDoubt}
+use Rattle.wb_step.specs.Offices.{Accepts, Standing, Open, Shut, InDoubt}
 use Rattle.wb_streams.specs.Streams.{Stream}
 use Rattle.wb_daemon.specs.declared.message.Cause.{Cause}
 use Rattle.wb_daemon.specs.declared.message.Cause.TheVariants as why

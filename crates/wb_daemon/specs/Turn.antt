@@ -5,14 +5,14 @@ use Rattle.std.specs.Io.KnownBytes.{Appends, Consumes, IsAtEnd}
 use Rattle.wb_states.specs.Machine.{Machine}
 use Rattle.wb_states.specs.declared.command.Command.{Command}
 use Rattle.wb_states.specs.declared.refusal.Refusal.{Refusal}
-use Rattle.wb_office.specs.Step.{step}
+use Rattle.wb_step.specs.Step.{step}
 use Rattle.wb_words.specs.declared.words.Invocation.{Invocation}
 use Rattle.wb_words.specs.declared.words.Invocation.TheVariants.{Command as invocation_Command, Merge as invocation_Merge}
 use Rattle.wb_api.specs.Memory.{MayLackMemory}
 use Rattle.deb_text.specs.Lines.{IsOneLine}
-use Rattle.wb_daemon.specs.Line.{is_long, with_line_feed}
+use Rattle.wb_streams.specs.Line.{is_long, with_line_feed}
 use Rattle.wb_daemon.specs.Lists.{MayRead}
-use Rattle.wb_office.specs.Offices.{Accepts, Standing, Open}
+use Rattle.wb_step.specs.Offices.{Accepts, Standing, Open}
 use Rattle.wb_daemon.specs.Run.{LineResponse, IsLineResponse, IsInvocationResponse, command_response, memory_response, EndsInput, IsRefusedByStore, IsSaidTo, LineInvokes, RunStopsFor}
 use Rattle.wb_daemon.specs.declared.answer.Answer.{Answer}
 use Rattle.wb_daemon.specs.declared.message.Cause.{Cause}
@@ -27,23 +27,19 @@ abbrev pub response_of_answer : Answer → Machine → LineResponse
 response_of_answer answer after = record { text = with_line_feed (cow_str_bytes answer.text); machine = after; status = answer.status }
 
 -- what may be said to a command: that there is no memory for it is possible too
-abbrev pub IsCommandResponseOrMemory : (Command → Type 0) → Machine → Command → LineResponse → Type 0
-IsCommandResponseOrMemory may_want machine command response =
-    (response ≡ command_response machine command) ⊎ (MayLackMemory may_want machine command × (response ≡ memory_response machine))
+abbrev pub IsCommandResponseOrMemory : Machine → Command → LineResponse → Type 0
+IsCommandResponseOrMemory machine command response =
+    (response ≡ command_response machine command) ⊎ (MayLackMemory machine command × (response ≡ memory_response machine))
 
 -- why the answer to what a line asks for may be that memory ran out: a command as above, and the lists of a merge are read into memory
-abbrev pub MayLackMemoryFor : (Command → Type 0) → Machine → Invocation → Type 0
-MayLackMemoryFor may_want machine (invocation_Command command) = MayLackMemory may_want machine command
-MayLackMemoryFor may_want machine (invocation_Merge sources parts) = ⊤
+abbrev pub MayLackMemoryFor : Machine → Invocation → Type 0
+MayLackMemoryFor machine (invocation_Command command) = MayLackMemory machine command
+MayLackMemoryFor machine (invocation_Merge sources parts) = ⊤
 
 -- what may be said to what a line asks for: that there is no memory for it is possible too
-abbrev pub IsInvocationResponseOrMemory : (Command → Type 0) → MayRead → Machine → Invocation → LineResponse → Type 0
-IsInvocationResponseOrMemory may_want may_read machine invocation response =
-    IsInvocationResponse may_read machine invocation response ⊎ (MayLackMemoryFor may_want machine invocation × (response ≡ memory_response machine))
-
--- a front of a text, but not the whole, is appended
-abbrev pub AppendsFront : Option (List ℕ) → Option (List ℕ) → List ℕ → Type 0
-AppendsFront old new text = (count : ℕ) × (count < length text) × Appends old new (take count text)
+abbrev pub IsInvocationResponseOrMemory : MayRead → Machine → Invocation → LineResponse → Type 0
+IsInvocationResponseOrMemory may_read machine invocation response =
+    IsInvocationResponse may_read machine invocation response ⊎ (MayLackMemoryFor machine invocation × (response ≡ memory_response machine))
 
 -- a line was answered: what is said to it was written
 abbrev pub Answers : MayRead → List ℕ → Machine → Machine → Option (List ℕ) → Option (List ℕ) → ℕ → Type 0

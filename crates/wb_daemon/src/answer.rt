@@ -2,25 +2,25 @@
 ghost use Rattle.std.specs.Prelude.{◌≡◌, ◌≢◌, ◌≤◌, IfOk, IfErr, IfSome, IsTrue, Some, None, Err, false, true};
 ghost use Rattle.std.specs.Str.{is_utf8};
 ghost use Rattle.wb_words.specs.declared.fault.WordsFault.TheVariants.{Memory};
-ghost use Rattle.wb_daemon.specs.Line.{is_long};
+ghost use Rattle.wb_streams.specs.Line.{is_long};
 ghost use Rattle.deb_text.specs.Lines.{is_blank_line};
 ghost use Rattle.wb_daemon.specs.Lists.{MayReadLess};
-ghost use Rattle.wb_office.specs.Offices.{Accepts, Leads, Reaches};
+ghost use Rattle.wb_step.specs.Offices.{Accepts, Leads, Reaches};
 ghost use Rattle.wb_daemon.specs.Run.{invocation_of_line, file_fault_response, memory_response, InvokesAs, IsLineResponse, IsRefusedByStore, LineInvokes};
-ghost use Rattle.wb_office.specs.Ends.{is_of_store};
+ghost use Rattle.wb_states.specs.Refusals.{is_of_store};
 ghost use Rattle.wb_states.specs.Machine.{Machine};
 ghost use Rattle.wb_states.specs.declared.command.Command.{Command};
 ghost use Rattle.wb_daemon.specs.Turn.{response_of_answer, IsInvocationResponseOrMemory, IsCommandResponseOrMemory};
 
-use crate::line::{text_of, words_in};
 use crate::lists::{Lists, merge_of};
 use crate::message::Message;
 use crate::status::{ACCEPTED, FILE_FAULT, LINE_FAULT, REFUSED};
 use std::alloc::Global;
 use std::borrow::CowStr;
 use wb_api::{file_fault_json, line_fault_json, refusal_json, reply_json};
-use wb_office::CarryOut;
 use wb_states::{Command, Refusal};
+use wb_step::CarryOut;
+use wb_streams::{text_of, words_in};
 use wb_words::{Invocation, WordsFault, fault_of, invocation_of};
 
 /// What is written to a line, without its line feed, the status of the line, and whether the run stops after
@@ -63,7 +63,7 @@ fn answer_to<O: CarryOut>(alloc: Global, office: &mut O, command: &Command) -> O
     ensures status { IfSome result (λ answer. answer.status ≤ 3) }
     ensures value { IfSome result (λ answer. answer.stops ≡ false
         → Reaches O.is_clean O.stands_at office.old office.new (λ before after.
-        IsCommandResponseOrMemory O.may_want_memory before command.now (response_of_answer answer after))) }
+        IsCommandResponseOrMemory before command.now (response_of_answer answer after))) }
     ensures memory { result ≡ None → Reaches O.is_clean O.stands_at office.old office.new (λ before after.
         Accepts before command.now after) }
     ensures stops { IfSome result (λ answer. answer.stops ≡ true
@@ -129,7 +129,7 @@ fn answer_invocation<O: CarryOut, L: Lists>(
     ensures status { IfSome result (λ answer. answer.status ≤ 3) }
     ensures value { IfSome result (λ answer. answer.stops ≡ false
         → Reaches O.is_clean O.stands_at office.old office.new (λ before after.
-        IsInvocationResponseOrMemory O.may_want_memory (L.may_read lists.old) before invocation.now
+        IsInvocationResponseOrMemory (L.may_read lists.old) before invocation.now
         (response_of_answer answer after))) }
     ensures memory { result ≡ None → Reaches O.is_clean O.stands_at office.old office.new (λ before after.
         (command : Command) × InvokesAs (L.may_read lists.old) invocation.now command × Accepts before command after) }

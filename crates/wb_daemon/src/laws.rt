@@ -2,7 +2,7 @@
 ghost use Rattle.std.specs.Prelude.{ℕ, List, Option, filter, length};
 ghost use Rattle.wb_states.specs.Machine.{Machine};
 ghost use Rattle.wb_daemon.specs.Answered.{HasLines, is_answered};
-ghost use Rattle.wb_office.specs.Offices.{Standing};
+ghost use Rattle.wb_step.specs.Offices.{Standing};
 ghost use Rattle.wb_daemon.specs.Replays.{IsReplay, IsReplayCut};
 ghost use Rattle.wb_daemon.specs.Run.{Runs, LineResponse, StopsInLine};
 

@@ -3,12 +3,10 @@
 
 mod answer;
 pub mod laws;
-mod line;
 mod lists;
 mod message;
 mod run;
 pub mod status;
-mod write;
 
 pub use lists::Lists;
 pub use message::{Cause, Message};

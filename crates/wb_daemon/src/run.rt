@@ -1,8 +1,8 @@
 //! The run: each line of the input is answered with one line of JSON.
 ghost use Rattle.std.specs.Prelude.{◌≡◌, ◌⊎◌, ◌<◌, ◌≤◌, IfOk, IfErr, length, false};
-ghost use Rattle.wb_daemon.specs.Line.{is_long, line_limit};
+ghost use Rattle.wb_streams.specs.Line.{is_long, line_limit};
 ghost use Rattle.wb_daemon.specs.Lists.{MayReadLess};
-ghost use Rattle.wb_office.specs.Offices.{IsSoOfEach, Leads, Open, Reaches};
+ghost use Rattle.wb_step.specs.Offices.{IsSoOfEach, Leads, Open, Reaches};
 ghost use Rattle.wb_daemon.specs.Replays.{LeavesReplay};
 ghost use Rattle.wb_daemon.specs.Run.{FailsFor, RunEndsWell, RunStops};
 ghost use Rattle.wb_streams.specs.Streams.{Flags};
@@ -10,17 +10,15 @@ ghost use Rattle.wb_daemon.specs.Turn.{Answers, HasRunStatus, HasTurnStatus, IsC
 ghost use Rattle.wb_daemon.specs.Turn.{cause_of_end, cause_of_turn, fails_to_write};
 
 use crate::answer::{Answer, answer_of, report_fault};
-use crate::line::{ByteRead, LINE_LIMIT, LineRead, read_byte, read_line};
 use crate::lists::Lists;
 use crate::message::{Cause, Message};
 use crate::status::{ACCEPTED, LINE_FAULT, STOPPED};
-use crate::write::write_line;
 use deb_text::is_blank_line;
 use std::alloc::Global;
 use std::io::{Read, Write};
 use wb_api::line_fault_json;
-use wb_office::CarryOut;
-use wb_streams::{WatchedReader, WatchedWriter};
+use wb_step::CarryOut;
+use wb_streams::{ByteRead, LINE_LIMIT, LineRead, WatchedReader, WatchedWriter, read_byte, read_line, write_line};
 
 /// The greatest number of line feeds that a run reads.
 const LINES_LIMIT: u64 = 1_000_000_000;

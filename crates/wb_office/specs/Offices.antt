@@ -1,43 +1,21 @@
--- What is known of an office before and after it was used, by the states at which it stands.
-use Rattle.std.specs.Prelude.{◌≡◌, ◌<◌, IsOk}
+-- An office over files: at which state it stands, and whether its disk is clean.
+use Rattle.std.specs.Prelude.{◌≡◌, false}
+use Rattle.sqlite_disk.specs.declared.Disk.{Ghosts}
+use Rattle.sqlite_store.specs.declared.store.FileStore.{FileStore}
+use Rattle.sqlite.specs.Files.{file_state}
+use Rattle.sqlite.specs.State.{HasCleanDisk}
 use Rattle.wb_states.specs.Machine.{Machine}
-use Rattle.wb_states.specs.declared.command.Command.{Command}
-use Rattle.wb_office.specs.Step.{step}
+use Rattle.wb_office.specs.declared.office.Office.{Office}
+use Rattle.wb_office.specs.Standing.{StandsAt}
 
--- how an office stands at a state: it answers commands, or it is closed, or it is closed with a command in doubt, which comes after the state, or its store failed with no command in doubt
-pub data Standing : Type 0 where
-  Open : Standing
-  Shut : Standing
-  InDoubt : Command → Standing
-  Failed : Standing
+-- what the office read of its files was what was written to them
+abbrev pub HasCleanFiles : {D : Type 0} {g : Ghosts D} → Office (FileStore D g) → Type 0
+HasCleanFiles office = HasCleanDisk (file_state office.conn)
 
--- an office stands so at this state; with a command in doubt it is found there, or as the command leaves it
-abbrev pub Stands : {X : Type 0} → (X → Type 0) → (X → Machine → Type 0) → (X → Machine → Machine → Type 0) → X → Machine → Standing → Type 0
-Stands is_closed stands_at leaves office machine Open = stands_at office machine
-Stands is_closed stands_at leaves office machine Shut = is_closed office × stands_at office machine
-Stands is_closed stands_at leaves office machine (InDoubt command) = leaves office machine (step machine command).1
-Stands is_closed stands_at leaves office machine Failed = leaves office machine machine
+-- the office stands at this state
+abbrev pub IsAt : {D : Type 0} {g : Ghosts D} → Office (FileStore D g) → Machine → Type 0
+IsAt office machine = StandsAt machine office.is_closed office.known (file_state office.conn)
 
--- from each state at which an office stood before, it came to a state at which it stands and of which this is so, if what it read of its store was what it wrote
-abbrev pub Reaches : {X : Type 0} → (X → Type 0) → (X → Machine → Type 0) → X → X → (Machine → Machine → Type 0) → Type 0
-Reaches is_clean stands_at old new IsSo =
-    (before : Machine) → is_clean new → stands_at old before → (after : Machine) × stands_at new after × IsSo before after
-
--- the same, but the office may be closed after it, also with a command in doubt
-abbrev pub Leads : {X : Type 0} → (X → Type 0) → (X → Type 0) → (X → Machine → Type 0) → (X → Machine → Machine → Type 0) → X → X
-    → (Machine → Machine → Standing → Type 0) → Type 0
-Leads is_clean is_closed stands_at leaves old new IsSo =
-    (before : Machine) → is_clean new → stands_at old before
-    → (after : Machine) × (standing : Standing) × Stands is_closed stands_at leaves new after standing × IsSo before after standing
-
--- this is so of each state at which an office that stands so may be found
-abbrev pub IsSoOfEach : (Machine → Type 0) → Machine → Standing → Type 0
-IsSoOfEach IsSo machine Open = IsSo machine
-IsSoOfEach IsSo machine Shut = IsSo machine
-IsSoOfEach IsSo machine (InDoubt command) = IsSo machine × IsSo (step machine command).1
-IsSoOfEach IsSo machine Failed = IsSo machine
-
--- a command is accepted, and the office is then in this state: it counts one more, which a repeated reply does not
-abbrev pub Accepts : Machine → Command → Machine → Type 0
-Accepts before command after =
-    IsOk (step before command).0 × (after ≡ (step before command).1) × (before.accepted < after.accepted)
+-- the office answers commands: no fault of its store has closed it
+abbrev pub IsOpenOffice : {D : Type 0} {g : Ghosts D} → Office (FileStore D g) → Type 0
+IsOpenOffice office = office.is_closed ≡ false

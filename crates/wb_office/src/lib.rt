@@ -1,24 +1,25 @@
-//! The office: each command is one step of its state, which is answered and kept whole, or refused and
-//! nothing is changed.
+//! The office over tables: it is opened and closed, and each command is one transaction, which stands whole or not at
+//! all after any stop; and its lives, each an opening, commands and a stop, after which the files are what a crash may
+//! leave.
 #![tactic(auto)]
 
-mod again;
-mod builder;
+mod answer;
 mod carry;
-mod checks;
-mod forms;
-mod holder;
-pub mod laws;
+mod change;
+mod commands;
+mod history;
+mod known;
+mod life;
+mod merge;
+mod merge_part;
 mod merging;
 mod named;
 mod office;
-mod operator;
-mod part;
-mod priority;
+mod power;
 mod query;
-mod texts;
-mod transition;
 
-pub use carry::CarryOut;
-pub use office::{Office, carry_out};
-pub use query::Answer;
+pub use commands::Outcome;
+pub use history::{LivesEnd, lives};
+pub use life::{SessionEnd, session};
+pub use office::Office;
+pub use power::{Crashes, Power, cut_power};

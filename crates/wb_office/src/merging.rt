@@ -1,253 +1,100 @@
-//! The merge of what the archive lists into the records of the office.
-ghost use Rattle.std.specs.Prelude.{◌≡◌, ◌+◌, ℕ, List, not, None, Some, Ok, Err, true, false, nat_le, bytes_eq, IsOk, OnOk, IfOk, IfErr};
-ghost use Rattle.std.specs.List.{list_any};
+//! What the office answers to a merge over its tables: the part of the office that the merge looks at is read, the merge
+//! is carried out on it in memory, and what differs is written in one transaction.
+ghost use Rattle.std.specs.Prelude.{◌≡◌};
 ghost use Rattle.wb_states.specs.declared.command.Command.TheVariants as of;
-ghost use Rattle.wb_states.specs.declared.command.Part.{Part};
-ghost use Rattle.wb_states.specs.declared.refusal.Refusal.TheVariants.{Memory};
-ghost use Rattle.wb_states.specs.declared.reply.Reply.TheVariants.{Merged};
-ghost use Rattle.wb_states.specs.Limits.{count_limit};
-ghost use Rattle.wb_states.specs.Machine.{Machine};
-ghost use Rattle.wb_states.specs.Names.{is_arch_name};
-ghost use Rattle.wb_states.specs.Refusals.{IsOfMachine};
-ghost use Rattle.wb_office.specs.Carries.{Carries};
-ghost use Rattle.wb_office.specs.Checks.{MayWantMemory, first_refusal, has_repeated_arch};
-ghost use Rattle.wb_office.specs.Parts.{is_good, is_known, is_merged, part_listing, part_replies, parts_refusal, records_after, end_with, records_with};
-ghost use Rattle.wb_states.specs.Forms.{Merge};
-ghost use Rattle.wb_office.specs.Step.{step};
+ghost use Rattle.wb_step.specs.MergedParts.{part_for_merge};
+ghost use Rattle.wb_office.specs.Answers.{Answers, AreOf, AreParts, KeepsMerge};
 
-use crate::checks::{has_arch, is_spent};
-use crate::part::merge_listing;
-use deb_relations::ArchWords;
-use deb_text::{Items, Text};
+use crate::answer::{Answered, Failure, counts_in};
+use crate::merge::carry_merge;
+use crate::merge_part::part_for_merge;
+use deb_text::Text;
+use sqlite::{Alter, Connection};
 use std::alloc::Global;
-use wb_merge::{Listing, Sources};
-use wb_states::command::{self, Part};
-use wb_states::{Counts, PartEnd, PartReply, Refusal, Reply, is_arch};
-use wb_store::{Records, Store};
+use wb_states::command::Merge;
+use wb_states::{Command, Counts, OsCpu, Table};
+use wb_step::{Store, carry_out};
+use wb_store::unfit;
 
-/// The records after the parts of a merge, and what became of each part.
-#[derive(Drop)]
-struct Parts {
-    records: Records,
-    replies: Vec<PartReply>,
-    is_any_good: bool,
-}
-
-/// Whether the name of a part's architecture is malformed.
-fn has_bad_arch(parts: &[Part]) -> bool
-    ensures { result ≡ list_any (λ part. not (is_arch_name part.arch)) parts.now }
-{
-    parts.iter().any(|part| !is_arch(part.arch.as_str()))
-}
-
-/// Whether one of the parts is for the architecture.
-fn is_part_for(parts: &[Part], arch: &Text) -> bool
-    ensures { result ≡ list_any (λ other. bytes_eq arch.now other.arch) parts.now }
-{
-    parts.iter().any(|part| arch == &part.arch)
-}
-
-/// Whether two parts are for one architecture.
-fn repeats_arch(parts: &[Part]) -> bool
-    ensures { result ≡ has_repeated_arch parts.now }
-{
-    for place in 0..parts.len() {
-        if is_part_for(&parts[place + 1..], &parts[place].arch) {
-            return true;
-        }
-    }
-    false
-}
-
-/// Whether one of the parts is for an architecture that was added. On tables in memory it cannot fail.
-fn is_any_known(store: &Store, parts: &[Part]) -> Result<bool, Refusal>
-    ensures value { IfOk result (λ known. known ≡ list_any (is_known store.now) parts.now) }
-    ensures ok { IsOk result }
-{
-    for part in parts {
-        let is_there = has_arch(store, &part.arch)?;
-        if is_there {
-            return Ok(true);
-        }
-    }
-    Ok(false)
-}
-
-/// The listing of a part, or why the part is refused.
-#[tactic(auto, unfolding(crate::specs::Parts::part_listing))]
-fn listing_of(
+/// Carries out a merge. The records of its architectures are read twice, to find afterwards which of them differ.
+pub(crate) fn answer_merge<S: Alter>(
     alloc: Global,
-    store: &Store,
-    sources: &Sources<'_>,
-    part: &Part,
-) -> Result<Listing, Refusal>
-    ensures value { IfOk result (λ listing.
-        part_listing store.now sources.now part.now ≡ Ok listing) }
-    ensures refused { IfErr result (λ refusal. IsOfMachine refusal
-        → part_listing store.now sources.now part.now ≡ Err refusal) }
+    conn: &mut Connection<S>,
+    counts: Counts,
+    archs: &[(Text, OsCpu)],
+    command: &Command,
+    merge: &Merge,
+) -> Result<Answered, Failure>
+    requires same { command.now ≡ of.Merge merge.now }
+    ensures answers { Answers S.Store (AreOf counts archs.now) (of.Merge merge.now) conn.old conn.new result }
 {
-    let found = store.arch(&part.arch)?;
-    let Some(words) = found else {
-        return Err(Refusal::UnknownArch);
+    match part_for_merge(alloc, conn, counts, archs, merge.parts.as_slice()) {
+        Ok(before) => merge_beside(alloc, conn, counts, archs, command, merge, &before),
+        Err(fault) => Err(Failure::Unread(fault)),
+    }
+}
+
+/// Carries out a merge beside the part of the office that it looks at.
+fn merge_beside<S: Alter>(
+    alloc: Global,
+    conn: &mut Connection<S>,
+    counts: Counts,
+    archs: &[(Text, OsCpu)],
+    command: &Command,
+    merge: &Merge,
+    before: &Store,
+) -> Result<Answered, Failure>
+    requires same { command.now ≡ of.Merge merge.now }
+    ensures answers { Answers S.Store (λ machine. AreOf counts archs.now machine
+        × (before.now ≡ part_for_merge machine merge.now.parts)) (of.Merge merge.now) conn.old conn.new result }
+{
+    match part_for_merge(alloc, conn, counts, archs, merge.parts.as_slice()) {
+        Ok(part) => merge_in(alloc, conn, command, merge, before, part),
+        Err(fault) => Err(Failure::Unread(fault)),
+    }
+}
+
+/// Carries out a merge in a part of the office, and keeps what differs from the same part before.
+fn merge_in<S: Alter>(
+    alloc: Global,
+    conn: &mut Connection<S>,
+    command: &Command,
+    merge: &Merge,
+    before: &Store,
+    part: Store,
+) -> Result<Answered, Failure>
+    requires same { command.now ≡ of.Merge merge.now }
+    ensures answers { Answers S.Store (AreParts merge.now.parts before.now part)
+        (of.Merge merge.now) conn.old conn.new result }
+{
+    let mut after = part;
+    let reply = match carry_out(alloc, &mut after, command) {
+        Ok(reply) => reply,
+        Err(refusal) => return Err(Failure::Refused(refusal)),
     };
-    let (name, os, cpu) = (part.arch.as_str(), words.os.as_str(), words.cpu.as_str());
-    let arch = ArchWords::new(alloc, name, os, cpu)?;
-    Listing::from_sources(alloc, sources, part.packages.as_slice(), &arch)
+    let counts = counts_in(&after);
+    match keep_merge(alloc, conn, merge, before, &after) {
+        Ok(()) => Ok(Answered { reply, counts }),
+        Err(failure) => Err(failure),
+    }
 }
 
-/// Merges a part into the records: a refused part changes nothing. The error is `Memory`, after which
-/// the records are of no use.
-fn merge_part(
+/// Writes what a merge changed in a part of the office to the tables.
+fn keep_merge<S: Alter>(
     alloc: Global,
-    store: &Store,
-    sources: &Sources<'_>,
-    part: &Part,
-    records: &mut Records,
-) -> Result<PartEnd, Refusal>
-    ensures value { IfOk result (λ end.
-        end ≡ end_with records.old part.now.arch
-        (part_listing store.now sources.now part.now)) }
-    ensures records { OnOk result (records.new
-        ≡ records_with records.old part.now.arch
-        (part_listing store.now sources.now part.now)) }
-    ensures refused { IfErr result (λ refusal. refusal ≡ Memory) }
+    conn: &mut Connection<S>,
+    merge: &Merge,
+    before: &Store,
+    after: &Store,
+) -> Result<(), Failure>
+    ensures keeps { KeepsMerge S.Store merge.now.sources merge.now.parts before.now after.now
+        conn.old conn.new result }
 {
-    match listing_of(alloc, store, sources, part) {
-        Ok(listing) => {
-            let counts = merge_listing(alloc, records, &part.arch, &listing)?;
-            Ok(PartEnd::Merged { counts })
-        }
-        Err(Refusal::Memory) => Err(Refusal::Memory),
-        Err(refusal) => Ok(PartEnd::Refused { refusal }),
+    if !conn.is_autocommit() {
+        return Err(Failure::Unread(unfit(Table::Office)));
     }
-}
-
-fn is_merged(end: &PartEnd) -> bool
-    ensures { result ≡ is_merged end.now }
-{
-    matches!(end, PartEnd::Merged { .. })
-}
-
-/// Merges the parts in their order into a copy of the records. Sources is read once for all of them.
-fn merge_parts(
-    alloc: Global,
-    store: &Store,
-    sources: &[u8],
-    parts: &[Part],
-) -> Result<Parts, Refusal>
-    ensures records { IfOk result (λ made. made.records
-        ≡ records_after store.now sources.now parts.now store.now.records) }
-    ensures replies { IfOk result (λ made. made.replies.items
-        ≡ part_replies store.now sources.now parts.now store.now.records) }
-    ensures good { IfOk result (λ made.
-        made.is_any_good ≡ list_any (is_good store.now sources.now) parts.now) }
-    ensures refused { IfErr result (λ refusal. refusal ≡ Memory) }
-{
-    let sources = Sources::read(alloc, sources)?;
-    let mut records = store.copy_records()?;
-    let mut replies = Vec::new(alloc);
-    let mut is_any_good = false;
-    for part in parts {
-        let end = merge_part(alloc, store, &sources, part, &mut records)?;
-        is_any_good = is_any_good || is_merged(&end);
-        let arch = part.arch.clone()?;
-        replies.push(PartReply { arch, end })?;
+    match carry_merge(alloc, conn, merge, before, after) {
+        Ok(()) => Ok(()),
+        Err(failure) => Err(Failure::Uncommitted(failure)),
     }
-    Ok(Parts {
-        records,
-        replies,
-        is_any_good,
-    })
-}
-
-/// Why a merge is refused if no part was merged: as its first part is, or as for an unknown
-/// architecture if it has no part.
-fn first_part_refusal(replies: Vec<PartReply>) -> Refusal
-    ensures { (machine : Machine) (sources : List ℕ) (parts : List Part)
-        → replies.items ≡ part_replies machine sources parts machine.records
-        → list_any (is_good machine sources) parts ≡ false
-        → parts_refusal machine sources parts ≡ Some result }
-{
-    let Some(first) = replies.into_iter().next() else {
-        return Refusal::UnknownArch;
-    };
-    let PartReply { arch: _, end } = first;
-    match end {
-        PartEnd::Merged { .. } => Refusal::UnknownArch,
-        PartEnd::Refused { refusal } => refusal,
-    }
-}
-
-/// The parts of a merge, merged into a copy of the records, if the merge is not refused.
-fn prepare_merge(
-    alloc: Global,
-    store: &Store,
-    sources: &[u8],
-    parts: &[Part],
-) -> Result<Parts, Refusal>
-    // what the parts make
-    ensures records { IfOk result (λ made. made.records
-        ≡ records_after store.now sources.now parts.now store.now.records) }
-    ensures replies { IfOk result (λ made. made.replies.items
-        ≡ part_replies store.now sources.now parts.now store.now.records) }
-    // that nothing refuses it, or what does
-    ensures ok { OnOk result (first_refusal store.now (Merge sources.now parts.now) ≡ None) }
-    ensures room { OnOk result (nat_le count_limit store.now.accepted ≡ false) }
-    ensures memory { IfErr result (λ refusal. refusal ≡ Memory
-        → MayWantMemory (Merge sources.now parts.now)) }
-    ensures known { IfErr result (λ refusal. refusal ≡ Memory
-        → list_any (is_known store.now) parts.now ≡ true) }
-    ensures refused { IfErr result (λ refusal. IsOfMachine refusal
-        → first_refusal store.now (Merge sources.now parts.now) ≡ Some refusal) }
-{
-    if has_bad_arch(parts) {
-        return Err(Refusal::BadName);
-    }
-    if repeats_arch(parts) {
-        return Err(Refusal::RepeatedArch);
-    }
-    let has_known = is_any_known(store, parts)?;
-    if !has_known {
-        return Err(Refusal::UnknownArch);
-    }
-    let made = merge_parts(alloc, store, sources, parts)?;
-    if !made.is_any_good {
-        return Err(first_part_refusal(made.replies));
-    }
-    let is_full = is_spent(store)?;
-    if is_full {
-        return Err(Refusal::Spent);
-    }
-    Ok(made)
-}
-
-/// Brings the records of each part's architecture in line with what the archive lists, all or none. `Memory`
-/// comes only if the architecture of a part was added.
-#[tactic(auto, unfolding(crate::specs::Step::step))]
-pub(crate) fn merge(
-    alloc: Global,
-    store: &mut Store,
-    command: &command::Merge,
-) -> Result<Reply, Refusal>
-    ensures carries { Carries store.old store.new (of.Merge command.now) result }
-    ensures known { IfErr result (λ refusal. refusal ≡ Memory
-        → list_any (is_known store.old) command.now.parts ≡ true) }
-{
-    let made = prepare_merge(
-        alloc,
-        store,
-        command.sources.as_slice(),
-        command.parts.as_slice(),
-    )?;
-    let counts = store.office_row()?;
-    let accepted = counts.accepted + 1;
-    store.replace_records(made.records);
-    store.set_counts(Counts {
-        handed: counts.handed,
-        accepted,
-    })?;
-    Ok(Reply::Merged {
-        accepted,
-        parts: Items::from(made.replies),
-    })
 }

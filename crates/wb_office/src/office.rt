@@ -1,147 +1,293 @@
-//! The office over its store.
-ghost use Rattle.std.specs.Prelude.{◌≡◌, false, true, Ok, Err, IfOk, IfErr, OnOk, OnErr};
-ghost use Rattle.wb_states.specs.declared.refusal.Refusal.TheVariants.{Memory};
-ghost use Rattle.wb_states.specs.Machine.{IsConsistent, empty_office};
-ghost use Rattle.wb_states.specs.Names.{is_builder_name};
-ghost use Rattle.wb_states.specs.Refusals.{IsOfMachine};
-ghost use Rattle.wb_office.specs.Carries.{Carries};
-ghost use Rattle.wb_office.specs.Checks.{MayWantMemory, has_bad_key};
-ghost use Rattle.wb_office.specs.Queries.{item_of, mine_of};
-ghost use Rattle.wb_office.specs.Step.{step};
-ghost use Rattle.wb_office.specs.Utf8.{HasUtf8Texts};
+//! The office over tables: each command is one transaction.
+ghost use Rattle.std.specs.Prelude.{◌≡◌, ◌⊎◌, false, true, Err, IfOk, IfErr, IsTrue};
+ghost use Rattle.sqlite.specs.Files.{file_state};
+ghost use Rattle.sqlite.specs.Held.{state};
+ghost use Rattle.sqlite.specs.State.{HasCleanDisk};
+ghost use Rattle.sqlite_wal.specs.Reads.{AreClean};
+ghost use Rattle.wb_states.specs.Machine.{Machine, empty_office};
+ghost use Rattle.wb_states.specs.declared.store_fault.StoreFault.TheVariants.{NotOffice};
+ghost use Rattle.wb_sql.specs.Settled.{LeaveOnly};
+ghost use Rattle.wb_store.specs.Settled.{AreSettledAt, StandsForTrees};
+ghost use Rattle.wb_sql.specs.Among.{HasOffice, LacksOffice};
+ghost use Rattle.wb_store.specs.Checks.{HasGoodRows};
+ghost use Rattle.wb_store.specs.Opening.{HasNoScratchRows, IsRefusedFrom};
+ghost use Rattle.wb_store.specs.Files.{AreFoundAt, AreNew, FailsToOpen, IsFaultOfClosing, IsRefusedOver};
+ghost use Rattle.wb_store.specs.Files.{LeaveOffice};
+ghost use Rattle.wb_store.specs.Preparing.{IsFoundAt};
+ghost use Rattle.wb_office.specs.declared.answer.Failure.TheVariants.{Uncommitted};
+ghost use Rattle.wb_states.specs.Queries.{answer_of, has_malformed_name};
+ghost use Rattle.wb_office.specs.Applies.{Applies, Ends, EndsWith, doubt_for, refusal_for};
+ghost use Rattle.wb_office.specs.Asks.{Asks};
+ghost use Rattle.wb_office.specs.Standing.{LeavesOne, StandsAt, StandsAtOne};
 
-use crate::{Answer, builder, holder, merging, named, operator, priority, query};
+use crate::answer::{Failure, answer};
+use crate::carry::CarryError;
+use crate::known::Known;
+use crate::query::find_answer;
+use sqlite::{Alter, Connection, FileStore, Files, Options};
+use sqlite_disk::Disk;
 use std::alloc::Global;
-use std::marker::Model;
-use wb_states::{Command, Move, Refusal, Reply};
-use wb_store::Store;
+use wb_sql::is_usable;
+use wb_states::{Answer, Command, Query, Refusal, Reply, StoreFault, Table};
+use wb_step::CarryOut;
+use wb_store::{fault_of, find_office, opening_fault};
 
-/// The office with all that it keeps. Clauses see it as its state: the records, the architectures, the
-/// builders and the two counts. The state is consistent, whatever was done to the office before: all that is
-/// kept has its form, a source package on an architecture has at most one holder, which may build for it, and
-/// no take number is held twice (this project's own).
+/// The office, with its state in the tables of a database.
 #[derive(Drop)]
-pub struct Office {
+pub struct Office<S: Alter + Drop> {
     alloc: Global,
-    store: Store,
+    conn: Connection<S>,
+    known: Known,
+    is_closed: bool,
 }
 
-impl Model for Office {
-    ghost use Rattle.wb_states.specs.Machine.{IsConsistent, Machine};
-    ghost use Rattle.wb_store.specs.Coded.{coded_machine};
-
-    ghost Value = { Machine };
-
-    ghost coded = { coded_machine };
-
-    ghost view = { λ office. office.store };
-
-    ghost invariant = { λ office. IsConsistent office.store };
-}
-
-impl Office {
-    /// The empty office, in memory: it ends with the program. Takes no memory; the allocator is kept for
-    /// the calls that follow (this project's own).
-    pub fn new(alloc: Global) -> Office
-        ensures value { result ≡ empty_office }
+impl<S: Alter + Drop> Office<S> {
+    /// Opens the office whose tables the connection has, which is in no transaction; a database that lacks them becomes
+    /// that of an empty office. Tables of others may stand beside the office's, as
+    /// [`has_office_tables`](wb_sql::has_office_tables) and [`lacks_office`](wb_sql::lacks_office) say. Each row of
+    /// the office's tables is tested. The faults are `NotOffice` if the database has something of the office's names, but
+    /// not its tables, or a table that refers to them, and is then left as it is, or the row of the office is missing or
+    /// of an older format, `NewerSchema` if that format is newer than this program's, `Damaged` with
+    /// the table and the first row, counted from 1, that breaks the rules of an office, or with row 0 if a statement on
+    /// the table was refused, `Memory`, and `Device` if the disk failed or is full. After a fault a crash leaves the office
+    /// as it was found, or the tables of an empty one (this project's own).
+    pub fn adopt(alloc: Global, conn: Connection<S>) -> Result<Office<S>, StoreFault>
+        requires idle { conn.in_transaction ≡ false }
+        ensures opened { IfOk result (λ office. office.is_closed ≡ false) }
+        ensures found { IfOk result (λ office. HasCleanDisk (state S.Store office.conn)
+            → (machine : Machine) → IsFoundAt machine (state S.Store conn)
+            → StandsAt machine office.is_closed office.known (state S.Store office.conn)) }
+        ensures good { IfOk result (λ office. HasCleanDisk (state S.Store office.conn)
+            → HasOffice conn.schema
+            → HasGoodRows (state S.Store conn).now × HasNoScratchRows (state S.Store conn).now) }
+        ensures known { IfOk result (λ _. LacksOffice conn.schema ⊎ HasOffice conn.schema) }
+        ensures other { ¬ LacksOffice conn.schema → ¬ HasOffice conn.schema → result ≡ Err NotOffice }
+        ensures clean { IfOk result (λ office. HasCleanDisk (state S.Store office.conn) → HasCleanDisk (state S.Store conn)) }
+        ensures refused { IfErr result (IsRefusedFrom S.Store conn) }
     {
-        Office {
-            alloc,
-            store: Store::new(alloc),
+        let mut conn = conn;
+        match find_office(&mut conn) {
+            Ok(counts) => Ok(Office {
+                alloc,
+                conn,
+                known: Known {
+                    counts,
+                    archs: None,
+                },
+                is_closed: false,
+            }),
+            Err(fault) => Err(fault),
         }
     }
 
-    /// The tables of the office, to look up what no reply shows. Takes no memory (this project's own).
-    pub fn store(&self) -> &Store
-        ensures value { result.now ≡ self.now }
-        ensures consistent { IsConsistent self.now }
+    /// Whether the office is closed: it answers `Closed` to each command, until it is opened again. Takes no memory
+    /// (this project's own).
+    pub fn closed(&self) -> bool
+        ensures value { result ≡ self.now.is_closed }
     {
-        &self.store
-    }
-
-    /// How many commands were accepted. Takes no memory.
-    pub fn accepted(&self) -> u64
-        ensures value { result ≡ self.now.accepted }
-    {
-        match self.store.office_row() {
-            Ok(counts) => counts.accepted,
-            Err(_) => 0,
-        }
+        self.is_closed
     }
 
     /// Carries out one command, whole or not at all, and answers it.
     ///
-    /// The refusal is the first that is true of the command in the order of [`Refusal`]; `Memory` comes
-    /// if there is no memory for it, at any point after its names, its version, its number and the
-    /// lengths of its texts were looked at. After every refusal the office is as it was (this project's
-    /// own).
+    /// An accepted command is one transaction, which is committed before it is answered. The refusal is the first that
+    /// is true of the command in the order of [`Refusal`]; the office is then as it was. After `Memory` it is as it
+    /// was too, but is closed if the transaction could not be taken back. After `Store` it is closed, and a crash
+    /// leaves the command whole or not at all. A closed office answers `Closed` to each command (this project's own).
     pub fn apply(&mut self, command: &Command) -> Result<Reply, Refusal>
-        ensures reply { IfOk result (λ reply. step self.old command.now ≡ (Ok reply, self.new)) }
-        ensures refused { IfErr result (λ refusal. IsOfMachine refusal
-            → step self.old command.now ≡ (Err refusal, self.old)) }
-        ensures memory { IfErr result (λ refusal. refusal ≡ Memory → MayWantMemory command.now) }
-        ensures unchanged { OnErr result (self.new ≡ self.old) }
-        ensures consistent { IsConsistent self.new }
+        ensures applies { Applies S.Store command.now self.old.is_closed self.old.known self.old.conn
+            self.new.is_closed self.new.known self.new.conn result }
     {
-        carry_out(self.alloc, &mut self.store, command)
+        if self.is_closed {
+            return Err(Refusal::Closed);
+        }
+        match answer(self.alloc, &mut self.conn, &mut self.known, command) {
+            Ok(reply) => Ok(reply),
+            Err(failure) => {
+                let (refusal, is_closed) = end(&mut self.conn, failure);
+                self.is_closed = is_closed;
+                Err(refusal)
+            }
+        }
     }
 
-    /// The record of the source package on the architecture. The refusals are `BadName` if a name is malformed,
-    /// `UnknownArch` if the architecture was never added, `UnknownSource` if the source package has no record there, in
-    /// this order, and `Memory`, which comes for no malformed name (this project's own).
-    pub fn item(&self, arch: &str, source: &str) -> Result<Answer, Refusal>
-        ensures answer { IfOk result (λ answer. item_of self.now arch.now source.now ≡ Ok answer) }
-        ensures refused { IfErr result (λ refusal. IsOfMachine refusal
-            → item_of self.now arch.now source.now ≡ Err refusal) }
-        ensures memory { IfErr result (λ refusal. refusal ≡ Memory
-            → has_bad_key arch.now source.now ≡ false) }
+    /// Answers a query, which changes nothing: a record, or what a builder holds, of all architectures, by take number.
+    ///
+    /// The refusals come in this order: `Closed`, `BadName` if a name is malformed, `UnknownArch` if the architecture was
+    /// never added, `UnknownBuilder` if the builder was added for no architecture, `UnknownSource` if the source package
+    /// has no record there. `Memory` comes for no malformed name; the office is then closed if its connection cannot be
+    /// used on. After `Store` it is closed. The office is as it was after each answer (this project's own).
+    pub fn ask(&mut self, query: &Query) -> Result<Answer, Refusal>
+        ensures asks { Asks S.Store (λ machine. answer_of machine query.now)
+            (has_malformed_name query.now) self.old.is_closed self.old.known self.old.conn
+            self.new.is_closed self.new.known self.new.conn result }
     {
-        query::item(self.alloc, &self.store, arch, source)
-    }
-
-    /// What the builder holds, of all architectures, by take number. The refusals are `BadName` if the name is malformed,
-    /// `UnknownBuilder` if the builder was added for no architecture, in this order, and `Memory`, which comes for no
-    /// malformed name (this project's own).
-    pub fn mine(&self, builder: &str) -> Result<Answer, Refusal>
-        ensures answer { IfOk result (λ answer. mine_of self.now builder.now ≡ Ok answer) }
-        ensures refused { IfErr result (λ refusal. IsOfMachine refusal
-            → mine_of self.now builder.now ≡ Err refusal) }
-        ensures memory { IfErr result (λ refusal. refusal ≡ Memory
-            → is_builder_name builder.now ≡ true) }
-    {
-        query::mine(self.alloc, &self.store, builder)
+        if self.is_closed {
+            return Err(Refusal::Closed);
+        }
+        if query.has_malformed_name() {
+            return Err(Refusal::BadName);
+        }
+        match find_answer(&mut self.conn, query) {
+            Ok(answer) => answer,
+            Err(fault) => {
+                let (refusal, is_closed) = end_with(&mut self.conn, fault);
+                self.is_closed = is_closed;
+                Err(refusal)
+            }
+        }
     }
 }
 
-/// Carries out one command on the tables of an office, as [`Office::apply`] does on those that it keeps. The tables may
-/// be a part of an office that has what the command names, and need not be consistent (this project's own).
-pub fn carry_out(alloc: Global, store: &mut Store, command: &Command) -> Result<Reply, Refusal>
-    ensures carries { Carries store.old store.new command.now result }
-    ensures utf8 { OnOk result (HasUtf8Texts command.now) }
+impl<D: Disk + Drop> Office<FileStore<D>> {
+    /// Opens the office that two files hold, a database and its log; a database that lacks the office's tables becomes
+    /// that of an empty office. Each row is tested. The faults are those of [`opening_fault`] if the files cannot be
+    /// opened as a database, and those of [`adopt`](Office::adopt) (this project's own).
+    pub fn open(
+        alloc: Global,
+        files: Files<D>,
+        options: Options,
+    ) -> Result<Office<FileStore<D>>, StoreFault>
+        requires log { IsTrue (D.Disk.is_usable files.log) }
+        requires db { IsTrue (D.Disk.is_usable files.db) }
+        ensures opened { IfOk result (λ office. office.is_closed ≡ false) }
+        ensures found { IfOk result (λ office. HasCleanDisk (file_state office.conn)
+            → (machine : Machine) → AreFoundAt D.Disk files machine
+            → StandsAt machine office.is_closed office.known (file_state office.conn)) }
+        ensures left { IfOk result (λ office. HasCleanDisk (file_state office.conn)
+            → (one other : Machine) → LeaveOffice D.Disk files one other
+            → StandsAtOne one other office.is_closed office.known (file_state office.conn)) }
+        ensures new { IfOk result (λ office. HasCleanDisk (file_state office.conn) → AreNew D.Disk files
+            → StandsAt empty_office office.is_closed office.known (file_state office.conn)) }
+        ensures clean { IfOk result (λ office. HasCleanDisk (file_state office.conn)
+            → AreClean D.Disk files.log files.db) }
+        ensures refused { IfErr result (λ fault. FailsToOpen D.Disk files fault ⊎ IsRefusedOver D.Disk files fault) }
+    {
+        match wb_sql::open(alloc, files, options) {
+            Ok(conn) => Office::adopt(alloc, conn),
+            Err((error, _)) => Err(opening_fault(error)),
+        }
+    }
+
+    /// Closes the office, and gives back its files: they hold its state, also after a crash. The fault is `Memory`, or
+    /// `Device` if the disk failed or is full, or if a fault shut the connection before; a crash then leaves no more than
+    /// before (this project's own).
+    pub fn close(self) -> Result<Files<D>, StoreFault>
+        ensures settled { IfOk result (λ files. AreClean D.Disk files.log files.db → (machine : Machine)
+            → StandsAt machine self.is_closed self.known (file_state self.conn)
+            → AreSettledAt D.Disk files machine) }
+        ensures either { IfOk result (λ files. AreClean D.Disk files.log files.db → (before after : Machine)
+            → LeavesOne before after self.is_closed (file_state self.conn)
+            → AreSettledAt D.Disk files before ⊎ AreSettledAt D.Disk files after) }
+        ensures usable { IfOk result (λ files. IsTrue (D.Disk.is_usable files.log) × IsTrue (D.Disk.is_usable files.db)) }
+        ensures err { IfErr result (IsFaultOfClosing self.conn) }
+    {
+        let Office {
+            alloc: _,
+            conn,
+            known: _,
+            is_closed: _,
+        } = self;
+        match conn.close_files() {
+            Ok(files) => Ok(files),
+            Err((error, _)) => Err(fault_of(error, Table::Office)),
+        }
+    }
+
+    /// Gives the office up, as after a fault, and hands out its files. A crash leaves of them what it could leave of the
+    /// office: its state, or, after a commit in doubt, the state before or after it (this project's own).
+    pub fn surrender(self) -> Files<D>
+        ensures left { AreClean D.Disk result.log result.db → LeaveOnly D.Disk result (file_state self.conn).may_leave }
+        ensures clean { AreClean D.Disk result.log result.db → HasCleanDisk (file_state self.conn) }
+        ensures stands { AreClean D.Disk result.log result.db → (machine : Machine)
+            → StandsAt machine self.is_closed self.known (file_state self.conn)
+            → LeaveOnly D.Disk result (StandsForTrees machine) }
+        ensures either { AreClean D.Disk result.log result.db → (before after : Machine)
+            → LeavesOne before after self.is_closed (file_state self.conn)
+            → LeaveOnly D.Disk result (λ db. StandsForTrees before db ⊎ StandsForTrees after db) }
+    {
+        wb_sql::surrender(self.conn)
+    }
+}
+
+impl<S: Alter + Drop> CarryOut for Office<S> {
+    ghost is_clean = { λ office. HasCleanDisk (state S.Store office.conn) };
+
+    ghost stands_at = { λ office machine. StandsAt machine office.is_closed office.known (state S.Store office.conn) };
+
+    ghost is_closed = { λ office. office.is_closed ≡ true };
+
+    ghost leaves = { λ office before after. LeavesOne before after office.is_closed (state S.Store office.conn) };
+
+    fn accepted_count(&self) -> u64 {
+        self.known.counts.accepted
+    }
+
+    fn carry_out(&mut self, command: &Command) -> Result<Reply, Refusal> {
+        self.apply(command)
+    }
+
+    fn ask(&mut self, query: &Query) -> Result<Answer, Refusal> {
+        Office::ask(self, query)
+    }
+
+    ghost consistent = { λ office machine stands. stands.consistent };
+}
+
+/// What is answered after a failure, and whether the office is closed then.
+fn end<S: Alter>(conn: &mut Connection<S>, failure: Failure) -> (Refusal, bool)
+    ensures ends { Ends S.Store failure conn.old conn.new result.0 result.1 }
 {
-    match command {
-        Command::AddArch(command) => operator::add_arch(store, command),
-        Command::AddBuilder(command) => operator::add_builder(store, command),
-        Command::Enter(command) => operator::enter(alloc, store, command),
-        Command::Next(command) => builder::next(alloc, store, command),
-        Command::Take(command) => builder::take(alloc, store, command),
-        Command::Built(command) => {
-            holder::move_taken(alloc, store, command.take_number, &Move::Built)
+    match failure {
+        Failure::Refused(refusal) => {
+            let is_closed = refusal.is_of_store();
+            (refusal, is_closed)
         }
-        Command::Uploaded(command) => {
-            holder::move_taken(alloc, store, command.take_number, &Move::Uploaded)
-        }
-        Command::Waits(command) => holder::waits(alloc, store, command),
-        Command::PutBack(command) => {
-            holder::move_taken(alloc, store, command.take_number, &Move::PutBack)
-        }
-        Command::Attempted(command) => holder::attempted(alloc, store, command),
-        Command::GiveBack(command) => named::give_back(alloc, store, command),
-        Command::DepWait(command) => named::dep_wait(alloc, store, command),
-        Command::Fail(command) => named::fail(alloc, store, command),
-        Command::NotForUs(command) => named::not_for_us(alloc, store, command),
-        Command::Rebuild(command) => named::rebuild(alloc, store, command),
-        Command::BuildPriority(command) => priority::build_priority(alloc, store, command),
-        Command::Merge(command) => merging::merge(alloc, store, command),
+        Failure::Unread(fault) => end_with(conn, fault),
+        Failure::Uncommitted(failure) => end_uncommitted(conn, failure),
+    }
+}
+
+/// The same after a transaction that was not committed.
+fn end_uncommitted<S: Alter>(conn: &mut Connection<S>, failure: CarryError) -> (Refusal, bool)
+    ensures ends { Ends S.Store (Uncommitted failure) conn.old conn.new result.0 result.1 }
+{
+    match failure {
+        CarryError::TakenBack(fault) => end_with(conn, fault),
+        CarryError::RollBackFailed(fault) => (refusal_for(fault), true),
+        CarryError::InDoubt(fault) => (doubt_for(fault), true),
+    }
+}
+
+/// What is answered after this fault of a call that changed nothing: out of memory, the office goes on if its
+/// connection can still be used, and otherwise it is closed.
+fn end_with<S: Alter>(conn: &mut Connection<S>, fault: StoreFault) -> (Refusal, bool)
+    ensures ends { EndsWith S.Store fault conn.old conn.new result.0 result.1 }
+{
+    match fault {
+        StoreFault::Memory => (Refusal::Memory, !is_usable(conn)),
+        fault => (Refusal::Store { fault }, true),
+    }
+}
+
+/// The refusal for a fault of the store.
+fn refusal_for(fault: StoreFault) -> Refusal
+    ensures value { result ≡ refusal_for fault }
+{
+    match fault {
+        StoreFault::Memory => Refusal::Memory,
+        fault => Refusal::Store { fault },
+    }
+}
+
+/// The refusal for a commit in doubt.
+fn doubt_for(fault: StoreFault) -> Refusal
+    ensures value { result ≡ doubt_for fault }
+{
+    match fault {
+        StoreFault::Memory => Refusal::Store {
+            fault: StoreFault::Device,
+        },
+        fault => Refusal::Store { fault },
     }
 }

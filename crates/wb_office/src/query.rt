@@ -1,102 +1,89 @@
-//! What the office is asked that changes nothing.
-ghost use Rattle.std.specs.Prelude.{◌≡◌, false, true, Ok, Err, IfOk, IfErr};
-ghost use Rattle.wb_states.specs.declared.refusal.Refusal.TheVariants.{Memory};
-ghost use Rattle.wb_states.specs.Names.{is_builder_name};
-ghost use Rattle.wb_states.specs.Refusals.{IsOfMachine};
-ghost use Rattle.wb_office.specs.Checks.{has_bad_key};
-ghost use Rattle.wb_office.specs.Queries.{item_in, item_of, mine_in, mine_of};
+//! What the office is asked that changes nothing, read from its tables.
+ghost use Rattle.std.specs.Prelude.{◌≡◌, not, IfOk};
+ghost use Rattle.deb_text.specs.Lists.{is_nonempty};
+ghost use Rattle.wb_states.specs.Queries.{answer_in, found_at, item_in, mine_in};
+ghost use Rattle.wb_store.specs.Finds.{Finds};
 
-use crate::checks::{lacks_arch, lacks_builder};
 use deb_text::{Items, Text};
-use std::alloc::Global;
-use wb_states::{Refusal, is_arch, is_builder, is_source};
-use wb_store::{KeyedRecord, Store};
+use sqlite::{Alter, Connection};
+use std::alloc::AllocError;
+use wb_states::{Answer, KeyedRecord, Query, Record, Refusal, StoreFault};
 
-/// The answer to a query (this project's own).
-#[derive(Debug, Drop)]
-pub enum Answer {
-    /// The record of a source package on an architecture.
-    Item(KeyedRecord),
-    /// What a builder holds.
-    Mine {
-        /// The builder.
-        builder: Text,
-        /// The records that it holds, of all architectures, by take number.
-        records: Items<KeyedRecord>,
-    },
-}
-
-/// The record of the source package on the architecture. The refusals are `BadName` if a name is malformed, `UnknownArch`
-/// if the architecture was never added, `UnknownSource` if the source package has no record there, and `Memory`, which
-/// comes for no malformed name.
-#[tactic(auto, unfolding(crate::specs::Queries::item_of))]
-pub(crate) fn item(
-    alloc: Global,
-    store: &Store,
-    arch: &str,
-    source: &str,
-) -> Result<Answer, Refusal>
-    ensures answer { IfOk result (λ answer. item_of store.now arch.now source.now ≡ Ok answer) }
-    ensures refused { IfErr result (λ refusal. IsOfMachine refusal
-        → item_of store.now arch.now source.now ≡ Err refusal) }
-    ensures memory { IfErr result (λ refusal. refusal ≡ Memory
-        → has_bad_key arch.now source.now ≡ false) }
+/// What the office answers to a query of which each name has its form. The faults are those of the look-ups, and `Memory`.
+/// The database stays as it is; only a failed look-up may take a transaction back.
+pub(crate) fn find_answer<S: Alter>(
+    conn: &mut Connection<S>,
+    query: &Query,
+) -> Result<Result<Answer, Refusal>, StoreFault>
+    ensures finds { Finds S.Store (λ machine answer. answer ≡ answer_in machine query.now)
+        conn.old conn.new result }
 {
-    if !(is_arch(arch) && is_source(source)) {
-        return Err(Refusal::BadName);
+    match query {
+        Query::Item { arch, source } => find_item(conn, arch, source),
+        Query::Mine { builder } => find_mine(conn, builder),
     }
-    let arch = Text::copied(alloc, arch)?;
-    let source = Text::copied(alloc, source)?;
-    item_in(store, arch, source)
 }
 
-/// The record of the source package on the architecture, if both names have their forms.
-fn item_in(store: &Store, arch: Text, source: Text) -> Result<Answer, Refusal>
-    ensures answer { IfOk result (λ answer. item_in store.now arch source ≡ Ok answer) }
-    ensures refused { IfErr result (λ refusal. IsOfMachine refusal
-        → item_in store.now arch source ≡ Err refusal) }
+/// The same for the record of the source package on the architecture.
+fn find_item<S: Alter>(
+    conn: &mut Connection<S>,
+    arch: &Text,
+    source: &Text,
+) -> Result<Result<Answer, Refusal>, StoreFault>
+    ensures finds { Finds S.Store (λ machine answer. answer ≡ item_in machine arch.now source.now)
+        conn.old conn.new result }
 {
-    let is_unknown = lacks_arch(store, &arch)?;
+    let words = wb_store::arch(conn, arch)?;
+    let is_unknown = words.is_none();
     if is_unknown {
-        return Err(Refusal::UnknownArch);
+        return Ok(Err(Refusal::UnknownArch));
     }
-    match store.get(&arch, &source)? {
-        None => Err(Refusal::UnknownSource),
-        Some(current) => Ok(Answer::Item(KeyedRecord {
-            arch,
-            source,
+    let found = wb_store::get(conn, arch, source)?;
+    Ok(item_found(arch, source, found)?)
+}
+
+/// The answer with the record that was found, or that there is none. The error is that there is no memory for it.
+fn item_found(
+    arch: &Text,
+    source: &Text,
+    found: Option<Record>,
+) -> Result<Result<Answer, Refusal>, AllocError>
+    ensures value { IfOk result (λ answer. answer ≡ found_at arch.now source.now found) }
+{
+    match found {
+        None => Ok(Err(Refusal::UnknownSource)),
+        Some(current) => Ok(Ok(Answer::Item(KeyedRecord {
+            arch: arch.clone()?,
+            source: source.clone()?,
             current,
-        })),
+        }))),
     }
 }
 
-/// What the builder holds, by take number. The refusals are `BadName` if the name is malformed, `UnknownBuilder` if the
-/// builder was added for no architecture, and `Memory`, which comes for no malformed name.
-#[tactic(auto, unfolding(crate::specs::Queries::mine_of))]
-pub(crate) fn mine(alloc: Global, store: &Store, builder: &str) -> Result<Answer, Refusal>
-    ensures answer { IfOk result (λ answer. mine_of store.now builder.now ≡ Ok answer) }
-    ensures refused { IfErr result (λ refusal. IsOfMachine refusal
-        → mine_of store.now builder.now ≡ Err refusal) }
-    ensures memory { IfErr result (λ refusal. refusal ≡ Memory
-        → is_builder_name builder.now ≡ true) }
+/// The same for what the builder holds.
+fn find_mine<S: Alter>(
+    conn: &mut Connection<S>,
+    builder: &Text,
+) -> Result<Result<Answer, Refusal>, StoreFault>
+    ensures finds { Finds S.Store (λ machine answer. answer ≡ mine_in machine builder.now)
+        conn.old conn.new result }
 {
-    if !is_builder(builder) {
-        return Err(Refusal::BadName);
-    }
-    let builder = Text::copied(alloc, builder)?;
-    mine_in(store, builder)
-}
-
-/// What the builder holds, by take number, if its name has its form.
-fn mine_in(store: &Store, builder: Text) -> Result<Answer, Refusal>
-    ensures answer { IfOk result (λ answer. mine_in store.now builder ≡ Ok answer) }
-    ensures refused { IfErr result (λ refusal. IsOfMachine refusal
-        → mine_in store.now builder ≡ Err refusal) }
-{
-    let is_unknown = lacks_builder(store, &builder)?;
+    let archs = wb_store::archs_of(conn, builder)?;
+    let is_unknown = is_of_none(archs.as_slice());
     if is_unknown {
-        return Err(Refusal::UnknownBuilder);
+        return Ok(Err(Refusal::UnknownBuilder));
     }
-    let records = Items::from(store.held_by(&builder)?);
-    Ok(Answer::Mine { builder, records })
+    let records = Items::from(wb_store::held_by(conn, builder)?);
+    let builder = builder.clone()?;
+    Ok(Ok(Answer::Mine { builder, records }))
+}
+
+/// Whether a builder that builds for these architectures builds for none.
+fn is_of_none(archs: &[Text]) -> bool
+    ensures value { result ≡ not (is_nonempty archs.now) }
+{
+    match archs {
+        [] => true,
+        [_, ..] => false,
+    }
 }

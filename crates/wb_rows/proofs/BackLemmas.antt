@@ -5,8 +5,8 @@ use Rattle.sqlite.specs.Order.{Row}
 use Rattle.wb_states.specs.declared.arch.OsCpu.{OsCpu}
 use Rattle.wb_states.specs.Machine.{Key}
 use Rattle.wb_states.specs.Queue.{Entry}
-use Rattle.wb_store.specs.declared.keyed.KeyedRecord.{KeyedRecord}
-use Rattle.wb_store.specs.Lookups.{entry_of}
+use Rattle.wb_states.specs.declared.keyed.KeyedRecord.{KeyedRecord}
+use Rattle.wb_states.specs.Lookups.{entry_of}
 use Rattle.wb_rows.specs.Cells.{arch_cells, builder_cells, record_cells}
 use Rattle.wb_rows.specs.Reading.{IsNoArch, IsNoBuilder, IsNoRecord, IsReadable}
 use Rattle.wb_rows.proofs.CellsLemmas.{arch_cells-same, builder_cells-same, record_cells-same}

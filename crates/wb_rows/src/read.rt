@@ -1,7 +1,7 @@
 //! What a row of the office's tables stands for.
 ghost use Rattle.std.specs.Prelude.{◌≡◌, IfOk, IfErr, IfSome, IfNone};
 ghost use Rattle.wb_rows.specs.declared.fault.RowFault.TheVariants.{Malformed};
-ghost use Rattle.wb_store.specs.Lookups.{entry_of};
+ghost use Rattle.wb_states.specs.Lookups.{entry_of};
 ghost use Rattle.wb_rows.specs.Cells.{arch_cells, builder_cells, record_cells};
 ghost use Rattle.wb_rows.specs.Reading.{IsNoArch, IsNoBuilder, IsNoRecord};
 
@@ -11,8 +11,7 @@ use crate::fields::{fields_of, key_of};
 use deb_text::Text;
 use sqlite::Row;
 use std::alloc::AllocError;
-use wb_states::{OsCpu, rank};
-use wb_store::KeyedRecord;
+use wb_states::{KeyedRecord, OsCpu, rank};
 
 /// The record, with its key, whose row this is: one of exactly 16 columns, each of its type, with the number of a
 /// state, a version, 1 or 0 for what is or is not so, numbers that fit, and the rank of the record in the last

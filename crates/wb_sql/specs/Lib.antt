@@ -1,8 +1,13 @@
+pub mod Among
 pub mod Calls
 pub mod Changes
 pub mod Definitions
+pub mod Making
+pub mod OfficeStatements
 pub mod Queries
+pub mod Recognition
 pub mod Rows
 pub mod Settled
 pub mod Statements
+pub mod Tables
 pub mod Transactions

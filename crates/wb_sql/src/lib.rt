@@ -1,12 +1,23 @@
-//! What SQL statements on one table mean, with transactions and crashes, over the kit's `sqlite`.
+//! What SQL statements mean over the kit's `sqlite`, with transactions and crashes; and the office's tables: the texts that
+//! make them, and what each text means over them.
 #![tactic(auto)]
 
+mod beside;
 mod changes;
+mod columns;
+mod comparison;
+mod create;
 mod definitions;
 mod files;
+mod id_check;
+mod making;
 mod reading;
+mod recognition;
+pub mod statements;
 mod writing;
 
 pub use files::{close, open, surrender};
+pub use making::{make_tables, prepare};
 pub use reading::read;
+pub use recognition::{has_office_tables, lacks_office};
 pub use writing::{CommitError, Writing, begin, is_usable};

@@ -1,8 +1,11 @@
 pub mod CodeLemmas
+pub mod ConsistencyLemmas
 pub mod HoldLemmas
+pub mod InStateLemmas
 pub mod MoveFormLemmas
 pub mod MoveRowLemmas
+pub mod QueryLemmas
 pub mod QueueLemmas
-pub mod InStateLemmas
-pub mod WaitLemmas
 pub mod RankLemmas
+pub mod SortLemmas
+pub mod WaitLemmas

@@ -3,10 +3,12 @@ pub mod Examples
 pub mod Forms
 pub mod Holds
 pub mod Limits
+pub mod Lookups
 pub mod Machine
 pub mod Messages
 pub mod Moves
 pub mod Names
+pub mod Queries
 pub mod Queue
 pub mod Record
 pub mod Refusals

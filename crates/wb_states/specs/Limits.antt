@@ -1,20 +1,19 @@
 -- The limits of what is kept.
 pub use Rattle.deb_relations.specs.Grammar.{relations_limit}
-use Rattle.std.specs.Prelude.{ℕ, ℤ, neg_ℤ, int_le, Bool, ◌&&◌}
-use Rattle.wb_states.specs.declared.limits.TheConstants.{BUILD_PRIORITY_LIMIT, COUNT_LIMIT, NOTE_LIMIT, REBUILD_LIMIT}
+use Rattle.std.specs.Prelude.{ℕ, ℤ, pos, neg_ℤ, int_le, Bool, ◌&&◌}
 
 -- the greatest count
 abbrev pub count_limit : ℕ
-count_limit = COUNT_LIMIT
+count_limit = 1000000000000
 
 -- the greatest number of a binary-only rebuild (this project's own)
 abbrev pub rebuild_limit : ℕ
-rebuild_limit = REBUILD_LIMIT
+rebuild_limit = 999
 
 -- the most bytes of a note, a reason or a message
 abbrev pub note_limit : ℕ
-note_limit = NOTE_LIMIT
+note_limit = 1000
 
 -- a build priority lies within its limit on either side of 0 (this project's own)
 abbrev pub is_build_priority : ℤ → Bool
-is_build_priority value = int_le (neg_ℤ BUILD_PRIORITY_LIMIT) value && int_le value BUILD_PRIORITY_LIMIT
+is_build_priority value = int_le (neg_ℤ (pos 1000)) value && int_le value (pos 1000)

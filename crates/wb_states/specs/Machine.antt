@@ -1,5 +1,5 @@
 -- The state of the office, and its invariant.
-use Rattle.std.specs.Prelude.{◌≡◌, ℕ, ◌≤◌, ◌⊎◌, IsTrue, List, [], filter, IfSome, Some, unwrap_or, Ok}
+use Rattle.std.specs.Prelude.{◌≡◌, ℕ, ◌≤◌, ◌⊎◌, Bool, IsTrue, not, List, [], filter, IfSome, Some, unwrap_or, Ok}
 use Rattle.std.specs.FinMap as map
 use Rattle.std.specs.FinSet as set
 use Rattle.wb_states.specs.declared.record.Record.{Record}
@@ -11,6 +11,7 @@ use Rattle.deb_relations.specs.Names.{is_package_name}
 use Rattle.deb_relations.specs.Printing.{printed}
 use Rattle.deb_relations.specs.Reading.{reading_of}
 use Rattle.deb_relations.specs.Reduction.{reduced}
+use Rattle.deb_text.specs.Lists.{is_nonempty}
 use Rattle.deb_text.specs.Text.{text_cmp, pair_cmp}
 use Rattle.wb_states.specs.Names.{is_arch_name, is_os_cpu_word, is_builder_name}
 use Rattle.wb_states.specs.Limits.{count_limit}
@@ -41,6 +42,14 @@ empty_office = record {
 -- the architectures for which a builder was added, by name
 abbrev pub archs_of : Machine → List ℕ → List (List ℕ)
 archs_of machine builder = filter (λ arch. set.contains machine.builders (builder, arch)) (map.keys machine.archs)
+
+-- the architecture was never added
+abbrev pub is_unknown_arch : Machine → List ℕ → Bool
+is_unknown_arch machine arch = not (map.contains_key machine.archs arch)
+
+-- the builder was added for no architecture
+abbrev pub is_unknown_builder : Machine → List ℕ → Bool
+is_unknown_builder machine builder = not (is_nonempty (archs_of machine builder))
 
 -- no words, for an architecture that was never added
 abbrev no_words : OsCpu

@@ -3,7 +3,7 @@ use Rattle.std.specs.Prelude.{ℕ, Bool, not, ◌&&◌, ◌||◌, List, length, 
 use Prim.Native.Char.{code}
 use Rattle.std.specs.Char.{is_ascii_alphanumeric, is_ascii_graphic}
 use Rattle.std.specs.List.{list_all}
-use Rattle.deb_relations.specs.Names.{is_lower_or_digit, is_arch_word}
+use Rattle.deb_relations.specs.Names.{is_lower_or_digit, is_arch_word, is_package_name}
 use Rattle.deb_text.specs.Lists.{begins}
 
 -- a text of this many bytes, both ends included
@@ -34,3 +34,7 @@ is_builder_name text = has_length 1 64 text && (begins is_ascii_alphanumeric tex
 -- a priority or a section: 1 to 64 bytes that can be seen, from `!` to `~` (Debian Policy 2.5 and 2.4; the form is this project's own)
 unfoldable pub is_label_text : List ℕ → Bool
 is_label_text text = has_length 1 64 text && list_all is_ascii_graphic text
+
+-- an architecture and a source package, of which one is malformed
+abbrev pub has_bad_key : List ℕ → List ℕ → Bool
+has_bad_key arch source = not (is_arch_name arch && is_package_name source)

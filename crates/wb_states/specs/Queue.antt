@@ -1,5 +1,5 @@
 -- The order in which the waiting source packages of an architecture are built (wanna-build's states page).
-use Rattle.std.specs.Prelude.{◌≡◌, ℕ, ◌+◌, ◌*◌, ℤ, ◌-ℤ◌, nat_abs, Bool, not, nat_lt, nat_eq, List, [], ◌∷◌, length, codes, bytes_eq, if◌then◌else◌, ◌&&◌, filter, Option, Some}
+use Rattle.std.specs.Prelude.{◌≡◌, ℕ, ◌+◌, ◌*◌, ℤ, ◌-ℤ◌, pos, nat_abs, Bool, not, nat_lt, nat_eq, List, [], ◌∷◌, length, codes, bytes_eq, if◌then◌else◌, ◌&&◌, filter, Option, Some}
 use Rattle.std.specs.List.{position_or_len, after_first}
 use Rattle.std.specs.declared.cmp.Ordering.{Ordering}
 use Rattle.std.specs.Ordering.{nat_cmp, int_cmp, bool_cmp, on, flip_args, then_cmp}
@@ -8,7 +8,6 @@ use Rattle.std.specs.Cmp.Lexicographic.{nat_list_cmp_total}
 use Rattle.wb_states.specs.declared.record.Record.{Record}
 use Rattle.std.specs.FinMap as map
 use Rattle.wb_states.specs.declared.state.State.TheVariants.{NeedsBuild}
-use Rattle.wb_states.specs.declared.limits.TheConstants.{BUILD_PRIORITY_LIMIT}
 use Rattle.wb_states.specs.State.{is_needs_build}
 use Rattle.deb_text.specs.Text.{text_cmp}
 use Rattle.wb_states.specs.Machine.{Key, Machine}
@@ -69,7 +68,7 @@ place_cmp_total =
 
 -- how far the build priority of a record is from the greatest one
 abbrev pub below_greatest : Record → ℕ
-below_greatest current = nat_abs (BUILD_PRIORITY_LIMIT -ℤ current.build_priority)
+below_greatest current = nat_abs (pos 1000 -ℤ current.build_priority)
 
 -- 0 for what was built earlier, 1 for what is new
 abbrev pub newness : Record → ℕ

@@ -1,5 +1,5 @@
 -- The numbers and the names of the refusals.
-use Rattle.std.specs.Prelude.{◌≡◌, ◌≢◌, ℕ, List, codes}
+use Rattle.std.specs.Prelude.{◌≡◌, ◌≢◌, ℕ, Bool, true, false, List, codes}
 use Rattle.deb_control.specs.Faults.{fault_name}
 use Rattle.wb_states.specs.declared.refusal.Refusal.{Refusal}
 use Rattle.wb_states.specs.declared.refusal.Refusal.TheVariants.{UnknownArch, UnknownBuilder, WrongArch, UnknownSource, OtherVersion, WrongState, QueueEmpty, NotHeld, AfterAhead, AlreadyThere, BadName, BadVersion, BadRelations, BadNumber, BadListing, TextTooLong, Spent, RepeatedArch, Closed, Store, Memory}
@@ -63,6 +63,12 @@ name_of_refusal (Store fault) = codes "Store"
 -- the machine gives this refusal: it is not out of memory, which is the one fault of a store that is kept in memory
 abbrev pub IsOfMachine : Refusal → Type 0
 IsOfMachine refusal = refusal ≢ Memory
+
+-- whether an office is closed after this refusal: its store failed, or it was closed before
+abbrev pub is_of_store : Refusal → Bool
+is_of_store Closed = true
+is_of_store (Store fault) = true
+is_of_store refusal = false
 
 -- the refusal of a command whose store has a fault: out of memory is the same for both
 abbrev pub IsOfStore : StoreFault → Refusal → Type 0

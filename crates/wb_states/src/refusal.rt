@@ -1,6 +1,6 @@
 //! Why the office refuses a command.
 ghost use Rattle.std.specs.Prelude.{◌≡◌};
-ghost use Rattle.wb_states.specs.Refusals.{code_of_refusal, name_of_refusal, name_of_list, name_of_field, name_of_listing_fault};
+ghost use Rattle.wb_states.specs.Refusals.{code_of_refusal, is_of_store, name_of_refusal, name_of_list, name_of_field, name_of_listing_fault};
 
 use crate::{State, StoreFault};
 use deb_control::ControlFaultKind;
@@ -173,6 +173,14 @@ pub enum Refusal {
 }
 
 impl Refusal {
+    /// Whether the office is closed after it: its store failed, or it was closed before. Takes no memory (this project's
+    /// own).
+    pub fn is_of_store(&self) -> bool
+        ensures value { result ≡ is_of_store self.now }
+    {
+        matches!(self, Refusal::Closed | Refusal::Store { .. })
+    }
+
     /// The refusal's number, which never changes. Takes no memory.
     pub fn code(&self) -> u8
         ensures value { result ≡ code_of_refusal self.now }

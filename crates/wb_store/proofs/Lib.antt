@@ -1,3 +1,31 @@
-mod QueueLemmas
-pub mod SortLemmas
-mod TableLemmas
+pub mod ArchLemmas
+pub mod BuilderLemmas
+pub mod ChangeLemmas
+pub mod ChangeRowLemmas
+pub mod CheckLemmas
+pub mod EqualLemmas
+pub mod FileLemmas
+pub mod FindsLemmas
+pub mod FormLemmas
+pub mod FoundLemmas
+pub mod HoldLemmas
+pub mod LookupLemmas
+pub mod MapLemmas
+pub mod NumberedLemmas
+pub mod OpeningAfterLemmas
+pub mod OpeningBuilderLemmas
+pub mod OpeningCountLemmas
+pub mod OpeningLemmas
+pub mod OpeningRecordLemmas
+pub mod OpeningSoundLemmas
+pub mod OpeningStreamLemmas
+pub mod OpeningWaitLemmas
+pub mod OrderLemmas
+pub mod OthersLemmas
+pub mod PreparingLemmas
+pub mod ReadLemmas
+pub mod RenewalLemmas
+pub mod ScratchLemmas
+pub mod SettledLemmas
+pub mod StaysLemmas
+pub mod TableLemmas

@@ -1,57 +1,117 @@
--- The entries of std's ordered maps and sets, as finite maps and sets.
-use Rattle.std.proofs.Common.{◌≡◌, ℕ, Bool, true, false, cond, List, map, refl, sym, ap, ◌∙◌, ◌||◌}
-use Rattle.std.specs.declared.cmp.Ordering.{Ordering}
-use Rattle.std.specs.Cmp.{IsTotalOrder, eq_by_cmp_equiv}
-use Rattle.std.specs.Cmp.Lexicographic.{nat_list_cmp_total}
-use Rattle.std.proofs.lemmas.Map.Lookups.{exact_bytes}
-use Rattle.std.specs.List.{list_any}
-use Rattle.std.specs.List.Sorted.{IsStrictlySortedBy}
-use Rattle.std.specs.BTreeMap.{is_at}
-use Rattle.std.specs.FinMap as finite
-use Rattle.std.specs.FinSet as set
-use Rattle.wb_store.specs.declared.store.Store.TheInside.{Inside}
-use Rattle.wb_store.specs.contracts.store.Store.{the_view}
-use Rattle.deb_text.specs.Text.{text_cmp, pair_cmp}
-use Rattle.wb_states.specs.declared.record.Record.{Record}
-use Rattle.wb_states.specs.declared.arch.OsCpu.{OsCpu}
-use Rattle.wb_states.specs.Machine.{Machine}
-use Rattle.deb_text.proofs.KeyLemmas.{pair_cmp_total, pair_cmp-same}
-use Rattle.deb_text.proofs.MapLemmas.{entries-kept}
+-- What a query on one table answers of the things whose columns the table holds.
+use Rattle.std.proofs.Common.{◌≡◌, ◌⊎◌, pos, Bool, List, [], ◌∷◌, map, filter, take, refl, sym, ap, ap₂, subst, ◌∙◌, Less, IsPermutation}
+use Rattle.std.specs.List.{AllByRecursion, list_all}
+use Rattle.std.proofs.lemmas.List.Elements.{recursion_from_All, All-from_recursion}
+use Rattle.std.proofs.lemmas.List.Sorted.{All-permutation, IsPermutation-trans}
+use Rattle.sqlite.specs.declared.types.Value.TheVariants.{Null, Int}
+use Rattle.sqlite.specs.Order.{Row}
+use Rattle.sqlite.specs.Term.{holds, lit}
+use Rattle.sqlite.specs.Query.{Output, output, output_cmp}
+use Rattle.sqlite_trees.specs.Tree.{IsAscending}
+use Rattle.sqlite_keyed.proofs.ListLemmas.{map-map, filter-map, IsPermutation-filter, ascending-map, all-filter, all_map}
+use Rattle.wb_sql.specs.Rows.{cells, cells_of}
+use Rattle.wb_sql.specs.Queries.{TableQuery, query_of, outputs, Answers}
+use Rattle.wb_sql.proofs.AnswerLemmas.{whole_answer, first_answer, rising_order}
+use Rattle.wb_sql.proofs.SetLemmas.{IsPermutation-map}
+use Rattle.wb_sql.specs.OfficeStatements.{no_limit, none_skipped}
+use Rattle.wb_store.specs.Stands.{HoldsRows}
+use Rattle.wb_store.specs.Lookups.{AreRowsOf}
+use Rattle.wb_store.proofs.OrderLemmas.{few_permuted, few_mapped, take_one-map}
 
--- the state with other records
-abbrev pub with_records : Machine → finite.FinMap pair_cmp Record → Machine
-with_records machine records = record machine { records = records }
+-- the columns pass the tests of a query
+abbrev pub passes : TableQuery → Row → Row → Bool
+passes q params columns = list_all (holds (params ∷ (Null ∷ columns) ∷ [])) q.filter
 
--- the state with other architectures
-abbrev pub with_archs : Machine → finite.FinMap text_cmp OsCpu → Machine
-with_archs machine archs = record machine { archs = archs }
+-- what a query is sorted by and shows of the columns
+abbrev pub shows : TableQuery → Row → Row → Output
+shows q params columns = output (query_of q) (params ∷ (Null ∷ columns) ∷ [])
 
--- the state with other builders
-abbrev pub with_builders : Machine → set.FinSet pair_cmp → Machine
-with_builders machine builders = record machine { builders = builders }
+-- a query reads the columns of a row, and not its rowid
+abbrev pub SkipsRowid : TableQuery → Row → Type 0
+SkipsRowid q params =
+    (row : Row) → (list_all (holds (params ∷ row ∷ [])) q.filter ≡ passes q params (cells row)) × (output (query_of q) (params ∷ row ∷ []) ≡ shows q params (cells row))
 
-or-cond : (a b : Bool) → cond a true b ≡ (a || b)
-or-cond true b = refl
-or-cond false b = refl
+outputs_of_cells : (q : TableQuery) (params : Row) (rows : List Row) → SkipsRowid q params → outputs q params rows ≡ map (shows q params) (filter (passes q params) (cells_of rows))
+outputs_of_cells q params rows skips =
+    let by_cells : outputs q params rows ≡ map (λ row. shows q params (cells row)) (filter (λ row. passes q params (cells row)) rows) =
+    λ i. map (λ row. (skips row).1 i) (filter (λ row. (skips row).0 i) rows) in
+    by_cells ∙ sym (map-map (shows q params) cells (filter (λ row. passes q params (cells row)) rows))
+    ∙ ap (map (shows q params)) (sym (filter-map (passes q params) cells rows))
 
-module _ {K : Type 0} {R : K → K → Ordering} (o : IsTotalOrder R) (same : finite.IsAntisymmetric R) where
-  -- keys that differ at one key alone make sets that differ there alone
-  pub one-added : (ks js : List K) (k : K)
-      → ((q : K) → list_any (is_at (R q)) js ≡ cond (is_at (R k) q) true (list_any (is_at (R q)) ks))
-      → set.from_list {R = R} js ≡ set.insert (set.from_list ks) k
-  one-added ks js k h = set.same_set o same _ _ (λ q.
-      set.contains-from_list o js q ∙ h q ∙ ap (λ b. cond b true (list_any (is_at (R q)) ks)) ((eq_by_cmp_equiv o).symm k q)
-      ∙ or-cond (is_at (R q) k) (list_any (is_at (R q)) ks)
-      ∙ sym (set.contains-insert o (set.from_list ks) k q ∙ ap (λ b. is_at (R q) k || b) (set.contains-from_list o ks q)))
+-- the order of a query puts one row's columns before another's
+abbrev pub IsBefore : TableQuery → Row → Row → Row → Type 0
+IsBefore q params one other = output_cmp (query_of q) (shows q params one) (shows q params other) ≡ Less
 
--- what an iteration over the records gives
-pub records-iterated : (inside : Inside) (machine : Machine) → the_view inside ≡ machine → IsStrictlySortedBy pair_cmp (map (λ e. e.0) inside.records.entries)
-    → (items : List ((List ℕ × List ℕ) × Record)) → items ≡ inside.records.entries → items ≡ finite.entries machine.records
-records-iterated inside machine e h items i =
-    i ∙ sym (entries-kept pair_cmp_total pair_cmp-same inside.records.entries h) ∙ ap (λ m. finite.entries m.records) e
+module _ {X : Type 0} (columns : X → Row) (Fits : X → Type 0) where
+  -- an output shows the columns of one that fits
+  abbrev IsOf : Output → Type 0
+  IsOf o = (x : X) × Fits x × (o.1 ≡ columns x)
 
--- what an iteration over the architectures gives
-pub archs-iterated : (inside : Inside) (machine : Machine) → the_view inside ≡ machine → IsStrictlySortedBy text_cmp (map (λ e. e.0) inside.archs.entries)
-    → (items : List (List ℕ × OsCpu)) → items ≡ inside.archs.entries → items ≡ finite.entries machine.archs
-archs-iterated inside machine e h items i =
-    i ∙ sym (entries-kept nat_list_cmp_total exact_bytes inside.archs.entries h) ∙ ap (λ m. finite.entries m.archs) e
+  fitting_outputs : (os : List Output) → AllByRecursion IsOf os → AreRowsOf columns Fits (map (λ (o : Output). o.1) os)
+  fitting_outputs [] all = ([], tt, refl)
+  fitting_outputs (o ∷ os) all = let rest = fitting_outputs os all.1 in (all.0.0 ∷ rest.0, (all.0.1, rest.1), ap₂ ◌∷◌ all.0.2 rest.2)
+
+  first_fits : (rows : List Row) → AreRowsOf columns Fits rows → AreRowsOf columns Fits (take 1 rows)
+  first_fits [] all = ([], tt, refl)
+  first_fits (row ∷ rows) ([], fit, is) = absurd cc
+  first_fits (row ∷ rows) (x ∷ xs, fit, is) = (x ∷ [], (fit.0, tt), let same : row ≡ columns x = cc in ap (λ (r : Row). r ∷ []) same)
+
+-- a query on a table that holds the columns of these, and shows all columns
+module _ {X : Type 0} (columns : X → Row) (q : TableQuery) (params : Row) (skips : SkipsRowid q params) (all_shown : (x : X) → (shows q params (columns x)).1 ≡ columns x)
+    (from_start : q.offset ≡ none_skipped) (xs : List X) (rows answer : List Row) (held : HoldsRows (map columns xs) rows) (a : Answers q params rows answer) where
+  abbrev output_of : X → Output
+  output_of x = shows q params (columns x)
+
+  abbrev chosen_of : List X
+  chosen_of = filter (λ x. passes q params (columns x)) xs
+
+  same_outputs : IsPermutation (map output_of chosen_of) (outputs q params rows)
+  same_outputs =
+      let left : map (shows q params) (filter (passes q params) (map columns xs)) ≡ map output_of chosen_of =
+      ap (map (shows q params)) (filter-map (passes q params) columns xs) ∙ map-map (shows q params) columns chosen_of in
+      let same = IsPermutation-map (shows q params) _ _ (IsPermutation-filter (passes q params) (map columns xs) (cells_of rows) held.same) in
+      subst (IsPermutation (map output_of chosen_of)) (sym (outputs_of_cells q params rows skips))
+      (subst (λ l. IsPermutation l (map (shows q params) (filter (passes q params) (cells_of rows)))) left same)
+
+  in_some_order : IsPermutation (map output_of chosen_of) a.ordered
+  in_some_order = IsPermutation-trans _ _ _ same_outputs a.same
+
+  shown_of : (chosen : List X) → a.ordered ≡ map output_of chosen → map (λ (o : Output). o.1) a.ordered ≡ map columns chosen
+  shown_of chosen is = ap (map (λ (o : Output). o.1)) is ∙ map-map (λ (o : Output). o.1) output_of chosen ∙ (λ i. map (λ x. all_shown x i) chosen)
+
+  -- the answer, if at most one is chosen
+  pub few_answer : (chosen_of ≡ []) ⊎ ((x : X) × (chosen_of ≡ x ∷ [])) → q.limit ≡ no_limit → answer ≡ map columns chosen_of
+  few_answer few unlimited =
+      whole_answer q params rows answer a from_start unlimited ∙ shown_of chosen_of (few_permuted (map output_of chosen_of) a.ordered (few_mapped output_of chosen_of few) in_some_order)
+
+  module _ (chosen : List X) (up : IsAscending (λ x y. IsBefore q params (columns x) (columns y)) chosen) (same : IsPermutation chosen chosen_of) where
+    rising_chosen : a.ordered ≡ map output_of chosen
+    rising_chosen =
+        rising_order q params rows answer a from_start (map output_of chosen) (ascending-map (λ x y. output_cmp (query_of q) x y ≡ Less) output_of chosen up)
+        (IsPermutation-trans _ _ _ (IsPermutation-map output_of chosen chosen_of same) same_outputs)
+
+    -- the answer, if those that are chosen ascend in the query's order
+    pub rising_answer : q.limit ≡ no_limit → answer ≡ map columns chosen
+    rising_answer unlimited = whole_answer q params rows answer a from_start unlimited ∙ shown_of chosen rising_chosen
+
+    -- the same with LIMIT 1
+    pub rising_first : q.limit ≡ lit (Int (pos 1)) → answer ≡ map columns (take 1 chosen)
+    rising_first one = first_answer q params rows answer a from_start one ∙ ap (take 1) (shown_of chosen rising_chosen) ∙ take_one-map columns chosen
+
+  module _ (Fits : X → Type 0) (fit : AllByRecursion Fits xs) where
+    ordered_fit : AreRowsOf columns Fits (map (λ (o : Output). o.1) a.ordered)
+    ordered_fit =
+        let all : AllByRecursion (IsOf columns Fits) (map output_of chosen_of) =
+        all_map (IsOf columns Fits) output_of chosen_of (each chosen_of (all-filter Fits (λ x. passes q params (columns x)) xs fit)) in
+        fitting_outputs columns Fits a.ordered (recursion_from_All (IsOf columns Fits) a.ordered (All-permutation (IsOf columns Fits) _ a.ordered in_some_order (All-from_recursion (IsOf columns Fits) _ all)))
+      where
+        each : (ys : List X) → AllByRecursion Fits ys → AllByRecursion (λ y. IsOf columns Fits (output_of y)) ys
+        each [] all = tt
+        each (y ∷ ys) all = ((y, all.0, all_shown y), each ys all.1)
+
+    -- the rows of the answer are of some that fit, if all do
+    pub whole_fits : q.limit ≡ no_limit → AreRowsOf columns Fits answer
+    whole_fits unlimited = subst (AreRowsOf columns Fits) (sym (whole_answer q params rows answer a from_start unlimited)) ordered_fit
+
+    pub first_fits_too : q.limit ≡ lit (Int (pos 1)) → AreRowsOf columns Fits answer
+    first_fits_too one = subst (AreRowsOf columns Fits) (sym (first_answer q params rows answer a from_start one)) (first_fits columns Fits _ ordered_fit)

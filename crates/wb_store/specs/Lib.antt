@@ -1,2 +1,14 @@
-pub mod Coded
+pub mod Calls
+pub mod Checks
+pub mod Faults
+pub mod Files
+pub mod Finds
 pub mod Lookups
+pub mod Opening
+pub mod Others
+pub mod Preparing
+pub mod Queries
+pub mod Scratch
+pub mod Settled
+pub mod Stands
+pub mod Writes

@@ -1,84 +1,132 @@
-//! The changes of the tables: each changes the row of its key and no other.
-ghost use Rattle.std.specs.Prelude.{◌≡◌, IfOk, IfErr, OnOk, OnErr};
+//! The changes of the office's tables, in a transaction. Each speaks of a database that stands for a state of the office,
+//! and makes it stand for the state after the change. The fault of each is that of its statement, with its table: `Damaged`
+//! with row 0 also if the transaction is over. The caller then rolls back.
+
+ghost use Rattle.std.specs.Prelude.{◌≡◌, ◌≤◌, ⊤, false, None, IsSome, IfSome};
 ghost use Rattle.std.specs.FinMap as map;
 ghost use Rattle.std.specs.FinSet as set;
-ghost use Rattle.wb_states.specs.declared.store_fault.StoreFault.TheVariants.{Memory};
+ghost use Rattle.wb_states.specs.Limits.{count_limit};
+ghost use Rattle.wb_store.specs.Calls.{Changes};
+ghost use Rattle.wb_store.specs.Writes as write;
 
-use crate::keyed::key_of;
-use crate::{Records, Store};
+use crate::fault::answer_on;
 use deb_text::Text;
-use std::alloc::AllocError;
-use wb_states::{OsCpu, Record, StoreFault};
+use sqlite::{Alter, params};
+use wb_rows::{arch_values, builder_values, record_values};
+use wb_sql::{Writing, statements};
+use wb_states::{Counts, OsCpu, Record, StoreFault, Table};
 
-impl Store {
-    /// Gives the source package `source` on the architecture `arch` the record `current`, in the
-    /// place of the one that it had, if any. All else stays. The only error is `Memory`;
-    /// the tables are then as they were (this project's own).
-    pub fn put(&mut self, arch: Text, source: Text, current: Record) -> Result<(), StoreFault>
-        ensures ok { OnOk result (self.new
-            ≡ record self.old { records = map.insert self.old.records (arch, source) current }) }
-        ensures err { OnErr result (self.new ≡ self.old) }
-        ensures fault { IfErr result (λ fault. fault ≡ Memory) }
-    {
-        self.records.insert((arch, source), current)?;
-        Ok(())
-    }
+/// Sets both counts of the office, each at most [`wb_states::COUNT_LIMIT`]; all else stays. The fault is
+/// that of the statement on the table of the office (this project's own).
+pub fn set_counts<S: Alter>(writing: &mut Writing<'_, S>, counts: Counts) -> Result<(), StoreFault>
+    requires fits { (counts.handed ≤ count_limit) × (counts.accepted ≤ count_limit) }
+    ensures same_reference { writing.new.conn.ghost_name ≡ writing.old.conn.ghost_name }
+    ensures changes { Changes S.Store (write.SetsCounts counts.handed counts.accepted) (λ _. ⊤)
+        (λ machine. record machine { handed = counts.handed; accepted = counts.accepted })
+        writing.old.conn.now writing.new.conn.now result }
+{
+    let answered = writing.update(
+        statements::set_counts(),
+        params![counts.handed as i64, counts.accepted as i64],
+    );
+    answer_on(answered, Table::Office)
+}
 
-    /// Takes the record of the source package `source` on the architecture `arch` out, if it has
-    /// one. All else stays. The only error is that there is no memory for it; the tables are then
-    /// as they were (this project's own).
-    pub fn remove(&mut self, arch: &Text, source: &Text) -> Result<(), StoreFault>
-        ensures ok { OnOk result (self.new
-            ≡ record self.old { records = map.remove self.old.records (arch.now, source.now) }) }
-        ensures err { OnErr result (self.new ≡ self.old) }
-        ensures fault { IfErr result (λ fault. fault ≡ Memory) }
-    {
-        let key = key_of(arch, source)?;
-        self.records.remove(&key);
-        Ok(())
-    }
+/// Adds an architecture, which is not there yet, with its words; all else stays. The fault is that of the statement on
+/// the table of the architectures, also for a name that is there (this project's own).
+pub fn add_arch<S: Alter>(
+    writing: &mut Writing<'_, S>,
+    name: &Text,
+    words: &OsCpu,
+) -> Result<(), StoreFault>
+    ensures same_reference { writing.new.conn.ghost_name ≡ writing.old.conn.ghost_name }
+    ensures changes { Changes S.Store (write.AddsArch (name.now, words.now)) (λ machine. map.get machine.archs name.now ≡ None)
+        (λ machine. record machine { archs = map.insert machine.archs name.now words.now })
+        writing.old.conn.now writing.new.conn.now result }
+{
+    let answered = writing.insert(statements::add_arch(), &arch_values(name, words));
+    answer_on(answered, Table::Arch)
+}
 
-    /// Adds the architecture `name` with its words, or gives these words to one that is there. All
-    /// else stays. The only error is that there is no memory for it; the tables are then as they
-    /// were (this project's own).
-    pub fn add_arch(&mut self, name: Text, words: OsCpu) -> Result<(), StoreFault>
-        ensures ok { OnOk result (self.new
-            ≡ record self.old { archs = map.insert self.old.archs name words }) }
-        ensures err { OnErr result (self.new ≡ self.old) }
-        ensures fault { IfErr result (λ fault. fault ≡ Memory) }
-    {
-        self.archs.insert(name, words)?;
-        Ok(())
-    }
+/// Adds a builder for an architecture, for which it was not added yet; all else stays. The fault is that of the
+/// statement on the table of the builders, also for a pair that is there (this project's own).
+pub fn add_builder<S: Alter>(
+    writing: &mut Writing<'_, S>,
+    builder: &Text,
+    arch: &Text,
+) -> Result<(), StoreFault>
+    ensures same_reference { writing.new.conn.ghost_name ≡ writing.old.conn.ghost_name }
+    ensures changes { Changes S.Store (write.AddsBuilder (builder.now, arch.now))
+        (λ machine. set.contains machine.builders (builder.now, arch.now) ≡ false)
+        (λ machine. record machine { builders = set.insert machine.builders (builder.now, arch.now) })
+        writing.old.conn.now writing.new.conn.now result }
+{
+    let answered = writing.insert(statements::add_builder(), &builder_values(builder, arch));
+    answer_on(answered, Table::Builder)
+}
 
-    /// Adds that the builder builds for the architecture `arch`. All else stays. The only error is
-    /// that there is no memory for it; the tables are then as they were (this project's own).
-    pub fn add_builder(&mut self, builder: Text, arch: Text) -> Result<(), StoreFault>
-        ensures ok { OnOk result (self.new
-            ≡ record self.old { builders = set.insert self.old.builders (builder, arch) }) }
-        ensures err { OnErr result (self.new ≡ self.old) }
-        ensures fault { IfErr result (λ fault. fault ≡ Memory) }
-    {
-        self.builders.insert((builder, arch))?;
-        Ok(())
-    }
+/// Takes out the record of the source package `source` on the architecture `arch`, if there is one; all else stays. The
+/// fault is that of the statement on the table of the records (this project's own).
+pub fn remove<S: Alter>(
+    writing: &mut Writing<'_, S>,
+    arch: &Text,
+    source: &Text,
+) -> Result<(), StoreFault>
+    ensures same_reference { writing.new.conn.ghost_name ≡ writing.old.conn.ghost_name }
+    ensures changes { Changes S.Store (write.RemovesRecord (arch.now, source.now)) (λ _. ⊤)
+        (λ machine. record machine { records = map.remove machine.records (arch.now, source.now) })
+        writing.old.conn.now writing.new.conn.now result }
+{
+    let answered = writing.delete(
+        statements::remove_record(),
+        params![arch.as_str(), source.as_str()],
+    );
+    answer_on(answered, Table::SourceRecord)
+}
 
-    /// A copy of all records, for a change that is made whole or not at all. The only error is that there is
-    /// no memory for it (this project's own).
-    pub fn copy_records(&self) -> Result<Records, AllocError>
-        ensures value { IfOk result (λ records. records ≡ self.now.records) }
-    {
-        Ok(Records {
-            alloc: self.alloc,
-            rows: self.records.clone()?,
+/// Gives the source package `source` on the architecture `arch` the record `current`, in place of the one that it had,
+/// if any; all else stays. The take number, if there is one, is at most [`wb_states::COUNT_LIMIT`]. The fault is
+/// that of the statement on the table of the records, also for an architecture that is not there (this project's own).
+pub fn put<S: Alter>(
+    writing: &mut Writing<'_, S>,
+    arch: &Text,
+    source: &Text,
+    current: &Record,
+) -> Result<(), StoreFault>
+    requires given { IfSome current.now.take (λ take_number. take_number ≤ count_limit) }
+    ensures same_reference { writing.new.conn.ghost_name ≡ writing.old.conn.ghost_name }
+    ensures changes { Changes S.Store (write.PutsRecord ((arch.now, source.now), current.now)) (λ _. ⊤)
+        (λ machine. record machine {
+          records = map.insert machine.records (arch.now, source.now) current.now;
         })
-    }
+        writing.old.conn.now writing.new.conn.now result }
+{
+    let answered = writing.upsert(
+        statements::put_record(),
+        &record_values(arch, source, current),
+    );
+    answer_on(answered, Table::SourceRecord)
+}
 
-    /// Puts these records in the place of all that there were; all else stays. It cannot fail and takes no
-    /// memory (this project's own).
-    pub fn replace_records(&mut self, records: Records)
-        ensures ok { self.new ≡ record self.old { records = records } }
-    {
-        self.records = records.rows;
-    }
+/// Gives the source package `source` on the architecture `arch` the record `current` in place of the one that it has; all
+/// else stays. The take number, if there is one, is at most [`wb_states::COUNT_LIMIT`]. The fault is that of the
+/// statement on the table of the records. If there is no such record, nothing is promised (this project's own).
+pub fn replace<S: Alter>(
+    writing: &mut Writing<'_, S>,
+    arch: &Text,
+    source: &Text,
+    current: &Record,
+) -> Result<(), StoreFault>
+    requires given { IfSome current.now.take (λ take_number. take_number ≤ count_limit) }
+    ensures same_reference { writing.new.conn.ghost_name ≡ writing.old.conn.ghost_name }
+    ensures changes { Changes S.Store (write.ReplacesRecord ((arch.now, source.now), current.now))
+        (λ machine. IsSome (map.get machine.records (arch.now, source.now)))
+        (λ machine. record machine {
+          records = map.insert machine.records (arch.now, source.now) current.now;
+        })
+        writing.old.conn.now writing.new.conn.now result }
+{
+    let values = record_values(arch, source, current);
+    let answered = writing.update(statements::replace_record(), &values);
+    answer_on(answered, Table::SourceRecord)
 }

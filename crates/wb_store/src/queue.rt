@@ -1,49 +1,49 @@
-//! The head of an architecture's queue.
-ghost use Rattle.std.specs.Prelude.{◌≡◌, IfOk, IfErr, IfSome, Some};
+//! The queue of an architecture, as the tables have it.
+ghost use Rattle.std.specs.Prelude.{◌≡◌, map as each};
 ghost use Rattle.std.specs.Option.{option_map};
-ghost use Rattle.std.specs.Map.Iter.{deref_pair};
-ghost use Rattle.std.specs.FinMap as map;
-ghost use Rattle.wb_states.specs.declared.state.State.TheVariants.{NeedsBuild};
-ghost use Rattle.wb_states.specs.declared.store_fault.StoreFault.TheVariants.{Memory};
-ghost use Rattle.wb_states.specs.Queue.{head_of};
-ghost use Rattle.wb_store.specs.Lookups.{entry_of};
+ghost use Rattle.wb_states.specs.Machine.{IsConsistent};
+ghost use Rattle.wb_states.specs.Queue.{head_of, queue_of};
+ghost use Rattle.wb_states.specs.Lookups.{entry_of};
+ghost use Rattle.wb_store.specs.Calls.{LooksUp};
+ghost use Rattle.wb_store.specs.Queries as ask;
 
-use crate::Store;
-use crate::keyed::{KeyedRecord, keyed_option};
+use crate::reading::{first_in, records};
 use deb_text::Text;
-use wb_states::{QueueKey, Record, State, StoreFault};
+use sqlite::{Alter, Connection, params};
+use wb_sql::statements;
+use wb_states::{KeyedRecord, State, StoreFault};
 
-impl Store {
-    /// The head of the architecture's queue, which is built next, or none if no source package of the
-    /// architecture waits for a builder. The only error is `Memory` (wanna-build's states page).
-    pub fn head(&self, arch: &Text) -> Result<Option<KeyedRecord>, StoreFault>
-        ensures value { IfOk result (λ found. option_map entry_of found ≡ head_of self.now arch.now) }
-        ensures first { IfOk result (λ found. IfSome found (λ row. (row.arch ≡ arch.now)
-            × ((row.current.state ≡ NeedsBuild)
-            × (map.get self.now.records (arch.now, row.source) ≡ Some row.current)))) }
-        ensures fault { IfErr result (λ fault. fault ≡ Memory) }
-    {
-        Ok(keyed_option(self.head_entry(arch))?)
-    }
+/// The head of the architecture's queue, which is built next, or none if no source package of the architecture waits
+/// for a builder (wanna-build's states page).
+/// The faults are those of the query on the table of the records, `Memory` if memory runs out for the answer, and
+/// `Damaged` with row 0 if a row is not that of a record. The database stays as it is; only a failed query may take a
+/// transaction back.
+/// Source: this project's own.
+pub fn head<S: Alter>(
+    conn: &mut Connection<S>,
+    arch: &Text,
+) -> Result<Option<KeyedRecord>, StoreFault>
+    ensures looks_up { LooksUp S.Store (ask.HeadOf arch.now) (λ machine found. IsConsistent machine
+        → option_map entry_of found ≡ head_of machine arch.now) conn.old conn.new result }
+{
+    let waiting = u32::from(State::NeedsBuild.code());
+    let rows = records(conn, statements::head(), params![arch.as_str(), waiting])?;
+    Ok(first_in(rows))
+}
 
-    fn head_entry(&self, arch: &Text) -> Option<(&(Text, Text), &Record)>
-        ensures value { option_map deref_pair result ≡ head_of self.now arch.now }
-    {
-        let mut best: Option<(&(Text, Text), &Record)> = None;
-        for (key, current) in self.records.iter() {
-            if key.0 == *arch && current.state == State::NeedsBuild {
-                let is_first = match best {
-                    None => true,
-                    Some((first, record)) => {
-                        QueueKey::of(current, key.1.as_str())
-                            < QueueKey::of(record, first.1.as_str())
-                    }
-                };
-                if is_first {
-                    best = Some((key, current));
-                }
-            }
-        }
-        best
-    }
+/// The architecture's queue: its records that wait for a builder, in the order in which they are built (wanna-build's
+/// states page).
+/// The faults are those of the query on the table of the records, `Memory` if memory runs out for the answer, and
+/// `Damaged` with row 0 if a row is not that of a record. The database stays as it is; only a failed query may take a
+/// transaction back.
+/// Source: this project's own.
+pub fn queue_of<S: Alter>(
+    conn: &mut Connection<S>,
+    arch: &Text,
+) -> Result<Vec<KeyedRecord>, StoreFault>
+    ensures looks_up { LooksUp S.Store (ask.QueueOf arch.now) (λ machine rows. IsConsistent machine
+        → each entry_of rows.items ≡ queue_of machine arch.now) conn.old conn.new result }
+{
+    let waiting = u32::from(State::NeedsBuild.code());
+    records(conn, statements::queue(), params![arch.as_str(), waiting])
 }

@@ -1,6 +1,23 @@
-//! Readers and writers that report whether a call of them failed.
+//! Readers and writers that report whether a call of them failed, and what is read and written with them: lines, and the
+//! heads, bodies and answers of HTTP (RFC 9112).
 #![tactic(auto)]
 
+mod answer;
+mod body;
+mod fault;
+mod fields;
+mod head;
+mod line;
+mod status;
 mod watched;
+mod write;
 
+pub use answer::write_answer;
+pub use body::{BodyRead, read_body};
+pub use fault::Fault;
+pub use fields::{content_length, has_field};
+pub use head::{FIELD_LIMIT, HEAD_LIMIT, HeadRead, read_head};
+pub use line::{ByteRead, LINE_LIMIT, LineRead, read_byte, read_line, text_of, words_in};
+pub use status::Status;
 pub use watched::{WatchedReader, WatchedWriter};
+pub use write::write_line;

@@ -15,7 +15,7 @@ returns-in-Command-clause-value g c =
     let now = said goes before clean stands in (
       now.0,
       now.1,
-      subst (λ invocation. IsInvocationResponseOrMemory g.O.CarryOut.may_want_memory (g.L.Lists.may_read c.args.lists.now) before invocation (response_of_answer answer now.0))
+      subst (λ invocation. IsInvocationResponseOrMemory (g.L.Lists.may_read c.args.lists.now) before invocation (response_of_answer answer now.0))
           (sym c.in-Command.is) now.2,
     ))
 
@@ -57,7 +57,7 @@ returns-in-Ok-Some-clause-value g c =
     let now = said goes before clean stands in (
       now.0,
       now.1,
-      merge-response g.O.CarryOut.may_want_memory may_read before c.args.invocation.now c.in-Merge.sources c.in-Merge.parts c.in-Ok-Some.command _
+      merge-response may_read before c.args.invocation.now c.in-Merge.sources c.in-Merge.parts c.in-Ok-Some.command _
           c.in-Merge.is given now.2,
     ))
 
@@ -103,7 +103,7 @@ returns-in-Ok-None-clause-value g c = λ _ before clean stands.
     let lacks = subst (λ parts. LacksMerge may_read c.in-Merge.sources parts) c.as_slice.ensures missed in (
       before,
       stands,
-      subst (λ invocation. IsInvocationResponseOrMemory g.O.CarryOut.may_want_memory may_read before invocation (response_of_answer c.file_answer.result before))
+      subst (λ invocation. IsInvocationResponseOrMemory may_read before invocation (response_of_answer c.file_answer.result before))
           (sym c.in-Merge.is) (inl (inr (lacks, c.file_answer.ensures.value before))),
     )
 
@@ -111,7 +111,7 @@ pub returns-in-Err-clause-value : goal.returns-in-Err-clause-value
 returns-in-Err-clause-value g c = λ _ before clean stands. (
   before,
   stands,
-  subst (λ invocation. IsInvocationResponseOrMemory g.O.CarryOut.may_want_memory (g.L.Lists.may_read c.args.lists.now) before invocation
+  subst (λ invocation. IsInvocationResponseOrMemory (g.L.Lists.may_read c.args.lists.now) before invocation
       (response_of_answer c.memory_answer.result before))
       (sym c.in-Merge.is) (inr (tt, c.memory_answer.ensures.value before)),
 )

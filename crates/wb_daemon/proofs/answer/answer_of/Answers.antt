@@ -2,7 +2,7 @@
 use Rattle.std.proofs.Common.{◌≡◌, ap, refl}
 use Rattle.std.proofs.lemmas.Option.{IfSome_then}
 use Rattle.wb_words.specs.declared.fault.WordsFault.TheVariants.{NoCommand, Memory}
-use Rattle.wb_daemon.specs.Line.{with_line_feed}
+use Rattle.wb_streams.specs.Line.{with_line_feed}
 use Rattle.wb_daemon.proofs.AnswerLemmas.{LineInvokes-invocation, IsLineResponse-invocation, IsLineResponse-fault, IsLineResponse-memory}
 use Rattle.wb_daemon.proofs.answer.answer_of.Goals as goal
 
@@ -12,7 +12,7 @@ returns-in-Ok-clause-value g c =
     let now = said goes before clean stands in (
       now.0,
       now.1,
-      IsLineResponse-invocation g.O.CarryOut.may_want_memory (g.L.Lists.may_read c.args.lists.now) before c.args.line.now c.in-Ok.invocation _
+      IsLineResponse-invocation (g.L.Lists.may_read c.args.lists.now) before c.args.line.now c.in-Ok.invocation _
           c.requires.short c.requires.words c.in-Ok.ensures.value now.2,
     ))
 

@@ -2,10 +2,10 @@
 use Rattle.std.proofs.Common.{◌∙◌, Result, Err, IsOk, ap, inl, inr, refl, subst, sym}
 use Rattle.wb_states.specs.declared.refusal.Refusal.{Refusal}
 use Rattle.wb_states.specs.declared.reply.Reply.{Reply}
-use Rattle.wb_office.specs.Step.{step}
-use Rattle.wb_office.proofs.OfficeLemmas.{is_of_store-cases, refusal-cases, reply-accepted, step-repeats}
+use Rattle.wb_step.specs.Step.{step}
+use Rattle.wb_step.proofs.OfficeLemmas.{is_of_store-cases, refusal-cases, reply-accepted, step-repeats}
 use Rattle.wb_api.specs.Encoding.{reply_text}
-use Rattle.wb_office.specs.Offices.{Shut, InDoubt}
+use Rattle.wb_step.specs.Offices.{Shut, InDoubt}
 use Rattle.wb_daemon.proofs.AnswerLemmas.{closed-said, memory-said, refusal-said, reply-said, store-said}
 use Rattle.wb_daemon.proofs.answer.answer_to.Goals as goal
 
@@ -14,7 +14,7 @@ returns-in-Ok-reply_json-clause-value g c = λ _ before clean stands.
     let done = c.in-Ok.ensures.reply before clean stands in (
       (step before c.args.command.now).1,
       done.1,
-      reply-said g.O.CarryOut.may_want_memory before c.args.command.now c.in-Ok.reply _ done.0
+      reply-said before c.args.command.now c.in-Ok.reply _ done.0
           (c.in-Ok-reply_json.ensures.value ∙ ap (λ name. reply_text name c.in-Ok.reply) c.name.ensures.value),
     )
 
@@ -49,10 +49,10 @@ pub returns-clause-value : goal.returns-clause-value
 returns-clause-value g c = λ goes before clean stands. elim (refusal-cases c.in-Err.refusal) [
   | inl is ↦
       let wants = c.in-Err.ensures.memory before clean stands (ap Err is) in
-      (before, wants.1, memory-said g.O.CarryOut.may_want_memory before c.args.command.now _ wants.0 (c.refusal_json.ensures.memory is))
+      (before, wants.1, memory-said before c.args.command.now _ wants.0 (c.refusal_json.ensures.memory is))
   | inr other ↦
       let refused = c.in-Err.ensures.refused before clean stands other (sym c.ends_run.ensures.value ∙ goes) in
-      (before, refused.1, refusal-said g.O.CarryOut.may_want_memory before c.args.command.now c.in-Err.refusal _ refused.0 c.refusal_json.ensures.value c.refusal_json.ensures.plain)
+      (before, refused.1, refusal-said before c.args.command.now c.in-Err.refusal _ refused.0 c.refusal_json.ensures.value c.refusal_json.ensures.plain)
 ]
 
 pub returns-clause-stops : goal.returns-clause-stops

@@ -1,9 +1,10 @@
 -- What was written of what is said to the line.
 use Rattle.std.proofs.Common.{◌∙◌, ◌≡◌, true, false, inl, inr, sym, refl, subst}
 use Rattle.std.specs.Io.KnownBytes.{Appends}
-use Rattle.wb_daemon.specs.Line.{with_line_feed}
-use Rattle.wb_office.specs.Offices.{Leads, Open}
-use Rattle.wb_daemon.specs.Turn.{AppendsFront, AnswersInPart, response_of_answer}
+use Rattle.wb_streams.specs.Line.{with_line_feed}
+use Rattle.wb_step.specs.Offices.{Leads, Open}
+use Rattle.wb_daemon.specs.Turn.{AnswersInPart, response_of_answer}
+use Rattle.wb_streams.specs.Streams.{AppendsFront}
 use Rattle.wb_daemon.proofs.AnswerLemmas.{answers-blank}
 use Rattle.wb_daemon.proofs.run.answer_line.Goals as goal
 

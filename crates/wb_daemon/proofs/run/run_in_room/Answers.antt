@@ -1,6 +1,6 @@
 -- Without room for a line the run does not begin.
 use Rattle.std.proofs.Common.{refl}
-use Rattle.wb_office.specs.Offices.{Open}
+use Rattle.wb_step.specs.Offices.{Open}
 use Rattle.wb_daemon.proofs.RunLemmas.{stops-at_once}
 use Rattle.wb_daemon.proofs.run.run_in_room.Goals as goal
 

@@ -1,6 +1,6 @@
 -- A run may end with a file fault, and one that stopped did so for a cause.
 use Rattle.std.proofs.Common.{inl, inr, subst, sym}
-use Rattle.wb_office.specs.Offices.{IsSoOfEach, Stands}
+use Rattle.wb_step.specs.Offices.{IsSoOfEach, Stands}
 use Rattle.wb_daemon.specs.Replays.{LeavesReplay}
 use Rattle.wb_daemon.specs.Run.{RunEndsWell}
 use Rattle.wb_daemon.proofs.ReplayedLemmas.{EndsInput-leaves, RunStopsFor-leaves}

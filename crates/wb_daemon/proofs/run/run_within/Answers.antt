@@ -3,7 +3,7 @@ use Rattle.std.proofs.Common.{[], None, Some, refl, arith, subst}
 use Rattle.wb_daemon.proofs.AnswerLemmas.{Turns-more}
 use Rattle.wb_daemon.proofs.ListLemmas.{MayReadLess-same, MayReadLess-then}
 use Rattle.wb_daemon.proofs.RunLemmas.{FailsFor-then, so_far-start, so_far-next, ends-line, ends-nothing, stops-limit, stops-read, stops-turn}
-use Rattle.wb_office.specs.Offices.{Open, Stands}
+use Rattle.wb_step.specs.Offices.{Open, Stands}
 use Rattle.wb_daemon.specs.declared.message.Cause.TheVariants.{Lines, Read}
 use Rattle.wb_daemon.specs.declared.run.Turn.TheVariants.{More, End, Stop}
 use Rattle.wb_daemon.proofs.run.run_within.Goals as goal

@@ -1,7 +1,7 @@
 -- Each line that was read was answered, and no read or write failed.
 use Rattle.std.proofs.Common.{◌≤◌, None}
 use Rattle.wb_daemon.specs.Lists.{MayReadLess}
-use Rattle.wb_office.specs.Offices.{Reaches}
+use Rattle.wb_step.specs.Offices.{Reaches}
 use Rattle.wb_daemon.specs.Run.{FailsFor}
 use Rattle.wb_daemon.proofs.RunLemmas.{SoFar}
 use Rattle.wb_daemon.proofs.run.run_within.Given as goal

@@ -1,10 +1,11 @@
 -- What a turn did.
 use Rattle.std.proofs.Common.{not, refl, subst, take, inl, inr}
 use Rattle.std.specs.Io.KnownBytes.{Appends}
-use Rattle.wb_daemon.specs.Line.{with_line_feed}
-use Rattle.wb_office.specs.Offices.{Open}
+use Rattle.wb_streams.specs.Line.{with_line_feed}
+use Rattle.wb_step.specs.Offices.{Open}
 use Rattle.wb_streams.specs.Streams.{Flags}
-use Rattle.wb_daemon.specs.Turn.{Answers, AppendsFront, StopsAtLine}
+use Rattle.wb_daemon.specs.Turn.{Answers, StopsAtLine}
+use Rattle.wb_streams.specs.Streams.{AppendsFront}
 use Rattle.wb_daemon.proofs.AnswerLemmas.{answers-long, answers-long_cut, stops_turn}
 use Rattle.wb_daemon.proofs.RunLemmas.{FailsFor-answer, short_line}
 use Rattle.wb_daemon.proofs.run.take_turn.Goals as goal

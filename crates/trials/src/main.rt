@@ -1,0 +1,28 @@
+//! Trials of the office over memory. A line of standard input says which come after it: `requests` for requests over HTTP, up to a line
+//! `end`, or `stops` for stops within a call of the disk, up to the end of the input.
+#![tactic(auto)]
+
+mod requests;
+mod stops;
+#[cfg(test)]
+mod tests;
+
+use anyhow::{Result, bail};
+use std::io::{self, BufRead, BufReader, BufWriter};
+
+fn main(rt: HostRuntime) -> Result<()> {
+    let mut input = BufReader::new(rt.alloc(), rt.reader())?;
+    let mut output = BufWriter::new(rt.alloc(), io::writer(&rt))?;
+    for _ in 0..u64::MAX {
+        let mut line = String::new(rt.alloc());
+        if input.read_line(&mut line)? == 0 {
+            break;
+        }
+        match line.trim_end() {
+            "requests" => requests::answer_all(rt.alloc(), &mut input, &mut output)?,
+            "stops" => stops::make_all(&rt, rt.alloc(), &mut input, &mut output)?,
+            other => bail!("no trials are named {other}"),
+        }
+    }
+    Ok(())
+}

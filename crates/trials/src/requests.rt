@@ -1,0 +1,85 @@
+//! Answers requests by an office over tables in memory, with no sockets. The input has frames: a decimal length, a line feed and so many
+//! bytes. The first three are the Sources list and the Packages lists of amd64 and arm64 that the office begins with, and each other is all
+//! that a client sends on a connection. Up to three numbers may follow the length, each after a blank: how many bytes a read gives and a
+//! write takes at most, how many reads give bytes before one fails, and how many writes take bytes before one fails. Without them all bytes
+//! that fit are read and written, and no read or write fails. For each request a line goes to the output, and after it what is answered: how
+//! the exchange ended, the status or 0 for none, and how many bytes were answered, as in `answered 200 145`. A line `end` ends the requests.
+
+mod frames;
+mod opening;
+mod reader;
+mod writer;
+
+use anyhow::{Context, Result};
+use frames::Frame;
+use reader::CutReader;
+use std::alloc::Global;
+use std::io::{BufRead, Write};
+use wb_api::{Served, serve_one};
+use wb_streams::{WatchedReader, WatchedWriter};
+use writer::CutWriter;
+
+pub(crate) use opening::{MemoryOffice, opened};
+
+/// Answers the requests of the input, up to its end or a line `end`.
+pub(crate) fn answer_all<R: BufRead + Drop, W: Write + Drop>(
+    alloc: Global,
+    input: &mut R,
+    output: &mut W,
+) -> Result<()> {
+    match frames::next(alloc, input)? {
+        Some(sources) => {
+            let mut office = begun(alloc, input, sources.bytes)?;
+            answer_each(alloc, &mut office, input, output)
+        }
+        None => Ok(()),
+    }
+}
+
+/// The office over this Sources list and the Packages lists that stand next in the input.
+fn begun<R: BufRead + Drop>(alloc: Global, input: &mut R, sources: Vec<u8>) -> Result<MemoryOffice> {
+    let amd64 = frames::next(alloc, input)?.context("there is no list of amd64")?;
+    let arm64 = frames::next(alloc, input)?.context("there is no list of arm64")?;
+    opening::office_of(alloc, sources, amd64.bytes, arm64.bytes)
+}
+
+/// Answers each request of the input. Each answer is written before the next request is read.
+fn answer_each<R: BufRead + Drop, W: Write + Drop>(
+    alloc: Global,
+    office: &mut MemoryOffice,
+    input: &mut R,
+    output: &mut W,
+) -> Result<()> {
+    for _ in 0..u64::MAX {
+        let Some(request) = frames::next(alloc, input)? else {
+            break;
+        };
+        let (served, answer) = answered(alloc, office, &request);
+        let (word, status) = word_of(served);
+        writeln!(output, "{word} {status} {}", answer.len())?;
+        output.write_all(&answer)?;
+        output.flush()?;
+    }
+    Ok(())
+}
+
+/// How the exchange for this request ended, and what was answered.
+fn answered(alloc: Global, office: &mut MemoryOffice, request: &Frame) -> (Served, Vec<u8>) {
+    let mut answer = CutWriter::new(alloc, request);
+    let mut reader = WatchedReader::new(CutReader::new(request));
+    let mut writer = WatchedWriter::new(&mut answer);
+    let served = serve_one(alloc, office, &mut reader, &mut writer);
+    drop(writer);
+    (served, answer.taken())
+}
+
+/// The word for how an exchange ended, and the status of what was answered.
+fn word_of(served: Served) -> (&'static str, u16) {
+    match served {
+        Served::Nothing => ("nothing", 0),
+        Served::ReadFailed => ("read-failed", 0),
+        Served::Answered { status } => ("answered", status.code()),
+        Served::WriteFailed { status } => ("write-failed", status.code()),
+        Served::Mute => ("mute", 0),
+    }
+}

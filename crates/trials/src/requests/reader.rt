@@ -1,0 +1,43 @@
+//! The reader of a request.
+
+use crate::requests::frames::Frame;
+use std::io::{self, ErrorKind, Read};
+
+/// A reader that gives at most `step` bytes a read, and fails after so many reads.
+pub(crate) struct CutReader<'a> {
+    left: &'a [u8],
+    step: usize,
+    reads: usize,
+}
+
+impl<'a> CutReader<'a> {
+    /// The reader of this frame.
+    pub(crate) fn new(frame: &'a Frame) -> CutReader<'a> {
+        CutReader {
+            left: &frame.bytes,
+            step: frame.step,
+            reads: frame.reads,
+        }
+    }
+}
+
+impl<'a> Drop for CutReader<'a> {
+    fn drop(self) {
+        let CutReader {
+            left: _,
+            step: _,
+            reads: _,
+        } = self;
+    }
+}
+
+impl<'a> Read for CutReader<'a> {
+    fn read(&mut self, buf: &mut [u8]) -> io::Result<usize> {
+        if self.reads == 0 {
+            return Err(io::Error::from(ErrorKind::Interrupted));
+        }
+        self.reads -= 1;
+        let count = buf.len().min(self.step);
+        self.left.read(&mut buf[..count])
+    }
+}

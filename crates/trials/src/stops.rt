@@ -1,0 +1,87 @@
+//! Has an office work over two files in memory, a database and its log, that stop at a given call, and shows what is found in them
+//! afterwards. Each line of the input is a trial: stages, one after another, which begin from the files that were kept last, at first
+//! empty ones.
+//!
+//! ```text
+//! run LINES LOG DB LOG-LEFT DB-LEFT      opens the office, answers the lines of the file LINES, and gives the office up
+//! open LOG DB LOG-LEFT DB-LEFT           opens the office, and gives it up
+//! close LOG DB LOG-LEFT DB-LEFT          opens the office, and closes it
+//! keep                                   at the end: the files that are left are those of the trials from here on
+//! lives LINES..                          alone: over new files, an office lives once for each file of lines, none of which is a merge
+//! ```
+//!
+//! LOG and DB are how many calls the log and the database take before each later call fails and changes nothing. LOG-LEFT and DB-LEFT are
+//! `kept` if the file then holds all that was written, as after a kill, and `lost` if it holds what was synced, as a power cut may
+//! leave it. To standard output go the answers; `fault NAME` if an opening or a closing fails; and, unless the files are kept, each row
+//! of the office that is found in them at the end. The last line of a trial is `end`. A run whose office is not opened ends the program.
+//! What is not synced at the end of a life is lost.
+
+mod disk;
+mod lists;
+mod lives;
+mod rows;
+mod stage;
+mod work;
+
+use anyhow::Result;
+use disk::Images;
+use stage::Stage;
+use std::alloc::Global;
+use std::io::{BufRead, Write};
+use std::rt::Files as FileHandle;
+
+/// Makes each trial of the input.
+pub(crate) fn make_all<F: FileHandle + AllocGlobal, R: BufRead + Drop, W: Write>(
+    rt: &F,
+    alloc: Global,
+    input: &mut R,
+    output: &mut W,
+) -> Result<()> {
+    let mut kept = Images::none(alloc);
+    for _ in 0..u64::MAX {
+        let mut line = String::new(alloc);
+        if input.read_line(&mut line)? == 0 {
+            break;
+        }
+        if let Some(names) = line.strip_prefix("lives ") {
+            lives::show(rt, alloc, names, output)?;
+        } else if let Some(images) = stopped(rt, alloc, &kept, &line, output)? {
+            kept = images;
+        }
+        writeln!(output, "end")?;
+        output.flush()?;
+    }
+    Ok(())
+}
+
+/// Makes a trial of stages, and shows what the files hold then; or gives the files, if they are to be kept.
+fn stopped<F: FileHandle + AllocGlobal, W: Write>(
+    rt: &F,
+    alloc: Global,
+    kept: &Images,
+    line: &str,
+    output: &mut W,
+) -> Result<Option<Images>> {
+    let (stages, keeps) = stage::stages_of(alloc, line)?;
+    let images = carry_out(rt, alloc, kept, &stages, output)?;
+    if keeps {
+        return Ok(Some(images));
+    }
+    rows::show(alloc, &images, output)?;
+    Ok(None)
+}
+
+/// What the files hold after these stages.
+fn carry_out<F: FileHandle + AllocGlobal, W: Write>(
+    rt: &F,
+    alloc: Global,
+    kept: &Images,
+    stages: &[Stage<'_>],
+    output: &mut W,
+) -> Result<Images> {
+    let mut images = kept.copied()?;
+    for stage in stages {
+        images = work::carry_out(rt, alloc, &images, stage, output)?;
+    }
+    Ok(images)
+}

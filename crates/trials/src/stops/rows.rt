@@ -1,0 +1,82 @@
+//! The rows that are found in the files.
+
+use anyhow::{Result, anyhow};
+use crate::stops::disk::Images;
+use sqlite::types::ValueRef;
+use sqlite::{Alter, Connection, Options, Row};
+use sqlite_disk::Disk;
+use std::alloc::Global;
+use std::io::Write;
+use std::str;
+use wb_store::{find_office, opening_fault};
+
+/// Each table of an office with the statement that reads it.
+const TABLES: [(&str, &str); 6] = [
+    ("office", "SELECT id, format, handed, accepted FROM office"),
+    ("arch", "SELECT name, os, cpu FROM arch ORDER BY name"),
+    (
+        "builder",
+        "SELECT name, arch FROM builder ORDER BY name, arch",
+    ),
+    (
+        "source_record",
+        "SELECT arch, source, state, version, priority, section, earlier, number, holder, take, waits, depends, note, message, build_priority, rank FROM source_record ORDER BY arch, source",
+    ),
+    ("scratch_source", "SELECT seq FROM scratch_source"),
+    ("scratch_binary", "SELECT seq FROM scratch_binary"),
+];
+
+/// Writes each row of the office in the files, or why there is none.
+pub(crate) fn show<W: Write>(alloc: Global, images: &Images, output: &mut W) -> Result<()> {
+    let files = images.files(alloc, u64::MAX, u64::MAX)?;
+    if !files.log.may_be_used() || !files.db.may_be_used() {
+        return Err(anyhow!("a file cannot be used"));
+    }
+    let mut conn = match wb_sql::open(alloc, files, Options::new(2)) {
+        Ok(conn) => conn,
+        Err((error, _)) => {
+            writeln!(output, "fault {}", opening_fault(error).name())?;
+            return Ok(());
+        }
+    };
+    if let Err(fault) = find_office(&mut conn) {
+        writeln!(output, "fault {}", fault.name())?;
+        return Ok(());
+    }
+    for (table, statement) in &TABLES {
+        show_table(&mut conn, table, statement, output)?;
+    }
+    Ok(())
+}
+
+/// Writes the rows that a statement reads.
+fn show_table<S: Alter, W: Write>(
+    conn: &mut Connection<S>,
+    table: &str,
+    statement: &str,
+    output: &mut W,
+) -> Result<()> {
+    let rows = match wb_sql::read(conn, statement, &[]) {
+        Ok(rows) => rows,
+        Err(_) => return Err(anyhow!("the table {table} cannot be read")),
+    };
+    for row in &rows {
+        show_row(row, table, output)?;
+    }
+    Ok(())
+}
+
+/// Writes a row: the name of its table and its values.
+fn show_row<W: Write>(row: &Row, table: &str, output: &mut W) -> Result<()> {
+    write!(output, "{table}")?;
+    for at in 0..row.column_count() {
+        match row.get_ref(at) {
+            Ok(ValueRef::Null) => write!(output, " null")?,
+            Ok(ValueRef::Int(number)) => write!(output, " {number}")?,
+            Ok(ValueRef::Text(bytes)) => write!(output, " {:?}", str::from_utf8(bytes)?)?,
+            _ => return Err(anyhow!("a value of {table} is neither a number nor a text")),
+        }
+    }
+    writeln!(output)?;
+    Ok(())
+}

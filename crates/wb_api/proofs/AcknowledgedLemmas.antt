@@ -1,0 +1,114 @@
+-- What a status of 200 says of the office.
+use Rattle.std.proofs.Common.{◌≡◌, ℕ, List, Option, Result, Ok, Err, IsOk, inl, inr, refl, sym, ap, ◌∙◌, subst}
+use Rattle.wb_states.specs.Commands.{name_of_command}
+use Rattle.wb_states.specs.Machine.{Machine}
+use Rattle.wb_states.specs.declared.command.Command.{Command}
+use Rattle.wb_states.specs.declared.refusal.Refusal.{Refusal}
+use Rattle.wb_states.specs.declared.refusal.Refusal.TheVariants.{UnknownArch, UnknownBuilder, WrongArch, UnknownSource, OtherVersion, WrongState, QueueEmpty, NotHeld, AfterAhead, AlreadyThere, BadName, BadVersion, BadRelations, BadNumber, BadListing, TextTooLong, Spent, RepeatedArch, Closed, Store, Memory}
+use Rattle.wb_states.specs.declared.reply.Reply.{Reply}
+use Rattle.wb_step.specs.Offices.{Standing, Open}
+use Rattle.wb_step.specs.Step.{step}
+use Rattle.wb_api.specs.Requests.{Answers}
+use Rattle.wb_streams.specs.declared.fault.Fault.{Fault}
+use Rattle.wb_api.specs.declared.request.Received.{Received}
+use Rattle.wb_api.specs.declared.request.Received.TheVariants as received
+use Rattle.wb_api.specs.declared.request.Request.{Request}
+use Rattle.wb_api.specs.declared.request.Request.TheVariants as request
+use Rattle.wb_streams.specs.declared.status.Status.TheVariants as code
+use Rattle.wb_api.specs.Exchange.{Exchanges, IsAnswer, IsRefusal, Response, Responds, Sends, TellsOk, memory_response, reply_response, status_of_refusal}
+use Rattle.wb_api.specs.declared.serve.Served.{Served}
+use Rattle.wb_api.specs.declared.serve.Served.TheVariants as served
+
+-- no refusal is told with 200
+pub refusal-not_ok : (refusal : Refusal) → ¬ (status_of_refusal refusal ≡ code.Ok)
+refusal-not_ok UnknownArch e = cc
+refusal-not_ok UnknownBuilder e = cc
+refusal-not_ok WrongArch e = cc
+refusal-not_ok UnknownSource e = cc
+refusal-not_ok (OtherVersion have) e = cc
+refusal-not_ok (WrongState state) e = cc
+refusal-not_ok QueueEmpty e = cc
+refusal-not_ok NotHeld e = cc
+refusal-not_ok (AfterAhead handed) e = cc
+refusal-not_ok AlreadyThere e = cc
+refusal-not_ok BadName e = cc
+refusal-not_ok (BadVersion fault) e = cc
+refusal-not_ok (BadRelations fault) e = cc
+refusal-not_ok BadNumber e = cc
+refusal-not_ok (BadListing which paragraph fault) e = cc
+refusal-not_ok TextTooLong e = cc
+refusal-not_ok Spent e = cc
+refusal-not_ok RepeatedArch e = cc
+refusal-not_ok Closed e = cc
+refusal-not_ok Memory e = cc
+refusal-not_ok (Store fault) e = cc
+
+pub memory-not_ok : (machine : Machine) (response : Response) → response ≡ memory_response machine → ¬ (response.status ≡ code.Ok)
+memory-not_ok machine response same e = refusal-not_ok Memory (sym (ap (λ (r : Response). r.status) same) ∙ e)
+
+pub is_refusal-not_ok : (machine : Machine) (refusal : Refusal) (response : Response) → IsRefusal machine refusal response → ¬ (response.status ≡ code.Ok)
+is_refusal-not_ok machine refusal response (inl same) e = refusal-not_ok refusal (sym (ap (λ (r : Response). r.status) same) ∙ e)
+is_refusal-not_ok machine refusal response (inr (long, same)) e = memory-not_ok machine response same e
+
+-- a command that is answered with 200 was replied to
+reply-ok : (name : List ℕ) (result : Result Reply Refusal) (after : Machine) → (reply_response name result after).status ≡ code.Ok
+    → IsOk result × ((reply_response name result after).machine ≡ after)
+reply-ok name (Ok reply) after e = (refl, refl)
+reply-ok name (Err refusal) after e = absurd (refusal-not_ok refusal e)
+
+-- what was written with 200 is an answer with that status
+pub sends-ok : (response : Response) (old new : Option (List ℕ)) (result : Served) → Sends response old new result → TellsOk result → response.status ≡ code.Ok
+sends-ok response old new result sent (inl e) = let told = subst (λ r. Sends response old new r) e sent in sym told.0
+sends-ok response old new result sent (inr e) = let told = subst (λ r. Sends response old new r) e sent in sym told.0
+
+-- an exchange that was silent told no status
+silent-not_ok : (result other : Served) → result ≡ other → ¬ (TellsOk other) → ¬ (TellsOk result)
+silent-not_ok result other e none tells = none (subst TellsOk e tells)
+
+failed-not_ok : ¬ (TellsOk served.ReadFailed)
+failed-not_ok (inl e) = cc
+failed-not_ok (inr e) = cc
+
+mute-not_ok : ¬ (TellsOk served.Mute)
+mute-not_ok (inl e) = cc
+mute-not_ok (inr e) = cc
+
+-- a command that was answered with 200 is done, and the office answers further ones
+abbrev pub IsDone : Machine → Machine → Standing → Command → Type 0
+IsDone before after standing command =
+    IsOk (step before command).0 × (after ≡ (step before command).1) × (standing ≡ Open)
+
+answer-done : (before after : Machine) (standing : Standing) (command : Command) (response : Response)
+    → IsAnswer before (request.Command command) response standing → after ≡ response.machine → response.status ≡ code.Ok
+    → IsDone before after standing command
+answer-done before after standing command response (inl (inl same, open_still)) is ok =
+    let done = reply-ok (name_of_command command) (step before command).0 (step before command).1 (sym (ap (λ (r : Response). r.status) same) ∙ ok) in
+    (done.0, is ∙ ap (λ (r : Response). r.machine) same ∙ done.1, open_still)
+answer-done before after standing command response (inl (inr (lacks, same), open_still)) is ok = absurd (memory-not_ok before response same ok)
+answer-done before after standing command response (inr (inl (refused, shut))) is ok = absurd (is_refusal-not_ok before Closed response refused ok)
+answer-done before after standing command response (inr (inr (fault, refused, doubt))) is ok = absurd (is_refusal-not_ok before (Store fault) response refused ok)
+
+responds-done : (asked : Request) (before after : Machine) (standing : Standing) (old new : Option (List ℕ)) (result : Served) (command : Command)
+    → Responds asked before after standing old new result → asked ≡ request.Command command → TellsOk result → IsDone before after standing command
+responds-done asked before after standing old new result command (inl (response, answers, is, sent)) same tells =
+    answer-done before after standing command response (subst (λ r. IsAnswer before r response standing) same answers) is
+    (sends-ok response old new result sent tells)
+responds-done asked before after standing old new result command (inr mute) same tells =
+    absurd (silent-not_ok result served.Mute mute.5 mute-not_ok tells)
+
+fault_apart : {asked : Request} {fault : Fault} → ¬ (◌≡◌ {A = Result Request Fault} (Ok asked) (Err fault))
+fault_apart e = cc
+
+same_request : (one other : Request) → ◌≡◌ {A = Result Request Fault} (Ok one) (Ok other) → other ≡ one
+same_request one other e = cc
+
+-- a command that was received and answered with 200 is done
+pub exchange-done : (got : Received) (before after : Machine) (standing : Standing) (old new : Option (List ℕ)) (result : Served) (command : Command)
+    → Exchanges got before after standing old new result → Answers (Ok (request.Command command)) got → TellsOk result → IsDone before after standing command
+exchange-done received.Nothing before after standing old new result command did means tells = absurd means
+exchange-done received.Failed before after standing old new result command did means tells = absurd (silent-not_ok result served.ReadFailed did.3 failed-not_ok tells)
+exchange-done received.Memory before after standing old new result command did means tells =
+    absurd (memory-not_ok before (memory_response before) refl (sends-ok (memory_response before) old new result did.2 tells))
+exchange-done (received.Refused fault) before after standing old new result command did means tells = absurd (fault_apart means)
+exchange-done (received.Asked asked) before after standing old new result command did means tells =
+    responds-done asked before after standing old new result command did (same_request (request.Command command) asked means) tells

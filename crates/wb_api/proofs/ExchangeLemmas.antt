@@ -1,0 +1,121 @@
+-- Lemmas on what may be answered to a request.
+use Rattle.std.proofs.Common.{◌≡◌, ℕ, Bool, true, false, cond, List, Option, None, Some, Result, Ok, Err, IsOk, inl, inr, refl, sym, ap, ◌∙◌, subst}
+use Rattle.std.proofs.lemmas.Bool.{false≢true}
+use Rattle.std.specs.FinMap as map
+use Rattle.wb_states.specs.Commands.{name_of_command}
+use Rattle.wb_states.specs.Machine.{Machine}
+use Rattle.wb_states.specs.declared.command.Command.{Command}
+use Rattle.wb_states.specs.declared.refusal.Refusal.{Refusal}
+use Rattle.wb_states.specs.declared.record.Record.{Record}
+use Rattle.wb_states.specs.declared.refusal.Refusal.TheVariants.{BadName, Memory, UnknownArch, UnknownBuilder, UnknownSource}
+use Rattle.wb_states.specs.declared.reply.Reply.{Reply}
+use Rattle.wb_step.proofs.CountedLemmas.{step-unchanged}
+use Rattle.wb_states.specs.Machine.{is_unknown_arch, is_unknown_builder}
+use Rattle.wb_step.specs.Offices.{Open}
+use Rattle.wb_states.specs.Queries.{answer_in, answer_of, found_at, has_malformed_name}
+use Rattle.wb_states.specs.declared.query.Answer.{Answer as Found}
+use Rattle.wb_step.specs.Step.{step}
+use Rattle.wb_api.proofs.PlainLemmas.{refusal_text-Memory}
+use Rattle.wb_api.specs.Encoding.{is_plain, reply_text}
+use Rattle.wb_api.specs.Queries.{query_text}
+use Rattle.wb_states.specs.declared.query.Query.{Query}
+use Rattle.wb_states.specs.declared.query.Query.TheVariants as query
+use Rattle.wb_streams.specs.declared.status.Status.TheVariants as code
+use Rattle.wb_api.specs.Exchange.{IsCommandAnswer, IsQueryAnswer, IsRefusal, Response, command_response, found_response, memory_response, refusal_response, reply_response}
+
+-- what is answered to a refused command is the refusal
+refused-response : (machine : Machine) (command : Command) (refusal : Refusal) → (step machine command).0 ≡ Err refusal
+    → command_response machine command ≡ refusal_response machine refusal
+refused-response machine command refusal e =
+    ap (λ (r : Result Reply Refusal). reply_response (name_of_command command) r (step machine command).1) e
+    ∙ ap (reply_response (name_of_command command) (Err refusal)) (step-unchanged machine command refusal e)
+
+-- the reply to a command is answered
+pub reply-answered : (machine : Machine) (command : Command) (reply : Reply) (text : List ℕ)
+    → (step machine command).0 ≡ Ok reply → text ≡ reply_text (name_of_command command) reply
+    → IsCommandAnswer machine command (record { status = code.Ok; body = text; machine = (step machine command).1 }) Open
+reply-answered machine command reply text e said =
+    inl (
+      inl (ap (λ t. record { status = code.Ok; body = t; machine = (step machine command).1 }) said
+          ∙ sym (ap (λ (r : Result Reply Refusal). reply_response (name_of_command command) r (step machine command).1) e)),
+      refl,
+    )
+
+-- a refusal of the machine is answered, or that there is no memory for its text
+pub refusal-answered : (machine : Machine) (command : Command) (refusal : Refusal) (response : Response)
+    → (step machine command).0 ≡ Err refusal → IsRefusal machine refusal response → IsCommandAnswer machine command response Open
+refusal-answered machine command refusal response e (inl same) = inl (inl (same ∙ sym (refused-response machine command refusal e)), refl)
+refusal-answered machine command refusal response e (inr (long, same)) = inl (inr (inl (inr (refusal, e, long)), same), refl)
+
+-- the text of the refusal for want of memory is a constant
+pub memory-refusal : (machine : Machine) (response : Response) → IsRefusal machine Memory response → response ≡ memory_response machine
+memory-refusal machine response (inl same) =
+    same ∙ ap (λ t. record { status = code.ServiceUnavailable; body = t; machine = machine }) refusal_text-Memory
+memory-refusal machine response (inr (long, same)) = same
+
+-- that there is no memory is answered to a command that may want some
+pub memory-answered : (machine : Machine) (command : Command) (response : Response)
+    → MayWantMemory command → IsRefusal machine Memory response → IsCommandAnswer machine command response Open
+memory-answered machine command response wants is = inl (inr (inl (inl wants), memory-refusal machine response is), refl)
+
+-- that there is no memory is answered to a command whose reply repeats an assignment
+pub repeat-answered : (machine : Machine) (command : Command) (reply : Reply) (response : Response)
+    → (step machine command).0 ≡ Ok reply → (step machine command).1 ≡ machine → response ≡ memory_response machine
+    → IsCommandAnswer machine command response Open
+repeat-answered machine command reply response e same is =
+    inl (inr (inr (subst (λ (result : Result Reply Refusal). IsOk result) (sym e) refl, same), is), refl)
+
+-- ---- queries
+
+formed-found : {X : Type 0} (b : Bool) (bad : Refusal) (rest : Result X Refusal) (found : X) → cond b (Err bad) rest ≡ Ok found → b ≡ false
+formed-found true bad rest found e = cc
+formed-found false bad rest found e = refl
+
+-- what is found was asked for by names that are well formed
+found-formed : (machine : Machine) (query : Query) (found : Found) → answer_of machine query ≡ Ok found → has_malformed_name query ≡ false
+unfolding answer_of
+found-formed machine query found e = formed-found (has_malformed_name query) BadName (answer_in machine query) found e
+
+plain-unless : {X : Type 0} (b : Bool) (bad refusal : Refusal) (rest : Result X Refusal) → is_plain bad ≡ true → (rest ≡ Err refusal → is_plain refusal ≡ true)
+    → cond b (Err bad) rest ≡ Err refusal → is_plain refusal ≡ true
+plain-unless true bad refusal rest plain others e = let same : bad ≡ refusal = cc e in subst (λ r. is_plain r ≡ true) same plain
+plain-unless false bad refusal rest plain others e = others e
+
+plain-found : (arch source : List ℕ) (found : Option Record) (refusal : Refusal) → found_at arch source found ≡ Err refusal → is_plain refusal ≡ true
+plain-found arch source None refusal e = let same : UnknownSource ≡ refusal = cc e in subst (λ r. is_plain r ≡ true) same refl
+plain-found arch source (Some current) refusal e = cc
+
+plain-held : {X : Type 0} (held : X) (refusal : Refusal) → ◌≡◌ {A = Result X Refusal} (Ok held) (Err refusal) → is_plain refusal ≡ true
+plain-held held refusal e = cc
+
+plain-in : (machine : Machine) (query : Query) (refusal : Refusal) → answer_in machine query ≡ Err refusal → is_plain refusal ≡ true
+plain-in machine (query.Item arch source) refusal e =
+    plain-unless (is_unknown_arch machine arch) UnknownArch refusal _ refl (plain-found arch source (map.get machine.records (arch, source)) refusal) e
+plain-in machine (query.Mine builder) refusal e = plain-unless (is_unknown_builder machine builder) UnknownBuilder refusal _ refl (plain-held _ refusal) e
+
+-- the refusal of a query tells no more than its number and its name
+plain-query : (machine : Machine) (query : Query) (refusal : Refusal) → answer_of machine query ≡ Err refusal → is_plain refusal ≡ true
+unfolding answer_of
+plain-query machine query refusal e = plain-unless (has_malformed_name query) BadName refusal (answer_in machine query) refl (plain-in machine query refusal) e
+
+-- what was found is answered
+pub found-answered : (machine : Machine) (query : Query) (found : Found) (text : List ℕ) → answer_of machine query ≡ Ok found → text ≡ query_text found
+    → IsQueryAnswer machine query (record { status = code.Ok; body = text; machine = machine }) Open
+found-answered machine query found text e said =
+    inl (inl (ap (λ t. record { status = code.Ok; body = t; machine = machine }) said ∙ sym (ap (found_response machine) e)), refl)
+
+-- there is no memory for the text of what was found
+pub found-unsaid : (machine : Machine) (query : Query) (found : Found) (response : Response) → answer_of machine query ≡ Ok found
+    → response ≡ memory_response machine → IsQueryAnswer machine query response Open
+found-unsaid machine query found response e is = inl (inr (found-formed machine query found e, is), refl)
+
+-- the refusal of a query is answered
+pub query-refused : (machine : Machine) (query : Query) (refusal : Refusal) (response : Response) → answer_of machine query ≡ Err refusal
+    → IsRefusal machine refusal response → IsQueryAnswer machine query response Open
+query-refused machine query refusal response e (inl same) = inl (inl (same ∙ sym (ap (found_response machine) e)), refl)
+query-refused machine query refusal response e (inr (long, same)) = absurd (false≢true (sym long ∙ plain-query machine query refusal e))
+
+-- that there is no memory is answered to a query whose names are well formed
+pub query-unasked : (machine : Machine) (query : Query) (response : Response) → has_malformed_name query ≡ false → IsRefusal machine Memory response
+    → IsQueryAnswer machine query response Open
+query-unasked machine query response wants is = inl (inr (wants, memory-refusal machine response is), refl)

@@ -1,0 +1,11 @@
+-- What a proof unfolds, beside the definitions of `httparse` and `serde_json`, to compute what a request asks for.
+use Rattle.std.specs.Prelude.{⊤}
+use Rattle.std.specs.Fmt.{digits}
+use Rattle.std.specs.Str.{chars, is_utf8}
+use Rattle.wb_api.specs.Commands.{attempted_in, build_priority_in, command_of, json_of, subject_in}
+use Rattle.wb_streams.specs.Fields.{is_same_number, length_stated, limited}
+use Rattle.wb_api.specs.Requests.{body_asked, command_wanted}
+
+unfoldable pub http_on_literals : ⊤
+unfolding digits chars is_utf8 attempted_in build_priority_in command_of json_of subject_in is_same_number length_stated limited body_asked command_wanted
+http_on_literals = tt

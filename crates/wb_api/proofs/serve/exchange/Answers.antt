@@ -1,0 +1,58 @@
+-- What was received is what the input means, and it was answered.
+use Rattle.std.proofs.Common.{refl, subst, sym, ◌∙◌}
+use Rattle.std.proofs.lemmas.Bool.{false≢true}
+use Rattle.wb_api.specs.declared.request.Received.TheVariants as received
+use Rattle.wb_step.specs.Offices.{Open}
+use Rattle.wb_api.specs.Exchange.{Sends}
+use Rattle.wb_api.proofs.serve.exchange.Goals as goal
+
+pub returns-in-Nothing-clause-value : goal.returns-in-Nothing-clause-value
+returns-in-Nothing-clause-value g c = (
+  received.Nothing,
+  record { value = c.in-Nothing.ensures.value; failed = c.in-Nothing.ensures.failed; front = c.in-Nothing.ensures.front; bound = c.in-Nothing.ensures.bound },
+  λ _. refl,
+  λ before clean stands. (before, Open, stands, (refl, refl, refl, refl)),
+)
+
+pub returns-in-Failed-clause-value : goal.returns-in-Failed-clause-value
+returns-in-Failed-clause-value g c = (
+  received.Failed,
+  record { value = c.in-Failed.ensures.value; failed = c.in-Failed.ensures.failed; front = c.in-Failed.ensures.front; bound = c.in-Failed.ensures.bound },
+  λ _. refl,
+  λ before clean stands. (before, Open, stands, (refl, refl, refl, refl)),
+)
+
+pub returns-in-Memory-clause-value : goal.returns-in-Memory-clause-value
+returns-in-Memory-clause-value g c = (
+  received.Memory,
+  record { value = c.in-Memory.ensures.value; failed = c.in-Memory.ensures.failed; front = c.in-Memory.ensures.front; bound = c.in-Memory.ensures.bound },
+  λ _. refl,
+  λ before clean stands.
+      let sent = subst (λ response. Sends response c.args.writer.now.bytes c.send.new.writer.bytes c.send.result) (c.memory_answer.ensures.value before) (c.send.ensures.value before) in
+      (before, Open, stands, (refl, refl, sent)),
+)
+
+pub returns-in-Memory-clause-silent : goal.returns-in-Memory-clause-silent
+returns-in-Memory-clause-silent g c = λ silent. absurd (false≢true (sym c.send.ensures.spoken ∙ silent))
+
+pub returns-in-Refused-clause-value : goal.returns-in-Refused-clause-value
+returns-in-Refused-clause-value g c = (
+  received.Refused c.in-Refused.fault,
+  record { value = c.in-Refused.ensures.value; failed = c.in-Refused.ensures.failed; front = c.in-Refused.ensures.front; bound = c.in-Refused.ensures.bound },
+  λ _. refl,
+  λ before clean stands.
+      let sent = subst (λ response. Sends response c.args.writer.now.bytes c.send-in-Refused.new.writer.bytes c.send-in-Refused.result)
+      (c.fault_answer.ensures.value before) (c.send-in-Refused.ensures.value before) in
+      (before, Open, stands, (refl, refl, sent)),
+)
+
+pub returns-in-Refused-clause-silent : goal.returns-in-Refused-clause-silent
+returns-in-Refused-clause-silent g c = λ silent. absurd (false≢true (sym c.send-in-Refused.ensures.spoken ∙ silent))
+
+pub returns-in-Asked-clause-value : goal.returns-in-Asked-clause-value
+returns-in-Asked-clause-value g c = (
+  received.Asked c.in-Asked.request,
+  record { value = c.in-Asked.ensures.value; failed = c.in-Asked.ensures.failed; front = c.in-Asked.ensures.front; bound = c.in-Asked.ensures.bound },
+  λ e. absurd (false≢true (sym e)),
+  c.respond.ensures.value,
+)

@@ -1,0 +1,196 @@
+-- What is answered to a request over HTTP, and what the request does to the office.
+use Rattle.std.specs.Prelude.{◌≡◌, ◌⊎◌, ℕ, Bool, true, false, List, Option, IfSome, Result, Ok, Err}
+use Rattle.std.specs.Cow.{cow_str_bytes}
+use Rattle.std.specs.Io.KnownBytes.{Appends, Consumes}
+use Rattle.wb_states.specs.Commands.{name_of_command}
+use Rattle.wb_states.specs.Machine.{Machine}
+use Rattle.wb_states.specs.declared.command.Command.{Command}
+use Rattle.wb_states.specs.declared.refusal.Refusal.{Refusal}
+use Rattle.wb_states.specs.declared.refusal.Refusal.TheVariants.{UnknownArch, UnknownBuilder, WrongArch, UnknownSource, OtherVersion, WrongState, QueueEmpty, NotHeld, AfterAhead, AlreadyThere, BadName, BadVersion, BadRelations, BadNumber, BadListing, TextTooLong, Spent, RepeatedArch, Closed, Store, Memory}
+use Rattle.wb_states.specs.declared.reply.Reply.{Reply}
+use Rattle.wb_states.specs.declared.store_fault.StoreFault.{StoreFault}
+use Rattle.wb_step.specs.Offices.{Accepts, Standing, Open, Shut, InDoubt, Failed}
+use Rattle.wb_states.specs.Queries.{answer_of, has_malformed_name}
+use Rattle.wb_states.specs.declared.query.Answer.{Answer as Found}
+use Rattle.wb_step.specs.Step.{step}
+use Rattle.wb_api.specs.Encoding.{is_plain, memory_text, refusal_text, reply_text}
+use Rattle.wb_api.specs.Memory.{MayLackMemory}
+use Rattle.wb_api.specs.Queries.{query_text}
+use Rattle.wb_streams.specs.Answers.{answer_bytes, fault_text, status_of_fault}
+use Rattle.wb_streams.specs.Streams.{AppendsFront}
+use Rattle.wb_api.specs.Requests.{IsRequestFront, IsWithinRequest, Means, is_failed}
+use Rattle.wb_streams.specs.declared.fault.Fault.{Fault}
+use Rattle.wb_api.specs.declared.request.Received.{Received}
+use Rattle.wb_api.specs.declared.request.Received.TheVariants as received
+use Rattle.wb_api.specs.declared.request.Request.{Request}
+use Rattle.wb_api.specs.declared.request.Request.TheVariants as request
+use Rattle.wb_states.specs.declared.query.Query.{Query}
+use Rattle.wb_streams.specs.declared.status.Status.{Status}
+use Rattle.wb_streams.specs.declared.status.Status.TheVariants as code
+use Rattle.wb_streams.specs.Streams.{Flags, Stream}
+use Rattle.wb_api.specs.declared.answer.Answer.{Answer}
+use Rattle.wb_api.specs.declared.serve.Served.{Served}
+use Rattle.wb_api.specs.declared.serve.Served.TheVariants as served
+
+-- what is answered to a request: the status, the body, and the state of the office after it
+pub record Response : Type 0 where
+  pub status : Status
+  pub body : List ℕ
+  pub machine : Machine
+
+-- an answer as a response, with the state of the office after it
+abbrev pub response_of_answer : Answer → Machine → Response
+response_of_answer answer after = record { status = answer.status; body = cow_str_bytes answer.text; machine = after }
+
+-- ---- what is answered
+
+-- the status of the answer to a refusal (RFC 9110, sections 15.5 and 15.6)
+abbrev pub status_of_refusal : Refusal → Status
+status_of_refusal UnknownArch = code.NotFound
+status_of_refusal UnknownBuilder = code.NotFound
+status_of_refusal WrongArch = code.Conflict
+status_of_refusal UnknownSource = code.NotFound
+status_of_refusal (OtherVersion have) = code.Conflict
+status_of_refusal (WrongState state) = code.Conflict
+status_of_refusal QueueEmpty = code.Conflict
+status_of_refusal NotHeld = code.Conflict
+status_of_refusal (AfterAhead handed) = code.Conflict
+status_of_refusal AlreadyThere = code.Conflict
+status_of_refusal BadName = code.UnprocessableEntity
+status_of_refusal (BadVersion fault) = code.UnprocessableEntity
+status_of_refusal (BadRelations fault) = code.UnprocessableEntity
+status_of_refusal BadNumber = code.UnprocessableEntity
+status_of_refusal (BadListing which paragraph fault) = code.UnprocessableEntity
+status_of_refusal TextTooLong = code.UnprocessableEntity
+status_of_refusal Spent = code.Conflict
+status_of_refusal RepeatedArch = code.UnprocessableEntity
+status_of_refusal Closed = code.ServiceUnavailable
+status_of_refusal Memory = code.ServiceUnavailable
+status_of_refusal (Store fault) = code.ServiceUnavailable
+
+-- a refusal, which leaves the office as it was
+abbrev pub refusal_response : Machine → Refusal → Response
+refusal_response machine refusal = record { status = status_of_refusal refusal; body = refusal_text refusal; machine = machine }
+
+-- there is no memory for the request or its answer, which leaves the office as it was
+abbrev pub memory_response : Machine → Response
+memory_response machine = record { status = code.ServiceUnavailable; body = memory_text; machine = machine }
+
+-- a fault of the request, about which the office is not asked
+abbrev pub fault_response : Machine → Fault → Response
+fault_response machine fault = record { status = status_of_fault fault; body = fault_text fault; machine = machine }
+
+-- the office answers a command of this name, and is then in this state
+abbrev pub reply_response : List ℕ → Result Reply Refusal → Machine → Response
+reply_response name (Ok reply) after = record { status = code.Ok; body = reply_text name reply; machine = after }
+reply_response name (Err refusal) after = record { status = status_of_refusal refusal; body = refusal_text refusal; machine = after }
+
+-- what is answered to a command
+abbrev pub command_response : Machine → Command → Response
+command_response machine command =
+    reply_response (name_of_command command) (step machine command).0 (step machine command).1
+
+-- what was found is answered, or the refusal
+abbrev pub found_response : Machine → Result Found Refusal → Response
+found_response machine (Ok found) = record { status = code.Ok; body = query_text found; machine = machine }
+found_response machine (Err refusal) = refusal_response machine refusal
+
+-- what is answered to a query, which leaves the office as it was
+abbrev pub query_response : Machine → Query → Response
+query_response machine query = found_response machine (answer_of machine query)
+
+-- ---- what may be answered, and how the office then stands
+
+-- the answer is a refusal, or that there is no memory for its text; a constant text needs none
+abbrev pub IsRefusal : Machine → Refusal → Response → Type 0
+IsRefusal machine refusal response =
+    (response ≡ refusal_response machine refusal) ⊎ ((is_plain refusal ≡ false) × (response ≡ memory_response machine))
+
+-- what was asked is refused because the office is closed or because the store failed, and the office then stands so
+abbrev pub IsRefusedByStore : Machine → Standing → Response → Standing → Type 0
+IsRefusedByStore machine failed response standing =
+    (IsRefusal machine Closed response × (standing ≡ Shut))
+    ⊎ ((fault : StoreFault) × IsRefusal machine (Store fault) response × (standing ≡ failed))
+
+-- what may be answered to a command: its reply or its refusal, or that there is no memory for it
+abbrev pub IsCommandAnswer : Machine → Command → Response → Standing → Type 0
+IsCommandAnswer machine command response standing =
+    (((response ≡ command_response machine command)
+    ⊎ (MayLackMemory machine command × (response ≡ memory_response machine))) × (standing ≡ Open))
+    ⊎ IsRefusedByStore machine (InDoubt command) response standing
+
+-- what may be answered to a query: what was found or its refusal, or that there is no memory for it, if no name in it is malformed
+abbrev pub IsQueryAnswer : Machine → Query → Response → Standing → Type 0
+IsQueryAnswer machine query response standing =
+    (((response ≡ query_response machine query)
+    ⊎ ((has_malformed_name query ≡ false) × (response ≡ memory_response machine))) × (standing ≡ Open))
+    ⊎ IsRefusedByStore machine Failed response standing
+
+-- what may be answered to a request
+abbrev pub IsAnswer : Machine → Request → Response → Standing → Type 0
+IsAnswer machine (request.Command command) response standing = IsCommandAnswer machine command response standing
+IsAnswer machine (request.Query query) response standing = IsQueryAnswer machine query response standing
+
+-- ---- what is written, and what an exchange does
+
+-- an answer was written, or a front of it
+abbrev pub Sends : Response → Option (List ℕ) → Option (List ℕ) → Served → Type 0
+Sends response old new (served.Answered status) = (status ≡ response.status) × Appends old new (answer_bytes response.status response.body)
+Sends response old new (served.WriteFailed status) = (status ≡ response.status) × AppendsFront old new (answer_bytes response.status response.body)
+Sends response old new result = ⊥
+
+-- a request was answered, or its command was accepted and nothing was written, since there is no memory for the reply
+abbrev pub Responds : Request → Machine → Machine → Standing → Option (List ℕ) → Option (List ℕ) → Served → Type 0
+Responds asked before after standing old new result =
+    ((response : Response) × IsAnswer before asked response standing × (after ≡ response.machine) × Sends response old new result)
+    ⊎ ((command : Command) × (asked ≡ request.Command command) × Accepts before command after
+    × (standing ≡ Open) × (new ≡ old) × (result ≡ served.Mute))
+
+-- what an exchange did about what was received: only a request has the office do anything
+abbrev pub Exchanges : Received → Machine → Machine → Standing → Option (List ℕ) → Option (List ℕ) → Served → Type 0
+Exchanges received.Nothing before after standing old new result =
+    (after ≡ before) × (standing ≡ Open) × (new ≡ old) × (result ≡ served.Nothing)
+Exchanges received.Failed before after standing old new result =
+    (after ≡ before) × (standing ≡ Open) × (new ≡ old) × (result ≡ served.ReadFailed)
+Exchanges received.Memory before after standing old new result =
+    (after ≡ before) × (standing ≡ Open) × Sends (memory_response before) old new result
+Exchanges (received.Refused fault) before after standing old new result =
+    (after ≡ before) × (standing ≡ Open) × Sends (fault_response before fault) old new result
+Exchanges (received.Asked request) before after standing old new result =
+    Responds request before after standing old new result
+
+-- whether a request was received
+abbrev pub is_asked : Received → Bool
+is_asked received.Nothing = false
+is_asked received.Failed = false
+is_asked received.Memory = false
+is_asked (received.Refused fault) = false
+is_asked (received.Asked request) = true
+
+-- what was received is what the bytes of the reader mean, if they are known; the flag of the reader is set if the reader failed, and then what was
+-- read before was the front of a request, and not all of one; and no more is read than a request, with what the reads of its head may take
+pub record Receives (old new : Stream) (came : Received) : Type 0 where
+  pub value : IfSome old.bytes (λ input. Means input came)
+  pub failed : Flags (is_failed came) old new
+  pub front : came ≡ received.Failed → (seen : List ℕ) × Consumes old.bytes new.bytes seen × IsRequestFront seen
+  pub bound : (seen : List ℕ) × Consumes old.bytes new.bytes seen × IsWithinRequest seen
+
+-- whether an exchange ended without an answer
+abbrev pub is_silent : Served → Bool
+is_silent served.Nothing = true
+is_silent served.ReadFailed = true
+is_silent (served.Answered status) = false
+is_silent (served.WriteFailed status) = false
+is_silent served.Mute = true
+
+-- an answer with status 200 was written, or a front of it
+abbrev pub TellsOk : Served → Type 0
+TellsOk result = (result ≡ served.Answered code.Ok) ⊎ (result ≡ served.WriteFailed code.Ok)
+
+-- whether the writer failed
+abbrev pub fails_to_write : Served → Bool
+fails_to_write served.Nothing = false
+fails_to_write served.ReadFailed = false
+fails_to_write (served.Answered status) = false
+fails_to_write (served.WriteFailed status) = true
+fails_to_write served.Mute = false

@@ -1,0 +1,146 @@
+-- What the bytes of a connection ask for: one request (RFC 9112, section 2.1), and what follows it is ignored.
+use Rattle.std.specs.Prelude.{◌≡◌, ◌⊎◌, ℕ, ◌<◌, ◌≤◌, Bool, true, false, nat_le, List, [], ◌∷◌, length, take, map, codes, decimal, if◌then◌else◌}
+use Rattle.std.specs.Prelude.{Option, None, Some, option_map, Result, Ok, Err, ⊤}
+use Rattle.std.specs.Option.{option_or}
+use Rattle.std.specs.Str.{bytes_eq}
+use Rattle.httparse.specs.Grammar.{HasNoRequest, NeverHasRequest, ReadsRequest, RequestHead, crlf, print_request}
+use Rattle.httparse.specs.Spans.{name_and_value}
+use Rattle.wb_api.specs.Commands.{command_of}
+use Rattle.wb_streams.specs.Fields.{NameAndValue, content_length, has_field, length_stated, values_of}
+use Rattle.wb_streams.specs.Heads.{HasManyFields, IsHeadFront, IsUnfinished, field_limit, head_limit}
+use Rattle.wb_api.specs.Routes.{and_then, command_at, item_at, item_query, mine_at, mine_query}
+use Rattle.wb_streams.specs.declared.fault.Fault.{Fault}
+use Rattle.wb_streams.specs.declared.fault.Fault.TheVariants.{BadHead, BadPath, HeadTooLarge, NoRoute, WrongMethod, NotSupported, BodyCut}
+use Rattle.wb_api.specs.declared.failure.RequestError.{RequestError}
+use Rattle.wb_api.specs.declared.failure.RequestError.TheVariants as error
+use Rattle.wb_api.specs.declared.request.Received.{Received}
+use Rattle.wb_api.specs.declared.request.Received.TheVariants as received
+use Rattle.wb_api.specs.declared.request.Request.{Request}
+use Rattle.wb_api.specs.declared.request.Request.TheVariants as request
+use Rattle.wb_api.specs.declared.request.Wanted.{Wanted}
+use Rattle.wb_api.specs.declared.request.Wanted.TheVariants as wanted
+use Rattle.wb_api.specs.declared.route.CommandKind.{CommandKind}
+use Rattle.wb_states.specs.declared.query.Query.{Query}
+
+-- what the head of a command asks for: a body of the length that its fields state (RFC 9112, section 6)
+unfoldable pub command_wanted : CommandKind → List ℕ → List NameAndValue → Result Wanted Fault
+command_wanted kind method fields = if bytes_eq method (codes "POST")
+    then (if has_field (codes "transfer-encoding") fields then Err NotSupported
+    else and_then (length_stated (values_of content_length fields)) (λ n. Ok (wanted.Body kind n)))
+    else Err WrongMethod
+
+-- the query that has this target, if there is one
+unfoldable pub query_at : List ℕ → Option (Result Query Fault)
+query_at target = option_or (option_map (λ parts. item_query parts.0 parts.1) (item_at target)) (option_map mine_query (mine_at target))
+
+-- what the head of a query asks for
+abbrev pub query_wanted : Option (Result Query Fault) → List ℕ → Result Wanted Fault
+query_wanted None method = Err NoRoute
+query_wanted (Some query) method = if bytes_eq method (codes "GET") then and_then query (λ q. Ok (wanted.Query q)) else Err WrongMethod
+
+-- what a head asks for whose target is that of this command, or of no command
+abbrev pub wanted_by : Option CommandKind → List ℕ → List ℕ → List NameAndValue → Result Wanted Fault
+wanted_by (Some kind) method target fields = command_wanted kind method fields
+wanted_by None method target fields = query_wanted (query_at target) method
+
+-- what a head asks for
+abbrev pub wanted_of : RequestHead → Result Wanted Fault
+wanted_of head = wanted_by (command_at head.target) head.method head.target (map name_and_value head.fields)
+
+-- a head for which memory is taken: one without a fault, or one whose path is decoded before its fault is found
+abbrev pub TakesMemory : Result Wanted Fault → Type 0
+TakesMemory (Ok w) = ⊤
+TakesMemory (Err fault) = fault ≡ BadPath
+
+-- what a head asks for, or its fault; memory ran out only for what takes memory
+abbrev pub WantsOr : Result Wanted RequestError → Result Wanted Fault → Type 0
+WantsOr (Ok w) what = what ≡ Ok w
+WantsOr (Err (error.Fault fault)) what = what ≡ Err fault
+WantsOr (Err error.Memory) what = TakesMemory what
+
+-- what is asked for by a body of this many bytes at the front of what follows the head
+unfoldable pub body_asked : CommandKind → ℕ → List ℕ → Result Request Fault
+body_asked kind count rest = if nat_le count (length rest)
+    then and_then (command_of kind (take count rest)) (λ command. Ok (request.Command command)) else Err BodyCut
+
+-- what is asked for, with what follows the head
+abbrev pub asked_by : Wanted → List ℕ → Result Request Fault
+asked_by (wanted.Query query) rest = Ok (request.Query query)
+asked_by (wanted.Body kind count) rest = body_asked kind count rest
+
+-- what a head and what follows it ask for
+abbrev pub asked : RequestHead → List ℕ → Result Request Fault
+asked head rest = and_then (wanted_of head) (λ w. asked_by w rest)
+
+-- what a POST asks for with this target, this body, and the length of the body as its only field
+abbrev pub posted : List ℕ → List ℕ → Result Request Fault
+posted target body = asked (record {
+  blank = [];
+  method = codes "POST";
+  target = target;
+  minor = 1;
+  line_end = crlf;
+  fields = record { name = content_length; raw = decimal (length body); end = crlf } ∷ [];
+  last = crlf;
+}) body
+
+-- an input begins with this head, which is within the limits
+pub record IsHead (input : List ℕ) (head : RequestHead) (rest : List ℕ) : Type 0 where
+  pub reads : ReadsRequest input head rest
+  pub within : length (print_request head) ≤ head_limit
+  pub fields : length head.fields ≤ field_limit
+
+-- an input that begins with no head: nothing makes its first bytes one, or it ends inside a head
+abbrev pub HasBadHead : List ℕ → Type 0
+HasBadHead input = (0 < length input)
+    × (NeverHasRequest (take head_limit input) ⊎ ((length input < head_limit) × HasNoRequest input))
+
+-- an input whose head is longer, or has more fields, than a head may have
+abbrev pub HasLargeHead : List ℕ → Type 0
+HasLargeHead input = ((head_limit ≤ length input) × IsUnfinished (take head_limit input)) ⊎ HasManyFields input
+
+-- the fault of an input that begins with no head within the limits
+abbrev pub HasHeadFault : List ℕ → Fault → Type 0
+HasHeadFault input fault = ((fault ≡ BadHead) × HasBadHead input) ⊎ ((fault ≡ HeadTooLarge) × HasLargeHead input)
+
+-- what is received says what is asked for, or its fault, unless the reader failed or memory ran out
+abbrev pub Answers : Result Request Fault → Received → Type 0
+Answers what received.Nothing = ⊥
+Answers what received.Failed = ⊤
+Answers what received.Memory = ⊤
+Answers what (received.Refused fault) = what ≡ Err fault
+Answers what (received.Asked request) = what ≡ Ok request
+
+-- what is received of an input: nothing only if it is empty, else what its head and what follows ask for, or the fault of a head;
+-- memory ran out only after a head for which memory is taken
+abbrev pub Means : List ℕ → Received → Type 0
+Means input received.Nothing = input ≡ []
+Means input received.Failed = ⊤
+Means input received.Memory = (head : RequestHead) × (rest : List ℕ) × IsHead input head rest × TakesMemory (wanted_of head)
+Means input (received.Refused fault) = ((head : RequestHead) × (rest : List ℕ) × IsHead input head rest × (asked head rest ≡ Err fault))
+    ⊎ HasHeadFault input fault
+Means input (received.Asked request) = (head : RequestHead) × (rest : List ℕ) × IsHead input head rest × (asked head rest ≡ Ok request)
+
+-- how many bytes of a body a head asks for: none unless it is a command without a fault
+abbrev pub body_length : Result Wanted Fault → ℕ
+body_length (Ok (wanted.Query query)) = 0
+body_length (Ok (wanted.Body kind count)) = count
+body_length (Err fault) = 0
+
+-- the front of a request, and not all of one: the front of a head, or a head within the limits and less than the body that it asks for
+abbrev pub IsRequestFront : List ℕ → Type 0
+IsRequestFront seen = IsHeadFront seen
+    ⊎ ((head : RequestHead) × (rest : List ℕ) × IsHead seen head rest × (length rest < body_length (wanted_of head)))
+
+-- no more bytes than a head may have, or a head within the limits and no more than the body that it asks for
+abbrev pub IsWithinRequest : List ℕ → Type 0
+IsWithinRequest seen = (length seen ≤ head_limit)
+    ⊎ ((head : RequestHead) × (rest : List ℕ) × IsHead seen head rest × (length rest ≤ body_length (wanted_of head)))
+
+-- whether the reader failed
+abbrev pub is_failed : Received → Bool
+is_failed received.Nothing = false
+is_failed received.Failed = true
+is_failed received.Memory = false
+is_failed (received.Refused fault) = false
+is_failed (received.Asked request) = false

@@ -1,0 +1,83 @@
+//! The answer to one request, before it is written.
+ghost use Rattle.std.specs.Prelude.{◌≡◌, IfSome, None};
+ghost use Rattle.wb_states.specs.Machine.{Machine};
+ghost use Rattle.wb_step.specs.Offices.{Accepts, Leads, Reaches};
+ghost use Rattle.wb_api.specs.Exchange.{fault_response, IsCommandAnswer, IsRefusal, memory_response, response_of_answer};
+
+use crate::encode::reply_json;
+use crate::refusal::{refusal_json, try_refusal_json};
+use crate::status::status_of;
+use std::alloc::Global;
+use std::borrow::CowStr;
+use wb_states::{Command, Refusal};
+use wb_step::CarryOut;
+use wb_streams::{Fault, Status};
+
+/// The status of an answer, and its body.
+#[derive(Drop)]
+pub(crate) struct Answer {
+    pub(crate) status: Status,
+    pub(crate) text: CowStr<'static>,
+}
+
+/// The answer that memory ran out. It takes no memory.
+pub(crate) fn memory_answer(alloc: Global) -> Answer
+    ensures value { (machine : Machine) → response_of_answer result machine ≡ memory_response machine }
+{
+    Answer {
+        status: Status::ServiceUnavailable,
+        text: refusal_json(alloc, &Refusal::Memory),
+    }
+}
+
+/// The answer to a fault of the request. Takes no memory.
+pub(crate) fn fault_answer(fault: Fault) -> Answer
+    ensures value { (machine : Machine) → response_of_answer result machine ≡ fault_response machine fault }
+{
+    Answer {
+        status: fault.status(),
+        text: CowStr::Borrowed(fault.json()),
+    }
+}
+
+/// The answer to what was refused. It says that memory ran out if there is none for the text of the refusal.
+pub(crate) fn refusal_answer(alloc: Global, refusal: &Refusal) -> Answer
+    ensures value { (machine : Machine)
+        → IsRefusal machine refusal.now (response_of_answer result machine) }
+{
+    match try_refusal_json(alloc, refusal) {
+        Ok(text) => Answer {
+            status: status_of(refusal),
+            text,
+        },
+        Err(_) => memory_answer(alloc),
+    }
+}
+
+/// The answer of the office to a command, which it carries out first. It is `None` if the command was accepted and there
+/// is no memory for the reply; a reply that repeats an assignment accepts nothing.
+pub(crate) fn answer_command<O: CarryOut>(
+    alloc: Global,
+    office: &mut O,
+    command: &Command,
+) -> Option<Answer>
+    ensures clean { O.is_clean office.new → O.is_clean office.old }
+    ensures value { IfSome result (λ answer. Leads O.is_clean O.is_closed O.stands_at O.leaves
+        office.old office.new (λ before after standing. IsCommandAnswer before
+        command.now (response_of_answer answer after) standing)) }
+    ensures memory { result ≡ None → Reaches O.is_clean O.stands_at office.old office.new
+        (λ before after. Accepts before command.now after) }
+{
+    let accepted = office.accepted_count();
+    match office.carry_out(command) {
+        Ok(reply) => match reply_json(alloc, command.name(), &reply) {
+            Ok(text) => Some(Answer {
+                status: Status::Ok,
+                text: CowStr::Owned(text),
+            }),
+            Err(_) if office.accepted_count() == accepted => Some(memory_answer(alloc)),
+            Err(_) => None,
+        },
+        Err(refusal) => Some(refusal_answer(alloc, &refusal)),
+    }
+}

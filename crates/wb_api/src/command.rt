@@ -1,0 +1,330 @@
+//! The bodies of requests that give a command: JSON objects (RFC 8259).
+ghost use Rattle.std.specs.Prelude.{◌≡◌, codes, IfOk, option_map};
+ghost use Rattle.serde_json.specs.View.{view};
+ghost use Rattle.wb_api.specs.Commands.{attempted_in, build_priority_in, command_in, command_of, dep_wait_in, fail_in};
+ghost use Rattle.wb_api.specs.Commands.{give_back_in, integer_in, json_of, next_in, not_for_us_in, number_in};
+ghost use Rattle.wb_api.specs.Commands.{number_or_none_in, rebuild_in, subject_in, take_in, text_in, waits_in};
+ghost use Rattle.wb_api.specs.Outcomes.{GivesOr};
+
+use crate::failure::RequestError;
+use crate::route::CommandKind;
+use deb_text::Text;
+use serde_json::Value;
+use std::alloc::{AllocError, Global};
+use std::str;
+use wb_states::{Command, command};
+use wb_streams::Fault;
+
+/// The architecture, the source package and the version that a command names.
+#[derive(Drop)]
+struct Subject {
+    arch: Text,
+    source: Text,
+    version: Text,
+}
+
+/// The text under a key; `None` if there is no text. The only error is that memory ran out.
+fn text_in(alloc: Global, key: &str, body: &Value) -> Result<Option<Text>, AllocError>
+    ensures value { IfOk result (λ text. text ≡ text_in key.now (view body.now)) }
+{
+    match body.get(key).and_then(Value::as_str) {
+        Some(text) => Ok(Some(Text::copied(alloc, text)?)),
+        None => Ok(None),
+    }
+}
+
+/// The whole number under a key; `None` if there is none in digits alone, or one above 64 bits.
+fn number_in(key: &str, body: &Value) -> Option<u64>
+    ensures value { result ≡ number_in key.now (view body.now) }
+{
+    body.get(key).and_then(Value::as_u64)
+}
+
+/// The integer under a key; `None` if there is none in digits alone or after a minus sign, if it is -0, or if it
+/// does not fit 64 bits.
+fn integer_in(key: &str, body: &Value) -> Option<i64>
+    ensures value { result ≡ integer_in key.now (view body.now) }
+{
+    body.get(key).and_then(Value::as_i64)
+}
+
+/// The whole number under a key, if the key is there and not null; `None` if it has something else.
+fn number_or_none_in(key: &str, body: &Value) -> Option<Option<u64>>
+    ensures value { result ≡ number_or_none_in key.now (view body.now) }
+{
+    match body.get(key) {
+        Some(value) => {
+            if value.is_null() {
+                Some(None)
+            } else {
+                value.as_u64().map(Some)
+            }
+        }
+        None => Some(None),
+    }
+}
+
+#[tactic(auto, unfolding(crate::specs::Commands::subject_in))]
+fn subject_in(alloc: Global, body: &Value) -> Result<Option<Subject>, AllocError>
+    ensures value { IfOk result (λ subject. subject ≡ subject_in (view body.now)) }
+{
+    let Some(arch) = text_in(alloc, "arch", body)? else {
+        return Ok(None);
+    };
+    let Some(source) = text_in(alloc, "source", body)? else {
+        return Ok(None);
+    };
+    let Some(version) = text_in(alloc, "version", body)? else {
+        return Ok(None);
+    };
+    Ok(Some(Subject {
+        arch,
+        source,
+        version,
+    }))
+}
+
+#[tactic(auto, unfolding(crate::specs::Commands::next_in))]
+fn next_in(alloc: Global, body: &Value) -> Result<Option<Command>, AllocError>
+    ensures value { IfOk result (λ command. command ≡ next_in (view body.now)) }
+{
+    let Some(arch) = text_in(alloc, "arch", body)? else {
+        return Ok(None);
+    };
+    let Some(builder) = text_in(alloc, "builder", body)? else {
+        return Ok(None);
+    };
+    let Some(after) = number_or_none_in("after", body) else {
+        return Ok(None);
+    };
+    Ok(Some(Command::Next(command::Next {
+        arch,
+        builder,
+        after,
+    })))
+}
+
+#[tactic(auto, unfolding(crate::specs::Commands::take_in))]
+fn take_in(alloc: Global, body: &Value) -> Result<Option<Command>, AllocError>
+    ensures value { IfOk result (λ command. command ≡ take_in (view body.now)) }
+{
+    let Some(subject) = subject_in(alloc, body)? else {
+        return Ok(None);
+    };
+    let Some(builder) = text_in(alloc, "builder", body)? else {
+        return Ok(None);
+    };
+    Ok(Some(Command::Take(command::Take {
+        arch: subject.arch,
+        builder,
+        source: subject.source,
+        version: subject.version,
+    })))
+}
+
+fn held_in(body: &Value) -> Option<command::Held>
+    ensures value { option_map (λ held. held.take_number) result ≡ number_in (codes "take") (view body.now) }
+{
+    let take_number = number_in("take", body)?;
+    Some(command::Held { take_number })
+}
+
+#[tactic(auto, unfolding(crate::specs::Commands::waits_in))]
+fn waits_in(alloc: Global, body: &Value) -> Result<Option<Command>, AllocError>
+    ensures value { IfOk result (λ command. command ≡ waits_in (view body.now)) }
+{
+    let Some(take_number) = number_in("take", body) else {
+        return Ok(None);
+    };
+    let Some(relations) = text_in(alloc, "relations", body)? else {
+        return Ok(None);
+    };
+    Ok(Some(Command::Waits(command::Waits {
+        take_number,
+        relations,
+    })))
+}
+
+#[tactic(auto, unfolding(crate::specs::Commands::attempted_in))]
+fn attempted_in(alloc: Global, body: &Value) -> Result<Option<Command>, AllocError>
+    ensures value { IfOk result (λ command. command ≡ attempted_in (view body.now)) }
+{
+    let Some(take_number) = number_in("take", body) else {
+        return Ok(None);
+    };
+    let Some(reason) = text_in(alloc, "reason", body)? else {
+        return Ok(None);
+    };
+    Ok(Some(Command::Attempted(command::Attempted {
+        take_number,
+        reason,
+    })))
+}
+
+#[tactic(auto, unfolding(crate::specs::Commands::give_back_in))]
+fn give_back_in(alloc: Global, body: &Value) -> Result<Option<Command>, AllocError>
+    ensures value { IfOk result (λ command. command ≡ give_back_in (view body.now)) }
+{
+    let Some(subject) = subject_in(alloc, body)? else {
+        return Ok(None);
+    };
+    Ok(Some(Command::GiveBack(command::GiveBack {
+        arch: subject.arch,
+        source: subject.source,
+        version: subject.version,
+    })))
+}
+
+#[tactic(auto, unfolding(crate::specs::Commands::dep_wait_in))]
+fn dep_wait_in(alloc: Global, body: &Value) -> Result<Option<Command>, AllocError>
+    ensures value { IfOk result (λ command. command ≡ dep_wait_in (view body.now)) }
+{
+    let Some(subject) = subject_in(alloc, body)? else {
+        return Ok(None);
+    };
+    let Some(relations) = text_in(alloc, "relations", body)? else {
+        return Ok(None);
+    };
+    Ok(Some(Command::DepWait(command::DepWait {
+        arch: subject.arch,
+        source: subject.source,
+        version: subject.version,
+        relations,
+    })))
+}
+
+#[tactic(auto, unfolding(crate::specs::Commands::fail_in))]
+fn fail_in(alloc: Global, body: &Value) -> Result<Option<Command>, AllocError>
+    ensures value { IfOk result (λ command. command ≡ fail_in (view body.now)) }
+{
+    let Some(subject) = subject_in(alloc, body)? else {
+        return Ok(None);
+    };
+    let Some(note) = text_in(alloc, "note", body)? else {
+        return Ok(None);
+    };
+    Ok(Some(Command::Fail(command::SetAside {
+        arch: subject.arch,
+        source: subject.source,
+        version: subject.version,
+        note,
+    })))
+}
+
+#[tactic(auto, unfolding(crate::specs::Commands::not_for_us_in))]
+fn not_for_us_in(alloc: Global, body: &Value) -> Result<Option<Command>, AllocError>
+    ensures value { IfOk result (λ command. command ≡ not_for_us_in (view body.now)) }
+{
+    let Some(subject) = subject_in(alloc, body)? else {
+        return Ok(None);
+    };
+    let Some(note) = text_in(alloc, "note", body)? else {
+        return Ok(None);
+    };
+    Ok(Some(Command::NotForUs(command::SetAside {
+        arch: subject.arch,
+        source: subject.source,
+        version: subject.version,
+        note,
+    })))
+}
+
+#[tactic(auto, unfolding(crate::specs::Commands::rebuild_in))]
+fn rebuild_in(alloc: Global, body: &Value) -> Result<Option<Command>, AllocError>
+    ensures value { IfOk result (λ command. command ≡ rebuild_in (view body.now)) }
+{
+    let Some(subject) = subject_in(alloc, body)? else {
+        return Ok(None);
+    };
+    let Some(number) = number_in("number", body) else {
+        return Ok(None);
+    };
+    let Some(message) = text_in(alloc, "message", body)? else {
+        return Ok(None);
+    };
+    Ok(Some(Command::Rebuild(command::Rebuild {
+        arch: subject.arch,
+        source: subject.source,
+        version: subject.version,
+        number,
+        message,
+    })))
+}
+
+#[tactic(auto, unfolding(crate::specs::Commands::build_priority_in))]
+fn build_priority_in(alloc: Global, body: &Value) -> Result<Option<Command>, AllocError>
+    ensures value { IfOk result (λ command. command ≡ build_priority_in (view body.now)) }
+{
+    let Some(subject) = subject_in(alloc, body)? else {
+        return Ok(None);
+    };
+    let Some(value) = integer_in("value", body) else {
+        return Ok(None);
+    };
+    Ok(Some(Command::BuildPriority(command::BuildPriority {
+        arch: subject.arch,
+        source: subject.source,
+        version: subject.version,
+        value,
+    })))
+}
+
+/// The command of this kind that a body gives; `None` if a key is missing or has another kind of value.
+/// The only error is that memory ran out.
+fn command_in(alloc: Global, kind: CommandKind, body: &Value) -> Result<Option<Command>, AllocError>
+    ensures value { IfOk result (λ command. command ≡ command_in kind (view body.now)) }
+{
+    match kind {
+        CommandKind::Next => next_in(alloc, body),
+        CommandKind::Take => take_in(alloc, body),
+        CommandKind::Built => Ok(held_in(body).map(Command::Built)),
+        CommandKind::Uploaded => Ok(held_in(body).map(Command::Uploaded)),
+        CommandKind::Waits => waits_in(alloc, body),
+        CommandKind::PutBack => Ok(held_in(body).map(Command::PutBack)),
+        CommandKind::Attempted => attempted_in(alloc, body),
+        CommandKind::GiveBack => give_back_in(alloc, body),
+        CommandKind::DepWait => dep_wait_in(alloc, body),
+        CommandKind::Fail => fail_in(alloc, body),
+        CommandKind::NotForUs => not_for_us_in(alloc, body),
+        CommandKind::Rebuild => rebuild_in(alloc, body),
+        CommandKind::BuildPriority => build_priority_in(alloc, body),
+    }
+}
+
+/// The value that bytes write in JSON; `None` if they write none. The only error is that memory ran out.
+fn json_of(alloc: Global, bytes: &[u8]) -> Result<Option<Value>, AllocError>
+    ensures value { IfOk result (λ value. option_map view value ≡ json_of bytes.now) }
+{
+    let Ok(text) = str::from_utf8(bytes) else {
+        return Ok(None);
+    };
+    match Value::from_str(alloc, text) {
+        Ok(value) => Ok(Some(value)),
+        Err(error) => {
+            if error.is_memory() {
+                Err(AllocError)
+            } else {
+                Ok(None)
+            }
+        }
+    }
+}
+
+/// The command of this kind that the bytes of a body give. The errors are that they give none, and that
+/// memory ran out.
+#[tactic(auto, unfolding(crate::specs::Commands::command_of))]
+pub(crate) fn command_of(
+    alloc: Global,
+    kind: CommandKind,
+    bytes: &[u8],
+) -> Result<Command, RequestError>
+    ensures value { GivesOr result (command_of kind bytes.now) }
+{
+    let Some(value) = json_of(alloc, bytes)? else {
+        return Err(RequestError::Fault(Fault::BadBody));
+    };
+    match command_in(alloc, kind, &value)? {
+        Some(command) => Ok(command),
+        None => Err(RequestError::Fault(Fault::BadBody)),
+    }
+}

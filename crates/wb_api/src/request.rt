@@ -1,0 +1,243 @@
+//! A request (RFC 9112, section 2.1), read from a stream.
+ghost use Rattle.std.specs.Prelude.{◌≡◌, ℕ, ◌≤◌, List, ◌++◌, drop, length, IfSome, map, Some};
+ghost use Rattle.std.specs.Io.KnownBytes.{Consumes};
+ghost use Rattle.httparse.specs.Borrowed.{header_parts};
+ghost use Rattle.httparse.specs.Grammar.{RequestHead};
+ghost use Rattle.wb_streams.specs.Streams.{Flags};
+ghost use Rattle.wb_streams.specs.Bodies.{TookLess, TookNoMore};
+ghost use Rattle.wb_streams.specs.Heads.{IsHeadAt};
+ghost use Rattle.wb_api.specs.Requests.{Answers, asked, body_asked, body_length, command_wanted};
+ghost use Rattle.wb_api.specs.Requests.{is_failed, IsRequestFront, IsWithinRequest, Means};
+ghost use Rattle.wb_api.specs.Requests.{query_at, query_wanted, TakesMemory, wanted_by, wanted_of, WantsOr};
+ghost use Rattle.wb_api.specs.declared.request.Received.TheVariants as received;
+ghost use Rattle.wb_api.specs.Routes.{command_at, item_query, mine_query};
+
+use crate::command::command_of;
+use crate::failure::RequestError;
+use crate::route::{CommandKind, command_at, item, item_at, mine, mine_at};
+use httparse::{EMPTY_HEADER, Header, Status};
+use std::alloc::Global;
+use std::io::Read;
+use wb_states::{Command, Query};
+use wb_streams::{
+    BodyRead, FIELD_LIMIT, Fault, HEAD_LIMIT, HeadRead, WatchedReader, content_length, has_field,
+    read_body, read_head,
+};
+
+/// What a request asks for.
+/// Source: this project's own.
+#[derive(Debug, Drop)]
+pub enum Request {
+    /// A command to the office.
+    Command(Command),
+    /// A query, which changes nothing.
+    Query(Query),
+}
+
+/// What a head asks for.
+#[derive(Drop)]
+enum Wanted {
+    Query(Query),
+    /// A command, which a body of `length` bytes gives.
+    Body { kind: CommandKind, length: usize },
+}
+
+/// What was read of a request.
+/// Source: this project's own.
+#[derive(Debug, Drop)]
+pub enum Received {
+    /// The input ended before its first byte.
+    Nothing,
+    /// The reader failed.
+    Failed,
+    /// There is no memory for the request.
+    Memory,
+    /// The request is not to be carried out.
+    Refused(Fault),
+    /// What it asks for.
+    Asked(Request),
+}
+
+/// What the head of a command asks for. The errors are those of its method, its fields and its length.
+#[tactic(auto, unfolding(crate::specs::Requests::command_wanted))]
+fn command_wanted(kind: CommandKind, method: &str, fields: &[Header<'_>]) -> Result<Wanted, Fault>
+    ensures value { result ≡ command_wanted kind method.now (map header_parts fields.now) }
+{
+    if method != "POST" {
+        return Err(Fault::WrongMethod);
+    }
+    if has_field(fields, "transfer-encoding") {
+        return Err(Fault::NotSupported);
+    }
+    match content_length(fields) {
+        Ok(length) => Ok(Wanted::Body { kind, length }),
+        Err(fault) => Err(fault),
+    }
+}
+
+/// What the head of a query for an item asks for, of parts as they are written. The errors are those of its method and
+/// of the parts, and that memory ran out.
+#[tactic(auto, using(crate::proofs::RequestLemmas::item_wants))]
+fn item_wanted(
+    alloc: Global,
+    method: &str,
+    arch: &[u8],
+    source: &[u8],
+) -> Result<Wanted, RequestError>
+    ensures value { WantsOr result (query_wanted (Some (item_query arch.now source.now)) method.now) }
+{
+    if method != "GET" {
+        return Err(RequestError::Fault(Fault::WrongMethod));
+    }
+    match item(alloc, arch, source) {
+        Ok(query) => Ok(Wanted::Query(query)),
+        Err(error) => Err(error),
+    }
+}
+
+/// What the head of a query for what a builder holds asks for, of a part as it is written. The errors are those of its
+/// method and of the part, and that memory ran out.
+#[tactic(auto, using(crate::proofs::RequestLemmas::mine_wants))]
+fn mine_wanted(alloc: Global, method: &str, builder: &[u8]) -> Result<Wanted, RequestError>
+    ensures value { WantsOr result (query_wanted (Some (mine_query builder.now)) method.now) }
+{
+    if method != "GET" {
+        return Err(RequestError::Fault(Fault::WrongMethod));
+    }
+    match mine(alloc, builder) {
+        Ok(query) => Ok(Wanted::Query(query)),
+        Err(error) => Err(error),
+    }
+}
+
+/// What the head of a query asks for. The errors are that no query has the target, those of its method and
+/// of the parts of its path, and that memory ran out.
+#[tactic(auto, unfolding(crate::specs::Requests::query_at))]
+fn query_wanted(alloc: Global, method: &str, target: &str) -> Result<Wanted, RequestError>
+    ensures value { WantsOr result (query_wanted (query_at target.now) method.now) }
+{
+    match item_at(target.as_bytes()) {
+        Some((arch, source)) => item_wanted(alloc, method, arch, source),
+        None => match mine_at(target.as_bytes()) {
+            Some(builder) => mine_wanted(alloc, method, builder),
+            None => Err(RequestError::Fault(Fault::NoRoute)),
+        },
+    }
+}
+
+/// What a head of this method, target and fields asks for.
+fn wanted_by(
+    alloc: Global,
+    method: &str,
+    target: &str,
+    fields: &[Header<'_>],
+) -> Result<Wanted, RequestError>
+    ensures value { WantsOr result
+        (wanted_by (command_at target.now) method.now target.now (map header_parts fields.now)) }
+{
+    match command_at(target) {
+        Some(kind) => match command_wanted(kind, method, fields) {
+            Ok(wanted) => Ok(wanted),
+            Err(fault) => Err(RequestError::Fault(fault)),
+        },
+        None => query_wanted(alloc, method, target),
+    }
+}
+
+/// What the head at the front of the bytes asks for.
+fn wanted_of(alloc: Global, bytes: &[u8]) -> Result<Wanted, RequestError>
+    ensures value { (count : ℕ) (head : RequestHead) → IsHeadAt bytes.now count head
+        → WantsOr result (wanted_of head) }
+{
+    let mut fields = [EMPTY_HEADER; FIELD_LIMIT];
+    let mut request = httparse::Request::new(&mut fields);
+    let Ok(Status::Complete(_)) = request.parse(bytes) else {
+        return Err(RequestError::Fault(Fault::BadHead));
+    };
+    match (request.method, request.path) {
+        (Some(method), Some(target)) => wanted_by(alloc, method, target, request.headers),
+        _ => Err(RequestError::Fault(Fault::BadHead)),
+    }
+}
+
+/// Reads the body of a command, of which a front may have come already, and what follows it.
+fn receive_body<R: Read + Drop>(
+    alloc: Global,
+    reader: &mut WatchedReader<R>,
+    already: &[u8],
+    kind: CommandKind,
+    length: usize,
+) -> Received
+    ensures value { IfSome reader.old.bytes
+        (λ left. Answers (body_asked kind length (already.now ++ left)) result) }
+    ensures failed { Flags (is_failed result) reader.old reader.new }
+    ensures front { result ≡ received.Failed
+        → TookLess already.now length reader.old.bytes reader.new.bytes }
+    ensures bound { TookNoMore already.now length reader.old.bytes reader.new.bytes }
+{
+    match read_body(alloc, reader, already, length) {
+        BodyRead::Whole(body) => match command_of(alloc, kind, body.as_slice()) {
+            Ok(command) => Received::Asked(Request::Command(command)),
+            Err(RequestError::Fault(fault)) => Received::Refused(fault),
+            Err(RequestError::Memory) => Received::Memory,
+        },
+        BodyRead::Cut => Received::Refused(Fault::BodyCut),
+        BodyRead::Failed => Received::Failed,
+        BodyRead::Memory => Received::Memory,
+    }
+}
+
+/// Reads what follows a head of `count` bytes, which stands at the front of what came already.
+fn receive_rest<R: Read + Drop>(
+    alloc: Global,
+    reader: &mut WatchedReader<R>,
+    already: &[u8],
+    count: usize,
+) -> Received
+    requires { count ≤ length already.now }
+    ensures value { IfSome reader.old.bytes (λ left. (head : RequestHead) → IsHeadAt already.now count head
+        → Answers (asked head (drop count already.now ++ left)) result) }
+    ensures memory { result ≡ received.Memory → (head : RequestHead) → IsHeadAt already.now count head
+        → TakesMemory (wanted_of head) }
+    ensures failed { Flags (is_failed result) reader.old reader.new }
+    ensures front { result ≡ received.Failed → (head : RequestHead)
+        → IsHeadAt already.now count head → TookLess (drop count already.now)
+        (body_length (wanted_of head)) reader.old.bytes reader.new.bytes }
+    ensures bound { (head : RequestHead) → IsHeadAt already.now count head
+        → TookNoMore (drop count already.now) (body_length (wanted_of head))
+        reader.old.bytes reader.new.bytes }
+{
+    match wanted_of(alloc, already) {
+        Ok(Wanted::Query(query)) => Received::Asked(Request::Query(query)),
+        Ok(Wanted::Body { kind, length }) => {
+            receive_body(alloc, reader, &already[count..], kind, length)
+        }
+        Err(RequestError::Fault(fault)) => Received::Refused(fault),
+        Err(RequestError::Memory) => Received::Memory,
+    }
+}
+
+/// Reads one request: a head of at most 8192 bytes and 32 fields, and for a command a body of at most
+/// 16777216 bytes. No byte after the request plays a part, and neither does how the bytes are cut into
+/// reads. A read that fails, also one that is interrupted, ends it, and so does the end of the input. The
+/// memory for a body is taken before the first read of it. There is no read once the request has come, or a
+/// fault of it, since the client waits for its answer then. The reads of a head take at most 8192 bytes, which
+/// may include bytes after the request; those of a body take none after it.
+/// Source: RFC 9112; the limits, the paths and the keys are this project's own.
+pub fn read_request<R: Read + Drop>(alloc: Global, reader: &mut WatchedReader<R>) -> Received
+    ensures value { IfSome reader.old.bytes (λ input. Means input result) }
+    ensures failed { Flags (is_failed result) reader.old reader.new }
+    ensures front { result ≡ received.Failed → (seen : List ℕ)
+        × Consumes reader.old.bytes reader.new.bytes seen × IsRequestFront seen }
+    ensures bound { (seen : List ℕ)
+        × Consumes reader.old.bytes reader.new.bytes seen × IsWithinRequest seen }
+{
+    let mut room = [0u8; HEAD_LIMIT];
+    match read_head(reader, &mut room) {
+        HeadRead::Whole { count, filled } => receive_rest(alloc, reader, &room[..filled], count),
+        HeadRead::Nothing => Received::Nothing,
+        HeadRead::Malformed => Received::Refused(Fault::BadHead),
+        HeadRead::TooLarge => Received::Refused(Fault::HeadTooLarge),
+        HeadRead::Failed => Received::Failed,
+    }
+}

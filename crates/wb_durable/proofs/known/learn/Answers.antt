@@ -1,5 +1,0 @@
-use Rattle.wb_durable.proofs.KnownLemmas.{knows_after}
-use Rattle.wb_durable.proofs.known.learn.Goals as goal
-
-pub returns-in_default : goal.returns-in_default
-returns-in_default c = record { knows = λ machine knows after. knows_after c.args.command.now machine c.args.known.now c.args.counts c.in_default.not-AddArch knows after }

@@ -1,9 +1,0 @@
-pub mod FieldLemmas
-pub mod LawLemmas
-pub mod LiteralLemmas
-pub mod NumberLemmas
-pub mod ReadLemmas
-pub mod RequestLemmas
-pub mod RouteLemmas
-pub mod StreamLemmas
-pub mod Utf8Lemmas

@@ -1,5 +1,0 @@
-use Rattle.wb_http.proofs.LawLemmas.{head_decides, head_memory}
-use Rattle.wb_http.proofs.laws.a_head_decides.Goals as goal
-
-pub returns : goal.returns
-returns c = record { value = head_decides; memory = head_memory }

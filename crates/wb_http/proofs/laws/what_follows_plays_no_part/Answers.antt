@@ -1,5 +1,0 @@
-use Rattle.wb_http.proofs.LawLemmas.{asked-means_more, refused-means_more}
-use Rattle.wb_http.proofs.laws.what_follows_plays_no_part.Goals as goal
-
-pub returns : goal.returns
-returns c = record { asked = asked-means_more; refused = λ input more fault whole good means. refused-means_more input more fault whole good means }

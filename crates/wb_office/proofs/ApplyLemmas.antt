@@ -1,0 +1,287 @@
+-- What an office over tables answers after a failure, and how it stands then.
+use Rattle.std.proofs.Common.{◌≡◌, ◌≢◌, ◌⊎◌, inl, inr, true, false, not, Bool, Result, Ok, Err, IsTrue, IfErr, refl, sym, ap, subst, ◌∙◌}
+use Rattle.std.proofs.lemmas.Bool.{both_ways}
+use Rattle.sqlite_trees.specs.declared.store.Store.{Ghosts}
+use Rattle.sqlite.specs.Held.{Held, state}
+use Rattle.sqlite.specs.State.{State, HasCleanDisk, IsUnchanged, Survives}
+use Rattle.wb_sql.specs.Transactions.{IsKeptOrUndone, LeavesNoMore}
+use Rattle.wb_states.specs.declared.command.Command.{Command}
+use Rattle.wb_states.specs.declared.refusal.Refusal.{Refusal}
+use Rattle.wb_states.specs.declared.refusal.Refusal.TheVariants.{Closed, Memory, Store}
+use Rattle.wb_states.specs.declared.reply.Reply.{Reply}
+use Rattle.wb_states.specs.Refusals.{IsOfMachine}
+use Rattle.wb_states.specs.declared.store_fault.StoreFault.{StoreFault}
+use Rattle.wb_states.specs.declared.store_fault.StoreFault.TheVariants as fault
+use Rattle.wb_states.specs.Machine.{Machine}
+use Rattle.wb_states.specs.Refusals.{is_of_store}
+use Rattle.wb_step.specs.Step.{step}
+use Rattle.wb_step.proofs.InvariantLemmas.{step-keeps}
+use Rattle.wb_store.specs.Settled.{IsSettled, IsBackAt, LeavesEither}
+use Rattle.wb_store.proofs.SettledLemmas.{settled_back, stays_back, goes_back_again}
+use Rattle.wb_office.specs.declared.answer.Failure.{Failure}
+use Rattle.wb_office.specs.declared.answer.Failure.TheVariants.{Refused, Unread, Uncommitted}
+use Rattle.wb_office.specs.declared.carry.CarryError.TheVariants.{TakenBack, RollBackFailed, InDoubt}
+use Rattle.wb_office.specs.declared.known.Known.{Known}
+use Rattle.wb_office.specs.Answers.{Responds}
+use Rattle.wb_office.specs.Standing.{Knows, StandsAt, LeavesOne}
+use Rattle.wb_office.specs.Applies.{refusal_for, doubt_for, CannotBeUsed, IsRefusedIn, Applies, Ends, EndsWith}
+use Rattle.wb_store.proofs.StaysLemmas.{was_clean}
+
+-- ---- the connection after a probe
+
+module _ {S : Type 0} (g : Ghosts S) (old new : Held S) where
+  less : Survives (state g old) (state g new) (λ _. ⊥) → HasCleanDisk (state g new) → LeavesNoMore (state g old) (state g new)
+  less survives clean db may = elim (survives.crash clean db may) [ inl was ↦ was | inr none ↦ absurd none ]
+
+  probed : {machine : Machine} → IsKeptOrUndone (state g old) (state g new) → LeavesNoMore (state g old) (state g new) → IsBackAt machine (state g old) → IsBackAt machine (state g new)
+  probed (inl same) fewer back = stays_back (state g old) (state g new) same fewer back
+  probed (inr undone) fewer back = goes_back_again (state g old) (state g new) undone fewer back
+
+  -- out of memory, and the connection is asked whether it can be used
+  pub ends_of_memory : (usable : Bool) → (HasCleanDisk (state g new) → IsTrue usable → IsUnchanged (state g old) (state g new)) → (HasCleanDisk (state g new) → IsKeptOrUndone (state g old) (state g new))
+      → (HasCleanDisk (state g new) → usable ≡ false → CannotBeUsed g old new) → Survives (state g old) (state g new) (λ _. ⊥) → EndsWith g fault.Memory old new Memory (not usable)
+  ends_of_memory usable still unchanged shut survives = record {
+    was_clean = was_clean (state g old) (state g new) survives;
+    told = refl;
+    back = λ clean machine back. probed (unchanged clean) (less survives clean) back;
+    is_open = λ clean not_closed. (still clean (is_usable usable not_closed)).0.is_open;
+    ends = λ of_store. cc;
+    closes = λ clean _ closed. shut clean (is_unusable usable closed);
+  }
+    where
+      is_usable : (b : Bool) → not b ≡ false → IsTrue b
+      is_usable true is = refl
+      is_usable false is = cc
+
+      is_unusable : (b : Bool) → not b ≡ true → b ≡ false
+      is_unusable true is = cc
+      is_unusable false is = refl
+
+-- after any other fault the office is closed
+pub ends_of_fault : {S : Type 0} (g : Ghosts S) (held : Held S) (f : StoreFault) → refusal_for f ≡ Store f → EndsWith g f held held (Store f) true
+ends_of_fault g held f told = record {
+  was_clean = λ clean. clean;
+  told = sym told;
+  back = λ clean machine back. back;
+  is_open = λ clean not_closed. cc;
+  ends = λ of_store. refl;
+  closes = λ clean is _. absurd (store_is_no_memory is);
+}
+  where
+    store_is_no_memory : {f : StoreFault} → Store f ≢ Memory
+    store_is_no_memory is = cc
+
+-- ---- after a failure
+
+pub either_of : {machine : Machine} (after : Machine) (s : State) → IsBackAt machine s → LeavesEither machine after s
+either_of after s back db may = inl (back.left db may)
+
+refusals_for : (f : StoreFault) → (refusal_for f ≡ Memory) ⊎ ((refusal_for f ≡ Store f) × (f ≢ fault.Memory))
+refusals_for fault.Memory = inl refl
+refusals_for fault.NotOffice = inr (refl, λ is. cc)
+refusals_for fault.NewerSchema = inr (refl, λ is. cc)
+refusals_for (fault.Damaged table row) = inr (refl, λ is. cc)
+refusals_for fault.Device = inr (refl, λ is. cc)
+
+doubts_for : (f : StoreFault) → (g : StoreFault) × (doubt_for f ≡ Store g)
+doubts_for fault.Memory = (fault.Device, refl)
+doubts_for fault.NotOffice = (fault.NotOffice, refl)
+doubts_for fault.NewerSchema = (fault.NewerSchema, refl)
+doubts_for (fault.Damaged table row) = (fault.Damaged table row, refl)
+doubts_for fault.Device = (fault.Device, refl)
+
+-- a refusal for a fault is no refusal of the state
+pub of_fault : (f : StoreFault) → refusal_for f ≢ Memory → is_of_store (refusal_for f) ≡ true
+of_fault f other = elim (refusals_for f) [ inl is ↦ absurd (other is) | inr is ↦ ap is_of_store is.0 ]
+
+pub not_closed_for : (f : StoreFault) → refusal_for f ≢ Closed
+not_closed_for fault.Memory is = cc
+not_closed_for fault.NotOffice is = cc
+not_closed_for fault.NewerSchema is = cc
+not_closed_for (fault.Damaged table row) is = cc
+not_closed_for fault.Device is = cc
+
+module _ {S : Type 0} (g : Ghosts S) (machine : Machine) (command : Command) where
+  -- a call failed that left the office as it was
+  refused_back : (new : Held S) (f : StoreFault) (refusal : Refusal) (is_closed : Bool) → refusal ≡ refusal_for f → IsBackAt machine (state g new) → (is_closed ≡ false → IsTrue (state g new).is_open)
+      → (is_of_store refusal ≡ true → is_closed ≡ true) → IsRefusedIn g machine command is_closed new refusal
+  refused_back new f refusal is_closed told back is_open ends = record {
+    machines = λ other no_store. absurd (both_ways (is_of_store refusal) no_store (ap is_of_store told ∙ of_fault f (λ is. other (told ∙ is))));
+    back = λ no_store. back;
+    is_open = is_open;
+    ends = ends;
+    left = either_of (step machine command).1 (state g new) back;
+    shut = λ is. back;
+  }
+
+  -- a commit in doubt closes the office
+  refused_in_doubt : (new : Held S) (f : StoreFault) (refusal : Refusal) → refusal ≡ doubt_for f → LeavesEither machine (step machine command).1 (state g new) → IsRefusedIn g machine command true new refusal
+  refused_in_doubt new f refusal told left =
+      let d = doubts_for f in
+      let is : refusal ≡ Store d.0 = told ∙ d.1 in
+      record {
+        machines = λ other no_store. absurd (both_ways (is_of_store refusal) no_store (ap is_of_store is));
+        back = λ no_store. absurd (both_ways (is_of_store refusal) no_store (ap is_of_store is));
+        is_open = λ not_closed. cc;
+        ends = λ of_store. refl;
+        left = left;
+        shut = λ closed. absurd (no_store_closed (sym is ∙ closed));
+      }
+    where
+      no_store_closed : {f : StoreFault} → Store f ≢ Closed
+      no_store_closed is = cc
+
+-- a refusal of the state changes nothing
+pub ends_refused : {S : Type 0} (g : Ghosts S) (held : Held S) (refusal : Refusal) (is_closed : Bool) → is_closed ≡ is_of_store refusal → Ends g (Refused refusal) held held refusal is_closed
+ends_refused g held refusal is_closed closes = record {
+  was_clean = λ clean. clean;
+  refused = λ clean machine command before left. record {
+    machines = λ other no_store. (left.0 other, closes ∙ no_store);
+    back = λ no_store. settled_back (state g held) left.1.1;
+    is_open = λ not_closed. left.1.1.is_open;
+    ends = λ of_store. closes ∙ of_store;
+    left = either_of (step machine command).1 (state g held) (settled_back (state g held) left.1.1);
+    shut = λ is. settled_back (state g held) left.1.1;
+  };
+  told = refl;
+  closes = λ clean is closed. absurd (both_ways is_closed (closes ∙ ap is_of_store is) closed);
+}
+
+module _ {S : Type 0} (g : Ghosts S) (old new : Held S) (refusal : Refusal) (is_closed : Bool) where
+  -- a look-up failed
+  pub ends_unread : (e : StoreFault) → EndsWith g e old new refusal is_closed → Ends g (Unread e) old new refusal is_closed
+  ends_unread e h = record {
+    was_clean = h.was_clean;
+    refused = λ clean machine command before left. refused_back g machine command new e refusal is_closed h.told (h.back clean machine left.1) (h.is_open clean) h.ends;
+    told = h.told;
+    closes = λ clean is closed. inl (h.closes clean is closed);
+  }
+
+  -- a transaction was taken back
+  pub ends_taken_back : (e : StoreFault) → EndsWith g e old new refusal is_closed → Ends g (Uncommitted (TakenBack e)) old new refusal is_closed
+  ends_taken_back e h = record {
+    was_clean = h.was_clean;
+    refused = λ clean machine command before left. refused_back g machine command new e refusal is_closed h.told (h.back clean machine left.0) (h.is_open clean) h.ends;
+    told = h.told;
+    closes = λ clean is closed. inl (h.closes clean is closed);
+  }
+
+-- a transaction could not be taken back
+pub ends_not_taken_back : {S : Type 0} (g : Ghosts S) (held : Held S) (e : StoreFault) (refusal : Refusal) → refusal ≡ refusal_for e → Ends g (Uncommitted (RollBackFailed e)) held held refusal true
+ends_not_taken_back g held e refusal told = record {
+  was_clean = λ clean. clean;
+  refused = λ clean machine command before left. refused_back g machine command held e refusal true told left.0 (λ not_closed. cc) (λ of_store. refl);
+  told = told;
+  closes = λ clean is closed. inr (e, refl);
+}
+
+-- a commit is in doubt
+pub ends_in_doubt : {S : Type 0} (g : Ghosts S) (held : Held S) (e : StoreFault) (refusal : Refusal) → refusal ≡ doubt_for e → Ends g (Uncommitted (InDoubt e)) held held refusal true
+ends_in_doubt g held e refusal told = record {
+  was_clean = λ clean. clean;
+  refused = λ clean machine command before left. refused_in_doubt g machine command held e refusal told left.0;
+  told = told;
+  closes = λ clean is closed. absurd (doubt_is_no_memory e (doubts_for e) (sym told ∙ is));
+}
+  where
+    doubt_is_no_memory : (f : StoreFault) → (h : StoreFault) × (doubt_for f ≡ Store h) → doubt_for f ≢ Memory
+    doubt_is_no_memory f (h, same) is = no_memory (sym same ∙ is)
+      where
+        no_memory : Store h ≢ Memory
+        no_memory is = cc
+
+-- ---- a command
+
+-- an office that is open is settled at its state
+pub settled_at : {machine : Machine} {was_closed : Bool} {known : Known} {s : State} → StandsAt machine was_closed known s → was_closed ≡ false → IsSettled machine s
+settled_at stands opened = stands.back.settled (stands.is_open opened)
+
+module _ {S : Type 0} (g : Ghosts S) (command : Command) (was_closed : Bool) (was_known : Known) (old : Held S) (opened : was_closed ≡ false) where
+  -- a reply leaves the office open at the state of the step
+  pub applied : (new : Held S) (known : Known) (reply : Reply) → Responds g command was_known old known new (Ok reply) → Applies g command was_closed was_known old was_closed known new (Ok reply)
+  applied new known reply responds = record {
+    was_clean = responds.was_clean;
+    shut = λ closed. absurd (both_ways was_closed opened closed);
+    reply = λ clean machine stands.
+        let done = responds.ok clean machine stands.consistent (settled_at stands opened) stands.knows in (
+          done.0,
+          record {
+            consistent = step-keeps machine command responds.utf8 stands.consistent;
+            knows = done.2;
+            back = settled_back (state g new) done.1;
+            is_open = λ _. done.1.is_open;
+          },
+          opened,
+        );
+    others = λ clean machine stands. responds.others clean machine stands.consistent (settled_at stands opened) stands.knows;
+    refused = λ clean machine stands _. tt;
+    cause = λ clean machine stands _. tt;
+  }
+
+  -- after a failure the office is left as the end of it says
+  pub not_applied : (at new : Held S) (is_closed : Bool) (known : Known) (failure : Failure) (refusal : Refusal) → Responds g command was_known old known at (Err failure)
+      → Ends g failure at new refusal is_closed → Applies g command was_closed was_known old is_closed known new (Err refusal)
+  not_applied at new is_closed known failure refusal responds ends = record {
+    was_clean = λ clean. responds.was_clean (ends.was_clean clean);
+    shut = λ closed. absurd (both_ways was_closed opened closed);
+    reply = λ clean machine stands. tt;
+    others = λ clean machine stands. tt;
+    refused = λ clean machine stands _.
+        let left = responds.err (ends.was_clean clean) machine stands.consistent (settled_at stands opened) stands.knows in
+        (ends.refused clean machine command old left.0, left.1);
+    cause = λ clean machine stands _.
+        (failure, at, (responds.err (ends.was_clean clean) machine stands.consistent (settled_at stands opened) stands.knows).0, ends.told, ends.closes clean);
+  }
+
+-- ---- the office that carries out commands
+
+at_err : {A E : Type 0} (P : E → Type 0) (r : Result A E) (e : E) → r ≡ Err e → IfErr r P → P e
+at_err P r e is h = subst (λ x. IfErr x P) is h
+
+if_err : {A E : Type 0} {P : E → Type 0} (r : Result A E) → ((e : E) → r ≡ Err e → P e) → IfErr r P
+if_err (Ok x) h = tt
+if_err (Err e) h = h e refl
+
+module _ {S : Type 0} (g : Ghosts S) (command : Command) (was_closed : Bool) (was_known : Known) (old : Held S) (is_closed : Bool) (known : Known) (new : Held S) (r : Result Reply Refusal)
+    (h : Applies g command was_closed was_known old is_closed known new r) (machine : Machine) (clean : HasCleanDisk (state g new)) (stands : StandsAt machine was_closed was_known (state g old)) where
+  open_or_shut : {P : Type 0} → (was_closed ≡ true → P) → (was_closed ≡ false → P) → P
+  open_or_shut {P = P} shut opened = (elim was_closed as (λ b. was_closed ≡ b → P) [ true ↦ shut | false ↦ opened ]) refl
+
+  stays_shut : was_closed ≡ true → StandsAt machine is_closed known (state g new)
+  stays_shut closed =
+      let s = h.shut closed in
+      record {
+        consistent = stands.consistent;
+        knows = subst (Knows machine) (sym s.2) stands.knows;
+        back = subst (λ (held : Held S). IsBackAt machine (state g held)) (sym s.3) stands.back;
+        is_open = λ not_closed. absurd (both_ways is_closed not_closed s.1);
+      }
+
+  refused_with : (refusal : Refusal) → r ≡ Err refusal → was_closed ≡ false → IsRefusedIn g machine command is_closed new refusal × Knows machine known
+  refused_with refusal is opened = at_err (λ refusal. IsRefusedIn g machine command is_closed new refusal × Knows machine known) r refusal is (h.refused clean machine stands opened)
+
+  stands_on : (refusal : Refusal) → IsRefusedIn g machine command is_closed new refusal × Knows machine known → IsBackAt machine (state g new) → StandsAt machine is_closed known (state g new)
+  stands_on refusal left back = record { consistent = stands.consistent; knows = left.1; back = back; is_open = left.0.is_open }
+
+  pub carried_refused : IfErr r (λ refusal. IsOfMachine refusal → is_of_store refusal ≡ false → ((step machine command).0 ≡ Err refusal) × StandsAt machine is_closed known (state g new))
+  carried_refused = if_err r (λ refusal is of_machine no_store. open_or_shut
+      (λ closed. absurd (both_ways (is_of_store refusal) no_store (ap is_of_store (same_err refusal Closed (sym is ∙ (h.shut closed).0)))))
+      (λ opened. let left = refused_with refusal is opened in ((left.0.machines of_machine no_store).0, stands_on refusal left (left.0.back no_store))))
+    where
+      same_err : (a b : Refusal) → ◌≡◌ {A = Result Reply Refusal} (Err a) (Err b) → a ≡ b
+      same_err a b is = cc
+
+  pub carried_memory : r ≡ Err Memory → Unit {0} × StandsAt machine is_closed known (state g new)
+  carried_memory is = (tt, open_or_shut stays_shut (λ opened. let left = refused_with Memory is opened in stands_on Memory left (left.0.back refl)))
+
+  pub carried_closed : r ≡ Err Closed → (is_closed ≡ true) × StandsAt machine is_closed known (state g new)
+  carried_closed is = open_or_shut (λ closed. ((h.shut closed).1, stays_shut closed))
+      (λ opened. let left = refused_with Closed is opened in (left.0.ends refl, stands_on Closed left (left.0.shut refl)))
+
+  pub carried_store : (f : StoreFault) → r ≡ Err (Store f) → LeavesOne machine (step machine command).1 is_closed (state g new)
+  carried_store f is = open_or_shut
+      (λ closed. absurd (store_is_not_closed (sym is ∙ (h.shut closed).0)))
+      (λ opened. let left = refused_with (Store f) is opened in record { closed = left.0.ends refl; left = left.0.left })
+    where
+      store_is_not_closed : {f : StoreFault} → ¬ ◌≡◌ {A = Result Reply Refusal} (Err (Store f)) (Err Closed)
+      store_is_not_closed is = cc

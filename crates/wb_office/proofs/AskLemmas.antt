@@ -1,0 +1,233 @@
+-- What an office over tables answers to a query, and how it stands then.
+use Rattle.std.proofs.Common.{◌≡◌, ◌≢◌, inl, inr, true, false, not, cond, Bool, ℕ, List, map as each, Option, is_some, Result, Ok, Err, IsTrue, IfOk, IfErr, refl, sym, ap, subst, ◌∙◌}
+use Rattle.std.proofs.lemmas.Bool.{both_ways}
+use Rattle.std.specs.FinMap as map
+use Rattle.sqlite_trees.specs.declared.store.Store.{Ghosts}
+use Rattle.sqlite.specs.Held.{Held, state}
+use Rattle.sqlite.specs.State.{HasCleanDisk}
+use Rattle.wb_states.specs.declared.arch.OsCpu.{OsCpu}
+use Rattle.wb_states.specs.declared.record.Record.{Record}
+use Rattle.wb_states.specs.declared.refusal.Refusal.{Refusal}
+use Rattle.wb_states.specs.declared.refusal.Refusal.TheVariants.{BadName, Closed, Memory, Store, UnknownArch, UnknownBuilder}
+use Rattle.wb_states.specs.declared.store_fault.StoreFault.{StoreFault}
+use Rattle.wb_states.specs.Holds.{held_of}
+use Rattle.wb_states.specs.Machine.{Machine}
+use Rattle.wb_states.specs.Refusals.{IsOfMachine}
+use Rattle.wb_states.specs.declared.keyed.KeyedRecord.{KeyedRecord}
+use Rattle.wb_states.specs.Lookups.{entry_of}
+use Rattle.wb_states.specs.declared.query.Answer.{Answer}
+use Rattle.wb_states.specs.declared.query.Answer.TheVariants.{Mine}
+use Rattle.wb_states.specs.Machine.{is_unknown_arch, is_unknown_builder}
+use Rattle.wb_states.specs.Refusals.{is_of_store}
+use Rattle.wb_states.specs.Queries.{found_at, item_in, mine_in}
+use Rattle.wb_states.proofs.QueryLemmas.{keyed-entries}
+use Rattle.wb_store.specs.Settled.{IsBackAt}
+use Rattle.wb_store.proofs.SettledLemmas.{settled_back}
+use Rattle.wb_office.specs.declared.known.Known.{Known}
+use Rattle.wb_office.specs.Asks.{Asks, IsAskedAt, IsUnread}
+use Rattle.wb_office.specs.Applies.{EndsWith}
+use Rattle.wb_store.specs.Finds.{Finds}
+use Rattle.wb_office.specs.Standing.{Knows, StandsAt, LeavesOne}
+use Rattle.wb_office.proofs.AnswerLemmas.{found, not_found}
+use Rattle.wb_store.proofs.StaysLemmas.{was_clean}
+use Rattle.wb_office.proofs.ApplyLemmas.{either_of, not_closed_for, of_fault, settled_at}
+
+-- ---- what was looked up
+
+-- the record that was found on a known architecture is the answer of the state
+pub item-is : (machine : Machine) (arch source : List ℕ) (words : Option OsCpu) (found : Option Record) (is_unknown : Bool) → words ≡ map.get machine.archs arch → is_some words ≡ not is_unknown → is_unknown ≡ false
+    → found ≡ map.get machine.records (arch, source) → found_at arch source found ≡ item_in machine arch source
+item-is machine arch source words found is_unknown is_words known is_known is_found =
+    let there : is_unknown_arch machine arch ≡ false = ap (λ w. not (is_some w)) (sym is_words) ∙ ap not (known ∙ ap not is_known) in
+    ap (found_at arch source) is_found ∙ ap (λ b. cond b (Err UnknownArch) (found_at arch source (map.get machine.records (arch, source)))) (sym there)
+
+-- the answer with what a builder holds
+abbrev pub mine_with : List ℕ → List KeyedRecord → Result Answer Refusal
+mine_with builder records = Ok (Mine builder records)
+
+-- what a known builder holds is the answer of the state
+pub mine-is : (machine : Machine) (builder : List ℕ) (rows : List KeyedRecord) → is_unknown_builder machine builder ≡ false → each entry_of rows ≡ held_of machine builder
+    → Ok (Mine builder rows) ≡ mine_in machine builder
+mine-is machine builder rows known held = sym (λ i. cond (known i) (Err UnknownBuilder) (Ok (Mine builder (keyed-entries held i))))
+
+-- ---- one query
+
+module _ {S : Type 0} {g : Ghosts S} {answer_of : Machine → Result Answer Refusal} {is_bad was_closed : Bool} {was_known : Known} {old : Held S} where
+  -- a closed office says so
+  pub asked_shut : was_closed ≡ true → Asks g answer_of is_bad was_closed was_known old was_closed was_known old (Err Closed)
+  asked_shut closed = record {
+    was_clean = λ clean. clean;
+    same = refl;
+    shut = λ _. (refl, closed, refl);
+    named = λ opened bad. absurd (both_ways was_closed opened closed);
+    asked = λ clean machine stands opened. absurd (both_ways was_closed opened closed);
+  }
+
+  -- a malformed name is refused, and nothing is done
+  pub asked_malformed : was_closed ≡ false → is_bad ≡ true → ((machine : Machine) → answer_of machine ≡ Err BadName)
+      → Asks g answer_of is_bad was_closed was_known old was_closed was_known old (Err BadName)
+  asked_malformed opened bad refuses = record {
+    was_clean = λ clean. clean;
+    same = refl;
+    shut = λ closed. absurd (both_ways was_closed opened closed);
+    named = λ _ _. (refl, opened, refl);
+    asked = λ clean machine stands _. inl (refuses machine, settled_at stands opened, opened);
+  }
+
+  -- the look-ups succeed
+  pub asked_found : {answer_in : Machine → Result Answer Refusal} {new : Held S} {r : Result Answer Refusal} → was_closed ≡ false → is_bad ≡ false → ((machine : Machine) → answer_of machine ≡ answer_in machine)
+      → Finds g (λ machine answer. answer ≡ answer_in machine) old new (Ok r) → Asks g answer_of is_bad was_closed was_known old was_closed was_known new r
+  asked_found {new = new} opened is_good same finds = record {
+    was_clean = was_clean (state g old) (state g new) finds.survives;
+    same = refl;
+    shut = λ closed. absurd (both_ways was_closed opened closed);
+    named = λ _ bad. absurd (both_ways is_bad is_good bad);
+    asked = λ clean machine stands _.
+        let at = found g old new finds clean stands.consistent (settled_at stands opened) in
+        inl (same machine ∙ sym at.1, at.0, opened);
+  }
+
+  -- a look-up fails
+  pub asked_unread : {Answers : Machine → Result Answer Refusal → Type 0} {at new : Held S} {is_closed : Bool} {e : StoreFault} {refusal : Refusal} → was_closed ≡ false → is_bad ≡ false
+      → Finds g Answers old at (Err e) → EndsWith g e at new refusal is_closed → Asks g answer_of is_bad was_closed was_known old is_closed was_known new (Err refusal)
+  asked_unread {at = at} {e = e} {refusal = refusal} opened is_good finds ends = record {
+    was_clean = λ clean. was_clean (state g old) (state g at) finds.survives (ends.was_clean clean);
+    same = refl;
+    shut = λ closed. absurd (both_ways was_closed opened closed);
+    named = λ _ bad. absurd (both_ways is_bad is_good bad);
+    asked = λ clean machine stands _.
+        let failed = not_found g old at finds (ends.was_clean clean) (settled_at stands opened) in
+        inr (
+          refusal,
+          refl,
+          record {
+            fault = e;
+            at = at;
+            failed = failed.0;
+            told = ends.told;
+            back = ends.back clean machine failed.1;
+            is_open = ends.is_open clean;
+            ends = ends.ends;
+            closes = ends.closes clean;
+          },
+        );
+  }
+
+-- ---- the office that answers queries
+
+module _ {S : Type 0} {g : Ghosts S} {answer_of : Machine → Result Answer Refusal} {is_bad : Bool} {was_closed : Bool} {was_known : Known} {old : Held S} {is_closed : Bool} {known : Known} {new : Held S}
+    {r : Result Answer Refusal} (h : Asks g answer_of is_bad was_closed was_known old is_closed known new r)
+    (of_state : (machine : Machine) (refusal : Refusal) → is_of_store refusal ≡ true → ¬ (answer_of machine ≡ Err refusal))
+    (machine : Machine) (clean : HasCleanDisk (state g new)) (stands : StandsAt machine was_closed was_known (state g old)) where
+  open_or_shut : {P : Type 0} → (was_closed ≡ true → P) → (was_closed ≡ false → P) → P
+  open_or_shut {P = P} shut opened = (elim was_closed as (λ b. was_closed ≡ b → P) [ true ↦ shut | false ↦ opened ]) refl
+
+  told : {a b : Refusal} → ◌≡◌ {A = Result Answer Refusal} (Err a) (Err b) → a ≡ b
+  told is = cc
+
+  -- however it is answered, the office stands as it did
+  stays_shut : was_closed ≡ true → StandsAt machine is_closed known (state g new)
+  stays_shut closed =
+      let s = h.shut closed in
+      record {
+        consistent = stands.consistent;
+        knows = subst (Knows machine) (sym h.same) stands.knows;
+        back = subst (λ (held : Held S). IsBackAt machine (state g held)) (sym s.2) stands.back;
+        is_open = λ not_closed. absurd (both_ways is_closed not_closed s.1);
+      }
+
+  stays_open : IsAskedAt g answer_of machine old is_closed new r → was_closed ≡ false → StandsAt machine is_closed known (state g new)
+  stays_open (inl answered) opened = record {
+    consistent = stands.consistent;
+    knows = subst (Knows machine) (sym h.same) stands.knows;
+    back = settled_back (state g new) answered.1;
+    is_open = λ _. answered.1.is_open;
+  }
+  stays_open (inr (refusal, is, unread)) opened = record {
+    consistent = stands.consistent;
+    knows = subst (Knows machine) (sym h.same) stands.knows;
+    back = unread.back;
+    is_open = unread.is_open;
+  }
+
+  stays : StandsAt machine is_closed known (state g new)
+  stays = open_or_shut stays_shut (λ opened. stays_open (h.asked clean machine stands opened) opened)
+
+  -- a refusal for an error of a look-up is no refusal of the state
+  unread_is : {refusal : Refusal} → IsUnread g machine old new is_closed refusal → refusal ≢ Memory → is_of_store refusal ≡ true
+  unread_is unread other = ap is_of_store unread.told ∙ of_fault unread.fault (λ is. other (unread.told ∙ is))
+
+  -- what is answered, but that it is closed or out of memory, is answered of the state
+  is_answer : (result : Result Answer Refusal) → r ≡ result → IfErr result (λ refusal. (refusal ≢ Memory) × (is_of_store refusal ≡ false)) → answer_of machine ≡ result
+  is_answer result is plain = open_or_shut
+      (λ closed. absurd (shut_plain (subst (λ x. IfErr x (λ refusal. (refusal ≢ Memory) × (is_of_store refusal ≡ false))) (sym is ∙ (h.shut closed).0) plain)))
+      (λ opened. at_answer (h.asked clean machine stands opened))
+    where
+      shut_plain : (Closed ≢ Memory) × (is_of_store Closed ≡ false) → ⊥
+      shut_plain other = cc
+
+      plain_at : {refusal : Refusal} → r ≡ Err refusal → (refusal ≢ Memory) × (is_of_store refusal ≡ false)
+      plain_at failed = subst (λ x. IfErr x (λ refusal. (refusal ≢ Memory) × (is_of_store refusal ≡ false))) (sym is ∙ failed) plain
+
+      at_answer : IsAskedAt g answer_of machine old is_closed new r → answer_of machine ≡ result
+      at_answer (inl answered) = answered.0 ∙ is
+      at_answer (inr (refusal, failed, unread)) =
+          let other = plain_at failed in
+          absurd (both_ways (is_of_store refusal) other.1 (unread_is unread other.0))
+
+  pub asked_answer : IfOk r (λ answer. (answer_of machine ≡ Ok answer) × StandsAt machine is_closed known (state g new))
+  asked_answer = at_ok r refl
+    where
+      at_ok : (result : Result Answer Refusal) → r ≡ result → IfOk result (λ answer. (answer_of machine ≡ Ok answer) × StandsAt machine is_closed known (state g new))
+      at_ok (Ok answer) is = (is_answer (Ok answer) is tt, stays)
+      at_ok (Err refusal) is = tt
+
+  pub asked_refused : IfErr r (λ refusal. IsOfMachine refusal → is_of_store refusal ≡ false → (answer_of machine ≡ Err refusal) × StandsAt machine is_closed known (state g new))
+  asked_refused = at_err r refl
+    where
+      at_err : (result : Result Answer Refusal) → r ≡ result
+          → IfErr result (λ refusal. IsOfMachine refusal → is_of_store refusal ≡ false → (answer_of machine ≡ Err refusal) × StandsAt machine is_closed known (state g new))
+      at_err (Ok answer) is = tt
+      at_err (Err refusal) is = λ of_machine no_store. (is_answer (Err refusal) is (of_machine, no_store), stays)
+
+  pub asked_memory : r ≡ Err Memory → (is_bad ≡ false) × StandsAt machine is_closed known (state g new)
+  asked_memory is = (formed, stays)
+    where
+      closed_is_not_memory : ¬ ◌≡◌ {A = Result Answer Refusal} (Err Closed) (Err Memory)
+      closed_is_not_memory same = cc
+
+      bad_is_not_memory : ¬ ◌≡◌ {A = Result Answer Refusal} (Err BadName) (Err Memory)
+      bad_is_not_memory same = cc
+
+      formed : is_bad ≡ false
+      formed = open_or_shut (λ closed. absurd (closed_is_not_memory (sym (h.shut closed).0 ∙ is)))
+          (λ opened. (elim is_bad as (λ b. is_bad ≡ b → b ≡ false) [
+            | true ↦ λ bad. absurd (bad_is_not_memory (sym (h.named opened bad).0 ∙ is))
+            | false ↦ λ good. refl
+          ]) refl)
+
+  -- it says that it is closed only if it was
+  pub asked_when_shut : r ≡ Err Closed → was_closed ≡ true
+  asked_when_shut is = open_or_shut (λ closed. closed) (λ opened. absurd (not_when_open (h.asked clean machine stands opened)))
+    where
+      not_when_open : IsAskedAt g answer_of machine old is_closed new r → ⊥
+      not_when_open (inl answered) = of_state machine Closed refl (answered.0 ∙ is)
+      not_when_open (inr (refusal, failed, unread)) =
+          not_closed_for unread.fault (sym unread.told ∙ told (sym failed ∙ is))
+
+  pub asked_closed : r ≡ Err Closed → (is_closed ≡ true) × StandsAt machine is_closed known (state g new)
+  asked_closed is = ((h.shut (asked_when_shut is)).1, stays)
+
+  -- after a fault of the store it is closed, and nothing was changed
+  pub asked_store : (f : StoreFault) → r ≡ Err (Store f) → LeavesOne machine machine is_closed (state g new)
+  asked_store f is = record {
+    closed = open_or_shut (λ closed. absurd (store_is_not_closed (sym is ∙ (h.shut closed).0))) (λ opened. closes (h.asked clean machine stands opened));
+    left = either_of machine (state g new) stays.back;
+  }
+    where
+      store_is_not_closed : ¬ ◌≡◌ {A = Result Answer Refusal} (Err (Store f)) (Err Closed)
+      store_is_not_closed same = cc
+
+      closes : IsAskedAt g answer_of machine old is_closed new r → is_closed ≡ true
+      closes (inl answered) = absurd (of_state machine (Store f) refl (answered.0 ∙ is))
+      closes (inr (refusal, failed, unread)) = unread.ends (ap is_of_store (told (sym failed ∙ is)))

@@ -1,5 +1,0 @@
-use Rattle.wb_office.proofs.FrameLemmas.{step-others}
-use Rattle.wb_office.proofs.laws.commands_leave_other_records.Goals as goal
-
-pub returns : goal.returns
-returns c = record { others = step-others }

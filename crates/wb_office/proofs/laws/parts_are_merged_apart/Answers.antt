@@ -1,5 +1,0 @@
-use Rattle.wb_office.proofs.ApartPartLemmas.{step-part}
-use Rattle.wb_office.proofs.laws.parts_are_merged_apart.Goals as goal
-
-pub returns : goal.returns
-returns c = record { part = step-part }

@@ -1,8 +1,0 @@
-use Rattle.wb_office.proofs.HandOutLemmas.{rise, ends}
-use Rattle.wb_office.proofs.laws.takes_rise.Goals as goal
-
-pub returns-clause-rise : goal.returns-clause-rise
-returns-clause-rise c = rise
-
-pub returns-clause-ends : goal.returns-clause-ends
-returns-clause-ends c = ends

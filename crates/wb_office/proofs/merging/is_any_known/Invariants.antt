@@ -1,7 +1,0 @@
-use Rattle.std.proofs.Common.{◌≡◌, drop}
-use Rattle.std.specs.List.{list_any}
-use Rattle.wb_office.specs.Parts.{is_known}
-use Rattle.wb_office.proofs.merging.is_any_known.Given as goal
-
-abbrev pub invariant-loop-part : goal.invariant-loop-part
-invariant-loop-part l = list_any (is_known l.store) (drop l.part-index l.parts) ≡ list_any (is_known l.store) l.parts

@@ -1,6 +1,0 @@
-use Rattle.std.proofs.Common.{◌≡◌, drop}
-use Rattle.wb_office.specs.Checks.{has_repeated_arch}
-use Rattle.wb_office.proofs.merging.repeats_arch.Given as goal
-
-abbrev pub invariant-loop-place : goal.invariant-loop-place
-invariant-loop-place l = has_repeated_arch (drop l.place l.parts) ≡ has_repeated_arch l.parts

@@ -1,0 +1,15 @@
+use Rattle.std.proofs.Common.{ap, sym, ◌∙◌}
+use Rattle.wb_office.specs.Sought.{others_named}
+use Rattle.wb_store.proofs.FindsLemmas.{finds_looked_up, finds_weaker}
+use Rattle.wb_office.proofs.SoughtLemmas.{held_again-some}
+use Rattle.wb_office.proofs.named.found.find_others.Goals as goal
+
+pub returns-in-Next : goal.returns-in-Next
+returns-in-Next g c =
+    let next = c.in-Next.next.now in
+    record {
+      finds = finds_weaker c.held_by.result (finds_looked_up c.held_by.result c.held_by.ensures.looks_up)
+          (λ machine rows sound is.
+          is ∙ held_again-some machine next.builder next.after (sym c.is_some.ensures ∙ c.if-is_some.true)
+          ∙ ap (others_named machine) (sym c.in-Next.is));
+    }

@@ -1,0 +1,151 @@
+//! What the office answers to one command over its tables: what the command names is read, the command is carried out
+//! on that part of the office in memory, and what it changed is written in one transaction.
+ghost use Rattle.std.specs.Prelude.{◌≡◌, None};
+ghost use Rattle.wb_step.specs.Arguments.{arguments_of};
+ghost use Rattle.wb_office.specs.Answers.{AreOf, Answers, IsNamed, KeepsStep, Responds, is_again};
+
+use crate::carry::{CarryError, carry};
+use crate::known::{Known, find_archs, learn};
+use crate::merging::answer_merge;
+use crate::named::{Named, named_part};
+use deb_text::Text;
+use sqlite::{Alter, Connection};
+use std::alloc::Global;
+use wb_states::{Command, Counts, OsCpu, Refusal, Reply, StoreFault, Table};
+use wb_step::{Store, carry_out};
+use wb_store::unfit;
+
+/// Why a command is not carried out.
+#[derive(Drop)]
+pub(crate) enum Failure {
+    /// The office refuses it.
+    Refused(Refusal),
+    /// What it names could not be read.
+    Unread(StoreFault),
+    /// What it changed was not committed.
+    Uncommitted(CarryError),
+}
+
+/// The answer to a command that is carried out.
+#[derive(Drop)]
+pub(crate) struct Answered {
+    /// What is answered.
+    pub(crate) reply: Reply,
+    /// The two counts of the office then.
+    pub(crate) counts: Counts,
+}
+
+/// Carries out a command by what is known of the tables, and takes over what is known then.
+pub(crate) fn answer<S: Alter>(
+    alloc: Global,
+    conn: &mut Connection<S>,
+    known: &mut Known,
+    command: &Command,
+) -> Result<Reply, Failure>
+    ensures responds { Responds S.Store command.now known.old conn.old known.new conn.new result }
+{
+    let archs = match find_archs(alloc, conn, known) {
+        Ok(archs) => archs,
+        Err(fault) => return Err(Failure::Unread(fault)),
+    };
+    match answer_of(alloc, conn, known.counts, archs, command) {
+        Ok(Answered { reply, counts }) => {
+            learn(known, command, counts);
+            Ok(reply)
+        }
+        Err(failure) => Err(failure),
+    }
+}
+
+/// Carries out a command in an office that has these counts and architectures.
+fn answer_of<S: Alter>(
+    alloc: Global,
+    conn: &mut Connection<S>,
+    counts: Counts,
+    archs: Vec<(Text, OsCpu)>,
+    command: &Command,
+) -> Result<Answered, Failure>
+    ensures answers { Answers S.Store (AreOf counts archs.items) command.now conn.old conn.new result }
+{
+    match command {
+        Command::Merge(merge) => answer_merge(alloc, conn, counts, &archs, command, merge),
+        _ => answer_one(alloc, conn, counts, archs, command),
+    }
+}
+
+/// Carries out a command that is no merge.
+fn answer_one<S: Alter>(
+    alloc: Global,
+    conn: &mut Connection<S>,
+    counts: Counts,
+    archs: Vec<(Text, OsCpu)>,
+    command: &Command,
+) -> Result<Answered, Failure>
+    requires single { (arguments_of command.now).merge ≡ None }
+    ensures answers { Answers S.Store (AreOf counts archs.items) command.now conn.old conn.new result }
+{
+    match named_part(alloc, conn, counts, archs, command) {
+        Ok(named) => answer_in(alloc, conn, command, named),
+        Err(fault) => Err(Failure::Unread(fault)),
+    }
+}
+
+/// Carries out a command in the part of the office that it names, and keeps what it changed.
+fn answer_in<S: Alter>(
+    alloc: Global,
+    conn: &mut Connection<S>,
+    command: &Command,
+    named: Named,
+) -> Result<Answered, Failure>
+    requires single { (arguments_of command.now).merge ≡ None }
+    ensures answers { Answers S.Store (IsNamed command.now named.part named.key) command.now conn.old conn.new result }
+{
+    let Named { mut part, key } = named;
+    let reply = match carry_out(alloc, &mut part, command) {
+        Ok(reply) => reply,
+        Err(refusal) => return Err(Failure::Refused(refusal)),
+    };
+    let counts = counts_in(&part);
+    if is_again(&reply) {
+        return Ok(Answered { reply, counts });
+    }
+    match keep(conn, command, &key, &part) {
+        Ok(()) => Ok(Answered { reply, counts }),
+        Err(failure) => Err(failure),
+    }
+}
+
+/// The two counts of a part of the office, which are those of the whole one.
+pub(crate) fn counts_in(part: &Store) -> Counts
+    ensures value { result ≡ record { handed = part.now.handed; accepted = part.now.accepted } }
+{
+    match part.office_row() {
+        Ok(counts) => counts,
+        Err(_) => unreachable!(),
+    }
+}
+
+/// Whether a reply repeats an assignment, so that nothing is accepted.
+fn is_again(reply: &Reply) -> bool
+    ensures value { result ≡ is_again reply.now }
+{
+    matches!(reply, Reply::Again { .. })
+}
+
+/// Writes what a command changed in a part of the office to the tables.
+fn keep<S: Alter>(
+    conn: &mut Connection<S>,
+    command: &Command,
+    key: &Option<(Text, Text)>,
+    after: &Store,
+) -> Result<(), Failure>
+    ensures keeps { KeepsStep S.Store command.now key.now after.now conn.old conn.new result }
+{
+    if !conn.is_autocommit() {
+        return Err(Failure::Unread(unfit(Table::Office)));
+    }
+    match carry(conn, command, key, after) {
+        Ok(()) => Ok(()),
+        Err(failure) => Err(Failure::Uncommitted(failure)),
+    }
+}

@@ -1,0 +1,68 @@
+//! What an open office knows of its tables, so that no command has to ask for it.
+ghost use Rattle.std.specs.Prelude.{◌≡◌, IfOk, IfErr};
+ghost use Rattle.std.specs.FinMap as map;
+ghost use Rattle.wb_step.specs.Step.{step};
+ghost use Rattle.wb_states.specs.Machine.{Machine};
+ghost use Rattle.wb_store.specs.Finds.{Finds};
+ghost use Rattle.wb_store.specs.Opening.{AreCountsOf};
+ghost use Rattle.wb_office.specs.Standing.{Knows};
+
+use deb_text::Text;
+use sqlite::{Alter, Connection};
+use std::alloc::{AllocError, Global};
+use wb_states::{Command, Counts, OsCpu, StoreFault};
+
+/// What an office knows of its tables.
+#[derive(Drop)]
+pub(crate) struct Known {
+    /// The two counts of the office.
+    pub(crate) counts: Counts,
+    /// All its architectures by name, or none if they have to be read.
+    pub(crate) archs: Option<Vec<(Text, OsCpu)>>,
+}
+
+/// A copy of the architectures. The only error is that there is no memory for it.
+pub(crate) fn copied(
+    alloc: Global,
+    archs: &[(Text, OsCpu)],
+) -> Result<Vec<(Text, OsCpu)>, AllocError>
+    ensures value { IfOk result (λ copy. copy.items ≡ archs.now) }
+{
+    let mut copy = Vec::new(alloc);
+    for (name, words) in archs {
+        copy.push((name.clone()?, words.clone()?))?;
+    }
+    Ok(copy)
+}
+
+/// All architectures of the office, by name. They are read if they are not known, and are known then. The faults are
+/// those of the look-up, and `Memory`.
+pub(crate) fn find_archs<S: Alter>(
+    alloc: Global,
+    conn: &mut Connection<S>,
+    known: &mut Known,
+) -> Result<Vec<(Text, OsCpu)>, StoreFault>
+    ensures finds { Finds S.Store (λ machine archs. Knows machine known.old
+        → (archs.items ≡ map.entries machine.archs) × Knows machine known.new) conn.old conn.new result }
+    ensures counts { known.new.counts ≡ known.old.counts }
+    ensures err { IfErr result (λ _. known.new ≡ known.old) }
+{
+    if let Some(archs) = &known.archs {
+        return Ok(copied(alloc, archs)?);
+    }
+    let found = wb_store::archs(conn)?;
+    let archs = copied(alloc, &found)?;
+    known.archs = Some(found);
+    Ok(archs)
+}
+
+/// Takes over that the command was accepted, and that these are the counts then.
+pub(crate) fn learn(known: &mut Known, command: &Command, counts: Counts)
+    ensures knows { (machine : Machine) → Knows machine known.old
+        → AreCountsOf (step machine command.now).1 counts → Knows (step machine command.now).1 known.new }
+{
+    known.counts = counts;
+    if let Command::AddArch(_) = command {
+        known.archs = None;
+    }
+}

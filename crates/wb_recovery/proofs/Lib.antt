@@ -1,2 +1,0 @@
-pub mod LifeLemmas
-pub mod SessionLemmas

@@ -1,5 +1,0 @@
-use Rattle.wb_schema.proofs.FirstRowLemmas.{first_row_makes}
-use Rattle.wb_schema.proofs.making.put_first_row.Goals as goal
-
-pub returns-clause-makes : goal.returns-clause-makes
-returns-clause-makes g c = λ base lacks numbered. first_row_makes lacks numbered c.replace.ensures.runs c.replace.ensures.ok

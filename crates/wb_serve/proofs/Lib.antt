@@ -1,3 +1,0 @@
-pub mod AcknowledgedLemmas
-pub mod ExchangeLemmas
-pub mod RunLemmas

@@ -1,5 +1,0 @@
-use Rattle.wb_serve.proofs.RunLemmas.{run-replayed}
-use Rattle.wb_serve.proofs.laws.runs_leave_what_was_accepted.Goals as goal
-
-pub returns : goal.returns
-returns g c = record { replay = run-replayed _ }

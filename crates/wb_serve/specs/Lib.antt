@@ -1,2 +1,0 @@
-pub mod Exchange
-pub mod Runs

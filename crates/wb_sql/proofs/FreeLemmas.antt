@@ -1,0 +1,45 @@
+-- The office's names are free in a schema that lacks the office.
+use Rattle.std.proofs.Common.{◌≡◌, ℕ, ◌||◌, true, false, List, [], ◌∷◌, refl, ap, ap₂, map, None}
+use Rattle.std.specs.List.{list_any, position_from}
+use Rattle.std.specs.Char.{to_ascii_lowercase}
+use Rattle.std.specs.Ordering.{nat_cmp, is_eq}
+use Rattle.std.specs.Cmp.Lexicographic.{slice_cmp}
+use Rattle.std.proofs.lemmas.Bool.{false_from_ne_true}
+use Rattle.sqlite.specs.Schema.{Schema}
+use Rattle.sqlite.specs.Change.{is_used}
+use Rattle.sqlite_catalog.proofs.SoundLemmas.{lowered}
+use Rattle.sqlite_schema.specs.Names.{same_name}
+use Rattle.wb_sql.specs.Tables.{office_schema}
+use Rattle.wb_sql.specs.Among.{is_office_name, LacksOffice}
+use Rattle.wb_sql.proofs.AppendLemmas.{all_so, none_of, each_fails}
+use Rattle.wb_sql.proofs.CreatedLemmas.{free_from}
+
+-- a name and one like it are like the same names
+any_like : {X : Type 0} (f : X → List ℕ) (xs : List X) (name other : List ℕ) → map to_ascii_lowercase name ≡ map to_ascii_lowercase other
+    → list_any (λ x. same_name (f x) name) xs ≡ list_any (λ x. same_name (f x) other) xs
+unfolding same_name
+any_like f [] name other e = refl
+any_like f (x ∷ xs) name other e = ap₂ ◌||◌ (ap (λ low. is_eq (slice_cmp nat_cmp (map to_ascii_lowercase (f x)) low)) e) (any_like f xs name other e)
+
+-- a name that is none of the office's differs from one that is
+not_office : (name other : List ℕ) → is_office_name other ≡ true → is_office_name name ≡ false → same_name name other ≡ false
+not_office name other is none =
+    false_from_ne_true _ (λ same.
+    let e = (lowered name other).0 same in
+    let like : is_office_name name ≡ is_office_name other =
+    ap₂ ◌||◌ (any_like (λ t. t.name) office_schema.tables name other e) (any_like (λ i. i.name) office_schema.indexes name other e) in
+    cc)
+
+-- none of those whose names are none of the office's has a name that is
+unlike_office : {X : Type 0} (f : X → List ℕ) (xs : List X) (name : List ℕ) → is_office_name name ≡ true → list_any (λ x. is_office_name (f x)) xs ≡ false
+    → position_from (λ x. same_name (f x) name) 0 xs ≡ None
+unlike_office f xs name is none =
+    none_of (λ x. same_name (f x) name) 0 xs (all_so _ _ (λ x other. not_office (f x) name is other) xs (each_fails (λ x. is_office_name (f x)) xs none))
+
+-- a name of the office is free in a schema that lacks the office
+pub office_free : (base : Schema) → LacksOffice base → (name : List ℕ) → is_office_name name ≡ true → is_used base name ≡ false
+office_free base lacks name is =
+    free_from base name
+    (unlike_office (λ t. t.name) base.tables name is lacks.free.tables)
+    (unlike_office (λ i. i.name) base.indexes name is lacks.free.indexes)
+    (unlike_office (λ v. v.name) base.views name is lacks.free.views)

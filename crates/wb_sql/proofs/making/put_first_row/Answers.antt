@@ -1,0 +1,5 @@
+use Rattle.wb_sql.proofs.FirstRowLemmas.{first_row_makes}
+use Rattle.wb_sql.proofs.making.put_first_row.Goals as goal
+
+pub returns-clause-makes : goal.returns-clause-makes
+returns-clause-makes g c = λ base lacks numbered. first_row_makes lacks numbered c.replace.ensures.runs c.replace.ensures.ok

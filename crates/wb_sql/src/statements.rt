@@ -1,0 +1,177 @@
+//! The SQL texts that work on the office's tables, with what each means over every schema that has its table.
+
+ghost use Rattle.std.specs.Prelude.{[]};
+ghost use Rattle.wb_sql.specs.Tables.{office, arch, builder, source_record, scratch_source, scratch_binary};
+ghost use Rattle.wb_sql.specs.Among.{AsksAmong, InsertsAmong, UpsertsRecords, UpdatesAmong, DeletesAmong};
+ghost use Rattle.wb_sql.specs.OfficeStatements.{has_record_key, record_sets, record_of_key, queue_of, head_of};
+ghost use Rattle.wb_sql.specs.OfficeStatements.{record_of_take, held_by, records_of_arch, all_records};
+ghost use Rattle.wb_sql.specs.OfficeStatements.{arch_row, arch_of_name, all_archs, office_sets, office_counts};
+ghost use Rattle.wb_sql.specs.OfficeStatements.{builder_row, pair_of_builder, pairs_of_builder, all_builders, first_source, first_binary};
+
+/// Puts a record in, or writes it over the one with its key. The parameters are its 16 columns.
+pub fn put_record() -> &'static str
+    ensures { UpsertsRecords result.now }
+{
+    "INSERT INTO source_record(arch, source, state, version, priority, section, earlier, number, \
+     holder, take, waits, depends, note, message, build_priority, rank) \
+     VALUES (?1, ?2, ?3, ?4, ?5, ?6, ?7, ?8, ?9, ?10, ?11, ?12, ?13, ?14, ?15, ?16) \
+     ON CONFLICT(arch, source) DO UPDATE SET state = ?3, version = ?4, priority = ?5, section = ?6, earlier = ?7, \
+     number = ?8, holder = ?9, take = ?10, waits = ?11, depends = ?12, note = ?13, message = ?14, \
+     build_priority = ?15, rank = ?16"
+}
+
+/// Writes a record over the one with its key, which is there. The parameters are its 16 columns.
+pub fn replace_record() -> &'static str
+    ensures { UpdatesAmong source_record result.now has_record_key record_sets 16 }
+{
+    "UPDATE source_record SET state = ?3, version = ?4, priority = ?5, section = ?6, earlier = ?7, number = ?8, \
+     holder = ?9, take = ?10, waits = ?11, depends = ?12, note = ?13, message = ?14, build_priority = ?15, rank = ?16 \
+     WHERE arch = ?1 AND source = ?2"
+}
+
+/// Takes out the record of an architecture and a source package.
+pub fn remove_record() -> &'static str
+    ensures { DeletesAmong source_record result.now has_record_key 2 }
+{
+    "DELETE FROM source_record WHERE arch = ?1 AND source = ?2"
+}
+
+/// The record of an architecture and a source package.
+pub fn record() -> &'static str
+    ensures { AsksAmong source_record result.now record_of_key 2 }
+{
+    "SELECT arch, source, state, version, priority, section, earlier, number, holder, take, waits, \
+     depends, note, message, build_priority, rank \
+     FROM source_record WHERE arch = ?1 AND source = ?2"
+}
+
+/// The records of an architecture in a state, by rank and then by source package.
+pub fn queue() -> &'static str
+    ensures { AsksAmong source_record result.now queue_of 2 }
+{
+    "SELECT arch, source, state, version, priority, section, earlier, number, holder, take, waits, \
+     depends, note, message, build_priority, rank \
+     FROM source_record WHERE arch = ?1 AND state = ?2 ORDER BY rank, source"
+}
+
+/// The first record of an architecture in a state, by rank and then by source package.
+pub fn head() -> &'static str
+    ensures { AsksAmong source_record result.now head_of 2 }
+{
+    "SELECT arch, source, state, version, priority, section, earlier, number, holder, take, waits, \
+     depends, note, message, build_priority, rank \
+     FROM source_record WHERE arch = ?1 AND state = ?2 ORDER BY rank, source LIMIT 1"
+}
+
+/// The record with a take number.
+pub fn record_of_take() -> &'static str
+    ensures { AsksAmong source_record result.now record_of_take 1 }
+{
+    "SELECT arch, source, state, version, priority, section, earlier, number, holder, take, waits, \
+     depends, note, message, build_priority, rank \
+     FROM source_record WHERE take = ?1"
+}
+
+/// The records that a builder holds, by architecture and then by source package.
+pub fn held_by() -> &'static str
+    ensures { AsksAmong source_record result.now held_by 1 }
+{
+    "SELECT arch, source, state, version, priority, section, earlier, number, holder, take, waits, \
+     depends, note, message, build_priority, rank \
+     FROM source_record WHERE holder = ?1 ORDER BY arch, source"
+}
+
+/// The records of an architecture, by source package.
+pub fn records_of_arch() -> &'static str
+    ensures { AsksAmong source_record result.now records_of_arch 1 }
+{
+    "SELECT arch, source, state, version, priority, section, earlier, number, holder, take, waits, \
+     depends, note, message, build_priority, rank \
+     FROM source_record WHERE arch = ?1 ORDER BY source"
+}
+
+/// All records, by architecture and then by source package.
+pub fn all_records() -> &'static str
+    ensures { AsksAmong source_record result.now all_records 0 }
+{
+    "SELECT arch, source, state, version, priority, section, earlier, number, holder, take, waits, \
+     depends, note, message, build_priority, rank \
+     FROM source_record ORDER BY arch, source"
+}
+
+/// All architectures with their two words, by name.
+pub fn all_archs() -> &'static str
+    ensures { AsksAmong arch result.now all_archs 0 }
+{
+    "SELECT name, os, cpu FROM arch ORDER BY name"
+}
+
+/// The architecture of a name with its two words.
+pub fn arch_words() -> &'static str
+    ensures { AsksAmong arch result.now arch_of_name 1 }
+{
+    "SELECT name, os, cpu FROM arch WHERE name = ?1"
+}
+
+/// The pair of a builder and an architecture, if the builder was added for it.
+pub fn builder_pair() -> &'static str
+    ensures { AsksAmong builder result.now pair_of_builder 2 }
+{
+    "SELECT name, arch FROM builder WHERE name = ?1 AND arch = ?2"
+}
+
+/// A builder with the architectures for which it was added, by architecture.
+pub fn builder_pairs() -> &'static str
+    ensures { AsksAmong builder result.now pairs_of_builder 1 }
+{
+    "SELECT name, arch FROM builder WHERE name = ?1 ORDER BY arch"
+}
+
+/// All builders with the architectures for which they were added, by builder and then by architecture.
+pub fn all_builders() -> &'static str
+    ensures { AsksAmong builder result.now all_builders 0 }
+{
+    "SELECT name, arch FROM builder ORDER BY name, arch"
+}
+
+/// The format and the two counts of the office.
+pub fn office_counts() -> &'static str
+    ensures { AsksAmong office result.now office_counts 0 }
+{
+    "SELECT format, handed, accepted FROM office"
+}
+
+/// The place of one source package of a merge, if there is one.
+pub fn first_scratch_source() -> &'static str
+    ensures { AsksAmong scratch_source result.now first_source 0 }
+{
+    "SELECT seq FROM scratch_source LIMIT 1"
+}
+
+/// The place of one binary package of a merge, if there is one.
+pub fn first_scratch_binary() -> &'static str
+    ensures { AsksAmong scratch_binary result.now first_binary 0 }
+{
+    "SELECT seq FROM scratch_binary LIMIT 1"
+}
+
+/// Puts an architecture in. The parameters are its name and its two words.
+pub fn add_arch() -> &'static str
+    ensures { InsertsAmong arch result.now arch_row 3 }
+{
+    "INSERT INTO arch(name, os, cpu) VALUES (?1, ?2, ?3)"
+}
+
+/// Puts a builder in, for an architecture. The parameters are the two names.
+pub fn add_builder() -> &'static str
+    ensures { InsertsAmong builder result.now builder_row 2 }
+{
+    "INSERT INTO builder(name, arch) VALUES (?1, ?2)"
+}
+
+/// Sets the two counts of the office, which are the parameters: take numbers handed out, and commands accepted.
+pub fn set_counts() -> &'static str
+    ensures { UpdatesAmong office result.now [] office_sets 2 }
+{
+    "UPDATE office SET handed = ?1, accepted = ?2"
+}

@@ -1,0 +1,25 @@
+use Rattle.std.proofs.Common.{◌∙◌, sym, refl, true, false}
+use Rattle.wb_step.proofs.RefusalLemmas.{first_refusal-AddArch}
+use Rattle.wb_step.proofs.operator.check_arch.Goals as goal
+
+pub returns-then-has_bad_arch-clause-refused : goal.returns-then-has_bad_arch-clause-refused
+returns-then-has_bad_arch-clause-refused c = λ _.
+    first_refusal-AddArch c.args.store.now c.args.command.now.name c.args.command.now.os c.args.command.now.cpu true _ _
+    (sym c.has_bad_arch.ensures.value ∙ c.if-has_bad_arch.true) refl refl
+
+pub returns-then-is_there-clause-refused : goal.returns-then-is_there-clause-refused
+returns-then-is_there-clause-refused c = λ _.
+    first_refusal-AddArch c.args.store.now c.args.command.now.name c.args.command.now.os c.args.command.now.cpu false true _
+    (sym c.has_bad_arch.ensures.value ∙ c.if-has_bad_arch.false) (sym c.in_ok-is_there.ensures.value ∙ c.if-is_there.true) refl
+
+pub returns-then-is_full-clause-refused : goal.returns-then-is_full-clause-refused
+returns-then-is_full-clause-refused c = λ _.
+    first_refusal-AddArch c.args.store.now c.args.command.now.name c.args.command.now.os c.args.command.now.cpu false false true
+    (sym c.has_bad_arch.ensures.value ∙ c.if-has_bad_arch.false) (sym c.in_ok-is_there.ensures.value ∙ c.if-is_there.false)
+    (sym c.in_ok-is_full.ensures.value ∙ c.if-is_full.true)
+
+pub returns-clause-ok : goal.returns-clause-ok
+returns-clause-ok c =
+    first_refusal-AddArch c.args.store.now c.args.command.now.name c.args.command.now.os c.args.command.now.cpu false false false
+    (sym c.has_bad_arch.ensures.value ∙ c.if-has_bad_arch.false) (sym c.in_ok-is_there.ensures.value ∙ c.if-is_there.false)
+    (sym c.in_ok-is_full.ensures.value ∙ c.if-is_full.false)

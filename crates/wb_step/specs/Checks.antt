@@ -1,0 +1,346 @@
+-- The checks of a command, in the one order in which they are answered.
+use Rattle.std.specs.Prelude.{◌≡◌, ℕ, ℤ, Bool, true, false, not, ◌||◌, ◌&&◌, nat_le, nat_lt, nat_eq, List, [], ◌∷◌, length, bytes_eq, Option, Some, None, is_none, option_and_then, if◌then◌else◌}
+use Rattle.std.specs.Result.{result_err}
+use Rattle.std.specs.Option.{option_map, option_or}
+use Rattle.std.specs.List.{list_any}
+use Rattle.std.specs.Ordering.{is_eq}
+use Rattle.std.specs.FinMap as map
+use Rattle.std.specs.FinSet as set
+use Rattle.deb_version.specs.declared.fault.VersionFault.{VersionFault}
+use Rattle.deb_version.specs.Order.{version_cmp}
+use Rattle.deb_version.specs.Syntax.{fault_of}
+use Rattle.deb_version.specs.declared.fault.VersionFault.TheVariants.{Memory as NoMemory}
+use Rattle.deb_relations.specs.declared.fault.RelationFault.{RelationFault}
+use Rattle.deb_relations.specs.Reading.{reading_of}
+use Rattle.wb_states.specs.declared.command.Command.{Command}
+use Rattle.wb_states.specs.declared.command.Command.TheVariants as of
+use Rattle.wb_states.specs.declared.command.Part.{Part}
+use Rattle.wb_states.specs.declared.record.Record.{Record}
+use Rattle.wb_states.specs.declared.refusal.Refusal.{Refusal}
+use Rattle.wb_states.specs.declared.refusal.Refusal.TheVariants.{UnknownArch, UnknownBuilder, WrongArch, UnknownSource, OtherVersion, QueueEmpty, NotHeld, AfterAhead, AlreadyThere, BadName, BadVersion, BadRelations, BadNumber, TextTooLong, Spent, RepeatedArch, Memory}
+use Rattle.wb_states.specs.Holds.{taken_as}
+use Rattle.deb_text.specs.Options.{has_value, first_some}
+use Rattle.wb_states.specs.Limits.{count_limit, is_build_priority, note_limit, rebuild_limit, relations_limit}
+use Rattle.wb_states.specs.Machine.{Machine, is_unknown_arch, is_unknown_builder}
+use Rattle.wb_states.specs.Moves.{move_refusal}
+use Rattle.deb_relations.specs.Names.{is_package_name}
+use Rattle.wb_states.specs.Names.{has_bad_key, is_arch_name, is_os_cpu_word, is_builder_name, is_label_text}
+use Rattle.wb_states.specs.Queue.{head_of}
+use Rattle.wb_step.specs.Arguments.{arguments_of}
+use Rattle.wb_step.specs.Targets.{again_of, transition_of}
+use Rattle.wb_step.specs.Parts.{parts_refusal}
+
+-- a refusal if a test holds
+abbrev pub when : Bool → Refusal → Option Refusal
+when true refusal = Some refusal
+when false refusal = None
+
+-- ---- the forms of texts
+
+-- an architecture with the words of its operating system and its processor, of which one is malformed
+abbrev pub has_bad_arch : List ℕ → List ℕ → List ℕ → Bool
+has_bad_arch name os cpu = not (is_arch_name name && (is_os_cpu_word os && is_os_cpu_word cpu))
+
+-- a builder and an architecture, of which one is malformed
+abbrev pub has_bad_builder : List ℕ → List ℕ → Bool
+has_bad_builder builder arch = not (is_builder_name builder && is_arch_name arch)
+
+-- a source package that is entered, of which a name, the priority or the section is malformed
+abbrev pub has_bad_entry : List ℕ → List ℕ → List ℕ → List ℕ → Bool
+has_bad_entry arch source priority section =
+    not (is_arch_name arch && (is_package_name source && (is_label_text priority && is_label_text section)))
+
+-- an architecture and a builder that asks for its head, of which one is malformed
+abbrev pub has_bad_request : List ℕ → List ℕ → Bool
+has_bad_request arch builder = not (is_arch_name arch && is_builder_name builder)
+
+-- an architecture, a builder and the source package that it takes, of which one is malformed
+abbrev pub has_bad_take : List ℕ → List ℕ → List ℕ → Bool
+has_bad_take arch builder source = not (is_arch_name arch && (is_builder_name builder && is_package_name source))
+
+-- a part of which the architecture is malformed
+abbrev pub has_bad_part : List Part → Bool
+has_bad_part parts = list_any (λ part. not (is_arch_name part.arch)) parts
+
+-- the refusal of a version that is malformed
+abbrev pub version_refusal : List ℕ → Option Refusal
+version_refusal version = option_map BadVersion (fault_of version)
+
+-- the fault of relations that cannot be read
+abbrev pub relations_fault : List ℕ → Option RelationFault
+relations_fault relations = result_err (reading_of relations)
+
+-- the refusal of relations that cannot be read
+abbrev pub relations_refusal : List ℕ → Option Refusal
+relations_refusal relations = option_map (λ fault. BadRelations (Some fault)) (relations_fault relations)
+
+-- the refusal of an architecture, a source package and a version of which one is malformed
+abbrev pub key_refusal : List ℕ → List ℕ → List ℕ → Option Refusal
+key_refusal arch source version = first_some (when (has_bad_key arch source) BadName ∷ version_refusal version ∷ [])
+
+-- a number that no binary-only rebuild has
+abbrev pub is_bad_number : ℕ → Bool
+is_bad_number number = nat_eq number 0 || nat_lt rebuild_limit number
+
+-- a number that no build priority is
+abbrev pub is_bad_priority : ℤ → Bool
+is_bad_priority value = not (is_build_priority value)
+
+-- a note, a reason or a message that is too long
+abbrev pub is_long_text : List ℕ → Bool
+is_long_text text = nat_lt note_limit (length text)
+
+-- the refusal of the texts by which a source package is set aside: one of its key is malformed, or the note is too long
+abbrev pub aside_refusal : List ℕ → List ℕ → List ℕ → List ℕ → Option Refusal
+aside_refusal arch source version note =
+    first_some (when (has_bad_key arch source) BadName ∷ version_refusal version ∷ when (is_long_text note) TextTooLong ∷ [])
+
+-- two parts are for one architecture
+abbrev pub has_repeated_arch : List Part → Bool
+has_repeated_arch [] = false
+has_repeated_arch (part ∷ parts) = list_any (λ other. bytes_eq part.arch other.arch) parts || has_repeated_arch parts
+
+-- ---- the forms of a command's texts
+
+-- a name, a priority or a section of the command is malformed
+abbrev pub has_bad_name : Command → Bool
+has_bad_name (of.AddArch fields) = has_bad_arch fields.name fields.os fields.cpu
+has_bad_name (of.AddBuilder fields) = has_bad_builder fields.name fields.arch
+has_bad_name (of.Enter fields) = has_bad_entry fields.arch fields.source fields.priority fields.section
+has_bad_name (of.Next fields) = has_bad_request fields.arch fields.builder
+has_bad_name (of.Take fields) = has_bad_take fields.arch fields.builder fields.source
+has_bad_name (of.Built fields) = false
+has_bad_name (of.Uploaded fields) = false
+has_bad_name (of.Waits fields) = false
+has_bad_name (of.PutBack fields) = false
+has_bad_name (of.Attempted fields) = false
+has_bad_name (of.GiveBack fields) = has_bad_key fields.arch fields.source
+has_bad_name (of.DepWait fields) = has_bad_key fields.arch fields.source
+has_bad_name (of.Fail fields) = has_bad_key fields.arch fields.source
+has_bad_name (of.NotForUs fields) = has_bad_key fields.arch fields.source
+has_bad_name (of.Rebuild fields) = has_bad_key fields.arch fields.source
+has_bad_name (of.BuildPriority fields) = has_bad_key fields.arch fields.source
+has_bad_name (of.Merge fields) = has_bad_part fields.parts
+
+-- the fault of the command's version
+abbrev pub version_fault : Command → Option VersionFault
+version_fault command = option_and_then fault_of (arguments_of command).version
+
+-- the fault of the command's relations
+abbrev pub relation_fault : Command → Option RelationFault
+relation_fault command = option_and_then relations_fault (arguments_of command).relations
+
+-- the refusal of the command's relations, if they cannot be read
+abbrev pub refused_relations : Command → Option Refusal
+refused_relations command = option_map (λ fault. BadRelations (Some fault)) (relation_fault command)
+
+-- the number is that of no binary-only rebuild, or out of the range of build priorities
+abbrev pub has_bad_number : Command → Bool
+has_bad_number command =
+    has_value is_bad_priority (arguments_of command).build_priority || has_value is_bad_number (arguments_of command).number
+
+-- a note, a reason or a message is too long
+abbrev pub has_long_text : Command → Bool
+has_long_text command = has_value is_long_text (arguments_of command).text
+
+-- two parts of the command are for one architecture
+abbrev pub repeats_arch : Command → Bool
+repeats_arch command = has_value (λ merge. has_repeated_arch merge.parts) (arguments_of command).merge
+
+-- ---- what the office has
+
+-- the builder was not added for the architecture
+abbrev pub is_for_others : Machine → List ℕ → List ℕ → Bool
+is_for_others machine arch builder = not (set.contains machine.builders (builder, arch))
+
+-- the refusal of a builder that may not build for the architecture
+unfoldable pub builder_refusal : Machine → List ℕ → List ℕ → Option Refusal
+builder_refusal machine arch builder =
+    first_some (
+    when (is_unknown_arch machine arch) UnknownArch
+    ∷ when (is_unknown_builder machine builder) UnknownBuilder
+    ∷ when (is_for_others machine arch builder) WrongArch
+    ∷ [])
+
+-- a take number, or none, that was not given yet
+abbrev pub is_number_ahead : Machine → Option ℕ → Bool
+is_number_ahead machine after = has_value (nat_lt machine.handed) after
+
+-- the source package has no record on the architecture
+abbrev pub is_unknown_source : Machine → List ℕ × List ℕ → Bool
+is_unknown_source machine key = not (map.contains_key machine.records key)
+
+-- the refusal of a record of a version that differs in the order of versions (Debian Policy 5.6.12)
+abbrev pub differing : List ℕ → Record → Option Refusal
+differing version current =
+    if is_eq (version_cmp version current.version) then None else Some (OtherVersion current.version)
+
+-- the refusal of a source package on an architecture whose record, if it has one, is of another version
+abbrev pub other_version_at : Machine → List ℕ × List ℕ → List ℕ → Option Refusal
+other_version_at machine key version = option_and_then (differing version) (map.get machine.records key)
+
+-- the refusal of a source package without a record, or with one of another version
+abbrev pub found_refusal : Machine → List ℕ → List ℕ → List ℕ → Option Refusal
+found_refusal machine arch source version =
+    first_some (
+    when (is_unknown_source machine (arch, source)) UnknownSource
+    ∷ other_version_at machine (arch, source) version
+    ∷ [])
+
+-- ---- the same of a command
+
+-- it names an architecture that was never added
+abbrev pub lacks_arch : Machine → Command → Bool
+lacks_arch machine command = has_value (is_unknown_arch machine) (arguments_of command).arch
+
+-- no part of a merge can be merged
+abbrev pub merge_refusal : Machine → Command → Option Refusal
+merge_refusal machine command =
+    option_and_then (λ merge. parts_refusal machine merge.sources merge.parts) (arguments_of command).merge
+
+-- its builder was added for no architecture
+abbrev pub lacks_builder : Machine → Command → Bool
+lacks_builder machine command = has_value (is_unknown_builder machine) (arguments_of command).builder
+
+-- its builder was not added for its architecture
+abbrev pub is_for_other_archs : Machine → Command → Bool
+is_for_other_archs machine command =
+    has_value (λ arch. has_value (is_for_others machine arch) (arguments_of command).builder) (arguments_of command).arch
+
+-- it asks after a take number that was not given yet
+abbrev pub is_ahead : Machine → Command → Bool
+is_ahead machine command = has_value (λ next. is_number_ahead machine next.after) (arguments_of command).next
+
+-- the take number that the command names
+abbrev pub take_named : Command → Option ℕ
+take_named command = (arguments_of command).take_number
+
+-- no record is held under its take number (this project's own)
+abbrev pub is_not_held : Machine → Command → Bool
+is_not_held machine command = has_value (λ take_number. is_none (taken_as machine take_number)) (take_named command)
+
+-- the record that the command moves or gives a build priority, by its architecture and source package
+abbrev pub source_named : Command → Option (List ℕ × List ℕ)
+source_named command =
+    option_and_then (λ arch. option_map (λ source. (arch, source)) (arguments_of command).source) (arguments_of command).arch
+
+-- there is no record that the command could move or give a build priority
+abbrev pub lacks_source : Machine → Command → Bool
+lacks_source machine command = has_value (is_unknown_source machine) (source_named command)
+
+-- the record that the command names is of another version
+abbrev pub other_version : Machine → Command → Option Refusal
+other_version machine command =
+    option_and_then (λ version. option_and_then (λ key. other_version_at machine key version) (source_named command))
+    (arguments_of command).version
+
+-- the record that it moves is not in a state from which the move goes, or else the move's relations or number are refused
+abbrev pub refused_move : Machine → Command → Option Refusal
+refused_move machine command = option_and_then (λ asked. move_refusal asked.1 asked.0.1) (transition_of machine command)
+
+-- it asks for the head of a queue that is empty, and what its builder builds is not reported again
+abbrev pub has_empty_queue : Machine → Command → Bool
+has_empty_queue machine command =
+    has_value (λ next. is_none (again_of machine command) && is_none (head_of machine next.arch)) (arguments_of command).next
+
+-- what it adds is there already: the architecture, the builder on the architecture, or the record
+abbrev pub is_there_already : Machine → Command → Bool
+is_there_already machine (of.AddArch fields) = map.contains_key machine.archs fields.name
+is_there_already machine (of.AddBuilder fields) = set.contains machine.builders (fields.name, fields.arch)
+is_there_already machine (of.Enter fields) = map.contains_key machine.records (fields.arch, fields.source)
+is_there_already machine (of.Next fields) = false
+is_there_already machine (of.Take fields) = false
+is_there_already machine (of.Built fields) = false
+is_there_already machine (of.Uploaded fields) = false
+is_there_already machine (of.Waits fields) = false
+is_there_already machine (of.PutBack fields) = false
+is_there_already machine (of.Attempted fields) = false
+is_there_already machine (of.GiveBack fields) = false
+is_there_already machine (of.DepWait fields) = false
+is_there_already machine (of.Fail fields) = false
+is_there_already machine (of.NotForUs fields) = false
+is_there_already machine (of.Rebuild fields) = false
+is_there_already machine (of.BuildPriority fields) = false
+is_there_already machine (of.Merge fields) = false
+
+-- a count that it would raise is at its limit
+abbrev pub is_spent : Machine → Command → Bool
+is_spent machine (of.Next fields) =
+    is_none (again_of machine (of.Next fields))
+    && (nat_le count_limit machine.accepted || nat_le count_limit machine.handed)
+is_spent machine (of.Take fields) = nat_le count_limit machine.accepted || nat_le count_limit machine.handed
+is_spent machine (of.AddArch fields) = nat_le count_limit machine.accepted
+is_spent machine (of.AddBuilder fields) = nat_le count_limit machine.accepted
+is_spent machine (of.Enter fields) = nat_le count_limit machine.accepted
+is_spent machine (of.Built fields) = nat_le count_limit machine.accepted
+is_spent machine (of.Uploaded fields) = nat_le count_limit machine.accepted
+is_spent machine (of.Waits fields) = nat_le count_limit machine.accepted
+is_spent machine (of.PutBack fields) = nat_le count_limit machine.accepted
+is_spent machine (of.Attempted fields) = nat_le count_limit machine.accepted
+is_spent machine (of.GiveBack fields) = nat_le count_limit machine.accepted
+is_spent machine (of.DepWait fields) = nat_le count_limit machine.accepted
+is_spent machine (of.Fail fields) = nat_le count_limit machine.accepted
+is_spent machine (of.NotForUs fields) = nat_le count_limit machine.accepted
+is_spent machine (of.Rebuild fields) = nat_le count_limit machine.accepted
+is_spent machine (of.BuildPriority fields) = nat_le count_limit machine.accepted
+is_spent machine (of.Merge fields) = nat_le count_limit machine.accepted
+
+-- ---- the one order
+
+-- the checks of a command's texts, in the one order
+abbrev pub text_checks : Command → List (Option Refusal)
+text_checks command =
+    when (has_bad_name command) BadName
+    ∷ option_map BadVersion (version_fault command)
+    ∷ refused_relations command
+    ∷ when (has_bad_number command) BadNumber
+    ∷ when (has_long_text command) TextTooLong
+    ∷ when (repeats_arch command) RepeatedArch
+    ∷ []
+
+-- the refusal of a command's texts, the first in the one order
+unfoldable pub text_refusal : Command → Option Refusal
+text_refusal command = first_some (text_checks command)
+
+-- the checks of a command against what the office has, in the one order
+abbrev pub state_checks : Machine → Command → List (Option Refusal)
+state_checks machine command =
+    when (lacks_arch machine command) UnknownArch
+    ∷ merge_refusal machine command
+    ∷ when (lacks_builder machine command) UnknownBuilder
+    ∷ when (is_for_other_archs machine command) WrongArch
+    ∷ when (is_ahead machine command) (AfterAhead machine.handed)
+    ∷ when (is_not_held machine command) NotHeld
+    ∷ when (lacks_source machine command) UnknownSource
+    ∷ other_version machine command
+    ∷ refused_move machine command
+    ∷ when (has_empty_queue machine command) QueueEmpty
+    ∷ when (is_there_already machine command) AlreadyThere
+    ∷ when (is_spent machine command) Spent
+    ∷ []
+
+-- the refusal of a command by what the office has, the first in the one order
+unfoldable pub state_refusal : Machine → Command → Option Refusal
+state_refusal machine command = first_some (state_checks machine command)
+
+-- the refusal of a command, the first in the one order, or none if it is accepted
+unfoldable pub first_refusal : Machine → Command → Option Refusal
+first_refusal machine command = option_or (text_refusal command) (state_refusal machine command)
+
+-- the relations that the command brings are longer than any that are read
+abbrev pub has_long_relations : Command → Bool
+has_long_relations command = has_value (λ relations. nat_lt relations_limit (length relations)) (arguments_of command).relations
+
+-- what is known of a command that may need memory: no check without memory refuses its texts
+pub record MayWantMemory (command : Command) : Type 0 where
+  pub names : has_bad_name command ≡ false
+  pub version : version_fault command ≡ None
+  pub relations : has_long_relations command ≡ false
+  pub number : has_bad_number command ≡ false
+  pub short : has_long_text command ≡ false
+  pub parts : repeats_arch command ≡ false
+
+-- the refusal of a version's fault: out of memory is no fault of the version
+abbrev pub refusal_of_fault : VersionFault → Refusal
+refusal_of_fault NoMemory = Memory
+refusal_of_fault fault = BadVersion fault

@@ -1,0 +1,16 @@
+pub mod Arguments
+pub mod Carries
+pub mod Checks
+pub mod Coded
+pub mod HandOuts
+pub mod Locality
+pub mod MergedParts
+pub mod Named
+pub mod Offices
+pub mod Outcomes
+pub mod Parts
+pub mod Replay
+pub mod Step
+pub mod Targets
+pub mod TextChecks
+pub mod Utf8

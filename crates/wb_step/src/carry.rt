@@ -1,0 +1,83 @@
+//! What an office promises of the commands and the queries that it is given, wherever it keeps its state.
+ghost use Rattle.std.specs.Prelude.{◌≡◌, IfOk, IfErr, Ok, Err, false};
+ghost use Rattle.wb_states.specs.declared.refusal.Refusal.TheVariants.{Closed, Memory, Store};
+ghost use Rattle.wb_states.specs.declared.store_fault.StoreFault.{StoreFault};
+ghost use Rattle.wb_states.specs.Machine.{IsConsistent, Machine};
+ghost use Rattle.wb_states.specs.Refusals.{IsOfMachine};
+ghost use Rattle.wb_step.specs.Checks.{MayWantMemory};
+ghost use Rattle.wb_states.specs.Refusals.{is_of_store};
+ghost use Rattle.wb_states.specs.Queries.{answer_of, has_malformed_name};
+ghost use Rattle.wb_step.specs.Step.{step};
+
+use wb_states::{Answer, Command, Query, Refusal, Reply};
+
+/// An office that carries out commands and answers queries. Its clauses speak of a state of the office at which it stands,
+/// and say what is so of each such state (this project's own).
+pub trait CarryOut {
+    // What was read of the store is what was written to it: for files this is so if nobody else writes them and the disk
+    // gives back what it was given.
+    ghost is_clean: { Self → Type 0 };
+
+    // The office is in this state, which is consistent. If the office is closed, a crash leaves this state.
+    ghost stands_at: { Self → Machine → Type 0 };
+
+    // The office is closed: it answers `Closed` to each command until it is opened again.
+    ghost is_closed: { Self → Type 0 };
+
+    // The office is closed, and a crash leaves one of these two states.
+    ghost leaves: { Self → Machine → Machine → Type 0 };
+
+    /// How many commands were accepted. Takes no memory (this project's own).
+    fn accepted_count(&self) -> u64
+        ensures value { (machine : Machine) → is_clean self.now → stands_at self.now machine
+            → result ≡ machine.accepted };
+
+    /// Carries out one command, whole or not at all, and answers it.
+    ///
+    /// The refusal is the first that is true of the command in the order of [`Refusal`], and the office is then as it
+    /// was. `Memory` comes if there is no memory for it; the office is then as it was, but may be closed. `Store`
+    /// comes if the store failed: the office is closed, and a crash leaves the state before the command or the state
+    /// after it, whole. A closed office answers `Closed` to each command (this project's own).
+    fn carry_out(&mut self, command: &Command) -> Result<Reply, Refusal>
+        ensures clean { is_clean self.new → is_clean self.old }
+        ensures reply { (machine : Machine) → is_clean self.new → stands_at self.old machine
+            → IfOk result (λ reply. ((step machine command.now).0 ≡ Ok reply)
+            × stands_at self.new (step machine command.now).1) }
+        ensures refused { (machine : Machine) → is_clean self.new → stands_at self.old machine
+            → IfErr result (λ refusal. IsOfMachine refusal → is_of_store refusal ≡ false
+            → ((step machine command.now).0 ≡ Err refusal) × stands_at self.new machine) }
+        ensures memory { (machine : Machine) → is_clean self.new → stands_at self.old machine
+            → result ≡ Err Memory → MayWantMemory command.now × stands_at self.new machine }
+        ensures closed { (machine : Machine) → is_clean self.new → stands_at self.old machine
+            → result ≡ Err Closed → is_closed self.new × stands_at self.new machine }
+        ensures store { (machine : Machine) → is_clean self.new → stands_at self.old machine → (fault : StoreFault)
+            → result ≡ Err (Store fault) → leaves self.new machine (step machine command.now).1 };
+
+    /// Answers a query, which changes nothing: a record, or what a builder holds by take number.
+    ///
+    /// The refusals come in this order: `Closed`, `BadName` if a name is malformed, `UnknownArch` if the architecture
+    /// was never added, `UnknownBuilder` if the builder was added for no architecture, `UnknownSource` if the source
+    /// package has no record there. `Memory` and `Store` come as for [`carry_out`](CarryOut::carry_out), but not for a
+    /// malformed name. The office is as it was after each answer; after `Store` it is closed, and a crash leaves the
+    /// state that it had (this project's own).
+    fn ask(&mut self, query: &Query) -> Result<Answer, Refusal>
+        ensures clean { is_clean self.new → is_clean self.old }
+        ensures answer { (machine : Machine) → is_clean self.new → stands_at self.old machine
+            → IfOk result (λ answer. (answer_of machine query.now ≡ Ok answer)
+            × stands_at self.new machine) }
+        ensures refused { (machine : Machine) → is_clean self.new → stands_at self.old machine
+            → IfErr result (λ refusal. IsOfMachine refusal → is_of_store refusal ≡ false
+            → (answer_of machine query.now ≡ Err refusal) × stands_at self.new machine) }
+        ensures memory { (machine : Machine) → is_clean self.new → stands_at self.old machine
+            → result ≡ Err Memory
+            → (has_malformed_name query.now ≡ false) × stands_at self.new machine }
+        ensures closed { (machine : Machine) → is_clean self.new → stands_at self.old machine
+            → result ≡ Err Closed → is_closed self.new × stands_at self.new machine }
+        ensures shut { (machine : Machine) → is_clean self.new → stands_at self.old machine
+            → result ≡ Err Closed → is_closed self.old }
+        ensures store { (machine : Machine) → is_clean self.new → stands_at self.old machine → (fault : StoreFault)
+            → result ≡ Err (Store fault) → leaves self.new machine machine };
+
+    // A state at which an office stands is consistent.
+    ghost consistent: { (office : Self) (machine : Machine) → stands_at office machine → IsConsistent machine };
+}

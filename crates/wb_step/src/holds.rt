@@ -1,0 +1,72 @@
+//! The records that builders hold.
+ghost use Rattle.std.specs.Prelude.{◌≡◌, IfOk, IfErr, bytes_eq, map as each};
+ghost use Rattle.std.specs.Option.{option_map};
+ghost use Rattle.std.specs.Map.Iter.{deref_pair};
+ghost use Rattle.wb_states.specs.declared.store_fault.StoreFault.TheVariants.{Memory};
+ghost use Rattle.wb_states.specs.Holds.{taken_as, held_of};
+ghost use Rattle.deb_text.specs.Options.{has_value};
+ghost use Rattle.wb_states.specs.Lookups.{entry_of};
+
+use crate::Store;
+use crate::keyed::{keyed_list, keyed_option};
+use deb_text::Text;
+use std::alloc::AllocError;
+use wb_states::{KeyedRecord, Record, StoreFault};
+
+impl Store {
+    /// The record that is held under the take number, or none: if several were, the first by architecture
+    /// and source package. The only error is `Memory` (this project's own).
+    pub fn by_take(&self, take_number: u64) -> Result<Option<KeyedRecord>, StoreFault>
+        ensures value { IfOk result (λ found.
+            option_map entry_of found ≡ taken_as self.now take_number) }
+        ensures fault { IfErr result (λ fault. fault ≡ Memory) }
+    {
+        Ok(keyed_option(self.taken(take_number))?)
+    }
+
+    #[tactic(auto, unfolding(wb_states::specs::Holds::taken_as))]
+    fn taken(&self, take_number: u64) -> Option<(&(Text, Text), &Record)>
+        ensures value { option_map deref_pair result ≡ taken_as self.now take_number }
+    {
+        for (key, current) in self.records.iter() {
+            if current.take == Some(take_number) {
+                return Some((key, current));
+            }
+        }
+        None
+    }
+
+    /// The records that the builder holds, of all architectures, by take number. The only error is
+    /// `Memory` (this project's own).
+    pub fn held_by(&self, builder: &Text) -> Result<Vec<KeyedRecord>, StoreFault>
+        ensures value { IfOk result (λ rows.
+            each entry_of rows.items ≡ held_of self.now builder.now) }
+        ensures fault { IfErr result (λ fault. fault ≡ Memory) }
+    {
+        let held = self.held(builder)?;
+        Ok(keyed_list(self.alloc, held)?)
+    }
+
+    fn held(&self, builder: &Text) -> Result<Vec<(&(Text, Text), &Record)>, AllocError>
+        ensures value { IfOk result (λ rows.
+            each deref_pair rows.items ≡ held_of self.now builder.now) }
+    {
+        let mut held = Vec::new(self.alloc);
+        for (key, current) in self.records.iter() {
+            if is_holder(current, builder) {
+                held.push((key, current))?;
+            }
+        }
+        held.sort_by_key(|row| row.1.take.unwrap_or(0))?;
+        Ok(held)
+    }
+}
+
+fn is_holder(current: &Record, builder: &Text) -> bool
+    ensures { result ≡ has_value (bytes_eq builder.now) current.now.holder }
+{
+    match &current.holder {
+        None => false,
+        Some(holder) => builder.as_str() == holder.as_str(),
+    }
+}

@@ -1,0 +1,33 @@
+//! One command is one step of the office's state: it is carried out in memory on what it names, answered and kept whole,
+//! or refused and nothing is changed.
+#![tactic(auto)]
+
+mod again;
+mod builder;
+mod carry;
+mod changes;
+mod checks;
+mod forms;
+mod holder;
+mod holds;
+mod keyed;
+pub mod laws;
+mod lookups;
+mod merging;
+mod named;
+mod operator;
+mod part;
+mod priority;
+mod queue;
+mod records;
+mod step;
+mod store;
+mod text_check;
+mod texts;
+mod transition;
+
+pub use carry::CarryOut;
+pub use records::Records;
+pub use step::carry_out;
+pub use store::Store;
+pub use text_check::check_texts;

@@ -1,0 +1,72 @@
+//! The record that a command moves.
+ghost use Rattle.std.specs.Prelude.{◌≡◌, ◌+◌, None, false, nat_le, Ok, Err, OnOk, IfOk, IfErr, OnErr};
+ghost use Rattle.std.specs.FinMap as map;
+ghost use Rattle.wb_states.specs.declared.refusal.Refusal.TheVariants.{Memory};
+ghost use Rattle.wb_states.specs.declared.reply.Reply.TheVariants.{Done};
+ghost use Rattle.wb_states.specs.Limits.{count_limit};
+ghost use Rattle.wb_states.specs.Moves.{move_refusal, record_after_move};
+ghost use Rattle.wb_states.specs.Refusals.{IsOfMachine};
+ghost use Rattle.wb_states.specs.Lookups.{entry_of};
+ghost use Rattle.wb_step.specs.Outcomes.{move_step};
+ghost use Rattle.wb_step.specs.Step.{counted};
+
+use crate::Store;
+use crate::checks::is_spent;
+use crate::operator::accept_one;
+use std::alloc::Global;
+use wb_states::{KeyedRecord, Move, Record, Refusal, Reply, move_record};
+
+/// The record after a move that nothing refuses.
+pub(crate) fn move_checked(
+    alloc: Global,
+    current: &Record,
+    change: &Move,
+) -> Result<Record, Refusal>
+    ensures value { IfOk result (λ after. after ≡ record_after_move change.now current.now) }
+    ensures ok { OnOk result (move_refusal change.now current.now ≡ None) }
+    ensures refused { IfErr result (λ refusal. IsOfMachine refusal
+        → move_refusal change.now current.now ≡ Some refusal) }
+{
+    move_record(alloc, current, change)
+}
+
+/// The record after the move of a command that can be counted. Nothing is written.
+pub(crate) fn prepare_move(
+    alloc: Global,
+    store: &Store,
+    row: KeyedRecord,
+    change: &Move,
+) -> Result<KeyedRecord, Refusal>
+    ensures value { IfOk result (λ made. entry_of made
+        ≡ ((row.arch, row.source), record_after_move change.now row.current)) }
+    ensures ok { OnOk result (move_refusal change.now row.current ≡ None) }
+    ensures room { OnOk result (nat_le count_limit store.now.accepted ≡ false) }
+    ensures refused { IfErr result (λ refusal. IsOfMachine refusal
+        → move_step store.now (entry_of row) change.now ≡ (Err refusal, store.now)) }
+{
+    let after = move_checked(alloc, &row.current, change)?;
+    let is_full = is_spent(store)?;
+    if is_full {
+        return Err(Refusal::Spent);
+    }
+    Ok(KeyedRecord {
+        arch: row.arch,
+        source: row.source,
+        current: after,
+    })
+}
+
+/// Writes a record that a command changed, and counts the command.
+pub(crate) fn keep_record(store: &mut Store, made: KeyedRecord) -> Result<Reply, Refusal>
+    requires { nat_le count_limit store.old.accepted ≡ false }
+    ensures reply { IfOk result (λ reply. reply ≡ Done (store.old.accepted + 1)) }
+    ensures ok { OnOk result (store.new ≡ counted store.old
+        (record store.old {
+          records = map.insert store.old.records (made.arch, made.source) made.current;
+        })) }
+    ensures refused { IfErr result (λ refusal. refusal ≡ Memory) }
+    ensures unchanged { OnErr result (store.new ≡ store.old) }
+{
+    store.put(made.arch, made.source, made.current)?;
+    accept_one(store)
+}

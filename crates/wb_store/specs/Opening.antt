@@ -1,0 +1,174 @@
+-- What an opening tests of the tables of an office, in one call, and how it finds an office or makes one.
+use Rattle.std.specs.Prelude.{◌≡◌, ◌⊎◌, ⊤, IsTrue, List, ℕ, [], Result, Err, IfOk, IfErr, OnOk, OnErr}
+use Rattle.sqlite_trees.specs.declared.store.Store.{Ghosts}
+use Rattle.sqlite.specs.declared.error.Error.{Error}
+use Rattle.sqlite.specs.Effect.{Database}
+use Rattle.sqlite.specs.Held.{Held, state}
+use Rattle.sqlite.specs.State.{State, HasCleanDisk, IsUnchanged, Survives}
+use Rattle.wb_sql.specs.Transactions.{IsKeptOrUndone}
+use Rattle.wb_sql.specs.Among.{HasOffice, LacksOffice, rows_in}
+use Rattle.wb_sql.specs.Tables.{scratch_binary, scratch_source}
+use Rattle.wb_states.specs.declared.arch.OsCpu.{OsCpu}
+use Rattle.wb_states.specs.declared.counts.Counts.{Counts}
+use Rattle.wb_states.specs.declared.store_fault.StoreFault.{StoreFault}
+use Rattle.wb_states.specs.declared.store_fault.StoreFault.TheVariants.{Damaged, Memory, NotOffice}
+use Rattle.wb_states.specs.declared.store_fault.Table.TheVariants.{Office, Arch, Builder}
+use Rattle.wb_states.specs.Machine.{Key, Machine, IsConsistent, empty_office}
+use Rattle.wb_rows.specs.Cells.{arch_cells, builder_cells}
+use Rattle.wb_store.specs.Calls.{FailsToRead}
+use Rattle.wb_store.specs.Faults.{fault_of}
+use Rattle.wb_store.specs.Checks.{AreBadCounts, AreBadRecords, AreBadRows, FailsToTest, HasGoodRows, HoldsArchs, HoldsBuilders, HoldsCounts, IsFormedArch, IsFormedBuilder, ShowsGood}
+use Rattle.wb_store.specs.Queries as ask
+use Rattle.wb_store.specs.Queries.{OfficeQuery, table_asked, table_of}
+use Rattle.wb_store.specs.Scratch.{has_rows}
+use Rattle.wb_store.specs.Settled.{IsBackAt, IsSettled}
+use Rattle.wb_store.specs.Stands.{StandsFor}
+use Rattle.wb_store.specs.Finds.{StaysAs}
+use Rattle.wb_store.specs.Preparing.{FailsToMake, IsBlank, IsFoundAt, LeavesFound}
+
+-- these counts are those of the state
+abbrev pub AreCountsOf : Machine → Counts → Type 0
+AreCountsOf machine counts = (counts.handed ≡ machine.handed) × (counts.accepted ≡ machine.accepted)
+
+-- the office's row in a database is good, with these counts
+abbrev pub ShowsCounts : Database → Counts → Type 0
+ShowsCounts db counts = ShowsGood ask.Office db (λ rows. HoldsCounts rows counts)
+
+-- the rows of the architectures in a database are good, and the architectures are these
+abbrev pub ShowsArchs : Database → List (List ℕ × OsCpu) → Type 0
+ShowsArchs db archs = ShowsGood ask.Archs db (λ rows. HoldsArchs rows archs)
+
+-- the rows of the builders in a database are good beside these architectures, and the builders are these
+abbrev pub ShowsBuilders : Database → List (List ℕ × OsCpu) → List Key → Type 0
+ShowsBuilders db archs builders = ShowsGood ask.Builders db (λ rows. HoldsBuilders archs rows builders)
+
+-- the rows of the office's tables are good, with these counts
+abbrev pub HasGoodRowsWith : Database → Counts → Type 0
+HasGoodRowsWith db counts = (h : HasGoodRows db) × (h.counts ≡ counts)
+
+-- the two scratch tables of a merge have no row
+abbrev pub HasNoScratchRows : Database → Type 0
+HasNoScratchRows db = (rows_in db scratch_source ≡ []) × (rows_in db scratch_binary ≡ [])
+
+-- the test of the architectures fails, after a good row of the office
+abbrev pub FailsOnArchs : State → State → StoreFault → Type 0
+FailsOnArchs old new fault =
+    (counts : Counts) × ShowsCounts old.now counts
+    × FailsToTest ask.Archs (AreBadRows Arch arch_cells IsFormedArch) old new fault
+
+-- the test of the builders fails, after good rows of the office and of the architectures
+abbrev pub FailsOnBuilders : State → State → StoreFault → Type 0
+FailsOnBuilders old new fault =
+    (counts : Counts) × (archs : List (List ℕ × OsCpu)) × ShowsCounts old.now counts × ShowsArchs old.now archs
+    × FailsToTest ask.Builders (AreBadRows Builder builder_cells (IsFormedBuilder archs)) old new fault
+
+-- the test of the records fails, after good rows of all the other tables
+abbrev pub FailsOnRecords : State → State → StoreFault → Type 0
+FailsOnRecords old new fault =
+    (counts : Counts) × (archs : List (List ℕ × OsCpu)) × (builders : List Key)
+    × ShowsCounts old.now counts × ShowsArchs old.now archs × ShowsBuilders old.now archs builders
+    × FailsToTest ask.Records (AreBadRecords archs builders counts.handed) old new fault
+
+-- why the tests of the rows fail: the first of the four that fails, after good rows of the tables before it
+abbrev pub FailsOnRows : State → State → StoreFault → Type 0
+FailsOnRows old new fault =
+    FailsToTest ask.Office AreBadCounts old new fault
+    ⊎ (FailsOnArchs old new fault ⊎ (FailsOnBuilders old new fault ⊎ FailsOnRecords old new fault))
+
+-- why the test of a scratch table fails, which is by this query: the query failed; or the table has a row, of which the first is damaged, and nothing is changed
+abbrev pub FailsOnScratchOf : OfficeQuery → State → State → StoreFault → Type 0
+FailsOnScratchOf query old new fault =
+    FailsToRead query old new fault ⊎ ((fault ≡ Damaged (table_asked query) 1) × IsTrue (has_rows (table_asked query) old.now) × IsUnchanged old new)
+
+-- why the tests of the scratch tables fail: that of the source packages does, or, if that table has no row, that of the binary packages
+abbrev pub FailsOnScratch : State → State → StoreFault → Type 0
+FailsOnScratch old new fault =
+    FailsOnScratchOf ask.OneSource old new fault ⊎ ((rows_in old.now scratch_source ≡ []) × FailsOnScratchOf ask.OneBinary old new fault)
+
+-- why the tests of an office fail: one of the rows, or, after good rows, that of the scratch tables
+abbrev pub FailsOnOffice : State → State → StoreFault → Type 0
+FailsOnOffice old new fault = FailsOnRows old new fault ⊎ (HasGoodRows old.now × FailsOnScratch old new fault)
+
+-- a fault that comes for this reason, after tests that left the database as it was
+abbrev pub ComesLater : {S : Type 0} → Ghosts S → (State → State → StoreFault → Type 0) → Held S → Held S → StoreFault → Type 0
+ComesLater {S} g Why old new fault = (mid : Held S) × StaysAs g old mid × Why (state g mid) (state g new) fault
+
+-- one of the queries failed with this fault
+abbrev pub FailsToReadOne : State → State → StoreFault → Type 0
+FailsToReadOne old new fault = (query : OfficeQuery) × FailsToRead query old new fault
+
+-- memory ran out, or a query failed, after tests that left the database as it was
+abbrev pub LacksMemoryOrQuery : {S : Type 0} → Ghosts S → Held S → Held S → StoreFault → Type 0
+LacksMemoryOrQuery g old new fault = (fault ≡ Memory) ⊎ ComesLater g FailsToReadOne old new fault
+
+-- tests, one after another, of a database with the office's tables: if they succeed, it is good, and stays as it is; if they fail, one of them did,
+-- after others that changed nothing; if this is true of the state, the tables of a consistent office pass them, with this outcome, unless memory
+-- ran out or a query failed; and a crash leaves no more than before
+pub record ChecksWith {S A : Type 0} (g : Ghosts S) (Given : Machine → Type 0) (Good : Database → A → Type 0)
+    (Outcome : Machine → A → Type 0) (Why : State → State → StoreFault → Type 0) (old new : Held S) (result : Result A StoreFault) : Type 0 where
+  pub good : HasCleanDisk (state g new) → HasOffice old.schema → IfOk result (Good (state g old).now)
+  pub same : HasCleanDisk (state g new) → HasOffice old.schema → OnOk result (StaysAs g old new)
+  pub err : HasCleanDisk (state g new) → HasOffice old.schema → IfErr result (ComesLater g Why old new)
+  pub kept : HasCleanDisk (state g new) → HasOffice old.schema → OnErr result (IsKeptOrUndone (state g old) (state g new))
+  pub told : HasCleanDisk (state g new) → IfOk result (λ x. (machine : Machine) → StandsFor machine (state g old).now → Outcome machine x)
+  pub fails : HasCleanDisk (state g new)
+      → IfErr result (λ fault. (machine : Machine) → IsConsistent machine → StandsFor machine (state g old).now → Given machine → LacksMemoryOrQuery g old new fault)
+  pub survives : Survives (state g old) (state g new) (λ _. ¬ HasOffice old.schema)
+
+-- the tests of the rows of the office's tables
+abbrev pub ChecksRows : {S : Type 0} → Ghosts S → Held S → Held S → Result Counts StoreFault → Type 0
+ChecksRows g = ChecksWith g (λ _. ⊤) HasGoodRowsWith AreCountsOf FailsOnRows
+
+-- the test of one scratch table, by this query
+abbrev pub ChecksScratchOf : {S A : Type 0} → Ghosts S → OfficeQuery → Held S → Held S → Result A StoreFault → Type 0
+ChecksScratchOf g query = ChecksWith g (λ _. ⊤) (λ db _. rows_in db (table_of (table_asked query)) ≡ []) (λ _ _. ⊤) (FailsOnScratchOf query)
+
+-- the tests of the scratch tables
+abbrev pub ChecksScratch : {S A : Type 0} → Ghosts S → Held S → Held S → Result A StoreFault → Type 0
+ChecksScratch g = ChecksWith g (λ _. ⊤) (λ db _. HasNoScratchRows db) (λ _ _. ⊤) FailsOnScratch
+
+-- the tests of a whole office: if they succeed, its rows are good, no merge left a row, and nothing is changed; a settled connection passes them, and
+-- stays settled, or goes back to its state if memory ran out or a query failed; and no fault is given but that of a test
+pub record Checks {S : Type 0} (g : Ghosts S) (old new : Held S) (result : Result Counts StoreFault) : Type 0 where
+  pub was_clean : HasCleanDisk (state g new) → HasCleanDisk (state g old)
+  pub good : HasCleanDisk (state g new) → HasOffice old.schema
+      → IfOk result (λ counts. HasGoodRowsWith (state g old).now counts × HasNoScratchRows (state g old).now × StaysAs g old new)
+  pub passes : HasCleanDisk (state g new) → (machine : Machine) → IsConsistent machine → IsSettled machine (state g old)
+      → IfOk result (λ counts. AreCountsOf machine counts × IsSettled machine (state g new))
+  pub fails : HasCleanDisk (state g new) → (machine : Machine) → IsConsistent machine → IsSettled machine (state g old)
+      → IfErr result (λ fault. IsBackAt machine (state g new) × LacksMemoryOrQuery g old new fault)
+  pub refuses : HasCleanDisk (state g new) → HasOffice old.schema → IfErr result (ComesLater g FailsOnOffice old new)
+  pub survives : Survives (state g old) (state g new) (λ _. ¬ HasOffice old.schema)
+
+-- no office is made in a database that lacks it: a statement or the commit failed, which is the fault of the office's table
+abbrev pub IsFaultOfMaking : {S : Type 0} → Ghosts S → Held S → StoreFault → Type 0
+IsFaultOfMaking g old fault = IsBlank (state g old) × ((e : Error) × FailsToMake g old e × (fault ≡ fault_of e Office))
+
+-- an empty office was made in a database that lacked it, under the step limit that there was
+abbrev pub IsMadeAt : {S : Type 0} → Ghosts S → Held S → Held S → Type 0
+IsMadeAt g old at = IsBlank (state g old) × IsSettled empty_office (state g at) × ((state g at).step_limit ≡ (state g old).step_limit)
+
+-- the tests of the office that was there, or of the one that was made, fail because memory ran out or a query failed
+abbrev pub LacksAfter : {S : Type 0} → Ghosts S → Held S → Held S → StoreFault → Type 0
+LacksAfter {S} g old new fault = (at : Held S) × ((old ≡ at) ⊎ IsMadeAt g old at) × LacksMemoryOrQuery g at new fault
+
+-- an office is found, or made in a database that lacks it, each perhaps beside tables of others: if that succeeds, it is settled at its state, with its
+-- counts; whatever it answers, a crash leaves that state; it fails only if it could not be made, or if memory ran out or a query failed; an office
+-- that is found has good rows, or is refused by one of its tests; and a database that neither has the office's tables nor lacks them is never taken for
+-- an office, and is left as it is
+pub record FindsOffice {S : Type 0} (g : Ghosts S) (old new : Held S) (result : Result Counts StoreFault) : Type 0 where
+  pub was_clean : HasCleanDisk (state g new) → HasCleanDisk (state g old)
+  pub found : HasCleanDisk (state g new) → (machine : Machine) → IsConsistent machine → IsFoundAt machine (state g old)
+      → IfOk result (λ counts. AreCountsOf machine counts × IsSettled machine (state g new))
+  pub left : HasCleanDisk (state g new) → (machine : Machine) → IsConsistent machine → IsFoundAt machine (state g old) → LeavesFound machine (state g new)
+  pub fails : HasCleanDisk (state g new) → (machine : Machine) → IsConsistent machine → IsFoundAt machine (state g old)
+      → IfErr result (λ fault. IsFaultOfMaking g old fault ⊎ LacksAfter g old new fault)
+  pub good : HasCleanDisk (state g new) → HasOffice old.schema
+      → IfOk result (λ counts. HasGoodRowsWith (state g old).now counts × HasNoScratchRows (state g old).now × StaysAs g old new)
+  pub refuses : HasCleanDisk (state g new) → HasOffice old.schema → IfErr result (ComesLater g FailsOnOffice old new)
+  pub known : IfOk result (λ counts. LacksOffice old.schema ⊎ HasOffice old.schema)
+  pub other : ¬ LacksOffice old.schema → ¬ HasOffice old.schema → (result ≡ Err NotOffice) × (new ≡ old)
+
+-- an opening was refused, and its connection given up, in the state in which the search for the office left it
+abbrev pub IsRefusedFrom : {S : Type 0} → Ghosts S → Held S → StoreFault → Type 0
+IsRefusedFrom {S} g old fault = (at : Held S) × FindsOffice g old at (Err fault)

@@ -1,0 +1,59 @@
+-- A database that lacks the office's tables, and becomes that of an empty office.
+use Rattle.std.specs.Prelude.{◌≡◌, ◌⊎◌, false, Result, IfErr, OnOk, IsTrue}
+use Rattle.sqlite_trees.specs.declared.store.Store.{Ghosts}
+use Rattle.sqlite_catalog.specs.Listing.{IsSound}
+use Rattle.sqlite.specs.declared.error.Error.{Error}
+use Rattle.sqlite.specs.Change.{KeepsRows}
+use Rattle.sqlite.specs.Schema.{Schema}
+use Rattle.sqlite.specs.Tree.{Trees}
+use Rattle.sqlite.specs.Held.{Held, state}
+use Rattle.sqlite.specs.State.{State, HasCleanDisk}
+use Rattle.wb_sql.specs.Transactions.{LeavesAlone, FailsToCommit}
+use Rattle.wb_sql.specs.Among.{LacksOffice}
+use Rattle.wb_sql.specs.Making.{FailsAt, MakesOffice}
+use Rattle.wb_states.specs.Machine.{Machine, empty_office}
+use Rattle.wb_store.specs.Settled.{begun}
+use Rattle.wb_store.specs.Settled.{StandsForTrees, IsSettled}
+
+-- a connection without a transaction, whose database lacks the office's tables, and of which a crash leaves only that
+pub record IsBlank (s : State) : Type 0 where
+  pub is_open : IsTrue s.is_open
+  pub idle : s.in_transaction ≡ false
+  pub committed : s.now ≡ s.committed
+  pub lacks : LacksOffice s.now.schema
+  pub sound : IsSound s.now.schema s.now.trees
+  pub alone : LeavesAlone s s.now.trees
+
+-- the trees, as their catalogue lists them, lack the office's tables
+pub record AreBlank (trees : Trees) : Type 0 where
+  pub schema : Schema
+  pub sound : IsSound schema trees
+  pub lacks : LacksOffice schema
+
+-- trees that hold the office in this state, or the empty office of which no table is made yet
+abbrev pub HoldOffice : Machine → Trees → Type 0
+HoldOffice machine db = StandsForTrees machine db ⊎ ((machine ≡ empty_office) × AreBlank db)
+
+-- a connection that finds an office in this state, or a database that lacks the office's tables, which is an empty office
+abbrev pub IsFoundAt : Machine → State → Type 0
+IsFoundAt machine s = IsSettled machine s ⊎ ((machine ≡ empty_office) × IsBlank s)
+
+-- whatever a crash leaves is found to be an office in this state
+abbrev pub LeavesFound : Machine → State → Type 0
+LeavesFound machine s = (db : Trees) → s.may_leave db → HoldOffice machine db
+
+-- why an office is not made in the transaction that began: a statement of the making failed, or, after all of them, the commit
+abbrev pub FailsToMake : {S : Type 0} → Ghosts S → Held S → Error → Type 0
+FailsToMake {S} g old e = (at : Held S) × (FailsAt g (begun old) at e ⊎ (MakesOffice old.schema (state g (begun old)) (state g at) × FailsToCommit g at e))
+
+-- an empty office is settled, and the tables that were there before keep their rows
+abbrev pub IsMadeFrom : State → State → Type 0
+IsMadeFrom old new = IsSettled empty_office new × KeepsRows old.now.schema.tables old.now.trees new.now.trees
+
+-- an empty office is made in a database that lacks its tables, whole or not at all, also after a crash; the limit of steps stays
+pub record MakesEmptyOffice {S A : Type 0} (g : Ghosts S) (old new : Held S) (result : Result A Error) : Type 0 where
+  pub was_clean : HasCleanDisk (state g new) → HasCleanDisk (state g old)
+  pub limit : (state g new).step_limit ≡ (state g old).step_limit
+  pub made : HasCleanDisk (state g new) → IsBlank (state g old) → OnOk result (IsMadeFrom (state g old) (state g new))
+  pub left : HasCleanDisk (state g new) → IsBlank (state g old) → LeavesFound empty_office (state g new)
+  pub err : HasCleanDisk (state g new) → IsBlank (state g old) → IfErr result (FailsToMake g old)

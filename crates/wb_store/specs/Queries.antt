@@ -1,0 +1,114 @@
+-- The queries on the office's tables: what each asks of which table, with which parameters.
+use Rattle.std.specs.Prelude.{◌≡◌, ◌⊎◌, ℕ, ◌^◌, ◌-◌, min, List, [], ◌∷◌, length}
+use Rattle.sqlite.specs.Effect.{Database}
+use Rattle.sqlite.specs.Order.{Row}
+use Rattle.sqlite.specs.Table as stored
+use Rattle.sqlite.specs.declared.types.Value.TheVariants.{Text}
+use Rattle.wb_sql.specs.Queries.{TableQuery, Answers}
+use Rattle.wb_sql.specs.Among.{AsksAmong, rows_in}
+use Rattle.wb_sql.specs.OfficeStatements as sql
+use Rattle.wb_sql.specs.Tables as tables
+use Rattle.wb_states.specs.declared.store_fault.Table.{Table}
+use Rattle.wb_states.specs.declared.store_fault.Table.TheVariants as on
+use Rattle.wb_states.specs.Machine.{Key}
+use Rattle.wb_rows.specs.Cells.{number}
+
+-- the table as the database has it
+abbrev pub table_of : Table → stored.Table
+table_of on.Office = tables.office
+table_of on.Arch = tables.arch
+table_of on.Builder = tables.builder
+table_of on.SourceRecord = tables.source_record
+table_of on.ScratchSource = tables.scratch_source
+table_of on.ScratchBinary = tables.scratch_binary
+
+-- a query on one of the office's tables
+pub data OfficeQuery : Type 0 where
+  -- the row of the office
+  Office : OfficeQuery
+  -- all architectures, and that of a name
+  Archs : OfficeQuery
+  ArchNamed : List ℕ → OfficeQuery
+  -- all pairs of a builder and an architecture, those of a builder, and one pair
+  Builders : OfficeQuery
+  PairsOf : List ℕ → OfficeQuery
+  Pair : Key → OfficeQuery
+  -- all records, those of an architecture, its queue and the head of that
+  Records : OfficeQuery
+  RecordsOf : List ℕ → OfficeQuery
+  QueueOf : List ℕ → OfficeQuery
+  HeadOf : List ℕ → OfficeQuery
+  -- the record at a key, that with a take number, and those that a builder holds
+  RecordAt : Key → OfficeQuery
+  TakenAs : ℕ → OfficeQuery
+  HeldBy : List ℕ → OfficeQuery
+  -- one source package, and one binary package, of a merge
+  OneSource : OfficeQuery
+  OneBinary : OfficeQuery
+
+-- the table that it is on
+abbrev pub table_asked : OfficeQuery → Table
+table_asked Office = on.Office
+table_asked Archs = on.Arch
+table_asked (ArchNamed name) = on.Arch
+table_asked Builders = on.Builder
+table_asked (PairsOf builder) = on.Builder
+table_asked (Pair pair) = on.Builder
+table_asked Records = on.SourceRecord
+table_asked (RecordsOf arch) = on.SourceRecord
+table_asked (QueueOf arch) = on.SourceRecord
+table_asked (HeadOf arch) = on.SourceRecord
+table_asked (RecordAt key) = on.SourceRecord
+table_asked (TakenAs take_number) = on.SourceRecord
+table_asked (HeldBy builder) = on.SourceRecord
+table_asked OneSource = on.ScratchSource
+table_asked OneBinary = on.ScratchBinary
+
+-- what it asks
+abbrev pub query_asked : OfficeQuery → TableQuery
+query_asked Office = sql.office_counts
+query_asked Archs = sql.all_archs
+query_asked (ArchNamed name) = sql.arch_of_name
+query_asked Builders = sql.all_builders
+query_asked (PairsOf builder) = sql.pairs_of_builder
+query_asked (Pair pair) = sql.pair_of_builder
+query_asked Records = sql.all_records
+query_asked (RecordsOf arch) = sql.records_of_arch
+query_asked (QueueOf arch) = sql.queue_of
+query_asked (HeadOf arch) = sql.head_of
+query_asked (RecordAt key) = sql.record_of_key
+query_asked (TakenAs take_number) = sql.record_of_take
+query_asked (HeldBy builder) = sql.held_by
+query_asked OneSource = sql.first_source
+query_asked OneBinary = sql.first_binary
+
+-- its parameters: the queue has the records of the state of code 0, which wait for a builder, and a take number that is too great for SQL is
+-- asked as the greatest number, 2^63 - 1, which no record has
+abbrev pub given_to : OfficeQuery → Row
+given_to Office = []
+given_to Archs = []
+given_to (ArchNamed name) = Text name ∷ []
+given_to Builders = []
+given_to (PairsOf builder) = Text builder ∷ []
+given_to (Pair pair) = Text pair.0 ∷ Text pair.1 ∷ []
+given_to Records = []
+given_to (RecordsOf arch) = Text arch ∷ []
+given_to (QueueOf arch) = Text arch ∷ number 0 ∷ []
+given_to (HeadOf arch) = Text arch ∷ number 0 ∷ []
+given_to (RecordAt key) = Text key.0 ∷ Text key.1 ∷ []
+given_to (TakenAs take_number) = number (min take_number (2 ^ 63 - 1)) ∷ []
+given_to (HeldBy builder) = Text builder ∷ []
+given_to OneSource = []
+given_to OneBinary = []
+
+-- it is for one row of a scratch table
+abbrev pub IsScratch : OfficeQuery → Type 0
+IsScratch query = (query ≡ OneSource) ⊎ (query ≡ OneBinary)
+
+-- over each schema that has the table, the text asks this, and has as many parameters as are given
+abbrev pub IsTextOfQuery : OfficeQuery → List ℕ → Type 0
+IsTextOfQuery query sql = AsksAmong (table_of (table_asked query)) sql (query_asked query) (length (given_to query))
+
+-- these rows are what a database answers to the query
+abbrev pub AnswersTo : OfficeQuery → Database → List Row → Type 0
+AnswersTo query db rows = Answers (query_asked query) (given_to query) (rows_in db (table_of (table_asked query))) rows

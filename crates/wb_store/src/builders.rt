@@ -1,0 +1,74 @@
+//! The builders of the office, as the tables have them.
+ghost use Rattle.std.specs.Prelude.{◌≡◌, IfOk, IfErr};
+ghost use Rattle.std.specs.FinSet as set;
+ghost use Rattle.wb_rows.specs.Cells.{builder_cells};
+ghost use Rattle.wb_states.specs.declared.store_fault.Table.TheVariants.{Builder};
+ghost use Rattle.wb_states.specs.Machine.{IsConsistent, archs_of};
+ghost use Rattle.wb_store.specs.Calls.{LooksUp};
+ghost use Rattle.wb_store.specs.Faults.{IsUnfit};
+ghost use Rattle.wb_store.specs.Lookups.{ArePairs, HasPair, HaveArchs};
+ghost use Rattle.wb_store.specs.Queries as ask;
+
+use crate::fault::unfit;
+use crate::reading::rows_of;
+use deb_text::Text;
+use sqlite::{Alter, Connection, Row, params};
+use wb_rows::builder_of;
+use wb_sql::statements;
+use wb_states::{StoreFault, Table};
+
+/// Whether the builder was added for the architecture. The faults are those of the query on the table of the builders.
+/// The database stays as it is, but for a transaction that a failure of the query takes back (this project's own).
+pub fn has_builder<S: Alter>(
+    conn: &mut Connection<S>,
+    builder: &Text,
+    arch: &Text,
+) -> Result<bool, StoreFault>
+    ensures looks_up { LooksUp S.Store (ask.Pair (builder.now, arch.now)) (λ machine is_there.
+        is_there ≡ set.contains machine.builders (builder.now, arch.now)) conn.old conn.new result }
+{
+    let pairs = rows_of(
+        conn,
+        Table::Builder,
+        statements::builder_pair(),
+        params![builder.as_str(), arch.as_str()],
+    )?;
+    Ok(!pairs.is_empty())
+}
+
+/// The architectures for which the builder was added, by name. The faults are those of the query on the table of the
+/// builders, `Memory`, and `Damaged` with row 0 if a row is no builder. The database stays as it is, but for a
+/// transaction that a failure of the query takes back (this project's own).
+pub fn archs_of<S: Alter>(conn: &mut Connection<S>, builder: &Text) -> Result<Vec<Text>, StoreFault>
+    ensures looks_up { LooksUp S.Store (ask.PairsOf builder.now) (λ machine archs. IsConsistent machine
+        → archs.items ≡ archs_of machine builder.now) conn.old conn.new result }
+{
+    let rows = rows_of(
+        conn,
+        Table::Builder,
+        statements::builder_pairs(),
+        params![builder.as_str()],
+    )?;
+    archs_in(rows)
+}
+
+/// The architectures in these rows of builders. The table is damaged if a row is no builder.
+fn archs_in(rows: Vec<Row>) -> Result<Vec<Text>, StoreFault>
+    ensures value { IfOk result (λ made. HaveArchs rows.items made.items) }
+    ensures err { IfErr result (IsUnfit Builder (ArePairs rows.items)) }
+{
+    let mut made = Vec::new(*rows.allocator());
+    for row in rows {
+        let (_, arch) = pair_in(&row)?;
+        made.push(arch)?;
+    }
+    Ok(made)
+}
+
+/// The builder and the architecture in a row. The table is damaged if the row is no builder.
+fn pair_in(row: &Row) -> Result<(Text, Text), StoreFault>
+    ensures value { IfOk result (λ made. row.now ≡ builder_cells made) }
+    ensures err { IfErr result (IsUnfit Builder (HasPair row.now)) }
+{
+    builder_of(row)?.ok_or(unfit(Table::Builder))
+}

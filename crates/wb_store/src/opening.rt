@@ -1,0 +1,78 @@
+//! What an opening tests of the tables of an office, in one call; and how an office is found in them, or made.
+ghost use Rattle.std.specs.Prelude.{◌≡◌, false};
+ghost use Rattle.wb_store.specs.Opening.{Checks, ChecksRows, ChecksScratch, FindsOffice};
+
+use crate::preparing::make_office;
+use crate::{
+    check_archs, check_builders, check_counts, check_records, fault_of, has_scratch_binaries,
+    has_scratch_sources,
+};
+use sqlite::{Alter, Connection};
+use wb_sql::{has_office_tables, lacks_office};
+use wb_states::{Counts, StoreFault, Table};
+
+/// The two counts of the office that the database holds, or of an empty one, whose tables are made first if the
+/// database lacks them, as [`lacks_office`] says. Tables of others may stand beside them, as [`has_office_tables`] says.
+/// [`Office::adopt`](crate::Office::adopt) is this call, with the connection it was given. The faults are `NotOffice` if
+/// the database neither has the office's tables nor lacks them, and is then left as it is, and those of [`check`], and
+/// before them those of the table of the office if the tables cannot be made. An office that was there stays as it is,
+/// but for a transaction that a failure of a query takes back; a crash of a database that lacks the tables leaves that,
+/// or the empty office (this project's own).
+pub fn find_office<S: Alter>(conn: &mut Connection<S>) -> Result<Counts, StoreFault>
+    requires idle { conn.old.in_transaction ≡ false }
+    ensures finds { FindsOffice S.Store conn.old conn.new result }
+{
+    if has_office_tables(conn.schema()) {
+        return check(conn);
+    }
+    if !lacks_office(conn.schema()) {
+        return Err(StoreFault::NotOffice);
+    }
+    match make_office(conn) {
+        Ok(()) => check(conn),
+        Err(error) => Err(fault_of(error, Table::Office)),
+    }
+}
+
+/// The two counts of the office, if the rows of its tables are good, those of each table beside those of the others,
+/// and no merge left a row in the scratch tables. The faults are those of `check_counts`, `check_archs`,
+/// `check_builders` and `check_records`, in this order, and then those of the scratch table of source packages and of
+/// that of binary packages: `Damaged` with row 1 of the table if it has a row, and the fault of its query. The database
+/// stays as it is, but for a transaction that a failure of a query takes back (this project's own).
+pub(crate) fn check<S: Alter>(conn: &mut Connection<S>) -> Result<Counts, StoreFault>
+    ensures checks { Checks S.Store conn.old conn.new result }
+{
+    let counts = check_rows(conn)?;
+    check_scratch(conn)?;
+    Ok(counts)
+}
+
+/// The two counts of the office, if the rows of its tables are good.
+fn check_rows<S: Alter>(conn: &mut Connection<S>) -> Result<Counts, StoreFault>
+    ensures checks { ChecksRows S.Store conn.old conn.new result }
+{
+    let counts = check_counts(conn)?;
+    let archs = check_archs(conn)?;
+    let builders = check_builders(conn, &archs)?;
+    check_records(*archs.allocator(), conn, &archs, &builders, counts.handed)?;
+    Ok(counts)
+}
+
+/// Tests that the scratch tables of a merge have no row.
+fn check_scratch<S: Alter>(conn: &mut Connection<S>) -> Result<(), StoreFault>
+    ensures checks { ChecksScratch S.Store conn.old conn.new result }
+{
+    if has_scratch_sources(conn)? {
+        return Err(StoreFault::Damaged {
+            table: Table::ScratchSource,
+            row: 1,
+        });
+    }
+    if has_scratch_binaries(conn)? {
+        return Err(StoreFault::Damaged {
+            table: Table::ScratchBinary,
+            row: 1,
+        });
+    }
+    Ok(())
+}

@@ -1,0 +1,60 @@
+-- The fields of a head (RFC 9112, section 5), and the length of the body that they state (RFC 9112, section 6).
+use Rattle.std.specs.Prelude.{ℕ, Bool, ◌&&◌, ◌||◌, not, codes, ◌==◌, nat_lt, List, [], ◌∷◌, length, map, filter, if◌then◌else◌, Result, Ok, Err}
+use Prim.Native.Char.{code}
+use Rattle.std.specs.Char.{is_ascii_digit, to_ascii_lowercase}
+use Rattle.std.specs.List.{list_all, list_any}
+use Rattle.std.specs.Str.{bytes_eq}
+use Rattle.std.specs.Str.Parse.{digits_value}
+use Rattle.wb_streams.specs.declared.fault.Fault.{Fault}
+use Rattle.wb_streams.specs.declared.fault.Fault.TheVariants.{NoLength, BadLength, BodyTooLarge}
+
+-- a field: its name, and its value without the white space around it
+abbrev pub NameAndValue : Type 0
+NameAndValue = List ℕ × List ℕ
+
+-- the greatest length of a body
+abbrev pub body_limit : ℕ
+body_limit = 16777216
+
+-- whether a field has this name, in whatever letters (RFC 9110, section 5.1)
+abbrev pub is_named : List ℕ → NameAndValue → Bool
+is_named name field = bytes_eq (map to_ascii_lowercase field.0) (map to_ascii_lowercase name)
+
+-- whether a field of this name is there
+abbrev pub has_field : List ℕ → List NameAndValue → Bool
+has_field name fields = list_any (is_named name) fields
+
+-- the values of the fields of this name
+abbrev pub values_of : List ℕ → List NameAndValue → List (List ℕ)
+values_of name fields = map (λ field. field.1) (filter (is_named name) fields)
+
+-- a number: one digit or more, and nothing else (RFC 9110, section 8.6)
+abbrev pub is_number : List ℕ → Bool
+is_number value = nat_lt 0 (length value) && list_all is_ascii_digit value
+
+-- whether two texts are numbers, and the same number, whatever zeros they begin with
+unfoldable pub is_same_number : List ℕ → List ℕ → Bool
+is_same_number one other = (is_number one && is_number other) && (digits_value 10 one == digits_value 10 other)
+
+-- a length that a body may have
+unfoldable pub limited : ℕ → Result ℕ Fault
+limited length = if nat_lt body_limit length then Err BodyTooLarge else Ok length
+
+-- the name of the field that states the length of the body (RFC 9112, section 6.2)
+abbrev pub content_length : List ℕ
+content_length = codes "content-length"
+
+-- whether a field states no length, or the same as this one
+abbrev pub agrees : List ℕ → NameAndValue → Bool
+agrees first field = not (is_named content_length field) || is_same_number first field.1
+
+-- the length that values state, if they all state the same (RFC 9112, section 6.3)
+unfoldable pub length_stated : List (List ℕ) → Result ℕ Fault
+length_stated [] = Err NoLength
+length_stated (value ∷ values) = if list_all (is_same_number value) (value ∷ values)
+    then limited (digits_value 10 value) else Err BadLength
+
+-- a number without the zeros that it begins with
+abbrev pub without_zeros : List ℕ → List ℕ
+without_zeros [] = []
+without_zeros (digit ∷ digits) = if digit == code "0" then without_zeros digits else digit ∷ digits

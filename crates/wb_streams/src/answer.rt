@@ -1,0 +1,76 @@
+//! An answer (RFC 9112, section 4), written to a stream of which each write may fail.
+ghost use Rattle.std.specs.Prelude.{◌≡◌, not, map, true, false};
+ghost use Rattle.std.specs.Io.KnownBytes.{Appends};
+ghost use Rattle.std.specs.List.{concat};
+ghost use Rattle.wb_streams.specs.Answers.{answer_bytes, parts_bytes};
+ghost use Rattle.wb_streams.specs.Streams.{AppendsFront, Flags};
+
+use crate::WatchedWriter;
+use crate::status::Status;
+use crate::write::write_bytes;
+use itoa::Buffer;
+use std::io::Write;
+
+/// Writes texts one after another. Gives whether all were written; if not, a front of them was.
+fn write_texts<W: Write + Drop>(writer: &mut WatchedWriter<W>, texts: &[&str]) -> bool
+    ensures value { result ≡ true
+        → Appends writer.old.bytes writer.new.bytes (concat (map (λ t. t.now) texts.now)) }
+    ensures err { result ≡ false
+        → AppendsFront writer.old.bytes writer.new.bytes (concat (map (λ t. t.now) texts.now)) }
+    ensures failed { Flags (not result) writer.old writer.new }
+{
+    let mut left = texts;
+    while let [text, rest @ ..] = left {
+        if !write_bytes(writer, text.as_bytes()) {
+            return false;
+        }
+        left = rest;
+    }
+    true
+}
+
+/// Writes an answer with this status, length and body.
+#[tactic(auto, unfolding(crate::specs::Answers::parts_bytes))]
+fn write_parts<'a, W: Write + Drop>(
+    writer: &mut WatchedWriter<W>,
+    status: &'a str,
+    length: &'a str,
+    body: &'a str,
+) -> bool
+    ensures value { result ≡ true
+        → Appends writer.old.bytes writer.new.bytes (parts_bytes status.now length.now body.now) }
+    ensures err { result ≡ false
+        → AppendsFront writer.old.bytes writer.new.bytes (parts_bytes status.now length.now body.now) }
+    ensures failed { Flags (not result) writer.old writer.new }
+{
+    let texts: [&'a str; 6] = [
+        "HTTP/1.1 ",
+        status,
+        "\r\nContent-Type: application/json\r\nContent-Length: ",
+        length,
+        "\r\nConnection: close\r\n\r\n",
+        body,
+    ];
+    write_texts(writer, &texts)
+}
+
+/// Writes an answer with a body in JSON, after which the connection is closed. Takes no memory. Gives
+/// whether all of it was written. If not, the writer failed, was interrupted or took no byte, and a front of
+/// the answer was written.
+/// Source: RFC 9112, section 4; the fields are this project's own.
+#[tactic(auto, unfolding(crate::specs::Answers::answer_bytes))]
+pub fn write_answer<W: Write + Drop>(
+    writer: &mut WatchedWriter<W>,
+    status: Status,
+    body: &str,
+) -> bool
+    ensures value { result ≡ true
+        → Appends writer.old.bytes writer.new.bytes (answer_bytes status body.now) }
+    ensures err { result ≡ false
+        → AppendsFront writer.old.bytes writer.new.bytes (answer_bytes status body.now) }
+    ensures failed { Flags (not result) writer.old writer.new }
+{
+    let mut digits = Buffer::new();
+    let length = digits.format(body.len());
+    write_parts(writer, status.code_and_phrase(), length, body)
+}

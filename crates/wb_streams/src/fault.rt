@@ -1,0 +1,95 @@
+//! What is wrong with a request.
+ghost use Rattle.std.specs.Prelude.{◌≡◌};
+ghost use Rattle.wb_streams.specs.Answers.{fault_text, name_of_fault, status_of_fault};
+
+use crate::status::Status;
+
+/// Why a request is not carried out. They are tested in this order.
+/// Source: this project's own.
+#[derive(Clone, Copy, Debug, PartialEq, Eq)]
+pub enum Fault {
+    /// The head is longer, or has more fields, than a head may have.
+    HeadTooLarge,
+    /// No head comes: nothing that can follow makes one, or the input ended inside it.
+    BadHead,
+    /// The target is none that this project has.
+    NoRoute,
+    /// The target has another method.
+    WrongMethod,
+    /// A part of the path is not UTF-8 once it is decoded.
+    BadPath,
+    /// The body has a transfer coding.
+    NotSupported,
+    /// The length of the body is not stated.
+    NoLength,
+    /// The length of the body is no number, or two numbers are stated.
+    BadLength,
+    /// The body is longer than a body may be.
+    BodyTooLarge,
+    /// The input ended before the body did.
+    BodyCut,
+    /// The body is not of the command's form.
+    BadBody,
+}
+
+impl Fault {
+    /// The name.
+    /// Source: this project's own.
+    pub fn name(self) -> &'static str
+        ensures value { result.now ≡ name_of_fault self }
+    {
+        match self {
+            Fault::HeadTooLarge => "HeadTooLarge",
+            Fault::BadHead => "BadHead",
+            Fault::NoRoute => "NoRoute",
+            Fault::WrongMethod => "WrongMethod",
+            Fault::BadPath => "BadPath",
+            Fault::NotSupported => "NotSupported",
+            Fault::NoLength => "NoLength",
+            Fault::BadLength => "BadLength",
+            Fault::BodyTooLarge => "BodyTooLarge",
+            Fault::BodyCut => "BodyCut",
+            Fault::BadBody => "BadBody",
+        }
+    }
+
+    /// The status of the answer to it.
+    /// Source: RFC 9110, sections 15.5 and 15.6.
+    pub fn status(self) -> Status
+        ensures value { result ≡ status_of_fault self }
+    {
+        match self {
+            Fault::HeadTooLarge => Status::RequestHeaderFieldsTooLarge,
+            Fault::BadHead => Status::BadRequest,
+            Fault::NoRoute => Status::NotFound,
+            Fault::WrongMethod => Status::MethodNotAllowed,
+            Fault::BadPath => Status::BadRequest,
+            Fault::NotSupported => Status::NotImplemented,
+            Fault::NoLength => Status::LengthRequired,
+            Fault::BadLength => Status::BadRequest,
+            Fault::BodyTooLarge => Status::PayloadTooLarge,
+            Fault::BodyCut => Status::BadRequest,
+            Fault::BadBody => Status::BadRequest,
+        }
+    }
+
+    /// The body of the answer to it: a JSON object (RFC 8259) with its name. Takes no memory.
+    /// Source: this project's own.
+    pub fn json(self) -> &'static str
+        ensures value { result.now ≡ fault_text self }
+    {
+        match self {
+            Fault::HeadTooLarge => r#"{"http":"HeadTooLarge"}"#,
+            Fault::BadHead => r#"{"http":"BadHead"}"#,
+            Fault::NoRoute => r#"{"http":"NoRoute"}"#,
+            Fault::WrongMethod => r#"{"http":"WrongMethod"}"#,
+            Fault::BadPath => r#"{"http":"BadPath"}"#,
+            Fault::NotSupported => r#"{"http":"NotSupported"}"#,
+            Fault::NoLength => r#"{"http":"NoLength"}"#,
+            Fault::BadLength => r#"{"http":"BadLength"}"#,
+            Fault::BodyTooLarge => r#"{"http":"BodyTooLarge"}"#,
+            Fault::BodyCut => r#"{"http":"BodyCut"}"#,
+            Fault::BadBody => r#"{"http":"BadBody"}"#,
+        }
+    }
+}

@@ -1,0 +1,102 @@
+//! The fields of a head (RFC 9112, section 5), and the length of the body that they state.
+ghost use Rattle.std.specs.Prelude.{◌≡◌, map, true, option_map};
+ghost use Rattle.std.specs.Char.{is_ascii_digit};
+ghost use Rattle.std.specs.List.{list_all};
+ghost use Rattle.std.specs.Str.Parse.{digits_value};
+ghost use Rattle.httparse.specs.Borrowed.{header_parts};
+ghost use Rattle.deb_text.specs.Lists.{first_of};
+ghost use Rattle.wb_streams.specs.Fields.{agrees, content_length, has_field, is_named, is_number, is_same_number, length_stated};
+ghost use Rattle.wb_streams.specs.Fields.{limited, values_of, without_zeros};
+
+use crate::fault::Fault;
+use httparse::Header;
+
+/// The greatest length of a body in bytes.
+const BODY_LIMIT: usize = 16_777_216;
+
+/// The name of the field that states the length of the body.
+const CONTENT_LENGTH: &str = "content-length";
+
+fn is_named(field: &Header<'_>, name: &str) -> bool
+    ensures value { result ≡ is_named name.now (header_parts field.now) }
+{
+    field.name.eq_ignore_ascii_case(name)
+}
+
+/// Whether a field of this name is there.
+pub fn has_field(fields: &[Header<'_>], name: &str) -> bool
+    ensures value { result ≡ has_field name.now (map header_parts fields.now) }
+{
+    fields.iter().any(|field| is_named(field, name))
+}
+
+/// The value of the first field of this name.
+fn first_value<'a>(fields: &[Header<'a>], name: &str) -> Option<&'a [u8]>
+    ensures value { option_map (λ value. value.now) result
+        ≡ first_of (values_of name.now (map header_parts fields.now)) }
+{
+    let field = fields.iter().find(|field| is_named(field, name))?;
+    Some(field.value)
+}
+
+fn is_number(value: &[u8]) -> bool
+    ensures value { result ≡ is_number value.now }
+{
+    !value.is_empty() && value.iter().all(|digit| digit.is_ascii_digit())
+}
+
+fn without_zeros(digits: &[u8]) -> &[u8]
+    ensures value { result.now ≡ without_zeros digits.now }
+{
+    let mut rest = digits;
+    while let [b'0', later @ ..] = rest {
+        rest = later;
+    }
+    rest
+}
+
+#[tactic(auto, unfolding(crate::specs::Fields::is_same_number))]
+fn is_same_number(one: &[u8], other: &[u8]) -> bool
+    ensures value { result ≡ is_same_number one.now other.now }
+{
+    if !is_number(one) || !is_number(other) {
+        return false;
+    }
+    without_zeros(one) == without_zeros(other)
+}
+
+/// The length that the digits write, if a body may have it.
+fn limited(digits: &[u8]) -> Result<usize, Fault>
+    requires { list_all is_ascii_digit digits.now ≡ true }
+    ensures value { result ≡ limited (digits_value 10 digits.now) }
+{
+    let mut length = 0;
+    for digit in digits {
+        length = length * 10 + usize::from(digit - b'0');
+        if length > BODY_LIMIT {
+            return Err(Fault::BodyTooLarge);
+        }
+    }
+    Ok(length)
+}
+
+/// Whether a field states no length, or the same as the first that does.
+fn agrees(field: &Header<'_>, first: &[u8]) -> bool
+    ensures value { result ≡ agrees first.now (header_parts field.now) }
+{
+    !is_named(field, CONTENT_LENGTH) || is_same_number(first, field.value)
+}
+
+/// The length of the body that the fields state. The errors are that they state none, that two differ or
+/// one is no number, and that a body may not be so long, in this order.
+pub fn content_length(fields: &[Header<'_>]) -> Result<usize, Fault>
+    ensures value { result ≡ length_stated (values_of content_length (map header_parts fields.now)) }
+{
+    let Some(first) = first_value(fields, CONTENT_LENGTH) else {
+        return Err(Fault::NoLength);
+    };
+    if !fields.iter().all(|field| agrees(field, first)) {
+        return Err(Fault::BadLength);
+    }
+    limited(first)
+}

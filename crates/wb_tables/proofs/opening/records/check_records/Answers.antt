@@ -1,5 +1,0 @@
-use Rattle.wb_tables.proofs.OpeningRecordLemmas.{records_pass}
-use Rattle.wb_tables.proofs.opening.records.check_records.Goals as goal
-
-pub returns-clause-passes : goal.returns-clause-passes
-returns-clause-passes g c = records_pass c.args.archs.now c.args.builders.now c.args.handed c.test_rows.result c.test_rows.ensures.tests

@@ -1,5 +1,0 @@
-use Rattle.wb_tables.proofs.ReadLemmas.{reads_table}
-use Rattle.wb_tables.proofs.reading.rows_of.Goals as goal
-
-pub returns : goal.returns
-returns g c = record { reads = reads_table c.args.table c.read-answered.result c.read-answered.ensures.runs c.answer_on.ensures.value }

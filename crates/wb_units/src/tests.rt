@@ -1,4 +1,0 @@
-mod moves;
-mod sockets;
-mod stores;
-mod tables;
