@@ -1,8 +1,8 @@
 //! Answers requests by an office over tables in memory, with no sockets. The input has frames: a decimal length, a line feed and so many
 //! bytes. The first three are the Sources list and the Packages lists of amd64 and arm64 that the office begins with, and each other is all
-//! that a client sends on a connection. Up to three numbers may follow the length, each after a blank: how many bytes a read gives and a
-//! write takes at most, how many reads give bytes before one fails, and how many writes take bytes before one fails. Without them all bytes
-//! that fit are read and written, and no read or write fails. For each request a line goes to the output, and after it what is answered: how
+//! that a client sends on a connection. Up to four numbers may follow the length, each after a blank: how many bytes a read gives and a
+//! write takes at most, how many reads give bytes before one fails, how many writes take bytes before one fails, and 0 if that write takes no
+//! byte in place of an error. Without them all bytes that fit are read and written, and no read or write fails. What failed once works again. For each request a line goes to the output, and after it what is answered: how
 //! the exchange ended, the status or 0 for none, and how many bytes were answered, as in `answered 200 145`. A line `end` ends the requests.
 
 mod frames;
@@ -12,14 +12,13 @@ mod writer;
 
 use anyhow::{Context, Result};
 use frames::Frame;
+pub(crate) use opening::{MemoryOffice, opened};
 use reader::CutReader;
 use std::alloc::Global;
 use std::io::{BufRead, Write};
 use wb_api::{Served, serve_one};
 use wb_streams::{WatchedReader, WatchedWriter};
 use writer::CutWriter;
-
-pub(crate) use opening::{MemoryOffice, opened};
 
 /// Answers the requests of the input, up to its end or a line `end`.
 pub(crate) fn answer_all<R: BufRead + Drop, W: Write + Drop>(
@@ -37,7 +36,11 @@ pub(crate) fn answer_all<R: BufRead + Drop, W: Write + Drop>(
 }
 
 /// The office over this Sources list and the Packages lists that stand next in the input.
-fn begun<R: BufRead + Drop>(alloc: Global, input: &mut R, sources: Vec<u8>) -> Result<MemoryOffice> {
+fn begun<R: BufRead + Drop>(
+    alloc: Global,
+    input: &mut R,
+    sources: Vec<u8>,
+) -> Result<MemoryOffice> {
     let amd64 = frames::next(alloc, input)?.context("there is no list of amd64")?;
     let arm64 = frames::next(alloc, input)?.context("there is no list of arm64")?;
     opening::office_of(alloc, sources, amd64.bytes, arm64.bytes)

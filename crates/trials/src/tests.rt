@@ -1,3 +1,3 @@
 mod moves;
-mod sockets;
 mod records;
+mod sockets;

@@ -11,6 +11,7 @@ use Rattle.wb_states.specs.declared.refusal.Refusal.TheVariants.{BadName, Memory
 use Rattle.wb_states.specs.declared.reply.Reply.{Reply}
 use Rattle.wb_step.proofs.CountedLemmas.{step-unchanged}
 use Rattle.wb_states.specs.Machine.{is_unknown_arch, is_unknown_builder}
+use Rattle.wb_step.specs.Checks.{MayWantMemory}
 use Rattle.wb_step.specs.Offices.{Open}
 use Rattle.wb_states.specs.Queries.{answer_in, answer_of, found_at, has_malformed_name}
 use Rattle.wb_states.specs.declared.query.Answer.{Answer as Found}

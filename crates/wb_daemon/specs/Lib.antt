@@ -1,4 +1,5 @@
 pub mod Answered
+pub mod Limits
 pub mod Lists
 pub mod Replays
 pub mod Run

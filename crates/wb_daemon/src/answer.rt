@@ -7,7 +7,6 @@ ghost use Rattle.deb_text.specs.Lines.{is_blank_line};
 ghost use Rattle.wb_daemon.specs.Lists.{MayReadLess};
 ghost use Rattle.wb_step.specs.Offices.{Accepts, Leads, Reaches};
 ghost use Rattle.wb_daemon.specs.Run.{invocation_of_line, file_fault_response, memory_response, InvokesAs, IsLineResponse, IsRefusedByStore, LineInvokes};
-ghost use Rattle.wb_states.specs.Refusals.{is_of_store};
 ghost use Rattle.wb_states.specs.Machine.{Machine};
 ghost use Rattle.wb_states.specs.declared.command.Command.{Command};
 ghost use Rattle.wb_daemon.specs.Turn.{response_of_answer, IsInvocationResponseOrMemory, IsCommandResponseOrMemory};
@@ -30,13 +29,6 @@ pub(crate) struct Answer {
     pub(crate) text: CowStr<'static>,
     pub(crate) status: u8,
     pub(crate) stops: bool,
-}
-
-/// Whether a run stops after this refusal: the store failed, or the office is closed.
-fn ends_run(refusal: &Refusal) -> bool
-    ensures value { result ≡ is_of_store refusal.now }
-{
-    matches!(refusal, Refusal::Closed | Refusal::Store { .. })
 }
 
 /// What the words of a line ask for. The errors are `NoCommand` if the line is not UTF-8 or its words
@@ -85,7 +77,7 @@ fn answer_to<O: CarryOut>(alloc: Global, office: &mut O, command: &Command) -> O
         Err(refusal) => Some(Answer {
             text: refusal_json(alloc, &refusal),
             status: REFUSED,
-            stops: ends_run(&refusal),
+            stops: refusal.is_of_store(),
         }),
     }
 }

@@ -18,7 +18,9 @@ use std::alloc::Global;
 use std::io::{Read, Write};
 use wb_api::line_fault_json;
 use wb_step::CarryOut;
-use wb_streams::{ByteRead, LINE_LIMIT, LineRead, WatchedReader, WatchedWriter, read_byte, read_line, write_line};
+use wb_streams::{
+    ByteRead, LINE_LIMIT, LineRead, WatchedReader, WatchedWriter, read_byte, read_line, write_line,
+};
 
 /// The greatest number of line feeds that a run reads.
 const LINES_LIMIT: u64 = 1_000_000_000;

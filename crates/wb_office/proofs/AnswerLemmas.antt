@@ -13,6 +13,7 @@ use Rattle.wb_states.specs.declared.reply.Reply.{Reply}
 use Rattle.wb_states.specs.declared.store_fault.StoreFault.{StoreFault}
 use Rattle.wb_states.specs.Machine.{Machine, Key, IsConsistent}
 use Rattle.wb_states.specs.Queue.{Entry}
+use Rattle.wb_states.specs.Refusals.{is_of_store}
 use Rattle.wb_step.specs.Arguments.{arguments_of}
 use Rattle.wb_step.specs.Carries.{Carries}
 use Rattle.wb_step.specs.Checks.{first_refusal}
@@ -22,6 +23,8 @@ use Rattle.wb_step.specs.Step.{Outcome, assignment_reply, outcome, reply_to, ste
 use Rattle.wb_step.specs.Targets.{again_of, target_of}
 use Rattle.wb_step.specs.Utf8.{HasUtf8Texts}
 use Rattle.wb_step.proofs.LocalityLemmas.{same_answer}
+use Rattle.wb_step.proofs.OfficeLemmas.{refusal-cases}
+use Rattle.wb_step.proofs.StateRefusalLemmas.{IsOfState, step-of-state}
 use Rattle.wb_step.proofs.PartOfLemmas.{part_alike}
 use Rattle.wb_step.proofs.NamedPartLemmas.{part_of_named, part_has_all_named}
 use Rattle.wb_store.specs.Others.{KeepsOthers}
@@ -114,6 +117,13 @@ pub told_again : (machine : Machine) (command : Command) (reply : Reply) → (st
 unfolding step
 told_again machine command reply is told = again_stays (first_refusal machine command) (again_of machine command) machine command reply (reply_is_new machine command) is told
 
+-- what is refused in a part of the office is refused by the step
+pub refusal_of_step : {part after : Machine} {command : Command} (refusal : Refusal) → Carries part after command (Err refusal) → is_of_store refusal ≡ false
+refusal_of_step {part = part} {command = command} refusal carries = elim (refusal-cases refusal) [
+  | inl none ↦ ap is_of_store none
+  | inr of_machine ↦ (subst (λ (result : Result Reply Refusal). IfErr result IsOfState) (ap (λ (o : Outcome). o.0) (carries.refused of_machine)) (step-of-state part command)).0
+]
+
 -- the counts of a state
 abbrev pub counts_at : Machine → Counts
 counts_at machine = record { handed = machine.handed; accepted = machine.accepted }
@@ -162,6 +172,7 @@ module _ {S : Type 0} (g : Ghosts S) (command : Command) (old new : Held S) (par
       (carries.memory, subst (λ h. IsSettled machine (state g h)) same settled),
     );
     others = λ clean machine consistent settled named. tt;
+    of_step = refusal_of_step refusal carries;
     utf8 = tt;
   }
 
@@ -178,6 +189,7 @@ module _ {S : Type 0} (g : Ghosts S) (command : Command) (old new : Held S) (par
         );
     err = λ clean machine consistent settled named. tt;
     others = λ clean machine consistent settled named. stays_others g old new (inl same);
+    of_step = tt;
     utf8 = utf8;
   }
 
@@ -196,6 +208,7 @@ module _ {S : Type 0} (g : Ghosts S) (command : Command) (old new : Held S) (par
     err = λ clean machine consistent settled named. tt;
     others = λ clean machine consistent settled named.
         keeps.others clean machine settled (step_of_whole command machine part consistent single named.0 named.1 reply fresh carries.reply);
+    of_step = tt;
     utf8 = utf8;
   }
 
@@ -207,6 +220,7 @@ module _ {S : Type 0} (g : Ghosts S) (command : Command) (old new : Held S) (par
     err = λ clean machine consistent settled named.
         left_by machine failure (keeps.err clean machine settled (step_of_whole command machine part consistent single named.0 named.1 reply fresh carries.reply));
     others = λ clean machine consistent settled named. tt;
+    of_step = keeps.of_step;
     utf8 = tt;
   }
     where
@@ -244,6 +258,7 @@ module _ {S : Type 0} (g : Ghosts S) (command : Command) (old mid new : Held S) 
         on_ok {P = KeepsOthers (state g mid).now (state g new).now} r
         (λ kept. others_then (state g old).now (state g mid).now (state g new).now (stays_others g old mid (finds.same (answers.was_clean clean) settled.holds.stands.has)) kept)
         (answers.others clean machine consistent at.0 (gives machine first at.1));
+    of_step = answers.of_step;
     utf8 = answers.utf8;
   }
     where
@@ -258,6 +273,7 @@ module _ {S : Type 0} (g : Ghosts S) (command : Command) (old mid new : Held S) 
     ok = λ clean machine consistent settled given. tt;
     err = λ clean machine consistent settled given. not_found g old new finds clean settled;
     others = λ clean machine consistent settled given. tt;
+    of_step = tt;
     utf8 = tt;
   }
 
@@ -282,6 +298,7 @@ module _ {S : Type 0} (g : Ghosts S) (command : Command) (was_known mid_known : 
         let at = found g old mid finds (answers.was_clean clean) consistent settled in
         others_then (state g old).now (state g mid).now (state g new).now (stays_others g old mid (finds.same (answers.was_clean clean) settled.holds.stands.has))
         (answers.others clean machine consistent at.0 (gives machine at.1 was));
+    of_step = tt;
     utf8 = answers.utf8;
   }
 
@@ -299,6 +316,7 @@ module _ {S : Type 0} (g : Ghosts S) (command : Command) (was_known mid_known : 
           learns machine at.1 was,
         );
     others = λ clean machine consistent settled was. tt;
+    of_step = answers.of_step;
     utf8 = tt;
   }
 
@@ -310,6 +328,7 @@ archs_unread g command was_known known old new finds same = record {
   ok = λ clean machine consistent settled was. tt;
   err = λ clean machine consistent settled was. (not_found g old new finds clean settled, subst (Knows machine) (sym same) was);
   others = λ clean machine consistent settled was. tt;
+  of_step = tt;
   utf8 = tt;
 }
 
@@ -321,4 +340,5 @@ not_committed {g = g} {key = key} {after = after} {old = old} {new = new} carrie
   ok = λ clean machine settled steps. tt;
   err = λ clean machine settled steps. (carries.err clean machine settled steps, inl (old, key, after, inl refl, steps, carries.cause clean machine settled steps));
   others = λ clean machine settled steps. tt;
+  of_step = tt;
 }

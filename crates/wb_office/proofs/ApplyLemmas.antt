@@ -1,5 +1,5 @@
 -- What an office over tables answers after a failure, and how it stands then.
-use Rattle.std.proofs.Common.{◌≡◌, ◌≢◌, ◌⊎◌, inl, inr, true, false, not, Bool, Result, Ok, Err, IsTrue, IfErr, refl, sym, ap, subst, ◌∙◌}
+use Rattle.std.proofs.Common.{◌≡◌, ◌≢◌, ◌⊎◌, inl, inr, true, false, not, Bool, Option, Some, None, Result, Ok, Err, IsTrue, IfErr, refl, sym, ap, subst, ◌∙◌}
 use Rattle.std.proofs.lemmas.Bool.{both_ways}
 use Rattle.sqlite_trees.specs.declared.store.Store.{Ghosts}
 use Rattle.sqlite.specs.Held.{Held, state}
@@ -12,9 +12,15 @@ use Rattle.wb_states.specs.declared.reply.Reply.{Reply}
 use Rattle.wb_states.specs.Refusals.{IsOfMachine}
 use Rattle.wb_states.specs.declared.store_fault.StoreFault.{StoreFault}
 use Rattle.wb_states.specs.declared.store_fault.StoreFault.TheVariants as fault
-use Rattle.wb_states.specs.Machine.{Machine}
+use Rattle.wb_states.specs.Machine.{Machine, empty_office}
 use Rattle.wb_states.specs.Refusals.{is_of_store}
-use Rattle.wb_step.specs.Step.{step}
+use Rattle.wb_step.specs.Checks.{MayWantMemory, text_refusal}
+use Rattle.wb_step.specs.Step.{Outcome, step}
+use Rattle.wb_step.specs.Offices.{StandsOn}
+use Rattle.wb_step.specs.TextChecks.{ChecksTexts}
+use Rattle.wb_step.proofs.OfficeLemmas.{refusal-cases}
+use Rattle.wb_step.proofs.StateRefusalLemmas.{IsOfState, step-of-state}
+use Rattle.wb_step.proofs.StepLemmas.{step-text}
 use Rattle.wb_step.proofs.InvariantLemmas.{step-keeps}
 use Rattle.wb_store.specs.Settled.{IsSettled, IsBackAt, LeavesEither}
 use Rattle.wb_store.proofs.SettledLemmas.{settled_back, stays_back, goes_back_again}
@@ -22,9 +28,9 @@ use Rattle.wb_office.specs.declared.answer.Failure.{Failure}
 use Rattle.wb_office.specs.declared.answer.Failure.TheVariants.{Refused, Unread, Uncommitted}
 use Rattle.wb_office.specs.declared.carry.CarryError.TheVariants.{TakenBack, RollBackFailed, InDoubt}
 use Rattle.wb_office.specs.declared.known.Known.{Known}
-use Rattle.wb_office.specs.Answers.{Responds}
+use Rattle.wb_office.specs.Answers.{IsOfStep, Responds}
 use Rattle.wb_office.specs.Standing.{Knows, StandsAt, LeavesOne}
-use Rattle.wb_office.specs.Applies.{refusal_for, doubt_for, CannotBeUsed, IsRefusedIn, Applies, Ends, EndsWith}
+use Rattle.wb_office.specs.Applies.{refusal_for, refusal_of, doubt_for, CannotBeUsed, IsRefusedIn, Applies, Ends, EndsWith, StandsAfter}
 use Rattle.wb_store.proofs.StaysLemmas.{was_clean}
 
 -- ---- the connection after a probe
@@ -101,6 +107,21 @@ not_closed_for fault.NewerSchema is = cc
 not_closed_for (fault.Damaged table row) is = cc
 not_closed_for fault.Device is = cc
 
+-- a refusal for a fault is out of memory, or it comes of the store
+pub none_opens : {refusal : Refusal} (f : StoreFault) → refusal ≡ refusal_for f → is_of_store refusal ≡ false → refusal ≢ Memory → ⊥
+none_opens {refusal} f told no_store other = both_ways (is_of_store refusal) no_store (ap is_of_store told ∙ of_fault f (λ is. other (told ∙ is)))
+
+-- a failure is never answered as that the office is closed
+not_closed_by : (failure : Failure) → IsOfStep failure → refusal_of failure ≢ Closed
+not_closed_by (Refused refusal) of_step is = both_ways (is_of_store refusal) of_step (ap is_of_store is)
+not_closed_by (Unread f) of_step is = not_closed_for f is
+not_closed_by (Uncommitted (TakenBack f)) of_step is = not_closed_for f is
+not_closed_by (Uncommitted (RollBackFailed f)) of_step is = not_closed_for f is
+not_closed_by (Uncommitted (InDoubt f)) of_step is = no_store_closed (sym (doubts_for f).1 ∙ is)
+  where
+    no_store_closed : {d : StoreFault} → Store d ≢ Closed
+    no_store_closed is = cc
+
 module _ {S : Type 0} (g : Ghosts S) (machine : Machine) (command : Command) where
   -- a call failed that left the office as it was
   refused_back : (new : Held S) (f : StoreFault) (refusal : Refusal) (is_closed : Bool) → refusal ≡ refusal_for f → IsBackAt machine (state g new) → (is_closed ≡ false → IsTrue (state g new).is_open)
@@ -144,6 +165,8 @@ ends_refused g held refusal is_closed closes = record {
     shut = λ is. settled_back (state g held) left.1.1;
   };
   told = refl;
+  ends = λ of_store. closes ∙ of_store;
+  opens = λ no_store _. closes ∙ no_store;
   closes = λ clean is closed. absurd (both_ways is_closed (closes ∙ ap is_of_store is) closed);
 }
 
@@ -154,6 +177,8 @@ module _ {S : Type 0} (g : Ghosts S) (old new : Held S) (refusal : Refusal) (is_
     was_clean = h.was_clean;
     refused = λ clean machine command before left. refused_back g machine command new e refusal is_closed h.told (h.back clean machine left.1) (h.is_open clean) h.ends;
     told = h.told;
+    ends = h.ends;
+    opens = λ no_store other. absurd (none_opens e h.told no_store other);
     closes = λ clean is closed. inl (h.closes clean is closed);
   }
 
@@ -163,6 +188,8 @@ module _ {S : Type 0} (g : Ghosts S) (old new : Held S) (refusal : Refusal) (is_
     was_clean = h.was_clean;
     refused = λ clean machine command before left. refused_back g machine command new e refusal is_closed h.told (h.back clean machine left.0) (h.is_open clean) h.ends;
     told = h.told;
+    ends = h.ends;
+    opens = λ no_store other. absurd (none_opens e h.told no_store other);
     closes = λ clean is closed. inl (h.closes clean is closed);
   }
 
@@ -172,6 +199,8 @@ ends_not_taken_back g held e refusal told = record {
   was_clean = λ clean. clean;
   refused = λ clean machine command before left. refused_back g machine command held e refusal true told left.0 (λ not_closed. cc) (λ of_store. refl);
   told = told;
+  ends = λ of_store. refl;
+  opens = λ no_store other. absurd (none_opens e told no_store other);
   closes = λ clean is closed. inr (e, refl);
 }
 
@@ -181,6 +210,8 @@ ends_in_doubt g held e refusal told = record {
   was_clean = λ clean. clean;
   refused = λ clean machine command before left. refused_in_doubt g machine command held e refusal told left.0;
   told = told;
+  ends = λ of_store. refl;
+  opens = λ no_store other. absurd (both_ways (is_of_store refusal) no_store (ap is_of_store (told ∙ (doubts_for e).1)));
   closes = λ clean is closed. absurd (doubt_is_no_memory e (doubts_for e) (sym told ∙ is));
 }
   where
@@ -196,12 +227,78 @@ ends_in_doubt g held e refusal told = record {
 pub settled_at : {machine : Machine} {was_closed : Bool} {known : Known} {s : State} → StandsAt machine was_closed known s → was_closed ≡ false → IsSettled machine s
 settled_at stands opened = stands.back.settled (stands.is_open opened)
 
-module _ {S : Type 0} (g : Ghosts S) (command : Command) (was_closed : Bool) (was_known : Known) (old : Held S) (opened : was_closed ≡ false) where
+-- the texts of a command are refused, and nothing is done
+pub texts_refused : {S : Type 0} (g : Ghosts S) (command : Command) (was_closed : Bool) (known : Known) (held : Held S) (opened : was_closed ≡ false) (refusal : Refusal)
+    → ChecksTexts {X = Unit {0}} command (Err refusal) → (r : Result Reply Refusal) → r ≡ Err refusal → Applies g command was_closed known held was_closed known held r
+texts_refused {S} g command was_closed known held opened refusal checks r given = subst (Applies g command was_closed known held was_closed known held) (sym given) (record {
+  was_clean = λ clean. clean;
+  shut = λ closed. absurd (both_ways was_closed opened closed);
+  stands = λ _. record {
+    ok = tt;
+    never = λ is. both_ways (is_of_store refusal) of_state (ap is_of_store (same_err refusal Closed is));
+    ends = λ of_store. absurd (both_ways (is_of_store refusal) of_state of_store);
+    opens = λ _ _. opened;
+  };
+  texts = λ _ other is. (either other is, opened, refl, refl);
+  memory = λ is. checks.memory (same_err refusal Memory is);
+  reply = λ clean machine stands. tt;
+  others = λ clean machine stands. tt;
+  refused = λ clean machine stands _. (
+    record {
+      machines = λ other no_store. (stepped machine other, opened);
+      back = λ no_store. stands.back;
+      is_open = λ _. stands.is_open opened;
+      ends = λ of_store. absurd (both_ways (is_of_store refusal) of_state of_store);
+      left = either_of (step machine command).1 (state g held) stands.back;
+      shut = λ is. stands.back;
+    },
+    stands.knows,
+  );
+  cause = λ clean machine stands _. (
+    Refused refusal,
+    held,
+    (stepped machine, (checks.memory, settled_at stands opened)),
+    refl,
+    λ none closed. absurd (both_ways was_closed opened closed),
+  );
+})
+  where
+    same_err : (a b : Refusal) → ◌≡◌ {A = Result Reply Refusal} (Err a) (Err b) → a ≡ b
+    same_err a b is = cc
+
+    some_is : (a b : Refusal) → ◌≡◌ {A = Option Refusal} (Some a) (Some b) → a ≡ b
+    some_is a b is = cc
+
+    stepped : (machine : Machine) → IsOfMachine refusal → (step machine command).0 ≡ Err refusal
+    stepped machine other = ap (λ (o : Outcome). o.0) (step-text machine command refusal (checks.refused other))
+
+    of_state : is_of_store refusal ≡ false
+    of_state = elim (refusal-cases refusal) [
+      | inl none ↦ ap is_of_store none
+      | inr other ↦ (subst (λ (result : Result Reply Refusal). IfErr result IsOfState) (stepped empty_office other) (step-of-state empty_office command)).0
+    ]
+
+    either : (other : Refusal) → text_refusal command ≡ Some other → (◌≡◌ {A = Result Reply Refusal} (Err refusal) (Err other)) ⊎ (◌≡◌ {A = Result Reply Refusal} (Err refusal) (Err Memory))
+    either other is = elim (refusal-cases refusal) [
+      | inl none ↦ inr (ap Err none)
+      | inr of_machine ↦ inl (ap Err (some_is refusal other (sym (checks.refused of_machine) ∙ is)))
+    ]
+
+module _ {S : Type 0} (g : Ghosts S) (command : Command) (was_closed : Bool) (was_known : Known) (old : Held S) (opened : was_closed ≡ false) (good : text_refusal command ≡ None) (wants : MayWantMemory command) where
+  no_texts : (refusal : Refusal) → text_refusal command ≡ Some refusal → ⊥
+  no_texts refusal is = none_is_no_some refusal (sym good ∙ is)
+    where
+      none_is_no_some : (refusal : Refusal) → ¬ ◌≡◌ {A = Option Refusal} None (Some refusal)
+      none_is_no_some refusal is = cc
+
   -- a reply leaves the office open at the state of the step
   pub applied : (new : Held S) (known : Known) (reply : Reply) → Responds g command was_known old known new (Ok reply) → Applies g command was_closed was_known old was_closed known new (Ok reply)
   applied new known reply responds = record {
     was_clean = responds.was_clean;
     shut = λ closed. absurd (both_ways was_closed opened closed);
+    stands = λ _. record { ok = opened; never = λ is. cc; ends = tt; opens = tt };
+    texts = λ _ other is. absurd (no_texts other is);
+    memory = λ is. wants;
     reply = λ clean machine stands.
         let done = responds.ok clean machine stands.consistent (settled_at stands opened) stands.knows in (
           done.0,
@@ -224,6 +321,9 @@ module _ {S : Type 0} (g : Ghosts S) (command : Command) (was_closed : Bool) (wa
   not_applied at new is_closed known failure refusal responds ends = record {
     was_clean = λ clean. responds.was_clean (ends.was_clean clean);
     shut = λ closed. absurd (both_ways was_closed opened closed);
+    stands = λ _. record { ok = tt; never = λ is. not_closed_by failure responds.of_step (sym ends.told ∙ same_err refusal Closed is); ends = ends.ends; opens = ends.opens };
+    texts = λ _ other is. absurd (no_texts other is);
+    memory = λ is. wants;
     reply = λ clean machine stands. tt;
     others = λ clean machine stands. tt;
     refused = λ clean machine stands _.
@@ -232,6 +332,9 @@ module _ {S : Type 0} (g : Ghosts S) (command : Command) (was_closed : Bool) (wa
     cause = λ clean machine stands _.
         (failure, at, (responds.err (ends.was_clean clean) machine stands.consistent (settled_at stands opened) stands.knows).0, ends.told, ends.closes clean);
   }
+    where
+      same_err : (a b : Refusal) → ◌≡◌ {A = Result Reply Refusal} (Err a) (Err b) → a ≡ b
+      same_err a b is = cc
 
 -- ---- the office that carries out commands
 
@@ -271,8 +374,8 @@ module _ {S : Type 0} (g : Ghosts S) (command : Command) (was_closed : Bool) (wa
       same_err : (a b : Refusal) → ◌≡◌ {A = Result Reply Refusal} (Err a) (Err b) → a ≡ b
       same_err a b is = cc
 
-  pub carried_memory : r ≡ Err Memory → Unit {0} × StandsAt machine is_closed known (state g new)
-  carried_memory is = (tt, open_or_shut stays_shut (λ opened. let left = refused_with Memory is opened in stands_on Memory left (left.0.back refl)))
+  pub carried_memory : r ≡ Err Memory → MayWantMemory command × StandsAt machine is_closed known (state g new)
+  carried_memory is = (h.memory is, open_or_shut stays_shut (λ opened. let left = refused_with Memory is opened in stands_on Memory left (left.0.back refl)))
 
   pub carried_closed : r ≡ Err Closed → (is_closed ≡ true) × StandsAt machine is_closed known (state g new)
   carried_closed is = open_or_shut (λ closed. ((h.shut closed).1, stays_shut closed))
@@ -285,3 +388,25 @@ module _ {S : Type 0} (g : Ghosts S) (command : Command) (was_closed : Bool) (wa
     where
       store_is_not_closed : {f : StoreFault} → ¬ ◌≡◌ {A = Result Reply Refusal} (Err (Store f)) (Err Closed)
       store_is_not_closed is = cc
+
+-- ---- whatever the disk does
+
+-- what is so of an office that is closed, and of one that is not
+pub is_open : (b : Bool) → ¬ (b ≡ true) → b ≡ false
+is_open true other = absurd (other refl)
+is_open false other = refl
+
+-- an office that is not closed stands so after an answer
+pub stands_open : {X : Type 0} {r : Result X Refusal} {is_closed : Bool} → StandsAfter r is_closed → StandsOn (is_closed ≡ true) r
+stands_open {r = Ok x} {is_closed} h = record { ok = λ closed. both_ways is_closed h.ok closed; never = h.never; ends = tt; opens = tt }
+stands_open {r = Err refusal} {is_closed} h = record {
+  ok = tt;
+  never = h.never;
+  ends = h.ends;
+  opens = λ no_store other closed. both_ways is_closed (h.opens no_store other) closed;
+}
+
+-- an office says that it is closed only if it was
+pub told_closed : {X : Type 0} {r : Result X Refusal} (was_closed : Bool) → (was_closed ≡ false → ¬ (r ≡ Err Closed)) → r ≡ Err Closed → was_closed ≡ true
+told_closed true never is = refl
+told_closed false never is = absurd (never refl is)

@@ -25,12 +25,12 @@ use Rattle.wb_store.specs.Settled.{IsBackAt}
 use Rattle.wb_store.proofs.SettledLemmas.{settled_back}
 use Rattle.wb_office.specs.declared.known.Known.{Known}
 use Rattle.wb_office.specs.Asks.{Asks, IsAskedAt, IsUnread}
-use Rattle.wb_office.specs.Applies.{EndsWith}
+use Rattle.wb_office.specs.Applies.{EndsWith, StandsAfter}
 use Rattle.wb_store.specs.Finds.{Finds}
 use Rattle.wb_office.specs.Standing.{Knows, StandsAt, LeavesOne}
 use Rattle.wb_office.proofs.AnswerLemmas.{found, not_found}
 use Rattle.wb_store.proofs.StaysLemmas.{was_clean}
-use Rattle.wb_office.proofs.ApplyLemmas.{either_of, not_closed_for, of_fault, settled_at}
+use Rattle.wb_office.proofs.ApplyLemmas.{either_of, none_opens, not_closed_for, of_fault, settled_at}
 
 -- ---- what was looked up
 
@@ -59,6 +59,7 @@ module _ {S : Type 0} {g : Ghosts S} {answer_of : Machine → Result Answer Refu
     was_clean = λ clean. clean;
     same = refl;
     shut = λ _. (refl, closed, refl);
+    stands = λ opened. absurd (both_ways was_closed opened closed);
     named = λ opened bad. absurd (both_ways was_closed opened closed);
     asked = λ clean machine stands opened. absurd (both_ways was_closed opened closed);
   }
@@ -70,22 +71,36 @@ module _ {S : Type 0} {g : Ghosts S} {answer_of : Machine → Result Answer Refu
     was_clean = λ clean. clean;
     same = refl;
     shut = λ closed. absurd (both_ways was_closed opened closed);
+    stands = λ _. record { ok = tt; never = λ is. cc; ends = λ of_store. cc; opens = λ _ _. opened };
     named = λ _ _. (refl, opened, refl);
     asked = λ clean machine stands _. inl (refuses machine, settled_at stands opened, opened);
   }
 
   -- the look-ups succeed
-  pub asked_found : {answer_in : Machine → Result Answer Refusal} {new : Held S} {r : Result Answer Refusal} → was_closed ≡ false → is_bad ≡ false → ((machine : Machine) → answer_of machine ≡ answer_in machine)
-      → Finds g (λ machine answer. answer ≡ answer_in machine) old new (Ok r) → Asks g answer_of is_bad was_closed was_known old was_closed was_known new r
-  asked_found {new = new} opened is_good same finds = record {
+  pub asked_found : {answer_in : Machine → Result Answer Refusal} {new : Held S} (r : Result Answer Refusal) → was_closed ≡ false → is_bad ≡ false → ((machine : Machine) → answer_of machine ≡ answer_in machine)
+      → IfErr r (λ refusal. is_of_store refusal ≡ false) → Finds g (λ machine answer. answer ≡ answer_in machine) old new (Ok r) → Asks g answer_of is_bad was_closed was_known old was_closed was_known new r
+  asked_found {new = new} r opened is_good same of_state finds = record {
     was_clean = was_clean (state g old) (state g new) finds.survives;
     same = refl;
     shut = λ closed. absurd (both_ways was_closed opened closed);
+    stands = λ _. found_stands r of_state;
     named = λ _ bad. absurd (both_ways is_bad is_good bad);
     asked = λ clean machine stands _.
         let at = found g old new finds clean stands.consistent (settled_at stands opened) in
         inl (same machine ∙ sym at.1, at.0, opened);
   }
+    where
+      same_err : (a b : Refusal) → ◌≡◌ {A = Result Answer Refusal} (Err a) (Err b) → a ≡ b
+      same_err a b is = cc
+
+      found_stands : (r : Result Answer Refusal) → IfErr r (λ refusal. is_of_store refusal ≡ false) → StandsAfter r was_closed
+      found_stands (Ok answer) of_state = record { ok = opened; never = λ is. cc; ends = tt; opens = tt }
+      found_stands (Err refusal) of_state = record {
+        ok = tt;
+        never = λ is. both_ways (is_of_store refusal) of_state (ap is_of_store (same_err refusal Closed is));
+        ends = λ of_store. absurd (both_ways (is_of_store refusal) of_state of_store);
+        opens = λ _ _. opened;
+      }
 
   -- a look-up fails
   pub asked_unread : {Answers : Machine → Result Answer Refusal → Type 0} {at new : Held S} {is_closed : Bool} {e : StoreFault} {refusal : Refusal} → was_closed ≡ false → is_bad ≡ false
@@ -94,6 +109,7 @@ module _ {S : Type 0} {g : Ghosts S} {answer_of : Machine → Result Answer Refu
     was_clean = λ clean. was_clean (state g old) (state g at) finds.survives (ends.was_clean clean);
     same = refl;
     shut = λ closed. absurd (both_ways was_closed opened closed);
+    stands = λ _. record { ok = tt; never = λ is. not_closed_for e (sym ends.told ∙ same_err refusal Closed is); ends = ends.ends; opens = λ no_store other. absurd (none_opens e ends.told no_store other) };
     named = λ _ bad. absurd (both_ways is_bad is_good bad);
     asked = λ clean machine stands _.
         let failed = not_found g old at finds (ends.was_clean clean) (settled_at stands opened) in
@@ -112,6 +128,9 @@ module _ {S : Type 0} {g : Ghosts S} {answer_of : Machine → Result Answer Refu
           },
         );
   }
+    where
+      same_err : (a b : Refusal) → ◌≡◌ {A = Result Answer Refusal} (Err a) (Err b) → a ≡ b
+      same_err a b is = cc
 
 -- ---- the office that answers queries
 
@@ -207,13 +226,8 @@ module _ {S : Type 0} {g : Ghosts S} {answer_of : Machine → Result Answer Refu
           ]) refl)
 
   -- it says that it is closed only if it was
-  pub asked_when_shut : r ≡ Err Closed → was_closed ≡ true
-  asked_when_shut is = open_or_shut (λ closed. closed) (λ opened. absurd (not_when_open (h.asked clean machine stands opened)))
-    where
-      not_when_open : IsAskedAt g answer_of machine old is_closed new r → ⊥
-      not_when_open (inl answered) = of_state machine Closed refl (answered.0 ∙ is)
-      not_when_open (inr (refusal, failed, unread)) =
-          not_closed_for unread.fault (sym unread.told ∙ told (sym failed ∙ is))
+  asked_when_shut : r ≡ Err Closed → was_closed ≡ true
+  asked_when_shut is = open_or_shut (λ closed. closed) (λ opened. absurd ((h.stands opened).never is))
 
   pub asked_closed : r ≡ Err Closed → (is_closed ≡ true) × StandsAt machine is_closed known (state g new)
   asked_closed is = ((h.shut (asked_when_shut is)).1, stays)

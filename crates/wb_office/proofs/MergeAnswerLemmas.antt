@@ -21,7 +21,7 @@ use Rattle.wb_office.specs.Answers.{AreParts, IsLeft, IsUncommitted, KeepsMerge,
 use Rattle.wb_office.specs.MergeCarried.{CarriesMerge}
 use Rattle.wb_office.specs.MergeWritten.{IsMergeIn}
 use Rattle.wb_store.specs.Opening.{AreCountsOf}
-use Rattle.wb_office.proofs.AnswerLemmas.{counts_at}
+use Rattle.wb_office.proofs.AnswerLemmas.{counts_at, refusal_of_step}
 use Rattle.wb_store.proofs.StaysLemmas.{was_clean}
 use Rattle.wb_office.proofs.MergeRecordLemmas.{merged_whole}
 
@@ -46,6 +46,7 @@ module _ {S : Type 0} (g : Ghosts S) (sources : List ℕ) (parts : List Part) (o
       (carries.memory, subst (λ h. IsSettled machine (state g h)) same settled),
     );
     others = λ clean machine consistent settled are. tt;
+    of_step = refusal_of_step refusal carries;
     utf8 = tt;
   }
 
@@ -63,6 +64,7 @@ module _ {S : Type 0} (g : Ghosts S) (sources : List ℕ) (parts : List Part) (o
         );
     err = λ clean machine consistent settled are. tt;
     others = λ clean machine consistent settled are. keeps.others clean machine settled (merged_in machine reply are carries.reply);
+    of_step = tt;
     utf8 = utf8;
   }
 
@@ -73,6 +75,7 @@ module _ {S : Type 0} (g : Ghosts S) (sources : List ℕ) (parts : List Part) (o
     ok = λ clean machine consistent settled are. tt;
     err = λ clean machine consistent settled are. left_by machine failure (keeps.err clean machine settled (merged_in machine reply are carries.reply));
     others = λ clean machine consistent settled are. tt;
+    of_step = keeps.of_step;
     utf8 = tt;
   }
     where
@@ -89,4 +92,5 @@ merge_not_committed {g = g} {sources = sources} {parts = parts} {before = before
   ok = λ clean machine settled is. tt;
   err = λ clean machine settled is. (carries.err clean machine settled is, inr (old, sources, parts, before, after, inl refl, refl, is, carries.cause clean machine settled is));
   others = λ clean machine settled is. tt;
+  of_step = tt;
 }

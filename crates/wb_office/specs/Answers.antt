@@ -1,5 +1,5 @@
 -- What the office answers to a command that is carried out over its tables, and where it then stands.
-use Rattle.std.specs.Prelude.{◌≡◌, ◌⊎◌, ℕ, Bool, true, false, List, Option, Result, Ok, Err, IfOk, IfErr, OnOk}
+use Rattle.std.specs.Prelude.{◌≡◌, ◌⊎◌, ⊤, ℕ, Bool, true, false, List, Option, Result, Ok, Err, IfOk, IfErr, OnOk}
 use Rattle.std.specs.FinMap as map
 use Rattle.sqlite_trees.specs.declared.store.Store.{Ghosts}
 use Rattle.sqlite.specs.Held.{Held, state}
@@ -13,7 +13,7 @@ use Rattle.wb_states.specs.declared.reply.Reply.TheVariants as is
 use Rattle.wb_states.specs.declared.refusal.Refusal.TheVariants.{Memory}
 use Rattle.wb_states.specs.Forms.{Merge}
 use Rattle.wb_states.specs.Machine.{Machine, Key, IsConsistent}
-use Rattle.wb_states.specs.Refusals.{IsOfMachine}
+use Rattle.wb_states.specs.Refusals.{IsOfMachine, is_of_store}
 use Rattle.wb_step.specs.Checks.{MayWantMemory}
 use Rattle.wb_step.specs.MergedParts.{part_for_merge}
 use Rattle.wb_step.specs.Named.{part_named}
@@ -77,6 +77,12 @@ IsLeft g machine command old new (Refused refusal) =
 IsLeft g machine command old new (Unread fault) = FailsToFind g old new fault × IsBackAt machine (state g new)
 IsLeft g machine command old new (Uncommitted failure) = IsUncommitted g machine command old new (Uncommitted failure)
 
+-- a failure that is a refusal is one of the step: it says neither that the office is closed nor that its store failed
+abbrev pub IsOfStep : Failure → Type 0
+IsOfStep (Refused refusal) = is_of_store refusal ≡ false
+IsOfStep (Unread fault) = ⊤
+IsOfStep (Uncommitted failure) = ⊤
+
 -- what a step in a part of the office changed, written to the tables of the whole office; if it succeeds, the tables of others keep their rows
 pub record KeepsStep {S A : Type 0} (g : Ghosts S) (command : Command) (key : Option Key) (after : Machine) (old new : Held S) (result : Result A Failure) : Type 0 where
   pub was_clean : HasCleanDisk (state g new) → HasCleanDisk (state g old)
@@ -86,6 +92,7 @@ pub record KeepsStep {S A : Type 0} (g : Ghosts S) (command : Command) (key : Op
       → IfErr result (IsUncommitted g machine command old new)
   pub others : HasCleanDisk (state g new) → (machine : Machine) → IsSettled machine (state g old) → IsStepOf machine command key after
       → OnOk result (KeepsOthers (state g old).now (state g new).now)
+  pub of_step : IfErr result IsOfStep
 
 -- both of these are the part of the office that a merge looks at
 abbrev pub AreParts : List Part → Machine → Machine → Machine → Type 0
@@ -101,6 +108,7 @@ pub record KeepsMerge {S A : Type 0} (g : Ghosts S) (sources : List ℕ) (parts 
       → IfErr result (IsUncommitted g machine (Merge sources parts) old new)
   pub others : HasCleanDisk (state g new) → (machine : Machine) → IsSettled machine (state g old) → IsMergeIn machine sources parts before after
       → OnOk result (KeepsOthers (state g old).now (state g new).now)
+  pub of_step : IfErr result IsOfStep
 
 -- a command carried out over the tables of a consistent office of which this is true: the reply is that of the step, after which the tables are
 -- settled at its state, with these counts, and the tables of others keep their rows; or a failure leaves the office as above
@@ -113,6 +121,7 @@ pub record Answers {S : Type 0} (g : Ghosts S) (Given : Machine → Type 0) (com
       → IfErr result (IsLeft g machine command old new)
   pub others : HasCleanDisk (state g new) → (machine : Machine) → IsConsistent machine → IsSettled machine (state g old) → Given machine
       → OnOk result (KeepsOthers (state g old).now (state g new).now)
+  pub of_step : IfErr result IsOfStep
   pub utf8 : OnOk result (HasUtf8Texts command)
 
 -- a command carried out over the tables of a consistent office by what is known of them: the reply is that of the step, after which they are
@@ -127,4 +136,5 @@ pub record Responds {S : Type 0} (g : Ghosts S) (command : Command) (was_known :
       → IfErr result (λ failure. IsLeft g machine command old new failure × Knows machine known)
   pub others : HasCleanDisk (state g new) → (machine : Machine) → IsConsistent machine → IsSettled machine (state g old) → Knows machine was_known
       → OnOk result (KeepsOthers (state g old).now (state g new).now)
+  pub of_step : IfErr result IsOfStep
   pub utf8 : OnOk result (HasUtf8Texts command)

@@ -1,5 +1,5 @@
 -- What an office over tables answers to a command, and how it stands then.
-use Rattle.std.specs.Prelude.{◌≡◌, ◌≢◌, ◌⊎◌, Bool, true, false, [], Result, Ok, Err, IfOk, IfErr, IsTrue, OnOk}
+use Rattle.std.specs.Prelude.{◌≡◌, ◌≢◌, ◌⊎◌, Bool, true, false, [], Some, Result, Ok, Err, IfOk, IfErr, IsTrue, OnOk}
 use Rattle.sqlite_trees.specs.declared.store.Store.{Ghosts}
 use Rattle.sqlite.specs.Held.{Held, state}
 use Rattle.sqlite.specs.State.{HasCleanDisk}
@@ -12,6 +12,7 @@ use Rattle.wb_states.specs.declared.store_fault.StoreFault.{StoreFault}
 use Rattle.wb_states.specs.declared.store_fault.StoreFault.TheVariants as fault
 use Rattle.wb_states.specs.Machine.{Machine}
 use Rattle.wb_states.specs.Refusals.{is_of_store}
+use Rattle.wb_step.specs.Checks.{MayWantMemory, text_refusal}
 use Rattle.wb_step.specs.Step.{step}
 use Rattle.wb_store.specs.Others.{KeepsOthers}
 use Rattle.wb_store.specs.Settled.{IsBackAt, LeavesEither}
@@ -40,6 +41,14 @@ refusal_of (Uncommitted (TakenBack fault)) = refusal_for fault
 refusal_of (Uncommitted (RollBackFailed fault)) = refusal_for fault
 refusal_of (Uncommitted (InDoubt fault)) = doubt_for fault
 
+-- how an office that was open stands after an answer, whatever its disk does: it never says that it is closed; after a fault of its store it is
+-- closed, and after each other answer, but out of memory, it is open
+pub record StandsAfter {X : Type 0} (result : Result X Refusal) (is_closed : Bool) : Type 0 where
+  pub ok : OnOk result (is_closed ≡ false)
+  pub never : ¬ (result ≡ Err Closed)
+  pub ends : IfErr result (λ refusal. is_of_store refusal ≡ true → is_closed ≡ true)
+  pub opens : IfErr result (λ refusal. is_of_store refusal ≡ false → refusal ≢ Memory → is_closed ≡ false)
+
 -- a command that was not carried out is refused, and the office stands as before, or is closed
 pub record IsRefusedIn {S : Type 0} (g : Ghosts S) (machine : Machine) (command : Command) (is_closed : Bool) (new : Held S) (refusal : Refusal) : Type 0 where
   pub machines : refusal ≢ Memory → is_of_store refusal ≡ false → ((step machine command).0 ≡ Err refusal) × (is_closed ≡ false)
@@ -63,16 +72,22 @@ pub record Ends {S : Type 0} (g : Ghosts S) (failure : Failure) (old new : Held 
   pub refused : HasCleanDisk (state g new) → (machine : Machine) (command : Command) (before : Held S) → IsLeft g machine command before old failure
       → IsRefusedIn g machine command is_closed new refusal
   pub told : refusal ≡ refusal_of failure
+  pub ends : is_of_store refusal ≡ true → is_closed ≡ true
+  pub opens : is_of_store refusal ≡ false → refusal ≢ Memory → is_closed ≡ false
   pub closes : HasCleanDisk (state g new) → refusal ≡ Memory → is_closed ≡ true → MustClose g failure old new
 
 -- an office over tables carries out a command: the reply is that of the step, the office stands at the state after it, and the tables of others
 -- keep their rows; a refusal of the state changes nothing; out of memory, it stands as before, and is closed only if its connection cannot be used
--- on, or the transaction could not be taken back; after a fault of the store it is closed, and the command stands whole or not at all; and a closed
--- office, and no other, answers that it is closed
+-- on, or the transaction could not be taken back; after a fault of the store it is closed, and the command stands whole or not at all; a closed
+-- office, and no other, answers that it is closed; and a command whose texts are refused is refused for them, or memory ran out, and nothing is done
 pub record Applies {S : Type 0} (g : Ghosts S) (command : Command) (was_closed : Bool) (was_known : Known) (old : Held S) (is_closed : Bool) (known : Known) (new : Held S)
     (result : Result Reply Refusal) : Type 0 where
   pub was_clean : HasCleanDisk (state g new) → HasCleanDisk (state g old)
   pub shut : was_closed ≡ true → (result ≡ Err Closed) × (is_closed ≡ true) × (known ≡ was_known) × (new ≡ old)
+  pub stands : was_closed ≡ false → StandsAfter result is_closed
+  pub texts : was_closed ≡ false → (refusal : Refusal) → text_refusal command ≡ Some refusal
+      → ((result ≡ Err refusal) ⊎ (result ≡ Err Memory)) × (is_closed ≡ false) × (known ≡ was_known) × (new ≡ old)
+  pub memory : result ≡ Err Memory → MayWantMemory command
   pub reply : HasCleanDisk (state g new) → (machine : Machine) → StandsAt machine was_closed was_known (state g old)
       → IfOk result (λ reply. ((step machine command).0 ≡ Ok reply) × StandsAt (step machine command).1 is_closed known (state g new) × (is_closed ≡ false))
   pub others : HasCleanDisk (state g new) → (machine : Machine) → StandsAt machine was_closed was_known (state g old)

@@ -11,7 +11,7 @@ use Rattle.wb_states.specs.declared.query.Answer.{Answer}
 use Rattle.wb_states.specs.Refusals.{is_of_store}
 use Rattle.wb_store.specs.Settled.{IsSettled, IsBackAt}
 use Rattle.wb_office.specs.declared.known.Known.{Known}
-use Rattle.wb_office.specs.Applies.{CannotBeUsed, refusal_for}
+use Rattle.wb_office.specs.Applies.{CannotBeUsed, StandsAfter, refusal_for}
 use Rattle.wb_store.specs.Finds.{FailsToFind}
 use Rattle.wb_office.specs.Standing.{StandsAt}
 
@@ -44,6 +44,7 @@ pub record Asks {S : Type 0} (g : Ghosts S) (answer_of : Machine → Result Answ
   pub was_clean : HasCleanDisk (state g new) → HasCleanDisk (state g old)
   pub same : known ≡ was_known
   pub shut : was_closed ≡ true → (result ≡ Err Closed) × (is_closed ≡ true) × (new ≡ old)
+  pub stands : was_closed ≡ false → StandsAfter result is_closed
   pub named : was_closed ≡ false → is_bad ≡ true → (result ≡ Err BadName) × (is_closed ≡ false) × (new ≡ old)
   pub asked : HasCleanDisk (state g new) → (machine : Machine) → StandsAt machine was_closed was_known (state g old) → was_closed ≡ false
       → IsAskedAt g answer_of machine old is_closed new result

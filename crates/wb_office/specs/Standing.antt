@@ -1,5 +1,5 @@
 -- At which state an office over tables stands, open or closed, and what is left of it if this is in doubt.
-use Rattle.std.specs.Prelude.{◌≡◌, Bool, true, false, IfSome, IsTrue}
+use Rattle.std.specs.Prelude.{◌≡◌, ◌⊎◌, Bool, true, false, IfSome, IsTrue}
 use Rattle.std.specs.FinMap as map
 use Rattle.sqlite.specs.State.{State}
 use Rattle.wb_states.specs.Machine.{Machine, IsConsistent}

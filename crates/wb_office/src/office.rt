@@ -29,7 +29,7 @@ use sqlite_disk::Disk;
 use std::alloc::Global;
 use wb_sql::is_usable;
 use wb_states::{Answer, Command, Query, Refusal, Reply, StoreFault, Table};
-use wb_step::CarryOut;
+use wb_step::{CarryOut, check_texts};
 use wb_store::{fault_of, find_office, opening_fault};
 
 /// The office, with its state in the tables of a database.
@@ -91,9 +91,11 @@ impl<S: Alter + Drop> Office<S> {
     /// Carries out one command, whole or not at all, and answers it.
     ///
     /// An accepted command is one transaction, which is committed before it is answered. The refusal is the first that
-    /// is true of the command in the order of [`Refusal`]; the office is then as it was. After `Memory` it is as it
-    /// was too, but is closed if the transaction could not be taken back. After `Store` it is closed, and a crash
-    /// leaves the command whole or not at all. A closed office answers `Closed` to each command (this project's own).
+    /// is true of the command in the order of [`Refusal`]; the office is then as it was. Its texts are tested before the
+    /// tables are asked, so that no command whose texts are refused is answered `Store`. After `Memory` the office is as
+    /// it was too, but is closed if the transaction could not be taken back. After `Store` it is closed, and a crash
+    /// leaves the command whole or not at all. A closed office, and no other, answers `Closed` to each command (this
+    /// project's own).
     pub fn apply(&mut self, command: &Command) -> Result<Reply, Refusal>
         ensures applies { Applies S.Store command.now self.old.is_closed self.old.known self.old.conn
             self.new.is_closed self.new.known self.new.conn result }
@@ -101,6 +103,7 @@ impl<S: Alter + Drop> Office<S> {
         if self.is_closed {
             return Err(Refusal::Closed);
         }
+        check_texts(self.alloc, command)?;
         match answer(self.alloc, &mut self.conn, &mut self.known, command) {
             Ok(reply) => Ok(reply),
             Err(failure) => {

@@ -1,6 +1,7 @@
 //! What the office is asked that changes nothing, read from its tables.
-ghost use Rattle.std.specs.Prelude.{◌≡◌, not, IfOk};
+ghost use Rattle.std.specs.Prelude.{◌≡◌, false, not, IfErr, IfOk};
 ghost use Rattle.deb_text.specs.Lists.{is_nonempty};
+ghost use Rattle.wb_states.specs.Refusals.{is_of_store};
 ghost use Rattle.wb_states.specs.Queries.{answer_in, found_at, item_in, mine_in};
 ghost use Rattle.wb_store.specs.Finds.{Finds};
 
@@ -17,6 +18,7 @@ pub(crate) fn find_answer<S: Alter>(
 ) -> Result<Result<Answer, Refusal>, StoreFault>
     ensures finds { Finds S.Store (λ machine answer. answer ≡ answer_in machine query.now)
         conn.old conn.new result }
+    ensures kind { IfOk result (λ answer. IfErr answer (λ refusal. is_of_store refusal ≡ false)) }
 {
     match query {
         Query::Item { arch, source } => find_item(conn, arch, source),
@@ -32,6 +34,7 @@ fn find_item<S: Alter>(
 ) -> Result<Result<Answer, Refusal>, StoreFault>
     ensures finds { Finds S.Store (λ machine answer. answer ≡ item_in machine arch.now source.now)
         conn.old conn.new result }
+    ensures kind { IfOk result (λ answer. IfErr answer (λ refusal. is_of_store refusal ≡ false)) }
 {
     let words = wb_store::arch(conn, arch)?;
     let is_unknown = words.is_none();
@@ -49,6 +52,7 @@ fn item_found(
     found: Option<Record>,
 ) -> Result<Result<Answer, Refusal>, AllocError>
     ensures value { IfOk result (λ answer. answer ≡ found_at arch.now source.now found) }
+    ensures kind { IfOk result (λ answer. IfErr answer (λ refusal. is_of_store refusal ≡ false)) }
 {
     match found {
         None => Ok(Err(Refusal::UnknownSource)),
@@ -67,6 +71,7 @@ fn find_mine<S: Alter>(
 ) -> Result<Result<Answer, Refusal>, StoreFault>
     ensures finds { Finds S.Store (λ machine answer. answer ≡ mine_in machine builder.now)
         conn.old conn.new result }
+    ensures kind { IfOk result (λ answer. IfErr answer (λ refusal. is_of_store refusal ≡ false)) }
 {
     let archs = wb_store::archs_of(conn, builder)?;
     let is_unknown = is_of_none(archs.as_slice());

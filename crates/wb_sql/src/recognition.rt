@@ -6,9 +6,13 @@ ghost use Rattle.wb_sql.specs.Tables.{record_order, record_take, source_name, bi
 ghost use Rattle.wb_sql.specs.Among.{HasOffice, LacksOffice, table_at};
 ghost use Rattle.wb_sql.specs.Recognition.{HasIndexed, HasTables};
 
-use crate::beside::{are_quiet, are_unreferred, find_table, has_free_names, has_sequence, refers_nowhere};
+use crate::beside::{
+    are_quiet, are_unreferred, find_table, has_free_names, has_sequence, refers_nowhere,
+};
 use crate::columns::{index_on, key_on, number, optional, text};
-use crate::comparison::{are_indexes, is_free, is_keyed_by, is_keyed_by_id, is_table, refers_to_arch};
+use crate::comparison::{
+    are_indexes, is_free, is_keyed_by, is_keyed_by_id, is_table, refers_to_arch,
+};
 use crate::id_check::is_id_check;
 use sqlite_schema::schema::{Kind, Schema, Table};
 

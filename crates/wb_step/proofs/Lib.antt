@@ -28,6 +28,7 @@ pub mod QueueLemmas
 pub mod RefusalLemmas
 pub mod RetryLemmas
 pub mod SoughtLemmas
+pub mod StateRefusalLemmas
 pub mod StepLemmas
 pub mod TableLemmas
 pub mod TakeLemmas

@@ -60,9 +60,10 @@ tells_nothing = record { ok = refl; refused = tt; memory = tt }
 
 -- the parts say the first refusal of the texts of a command that brings no relations that are too long
 pub told : {X : Type 0} {first : Option Refusal} (command : Command) (r : Result X Refusal) → Tells first r → first ≡ text_refusal command → has_long_relations command ≡ false → ChecksTexts command r
-told command (Ok x) tells is short = record { ok = sym is ∙ tells.ok; refused = tt; memory = tt }
+told command (Ok x) tells is short = record { ok = sym is ∙ tells.ok; passed = want-text command (sym is ∙ tells.ok) short; refused = tt; memory = tt }
 told command (Err refusal) tells is short = record {
   ok = tt;
+  passed = tt;
   refused = λ other. sym is ∙ tells.refused other;
   memory = λ none. want-text command (sym is ∙ tells.memory none) short;
 }
@@ -140,12 +141,13 @@ text-Merge fields = ap (option_or (when (has_bad_part fields.parts) BadName)) (s
 -- ---- relations
 
 -- relations that cannot be read are refused, and out of memory they are not too long
-pub told-Waits : {X : Type 0} (fields : Waits) (r : Result X Refusal) → OnOk r (relations_fault fields.relations ≡ None) → IfErr r (λ refusal. IsOfMachine refusal → relations_refusal fields.relations ≡ Some refusal)
+pub told-Waits : {X : Type 0} (fields : Waits) (r : Result X Refusal) → OnOk r (relations_fault fields.relations ≡ None) → OnOk r (nat_lt relations_limit (length fields.relations) ≡ false) → IfErr r (λ refusal. IsOfMachine refusal → relations_refusal fields.relations ≡ Some refusal)
     → IfErr r (λ refusal. refusal ≡ Memory → nat_lt relations_limit (length fields.relations) ≡ false) → ChecksTexts (of.Waits fields) r
 unfolding text_refusal
-told-Waits fields (Ok x) read refused short = record { ok = ap (λ fault. option_or (option_map (λ one. BadRelations (Some one)) fault) None) read; refused = tt; memory = tt }
-told-Waits fields (Err refusal) read refused short = record {
+told-Waits fields (Ok x) read within refused short = record { ok = ap (λ fault. option_or (option_map (λ one. BadRelations (Some one)) fault) None) read; passed = want-Waits fields.take_number fields.relations within; refused = tt; memory = tt }
+told-Waits fields (Err refusal) read within refused short = record {
   ok = tt;
+  passed = tt;
   refused = λ other. or_none _ ∙ refused other;
   memory = λ none. want-Waits fields.take_number fields.relations (short none);
 }
@@ -156,11 +158,13 @@ pub told-DepWait : {X : Type 0} (fields : DepWait) (r : Result X Refusal) → Te
 unfolding text_refusal
 told-DepWait fields (Ok x) key read short = record {
   ok = two_none (when (has_bad_key fields.arch fields.source) BadName) (version_refusal fields.version) (relations_refusal fields.relations) key.ok (ap (option_map (λ one. BadRelations (Some one))) read);
+  passed = want-DepWait fields.arch fields.source fields.version fields.relations key.ok short;
   refused = tt;
   memory = tt;
 }
 told-DepWait fields (Err refusal) key read short = record {
   ok = tt;
+  passed = tt;
   refused = λ other. two_refuse (when (has_bad_key fields.arch fields.source) BadName) (version_refusal fields.version) (relations_refusal fields.relations) refusal (key.refused other);
   memory = λ none. want-DepWait fields.arch fields.source fields.version fields.relations (key.memory none) short;
 }
@@ -172,6 +176,7 @@ pub told-DepWait-later : {X : Type 0} (fields : DepWait) (later refusal : Refusa
 unfolding text_refusal
 told-DepWait-later fields later refusal is bad short only = record {
   ok = tt;
+  passed = tt;
   refused = λ other. sym (after_two (when (has_bad_key fields.arch fields.source) BadName) (version_refusal fields.version) (relations_refusal fields.relations))
       ∙ either (key_refusal fields.arch fields.source fields.version) is other;
   memory = λ none. want-DepWait fields.arch fields.source fields.version fields.relations (key-wanted fields.arch fields.source fields.version later refusal is none) (short (only none));

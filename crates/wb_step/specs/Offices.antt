@@ -1,7 +1,10 @@
 -- What is known of an office before and after it was used, by the states at which it stands.
-use Rattle.std.specs.Prelude.{◌≡◌, ◌<◌, IsOk}
+use Rattle.std.specs.Prelude.{◌≡◌, ◌≢◌, ◌<◌, true, false, IsOk, Result, Err, IfErr, OnOk}
 use Rattle.wb_states.specs.Machine.{Machine}
 use Rattle.wb_states.specs.declared.command.Command.{Command}
+use Rattle.wb_states.specs.declared.refusal.Refusal.{Refusal}
+use Rattle.wb_states.specs.declared.refusal.Refusal.TheVariants.{Closed, Memory}
+use Rattle.wb_states.specs.Refusals.{is_of_store}
 use Rattle.wb_step.specs.Step.{step}
 
 -- how an office stands at a state: it answers commands, or it is closed, or it is closed with a command in doubt, which comes after the state, or its store failed with no command in doubt
@@ -17,6 +20,14 @@ Stands is_closed stands_at leaves office machine Open = stands_at office machine
 Stands is_closed stands_at leaves office machine Shut = is_closed office × stands_at office machine
 Stands is_closed stands_at leaves office machine (InDoubt command) = leaves office machine (step machine command).1
 Stands is_closed stands_at leaves office machine Failed = leaves office machine machine
+
+-- how an office that is not closed stands after an answer, whatever its store gives back: it never says that it is closed; after a fault of its
+-- store it is closed, and after each other answer, but out of memory, it is not
+pub record StandsOn {X : Type 0} (closed : Type 0) (result : Result X Refusal) : Type 0 where
+  pub ok : OnOk result (¬ closed)
+  pub never : ¬ (result ≡ Err Closed)
+  pub ends : IfErr result (λ refusal. is_of_store refusal ≡ true → closed)
+  pub opens : IfErr result (λ refusal. is_of_store refusal ≡ false → refusal ≢ Memory → ¬ closed)
 
 -- from each state at which an office stood before, it came to a state at which it stands and of which this is so, if what it read of its store was what it wrote
 abbrev pub Reaches : {X : Type 0} → (X → Type 0) → (X → Machine → Type 0) → X → X → (Machine → Machine → Type 0) → Type 0

@@ -16,5 +16,6 @@ pub record Tells {X : Type 0} (first : Option Refusal) (result : Result X Refusa
 -- no check without memory refuses
 pub record ChecksTexts {X : Type 0} (command : Command) (result : Result X Refusal) : Type 0 where
   pub ok : OnOk result (text_refusal command ≡ None)
+  pub passed : OnOk result (MayWantMemory command)
   pub refused : IfErr result (λ refusal. IsOfMachine refusal → text_refusal command ≡ Some refusal)
   pub memory : IfErr result (λ refusal. refusal ≡ Memory → MayWantMemory command)

@@ -7,6 +7,7 @@ ghost use Rattle.wb_states.specs.Refusals.{IsOfMachine};
 ghost use Rattle.wb_step.specs.Checks.{MayWantMemory};
 ghost use Rattle.wb_states.specs.Refusals.{is_of_store};
 ghost use Rattle.wb_states.specs.Queries.{answer_of, has_malformed_name};
+ghost use Rattle.wb_step.specs.Offices.{StandsOn};
 ghost use Rattle.wb_step.specs.Step.{step};
 
 use wb_states::{Answer, Command, Query, Refusal, Reply};
@@ -35,10 +36,16 @@ pub trait CarryOut {
     /// Carries out one command, whole or not at all, and answers it.
     ///
     /// The refusal is the first that is true of the command in the order of [`Refusal`], and the office is then as it
-    /// was. `Memory` comes if there is no memory for it; the office is then as it was, but may be closed. `Store`
-    /// comes if the store failed: the office is closed, and a crash leaves the state before the command or the state
-    /// after it, whole. A closed office answers `Closed` to each command (this project's own).
+    /// was. `Memory` comes if there is no memory for it, and for no command that a check of its texts refuses without
+    /// memory; the office is then as it was, but may be closed. `Store` comes if the store failed, and only once the texts
+    /// were tested: the office is closed, and a crash leaves the state before the command or the state after it, whole.
+    /// A closed office, and no other, answers `Closed` to each command (this project's own).
     fn carry_out(&mut self, command: &Command) -> Result<Reply, Refusal>
+        // whatever the store gives back
+        ensures shut { is_closed self.old → (result ≡ Err Closed) × is_closed self.new }
+        ensures told { result ≡ Err Closed → is_closed self.old }
+        ensures stands { ¬ is_closed self.old → StandsOn (is_closed self.new) result }
+        // at each state at which it stands
         ensures clean { is_clean self.new → is_clean self.old }
         ensures reply { (machine : Machine) → is_clean self.new → stands_at self.old machine
             → IfOk result (λ reply. ((step machine command.now).0 ≡ Ok reply)
@@ -61,6 +68,11 @@ pub trait CarryOut {
     /// malformed name. The office is as it was after each answer; after `Store` it is closed, and a crash leaves the
     /// state that it had (this project's own).
     fn ask(&mut self, query: &Query) -> Result<Answer, Refusal>
+        // whatever the store gives back
+        ensures shut { is_closed self.old → (result ≡ Err Closed) × is_closed self.new }
+        ensures told { result ≡ Err Closed → is_closed self.old }
+        ensures stands { ¬ is_closed self.old → StandsOn (is_closed self.new) result }
+        // at each state at which it stands
         ensures clean { is_clean self.new → is_clean self.old }
         ensures answer { (machine : Machine) → is_clean self.new → stands_at self.old machine
             → IfOk result (λ answer. (answer_of machine query.now ≡ Ok answer)
@@ -73,8 +85,6 @@ pub trait CarryOut {
             → (has_malformed_name query.now ≡ false) × stands_at self.new machine }
         ensures closed { (machine : Machine) → is_clean self.new → stands_at self.old machine
             → result ≡ Err Closed → is_closed self.new × stands_at self.new machine }
-        ensures shut { (machine : Machine) → is_clean self.new → stands_at self.old machine
-            → result ≡ Err Closed → is_closed self.old }
         ensures store { (machine : Machine) → is_clean self.new → stands_at self.old machine → (fault : StoreFault)
             → result ≡ Err (Store fault) → leaves self.new machine machine };
 

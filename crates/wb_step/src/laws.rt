@@ -1,5 +1,5 @@
 //! Laws of the definitions, each on a function that does nothing.
-ghost use Rattle.std.specs.Prelude.{◌≡◌, ℕ, ◌≤◌, true, false, List, ◌++◌, ◌∷◌, Option, Some, None, Ok, Err, is_ok};
+ghost use Rattle.std.specs.Prelude.{◌≡◌, ℕ, ◌≤◌, true, false, List, ◌++◌, ◌∷◌, Option, Some, None, Ok, Err, IfErr, is_ok};
 ghost use Rattle.std.specs.FinMap as map;
 ghost use Rattle.wb_states.specs.Machine.{IsConsistent, Machine, empty_office};
 ghost use Rattle.wb_states.specs.declared.command.Command.{Command};
@@ -11,6 +11,7 @@ ghost use Rattle.wb_states.specs.Holds.{taken_as};
 ghost use Rattle.wb_states.specs.declared.reply.Assignment.{Assignment};
 ghost use Rattle.wb_states.specs.declared.reply.Reply.TheVariants.{Again, Job};
 ghost use Rattle.wb_states.specs.Queue.{queue_of};
+ghost use Rattle.wb_states.specs.Refusals.{IsOfMachine, is_of_store};
 ghost use Rattle.wb_step.specs.Arguments.{arguments_of};
 ghost use Rattle.wb_step.specs.Checks.{first_refusal, take_named};
 ghost use Rattle.wb_step.specs.HandOuts.{HandOut, IsBeingBuilt, HasTakesByState, Ends, Rise, hand_out, hand_outs};
@@ -186,4 +187,11 @@ pub fn merges_look_only_at_their_architectures()
     ensures alone { (machine : Machine) (sources : List ℕ) (parts : List Part) (key : List ℕ × List ℕ)
         → is_part_for parts key.0 ≡ false
         → map.get (step (part_for_merge machine parts) (Merge sources parts)).1.records key ≡ None }
+{}
+
+/// A command is refused by its texts or by what the office has: no step answers that the office is closed, that its store
+/// failed or that memory ran out.
+pub fn refusals_are_of_the_state()
+    ensures value { (machine : Machine) (command : Command) → IfErr (step machine command).0
+        (λ refusal. (is_of_store refusal ≡ false) × IsOfMachine refusal) }
 {}

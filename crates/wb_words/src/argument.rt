@@ -6,8 +6,8 @@ ghost use Rattle.wb_words.specs.Arguments.{optional_number_of, subject_of, word_
 ghost use Rattle.wb_words.specs.Faults.{Reads};
 ghost use Rattle.wb_words.specs.declared.fault.WordsFault.TheVariants.{NoCommand};
 
-use clap::ArgMatches;
 use crate::WordsFault;
+use clap::ArgMatches;
 use deb_text::Text;
 use std::alloc::{AllocError, Global};
 

@@ -4,10 +4,10 @@ ghost use Rattle.wb_words.specs.Faults.{Reads};
 ghost use Rattle.wb_words.specs.Words.{attempted_of, builder_command, built_of, next_of, put_back_of};
 ghost use Rattle.wb_words.specs.Words.{take_of, uploaded_of, waits_of};
 
-use clap::ArgMatches;
 use crate::WordsFault;
 use crate::argument::{number, optional_number, read_subject, word, words};
 use crate::usage::ArgumentKind;
+use clap::ArgMatches;
 use std::alloc::Global;
 use wb_states::{Command, command};
 

@@ -5,11 +5,11 @@ ghost use Rattle.wb_words.specs.Arguments.{part_in, parts_in, parts_of};
 ghost use Rattle.wb_words.specs.Faults.{Reads};
 ghost use Rattle.wb_words.specs.Words.{list_invocation, merge_of};
 
-use clap::ArgMatches;
 use crate::WordsFault;
 use crate::argument::word;
 use crate::usage::ArgumentKind;
 use crate::words::{Invocation, PartNames};
+use clap::ArgMatches;
 use deb_text::{Items, Text};
 use std::alloc::Global;
 

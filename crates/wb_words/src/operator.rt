@@ -5,10 +5,10 @@ ghost use Rattle.wb_words.specs.Words.{add_arch_of, add_builder_of, build_priori
 ghost use Rattle.wb_words.specs.Words.{enter_of, fail_of, give_back_of, not_for_us_of};
 ghost use Rattle.wb_words.specs.Words.{operator_command, rebuild_of};
 
-use clap::ArgMatches;
 use crate::WordsFault;
 use crate::argument::{integer, number, read_subject, word, words};
 use crate::usage::ArgumentKind;
+use clap::ArgMatches;
 use std::alloc::Global;
 use wb_states::{Command, command};
 

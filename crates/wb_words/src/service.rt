@@ -6,8 +6,8 @@ ghost use Rattle.clap.specs.declared.builder.command.Command.TheViews.{out-Comma
 ghost use Rattle.wb_words.specs.Service.{limited, limited_number_of, port_rule, requests_rule};
 ghost use Rattle.wb_words.specs.Service.{serve_app, service_of};
 
-use clap::{Arg, ArgAction, ArgMatches, Command, value_parser};
 use crate::argument::number;
+use clap::{Arg, ArgAction, ArgMatches, Command, value_parser};
 use std::alloc::{AllocError, Global};
 
 /// The greatest port of TCP (RFC 9293, section 3.1).

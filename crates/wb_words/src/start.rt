@@ -5,11 +5,11 @@ ghost use Rattle.clap.specs.declared.error.kind.ErrorKind.TheVariants.{OutOfMemo
 ghost use Rattle.wb_words.specs.Start.{Asks, AsksNone, IsNoStart, Names, NamesNone, Starts};
 ghost use Rattle.wb_words.specs.Start.{begins_with_help, start_app};
 
-use clap::error::{Error, ErrorKind};
-use clap::{ArgMatches, Command};
 use crate::service::{serve_command, service_of};
 use crate::tree::with_arguments;
 use crate::usage::ArgumentKind;
+use clap::error::{Error, ErrorKind};
+use clap::{ArgMatches, Command};
 use std::alloc::{AllocError, Global};
 
 /// What the words after the program's name ask for.

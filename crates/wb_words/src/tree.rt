@@ -6,9 +6,9 @@ ghost use Rattle.clap.specs.declared.builder.command.Command.TheViews.{out-Comma
 ghost use Rattle.wb_words.specs.Usages.{arguments_in, arguments_named, rule_for, subcommand_app};
 ghost use Rattle.wb_words.specs.Usages.{usages_in, wb_app, wb_usages, with_arguments, with_usages};
 
-use clap::{Arg, ArgAction, Command};
 use crate::usage::ArgumentKind;
 use crate::{builder, lists, operator};
+use clap::{Arg, ArgAction, Command};
 use std::alloc::{AllocError, Global};
 
 /// The argument `id`, which takes its words as its kind says.

@@ -5,10 +5,10 @@ ghost use Rattle.wb_words.specs.declared.fault.WordsFault.TheVariants.{Memory};
 ghost use Rattle.wb_words.specs.Faults.{Reads};
 ghost use Rattle.wb_words.specs.Words.{command_named, invocation_in, invocation_named};
 
-use clap::ArgMatches;
 use crate::message::malformed_text;
 use crate::tree::{arguments_of, subcommand_app, wb_app};
 use crate::{WordsFault, builder, lists, operator};
+use clap::ArgMatches;
 use deb_text::{Items, Text};
 use std::alloc::{AllocError, Global};
 use wb_states::Command;

@@ -5,13 +5,15 @@ use std::alloc::Global;
 use std::io::BufRead;
 
 /// The bytes of a frame, and how a reader gives them: at most `step` a read, and a failure after so many reads. A write of
-/// the answer takes at most `step` bytes too, and one fails after so many writes.
+/// the answer takes at most `step` bytes too, and one fails after so many writes, or takes no byte
+/// if it `takes_none`.
 #[derive(Drop)]
 pub(crate) struct Frame {
     pub(crate) bytes: Vec<u8>,
     pub(crate) step: usize,
     pub(crate) reads: usize,
     pub(crate) writes: usize,
+    pub(crate) takes_none: bool,
 }
 
 /// The next frame; none at the end of the input, and at a line `end`.
@@ -37,6 +39,7 @@ pub(crate) fn next<R: BufRead + Drop>(alloc: Global, input: &mut R) -> Result<Op
         step,
         reads,
         writes,
+        takes_none: number(words, 4)? == 0,
     }))
 }
 

@@ -3,7 +3,7 @@
 use crate::requests::frames::Frame;
 use std::io::{self, ErrorKind, Read};
 
-/// A reader that gives at most `step` bytes a read, and fails after so many reads.
+/// A reader that gives at most `step` bytes a read, and fails once, after so many reads.
 pub(crate) struct CutReader<'a> {
     left: &'a [u8],
     step: usize,
@@ -34,6 +34,7 @@ impl<'a> Drop for CutReader<'a> {
 impl<'a> Read for CutReader<'a> {
     fn read(&mut self, buf: &mut [u8]) -> io::Result<usize> {
         if self.reads == 0 {
+            self.reads = usize::MAX;
             return Err(io::Error::from(ErrorKind::Interrupted));
         }
         self.reads -= 1;

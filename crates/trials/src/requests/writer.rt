@@ -4,12 +4,14 @@ use crate::requests::frames::Frame;
 use std::alloc::Global;
 use std::io::{self, ErrorKind, Write};
 
-/// A writer that takes at most `step` bytes a write, and fails after so many writes.
+/// A writer that takes at most `step` bytes a write, and fails once, after so many writes: with an error, or by a write that
+/// takes no byte.
 #[derive(Drop)]
 pub(crate) struct CutWriter {
     taken: Vec<u8>,
     step: usize,
     writes: usize,
+    takes_none: bool,
 }
 
 impl CutWriter {
@@ -19,6 +21,7 @@ impl CutWriter {
             taken: Vec::new(alloc),
             step: frame.step,
             writes: frame.writes,
+            takes_none: frame.takes_none,
         }
     }
 
@@ -31,6 +34,10 @@ impl CutWriter {
 impl Write for CutWriter {
     fn write(&mut self, buf: &[u8]) -> io::Result<usize> {
         if self.writes == 0 {
+            self.writes = usize::MAX;
+            if self.takes_none {
+                return Ok(0);
+            }
             return Err(io::Error::from(ErrorKind::Interrupted));
         }
         self.writes -= 1;

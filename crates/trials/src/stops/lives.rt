@@ -1,8 +1,8 @@
 //! The lives of an office over files in memory, one after another, with a power cut after each.
 
-use anyhow::{Result, anyhow, bail};
 use crate::stops::disk::Images;
 use crate::stops::rows;
+use anyhow::{Result, anyhow, bail};
 use deb_text::Items;
 use sqlite::{Files, Options};
 use sqlite_disk::{Disk, Memory};

@@ -1,7 +1,7 @@
 //! The rows that are found in the files.
 
-use anyhow::{Result, anyhow};
 use crate::stops::disk::Images;
+use anyhow::{Result, anyhow};
 use sqlite::types::ValueRef;
 use sqlite::{Alter, Connection, Options, Row};
 use sqlite_disk::Disk;

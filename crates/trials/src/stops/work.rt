@@ -1,9 +1,9 @@
 //! The work of an office over files that stop.
 
-use anyhow::{Result, anyhow};
 use crate::stops::disk::{Images, Stopping};
 use crate::stops::lists::FileLists;
 use crate::stops::stage::{Stage, Work};
+use anyhow::{Result, anyhow};
 use sqlite::{Connection, FileStore, Files, Options};
 use sqlite_disk::Disk;
 use std::alloc::Global;

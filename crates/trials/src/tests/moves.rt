@@ -1,9 +1,9 @@
 //! Every pair of a state and a move, and the version of a build.
+use super::records::{held, waiting};
 use deb_relations::{ArchWords, Relations};
 use deb_text::Text;
 use std::alloc::Global;
 use std::test::Fail;
-use super::records::{held, waiting};
 use wb_states::{Move, Record, Refusal, State, build_text, move_record};
 
 /// For each move the states from which it goes, and the state in which it ends.

@@ -20,7 +20,7 @@ returns-in-Ok-clause-value g c = λ before clean stands.
 pub returns-clause-value : goal.returns-clause-value
 returns-clause-value g c =
     (elim (is_of_store c.in-Err.refusal) as (λ b. is_of_store c.in-Err.refusal ≡ b
-    → Leads g.O.CarryOut.is_clean g.O.CarryOut.is_closed g.O.CarryOut.stands_at g.O.CarryOut.leaves c.args.office.now c.ask.new.office (λ before after standing.
+    → Leads g.O.CarryOut.is_clean g.O.CarryOut.is_closed g.O.CarryOut.stands_at g.O.CarryOut.leaves c.args.office.now c.ask.new.self (λ before after standing.
     IsQueryAnswer before c.args.query.now (response_of_answer c.refusal_answer.result after) standing)) [
       | true ↦ λ is before clean stands. elim (is_of_store-cases c.in-Err.refusal is) [
         | inl closed ↦ (

@@ -51,12 +51,12 @@ returns-clause-value g c = λ goes before clean stands. elim (refusal-cases c.in
       let wants = c.in-Err.ensures.memory before clean stands (ap Err is) in
       (before, wants.1, memory-said before c.args.command.now _ wants.0 (c.refusal_json.ensures.memory is))
   | inr other ↦
-      let refused = c.in-Err.ensures.refused before clean stands other (sym c.ends_run.ensures.value ∙ goes) in
+      let refused = c.in-Err.ensures.refused before clean stands other (sym c.is_of_store.ensures.value ∙ goes) in
       (before, refused.1, refusal-said before c.args.command.now c.in-Err.refusal _ refused.0 c.refusal_json.ensures.value c.refusal_json.ensures.plain)
 ]
 
 pub returns-clause-stops : goal.returns-clause-stops
-returns-clause-stops g c = λ stops before clean stands. elim (is_of_store-cases c.in-Err.refusal (sym c.ends_run.ensures.value ∙ stops)) [
+returns-clause-stops g c = λ stops before clean stands. elim (is_of_store-cases c.in-Err.refusal (sym c.is_of_store.ensures.value ∙ stops)) [
   | inl is ↦ (
     before,
     Shut,

@@ -1,3 +1,4 @@
+use Rattle.wb_step.specs.Checks.{MayWantMemory}
 use Rattle.std.proofs.Common.{◌+◌, ◌++◌, [], ◌∷◌, List, sym, ap, subst, ◌∙◌, drop}
 use Rattle.std.proofs.lemmas.List.{append_assoc, append-nil, drop_all}
 use Rattle.wb_states.specs.declared.command.Command.{Command}
@@ -11,7 +12,7 @@ returns-then-is_last g c =
     let o = g.O.CarryOut in
     let e = c.carry_out-outcome.ensures in
     let rest = left_of c.args.commands.now c.loop-command.command-index c.command-item.result c.loop-command-test.true c.command-item.is in
-    let led = led_last o.is_clean o.stands_at o.leaves {closed = o.is_closed c.carry_out-outcome.new.self} {wanted = o.may_want_memory c.command-item.result} c.command-item.result (drop (c.loop-command.command-index + 1) c.args.commands.now)
+    let led = led_last o.is_clean o.stands_at o.leaves {closed = o.is_closed c.carry_out-outcome.new.self} {wanted = MayWantMemory c.command-item.result} c.command-item.result (drop (c.loop-command.command-index + 1) c.args.commands.now)
     c.loop-command.office c.carry_out-outcome.new.self c.carry_out-outcome.result (sym c.is_last-is_last.ensures.value ∙ c.if-is_last.true)
     (record { was_clean = e.clean; reply = e.reply; refused = e.refused; memory = e.memory; closed_too = e.closed; store = e.store }) in
     let whole = c.loop-command.invariant (c.carry_out-outcome.result ∷ []) c.carry_out-outcome.new.self
@@ -23,7 +24,7 @@ loop-command-preserved g c = λ more new later.
     let o = g.O.CarryOut in
     let e = c.carry_out-outcome.ensures in
     let rest = left_of c.args.commands.now c.loop-command.command-index c.command-item.result c.loop-command-test.true c.command-item.is in
-    let led = led_on o.is_clean o.stands_at o.leaves {closed = o.is_closed c.carry_out-outcome.new.self} {wanted = o.may_want_memory c.command-item.result} c.command-item.result (drop (c.loop-command.command-index + 1) c.args.commands.now)
+    let led = led_on o.is_clean o.stands_at o.leaves {closed = o.is_closed c.carry_out-outcome.new.self} {wanted = MayWantMemory c.command-item.result} c.command-item.result (drop (c.loop-command.command-index + 1) c.args.commands.now)
     c.loop-command.office c.carry_out-outcome.new.self c.carry_out-outcome.result more new (sym c.is_last-is_last.ensures.value ∙ c.if-is_last.false)
     (record { was_clean = e.clean; reply = e.reply; refused = e.refused; memory = e.memory; closed_too = e.closed; store = e.store }) later in
     let whole = c.loop-command.invariant (c.carry_out-outcome.result ∷ more) new

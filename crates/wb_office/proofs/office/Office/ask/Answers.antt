@@ -4,3 +4,24 @@ use Rattle.wb_states.proofs.QueryLemmas.{answer_of-bad, answer_of-good}
 use Rattle.wb_store.specs.Finds.{Finds}
 use Rattle.wb_office.proofs.AskLemmas.{asked_found, asked_malformed, asked_unread}
 use Rattle.wb_office.proofs.office.Office.ask.Goals as goal
+
+pub returns-then-has_malformed_name : goal.returns-then-has_malformed_name
+returns-then-has_malformed_name g c =
+    let bad = sym c.has_malformed_name.ensures.value ∙ c.if-has_malformed_name.true in
+    record { asks = asked_malformed c.if-self.false bad (λ machine. answer_of-bad machine c.args.query.now bad) }
+
+pub returns-in-Ok : goal.returns-in-Ok
+returns-in-Ok g c =
+    let good = sym c.has_malformed_name.ensures.value ∙ c.if-has_malformed_name.false in
+    record {
+      asks = asked_found {answer_in = λ machine. answer_in machine c.args.query.now} c.in-Ok.answer c.if-self.false good (λ machine. answer_of-good machine c.args.query.now good) c.in-Ok.ensures.kind
+          (subst (Finds g.S.Store (λ machine answer. answer ≡ answer_in machine c.args.query.now) c.args.self.now.conn c.find_answer.new.conn) c.in-Ok.is c.find_answer.ensures.finds);
+    }
+
+pub returns-in-Err : goal.returns-in-Err
+returns-in-Err g c =
+    let good = sym c.has_malformed_name.ensures.value ∙ c.if-has_malformed_name.false in
+    record {
+      asks = asked_unread c.if-self.false good
+          (subst (Finds g.S.Store (λ machine answer. answer ≡ answer_in machine c.args.query.now) c.args.self.now.conn c.find_answer.new.conn) c.in-Err.is c.find_answer.ensures.finds) c.end_with-refusal.ensures.ends;
+    }
