@@ -28,6 +28,7 @@ PACKAGE_NAME = re.compile(r"[a-z0-9][a-z0-9+.-]{1,199}")
 ARCH_NAME = re.compile(r"(?!(?:all|any|source)\Z)[a-z0-9][a-z0-9-]{0,39}")
 VERSION = re.compile(r"(?:([0-9]+):(?=.))?([A-Za-z0-9.+~:-]+?)(?:-([A-Za-z0-9+.~]+))?")
 EPOCH, UPSTREAM, REVISION = re.compile("[0-9]+"), re.compile("[A-Za-z0-9.+~:-]+"), re.compile("[A-Za-z0-9.+~]+")
+RUNS = re.compile("([^0-9]*)([0-9]*)")
 LABEL = re.compile(r"[!-~]{1,64}")
 SOURCE = re.compile(r"([^ ]+)(?: \(([^ ()]+)\))?")
 REBUILD = re.compile(r"\+b([0-9]{1,3})\Z")
@@ -76,18 +77,23 @@ def is_version(text: str) -> bool:
     return parts_of_version(text) is not None
 
 
-def same_version(text: str) -> tuple[object, ...]:
-    """Equal for two versions just if neither is later than the other (Debian Policy 5.6.12). The text is a version."""
+def version_key(text: str) -> tuple[object, ...]:
+    """Orders versions (Debian Policy 5.6.12); the keys of two are equal if neither is later than the other. The text is a version."""
     parts = parts_of_version(text)
     if parts is None:
         raise ValueError(text)
-    return parts[0], runs_of(parts[1]), runs_of(parts[2])
+    return parts[0], part_key(parts[1]), part_key(parts[2])
 
 
-def runs_of(part: str) -> tuple[tuple[str, int], ...]:
-    """What is not digits and what is, in turn; no digits count as 0."""
-    found = [(other, int(digits or "0")) for other, digits in re.findall(r"([^0-9]*)([0-9]*)", part) if other or digits]
-    return () if found == [("", 0)] else tuple(found)
+def part_key(part: str) -> tuple[tuple[tuple[int, ...], int], ...]:
+    """What is not digits and the number after it, in turn. No digits count as 0, a tilde comes before the end, and letters before all else."""
+    runs = [(other, int(digits or "0")) for other, digits in RUNS.findall(part) if other or digits]
+    weighed = [] if runs == [("", 0)] else [((*map(weight, other), 0), number) for other, number in runs]
+    return (*weighed, ((0,), 0))
+
+
+def weight(character: str) -> int:
+    return -1 if character == "~" else ord(character) if character.isalpha() else ord(character) + 256
 
 
 # ---- paragraphs
@@ -160,6 +166,15 @@ def paragraphs(path: Path) -> Iterator[Paragraph]:
             raise Refused(f"{path}: paragraph {number}, the last: no empty line ends it, so the list was cut off there; fetch it again")
 
 
+def check_end(path: Path) -> None:
+    """Refuses a list, if it has a paragraph, that no empty line ends; for one that another program reads."""
+    with path.open("rb") as file:
+        size = file.seek(0, os.SEEK_END)
+        file.seek(max(0, size - 2))
+        if size and file.read() != b"\n\n":
+            raise Refused(f"{path}: no empty line ends it, so the list was cut off; fetch it again")
+
+
 def read_paragraph(path: Path, number: int, first_line: int, lines: list[bytes]) -> Paragraph:
     where = f"{path}: paragraph {number}"
     fields: dict[str, tuple[int, int]] = {}
@@ -184,6 +199,11 @@ def read_paragraph(path: Path, number: int, first_line: int, lines: list[bytes])
     except UnicodeDecodeError:
         raise Refused(f"{where}: it is not UTF-8") from None
     return Paragraph(where, lines, fields)
+
+
+def is_extra(paragraph: Paragraph) -> bool:
+    """Whether the archive keeps the source package only for others, so that it is not listed."""
+    return paragraph.value("Extra-Source-Only") == "yes"
 
 
 @dataclass(frozen=True, slots=True)
@@ -211,7 +231,12 @@ def binary_of(paragraph: Paragraph) -> Binary:
     return Binary(name, version, arch, found[1], found[2] or version, int(rebuild[1]) if rebuild else 0)
 
 
-# ---- architectures
+# ---- build profiles and architectures
+
+
+def holds_without_profiles(formula: str) -> bool:
+    """Whether a restriction such as `!nocheck,!cross+stage1` holds if no build profile is active: one of the lists between `+` has negated words only."""
+    return any(all(word.startswith("!") for word in terms.split(",")) for terms in formula.split("+"))
 
 
 @dataclass(frozen=True, slots=True)
