@@ -14,7 +14,7 @@ import tempfile
 from collections.abc import Callable, Iterator, Mapping
 from dataclasses import dataclass
 from pathlib import Path
-from typing import BinaryIO
+from typing import IO
 
 PARAGRAPH_LIMIT = 4194304  # bytes, as of `wb`
 TABLES = Path("/usr/share/dpkg")  # where dpkg keeps its tables of architectures
@@ -235,7 +235,7 @@ def binary_of(paragraph: Paragraph) -> Binary:
 
 
 def holds_without_profiles(formula: str) -> bool:
-    """Whether a restriction such as `!nocheck,!cross+stage1` holds if no build profile is active: one of the lists between `+` has negated words only."""
+    """Whether a restriction such as `!nocheck,!cross+stage1` holds if no build profile is active: one of its lists has negated words only."""
     return any(all(word.startswith("!") for word in terms.split(",")) for terms in formula.split("+"))
 
 
@@ -295,15 +295,15 @@ def rows_of(path: Path, columns: int) -> Iterator[list[str]]:
 
 
 @contextlib.contextmanager
-def put_in_place(paths: list[Path]) -> Iterator[list[BinaryIO]]:
+def put_in_place(paths: list[Path]) -> Iterator[list[IO[bytes]]]:
     """Files to write, each beside the path that it gets by a rename. All are renamed after all were written to the disk; after an exception none is
     renamed, and none is left."""
     with contextlib.ExitStack() as stack:
-        files = []
+        files: list[IO[bytes]] = []
         for path in paths:
-            file = stack.enter_context(tempfile.NamedTemporaryFile("wb", prefix=f".{path.name}.", dir=path.parent, delete=False))
-            stack.callback(lambda name=file.name: Path(name).unlink(missing_ok=True))
-            files.append(file)
+            made = stack.enter_context(tempfile.NamedTemporaryFile("wb", prefix=f".{path.name}.", dir=path.parent, delete=False))
+            stack.callback(Path(made.name).unlink, missing_ok=True)
+            files.append(made)
         yield files
         mask = os.umask(0)
         os.umask(mask)
