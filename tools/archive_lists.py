@@ -269,15 +269,11 @@ def read_architectures(folder: Path) -> Architectures:
     """Reads dpkg's tables of processors and of tuples."""
     processors = [row[0] for row in rows_of(folder / "cputable", 1)]
     parts: dict[str, tuple[str, ...]] = {}
-    taken: set[str] = set()
     for tuple_text, name in rows_of(folder / "tupletable", 2):
+        if tuple_text.count("-") < 3:
+            raise Refused(f"{folder / 'tupletable'}: {tuple_text!r} has fewer than four parts")
         for processor in processors if "<cpu>" in tuple_text else [""]:
-            one, its_name = tuple_text.replace("<cpu>", processor), name.replace("<cpu>", processor)
-            if one.count("-") < 3:
-                raise Refused(f"{folder / 'tupletable'}: {one!r} has fewer than four parts")
-            if its_name not in parts and one not in taken:
-                parts[its_name] = tuple(one.split("-", 3))
-                taken.add(one)
+            parts.setdefault(name.replace("<cpu>", processor), tuple(tuple_text.replace("<cpu>", processor).split("-", 3)))
     return Architectures(parts)
 
 
