@@ -21,7 +21,8 @@ TABLES = Path("/usr/share/dpkg")  # where dpkg keeps its tables of architectures
 
 DONE, REFUSED, WORDS, FAILED = 0, 1, 2, 3
 STATUSES = """Status: 0 if all was done; 1 if what was read is refused, and 2 if the words of the command line are; 3 if a file cannot be
-read or written, or another program failed. Messages are on standard error. Unless the status is 0, no file was put in place."""
+read or written, or another program failed. Messages are on standard error. After 1 and 2 no file was put in place, and after 3 none
+unless a rename or standard output failed."""
 
 FIELD = re.compile(rb"([!-\"$-,.-9;-~][!-9;-~]*):")
 PACKAGE_NAME = re.compile(r"[a-z0-9][a-z0-9+.-]{1,199}")

@@ -175,6 +175,7 @@ LEVELS = {
     "0": {"liba": {"amd64": "bad", "armhf": "bad"}, "libg": {"amd64": "good"}, "libn": {"amd64": "bad"}},
     "1": {"app": {"amd64": "bad", "armhf": "unknown"}, "half": {"amd64": "partial"}, "tool": {"amd64": "bad"}},
     "10": {"late": {"amd64": "bad"}, "gone": {"amd64": "bad"}, "peer": {"amd64": "bad"}},
+    "11": {"top": {"amd64": "bad"}},
 }
 BEN_SOURCES = """Package: liba
 Version: 1:1.0-1
@@ -218,6 +219,11 @@ Package: peer
 Version: 7-1
 Architecture: any
 
+Package: top
+Version: 9-1
+Architecture: any
+Build-Depends: peer, late (>= 6)
+
 Package: gone
 Version: 8-1
 Architecture: armhf
@@ -236,6 +242,7 @@ BEN_PACKAGES = [
     "tool amd64 5-1+b998 tool (5-1)",
     "late amd64 6-1+b1 late (6-1)",
     "peer amd64 7-1+b999 peer (7-1)",
+    "top amd64 9-1 ",
 ]
 REBUILDS = """rebuild amd64 liba 1:1.0-1 5 against libx2
 rebuild amd64 app 2.0-1 1 against libx2
@@ -243,11 +250,14 @@ dep-wait amd64 app 2.0-1 liba-dev (>= 1:1.0-1+b5), libn-dev (>= 3.0-2), liba-too
 rebuild amd64 tool 5-1 999 against libx2
 rebuild amd64 late 6-1 2 against libx2
 dep-wait amd64 late 6-1 app (>= 2.0-1+b1), tool (>= 5-1+b999)
+rebuild amd64 top 9-1 1 against libx2
+dep-wait amd64 top 9-1 late (>= 6-1+b2)
 """
 BEN_MESSAGES = [
     "armhf liba: no rebuild: 1:1.0-1 is still to be built",
     "amd64 libn: no rebuild: 3.0-2 is still to be built",
-    "amd64 app: no wait for liba-data of liba, which is of `all`",
+    "amd64 app: no wait for liba-data, of which liba builds no later version that can be told",
+    "amd64 top: no wait for peer, of which peer builds no later version that can be told",
     "amd64 gone: no rebuild: the Sources list does not have it",
     "amd64 peer: no rebuild: it was rebuilt 999 times",
 ]
