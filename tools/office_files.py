@@ -117,7 +117,7 @@ def links_to_lists(dry: bool) -> Iterator[Path | None]:
     if dry:
         yield None
         return
-    folder = Path(tempfile.mkdtemp(prefix="office-"))
+    folder = Path(tempfile.mkdtemp(prefix="office-", dir="/tmp"))  # no blank in its name
     with removed_after(folder):
         yield folder
 

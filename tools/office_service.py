@@ -6,6 +6,7 @@ import http.client
 import json
 import os
 import signal
+import socket
 import subprocess
 import sys
 import time
@@ -128,6 +129,15 @@ class PidFile:
 
     def where(self) -> str:
         return str(self.log)
+
+
+def listens(port: int) -> bool:
+    """Whether some program has the port."""
+    try:
+        socket.create_connection(("127.0.0.1", port), timeout=1).close()
+    except OSError:
+        return False
+    return True
 
 
 def answers(port: int, seconds: float) -> bool:
