@@ -24,7 +24,8 @@ def program():
 def call(words, wanted=0, **options):
     """What a call that ends with this status says, on standard output and standard error."""
     done = subprocess.run(words, capture_output=True, text=True, timeout=120, check=False, **{"stdin": subprocess.DEVNULL, **options})
-    expect(done.returncode == wanted, f"{' '.join(map(str, words[-6:]))} ended with {done.returncode} in place of {wanted}: {done.stdout[-500:]}{done.stderr[-800:]}")
+    called = " ".join(map(str, words[-6:]))
+    expect(done.returncode == wanted, f"{called} ended with {done.returncode} in place of {wanted}: {done.stdout[-500:]}{done.stderr[-800:]}")
     return done.stdout, done.stderr
 
 
