@@ -1,5 +1,5 @@
 /* The statements of an office over SQLite's C library, for bench/keep_records to compare with: `statements FILE` answers the lines add-arch,
- * add-builder, enter, next, built, uploaded and merge by the SQL texts of wb_schema, each command in one transaction, and a line `check` by the
+ * add-builder, enter, next, built, uploaded and merge by the SQL texts of wb_sql, each command in one transaction, and a line `check` by the
  * integrity_check and foreign_key_check of SQLite. The pragmas are what `wb` asks of the kit's `sqlite`: a log that is synced at each commit,
  * foreign keys, pages of 4,096 bytes, 2,000 of them cached, and nobody else at the file. The log is copied at 1,000 pages, SQLite's own number:
  * with the 8,000 of `wb` it is slower here.
