@@ -11,6 +11,7 @@ use Rattle.wb_words.specs.declared.words.Invocation.TheVariants.{Command as invo
 use Rattle.wb_api.specs.Memory.{MayLackMemory}
 use Rattle.deb_text.specs.Lines.{IsOneLine}
 use Rattle.wb_streams.specs.Line.{is_long, with_line_feed}
+use Rattle.wb_streams.specs.Streams.{AppendsFront}
 use Rattle.wb_daemon.specs.Lists.{MayRead}
 use Rattle.wb_step.specs.Offices.{Accepts, Standing, Open}
 use Rattle.wb_daemon.specs.Run.{LineResponse, IsLineResponse, IsInvocationResponse, command_response, memory_response, EndsInput, IsRefusedByStore, IsSaidTo, LineInvokes, RunStopsFor}

@@ -1,9 +1,9 @@
 -- A command is refused by its texts or by what the office has: never because of its store, nor for want of memory.
-use Rattle.std.proofs.Common.{◌≡◌, ◌≢◌, ℕ, ◌+◌, Bool, true, false, nat_le, nat_lt, length, List, [], ◌∷◌, Option, Some, None, IfSome, Result, Ok, Err, IfErr, refl, option_map, option_and_then, if◌then◌else◌}
+use Rattle.std.proofs.Common.{◌≡◌, ℕ, ◌+◌, Bool, true, false, nat_le, nat_lt, length, List, [], ◌∷◌, Option, Some, None, IfSome, Result, Ok, Err, IfErr, refl, option_map, option_and_then, if◌then◌else◌}
 use Rattle.std.specs.List.{AllByRecursion, list_any}
 use Rattle.std.specs.Option.{option_or}
 use Rattle.std.specs.Ordering.{is_eq}
-use Rattle.std.specs.Result.{result_err, result_map_both}
+use Rattle.std.specs.Result.{result_err}
 use Rattle.std.specs.FinMap as map
 use Rattle.deb_text.specs.Options.{first_some}
 use Rattle.deb_text.specs.Text.{is_empty_text}
@@ -20,19 +20,19 @@ use Rattle.wb_states.specs.declared.refusal.ListKind.{ListKind}
 use Rattle.wb_states.specs.declared.refusal.ListingFault.{ListingFault}
 use Rattle.wb_states.specs.declared.refusal.ListKind.TheVariants.{Packages, Sources}
 use Rattle.wb_states.specs.declared.refusal.Refusal.{Refusal}
-use Rattle.wb_states.specs.declared.refusal.Refusal.TheVariants.{AfterAhead, AlreadyThere, BadListing, BadName, BadNumber, BadRelations, BadVersion, Memory, NotHeld, OtherVersion, QueueEmpty, RepeatedArch, Spent, TextTooLong, UnknownArch, UnknownBuilder, UnknownSource, WrongArch, WrongState}
+use Rattle.wb_states.specs.declared.refusal.Refusal.TheVariants.{AfterAhead, AlreadyThere, BadName, BadNumber, BadRelations, BadVersion, NotHeld, OtherVersion, QueueEmpty, RepeatedArch, Spent, TextTooLong, UnknownArch, UnknownBuilder, UnknownSource, WrongArch, WrongState}
 use Rattle.wb_states.specs.Machine.{Machine}
 use Rattle.wb_states.specs.Limits.{relations_limit}
 use Rattle.wb_states.specs.Moves.{may_go, move_refusal, value_refusal, waits_for, waits_refusal}
 use Rattle.wb_states.specs.Queue.{Entry}
 use Rattle.wb_states.specs.Refusals.{IsOfMachine, is_of_store}
-use Rattle.wb_merge.specs.Listing.{ArchiveListing, listing_in, listing_of}
+use Rattle.wb_merge.specs.Listing.{listing_in, listing_of}
 use Rattle.wb_merge.specs.Rows.{BinaryRow, SourceRow, binary_paragraph, binary_rows, onto_rows, refused_at, rows_behind, source_paragraph, source_rows}
 use Rattle.deb_control.specs.Lines.{lines_of, paragraphs_in}
 use Rattle.wb_step.specs.Arguments.{arguments_of}
 use Rattle.wb_step.specs.Checks.{differing, first_refusal, has_bad_name, has_bad_number, has_empty_queue, has_long_text, is_ahead, is_for_other_archs, is_not_held, is_spent, is_there_already, lacks_arch, lacks_builder, lacks_source, other_version_at, relation_fault, repeats_arch, source_named, state_checks, state_refusal, text_checks, text_refusal, version_fault, when}
 use Rattle.wb_step.specs.Parts.{listing_for, part_listing, parts_refusal, is_good}
-use Rattle.wb_step.specs.Step.{Outcome, outcome, step}
+use Rattle.wb_step.specs.Step.{outcome, step}
 use Rattle.wb_step.specs.Targets.{again_of, transition_of}
 
 -- a refusal that neither the store nor memory gives

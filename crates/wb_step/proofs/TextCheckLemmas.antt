@@ -1,8 +1,7 @@
 -- What a check of a command's texts says, from what its parts say.
 use Rattle.std.specs.Option.{option_or}
-use Rattle.std.proofs.Common.{◌≡◌, ◌||◌, Bool, true, false, List, [], ◌∷◌, Option, Some, None, Result, Ok, Err, IfErr, OnOk, nat_lt, length, option_map, refl, sym, ap, subst, ◌∙◌, if◌then◌else◌}
+use Rattle.std.proofs.Common.{◌≡◌, ◌||◌, Bool, true, false, [], ◌∷◌, Option, Some, None, Result, Ok, Err, IfErr, OnOk, nat_lt, length, option_map, refl, sym, ap, subst, ◌∙◌}
 use Rattle.deb_text.specs.Options.{first_some}
-use Rattle.deb_version.specs.Syntax.{fault_of}
 use Rattle.wb_states.specs.declared.command.Command.{Command}
 use Rattle.wb_states.specs.declared.command.Command.TheVariants as of
 use Rattle.wb_states.specs.declared.command.AddArch.{AddArch}

@@ -1,4 +1,4 @@
-use Rattle.std.proofs.Common.{◌≡◌, ap, ◌∙◌, subst, sym}
+use Rattle.std.proofs.Common.{◌≡◌, ap, ◌∙◌, subst}
 use Rattle.std.specs.Cow.{IsBorrowedStr}
 use Rattle.wb_api.specs.Encoding.{is_plain, refusal_text}
 use Rattle.wb_api.proofs.PlainLemmas.{refusal_text-Memory}

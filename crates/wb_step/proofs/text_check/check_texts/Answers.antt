@@ -1,5 +1,5 @@
 use Rattle.std.specs.Option.{option_or}
-use Rattle.std.proofs.Common.{◌∙◌, ap, sym, inl, inr, List, [], ◌∷◌, None, refl, SFits, rules}
+use Rattle.std.proofs.Common.{◌∙◌, ap, sym, inl, inr, [], ◌∷◌, None, refl, SFits, rules}
 use Rattle.std.proofs.lemmas.Int.{to_z-of_z}
 use mir.Syntax.{w64}
 use Rattle.deb_text.specs.Options.{first_some}
