@@ -12,6 +12,7 @@ use std::time::Duration;
 use wb_api::{Served, serve_one};
 use wb_states::Command;
 use wb_states::command::{AddArch, AddBuilder, Enter};
+use wb_step::CarryOut;
 use wb_streams::{Status, WatchedReader, WatchedWriter};
 
 fn text(alloc: Global, text: &str) -> Result<Text, AllocError> {
@@ -158,7 +159,7 @@ fn a_cut_body_is_answered_over_a_socket(rt: HostRuntime) -> Result<(), Fail> {
             status: Status::BadRequest
         }
     );
-    assert_eq!(rt; office.accepted(), 3);
+    assert_eq!(rt; office.accepted_count(), 3);
     drop(server);
     assert_eq!(rt;
         io::read_to_string(rt.alloc(), client)?.as_str(),
@@ -182,7 +183,7 @@ fn a_client_that_leaves_within_a_body_asks_for_nothing(rt: HostRuntime) -> Resul
         }
         ended => assert_eq!(rt; ended, Served::Answered { status }),
     }
-    assert_eq!(rt; office.accepted(), 3);
+    assert_eq!(rt; office.accepted_count(), 3);
     Ok(())
 }
 
@@ -195,7 +196,7 @@ fn a_read_that_takes_too_long_fails(rt: HostRuntime) -> Result<(), Fail> {
         (&client).write_all(&NEXT.as_bytes()[..length])?;
         let ended = served(rt.alloc(), &mut office, &server, 5)?;
         assert_eq!(rt; ended, Served::ReadFailed, "after {length} bytes");
-        assert_eq!(rt; office.accepted(), 3);
+        assert_eq!(rt; office.accepted_count(), 3);
         drop(server);
         assert!(rt; io::read_to_string(rt.alloc(), client)?.is_empty());
     }
@@ -212,7 +213,7 @@ fn a_read_of_a_connection_that_was_reset_fails(rt: HostRuntime) -> Result<(), Fa
     reset(client, &server)?;
     let ended = served(rt.alloc(), &mut office, &server, AMPLE)?;
     assert_eq!(rt; ended, Served::ReadFailed);
-    assert_eq!(rt; office.accepted(), 3);
+    assert_eq!(rt; office.accepted_count(), 3);
     Ok(())
 }
 
@@ -231,10 +232,10 @@ fn assert_again(
     alloc: Global,
     office: &mut MemoryOffice,
 ) -> Result<(), Fail> {
-    assert_eq!(rt; office.accepted(), 4);
+    assert_eq!(rt; office.accepted_count(), 4);
     let again = answered(rt, alloc, office, NEXT_AFTER)?;
     assert_eq!(rt; again.as_str(), ASSIGNED_AGAIN);
-    assert_eq!(rt; office.accepted(), 4);
+    assert_eq!(rt; office.accepted_count(), 4);
     Ok(())
 }
 
