@@ -14,4 +14,5 @@ pub mod Record
 pub mod Refusals
 pub mod State
 pub mod StoreFaults
+pub mod Subject
 pub mod Table

@@ -17,6 +17,7 @@ mod refusal;
 mod reply;
 mod state;
 mod store_fault;
+mod subject;
 
 pub use arch::OsCpu;
 pub use command::{Command, Part};
@@ -32,3 +33,4 @@ pub use refusal::{ListField, ListKind, ListingFault, Refusal};
 pub use reply::{Assignment, MergeCounts, PartEnd, PartReply, Reply};
 pub use state::State;
 pub use store_fault::{StoreFault, Table};
+pub use subject::Names;

@@ -1,0 +1,45 @@
+//! Which records a command names.
+ghost use Rattle.std.specs.Prelude.{◌≡◌};
+ghost use Rattle.wb_states.specs.Subject.{subject_named, subject_of};
+
+use crate::{Command, command};
+use deb_text::Text;
+
+/// The records that a command names: what has to be looked up before it can be carried out.
+#[derive(Debug, Drop)]
+pub enum Names<'a> {
+    /// None: the command adds an architecture or a builder, or is a merge.
+    Nothing,
+    /// That of a source package: the architecture and the source package.
+    Source(&'a Text, &'a Text),
+    /// The one that is held under a take number.
+    Taken(u64),
+    /// The head of a queue, and what a builder that asks again holds.
+    Next(&'a command::Next),
+}
+
+impl Command {
+    /// The records that the command names. Takes no memory.
+    pub fn names(&self) -> Names<'_>
+        ensures value { subject_named result ≡ subject_of self.now }
+    {
+        match self {
+            Command::AddArch(_) | Command::AddBuilder(_) | Command::Merge(_) => Names::Nothing,
+            Command::Enter(enter) => Names::Source(&enter.arch, &enter.source),
+            Command::Next(next) => Names::Next(next),
+            Command::Take(take) => Names::Source(&take.arch, &take.source),
+            Command::Built(held) | Command::Uploaded(held) | Command::PutBack(held) => {
+                Names::Taken(held.take_number)
+            }
+            Command::Waits(waits) => Names::Taken(waits.take_number),
+            Command::Attempted(attempted) => Names::Taken(attempted.take_number),
+            Command::GiveBack(back) => Names::Source(&back.arch, &back.source),
+            Command::DepWait(waits) => Names::Source(&waits.arch, &waits.source),
+            Command::Fail(aside) | Command::NotForUs(aside) => {
+                Names::Source(&aside.arch, &aside.source)
+            }
+            Command::Rebuild(rebuild) => Names::Source(&rebuild.arch, &rebuild.source),
+            Command::BuildPriority(priority) => Names::Source(&priority.arch, &priority.source),
+        }
+    }
+}
