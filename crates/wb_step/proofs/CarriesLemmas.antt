@@ -6,9 +6,7 @@ use Rattle.wb_states.specs.declared.refusal.Refusal.{Refusal}
 use Rattle.wb_states.specs.declared.refusal.Refusal.TheVariants.{Memory}
 use Rattle.wb_states.specs.declared.reply.Reply.{Reply}
 use Rattle.wb_states.specs.Machine.{Machine}
-use Rattle.wb_states.specs.declared.store_fault.StoreFault.{StoreFault}
-use Rattle.wb_states.specs.declared.store_fault.StoreFault.TheVariants.{Memory as NoMemory}
-use Rattle.wb_states.specs.Refusals.{IsOfMachine, IsOfStore}
+use Rattle.wb_states.specs.Refusals.{IsOfMachine}
 use Rattle.wb_step.specs.Carries.{Carries, Reaches}
 use Rattle.wb_step.specs.Checks.{MayWantMemory}
 use Rattle.wb_step.specs.Step.{Outcome, step}
@@ -31,6 +29,12 @@ reaches-returned {machine = machine} (Err returned) same is = record {
   refused = λ differs. is (λ none. differs (same ∙ none)) ∙ ap (λ (one : Refusal). (Err one, machine)) (sym same);
   unchanged = refl;
 }
+
+-- a text or a record cannot be copied, and `?` gives that back
+pub reaches-memory : {machine : Machine} {outcome : Outcome} (result : Result Reply Refusal)
+    → IsErrAnd result (λ returned. returned ≡ Memory) → Reaches machine machine outcome result
+reaches-memory (Ok reply) none = absurd none
+reaches-memory (Err returned) none = record { reply = tt; refused = λ differs. absurd (differs none); unchanged = refl }
 
 -- the last call writes the outcome, or memory runs out and it writes nothing
 pub reaches-kept : {old new : Machine} {outcome : Outcome} {result : Result Reply Refusal}
@@ -68,12 +72,12 @@ carries-memory (Ok reply) none known = absurd none
 carries-memory (Err returned) none known =
     record { reply = tt; refused = λ differs. absurd (differs none); memory = λ _. known; unchanged = refl }
 
--- the store has no memory for a change, and `?` gives that back
-pub carries-failed : {old new : Machine} {command : Command} {fault : StoreFault} (result : Result Reply Refusal)
-    → IsErrAnd result (IsOfStore fault) → fault ≡ NoMemory → new ≡ old → MayWantMemory command → Carries old new command result
-carries-failed (Ok reply) told none unchanged known = absurd told
-carries-failed (Err returned) told none unchanged known =
-    record { reply = tt; refused = λ differs. absurd (differs (told.0 none)); memory = λ _. known; unchanged = unchanged }
+-- there is no memory for a change, and `?` gives that back
+pub carries-failed : {old new : Machine} {command : Command} (result : Result Reply Refusal)
+    → IsErrAnd result (λ returned. returned ≡ Memory) → new ≡ old → MayWantMemory command → Carries old new command result
+carries-failed (Ok reply) none unchanged known = absurd none
+carries-failed (Err returned) none unchanged known =
+    record { reply = tt; refused = λ differs. absurd (differs none); memory = λ _. known; unchanged = unchanged }
 
 -- the last call reaches the command's step
 pub carries-reached : {old new : Machine} {command : Command} {outcome : Outcome} {result : Result Reply Refusal}

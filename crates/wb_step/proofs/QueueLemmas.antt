@@ -14,9 +14,6 @@ use Rattle.wb_states.specs.Machine.{Machine}
 use Rattle.wb_states.specs.Queue.{Entry, Place, place_of, place_cmp, entry_cmp, is_waiting, queue_of, head_of}
 use Rattle.deb_text.specs.Lists.{first_of, sorted_by, with_item}
 use Rattle.wb_states.proofs.QueueLemmas.{entry_cmp_total, head_of-waits}
-use Rattle.std.specs.Option.{option_map}
-use Rattle.wb_states.specs.declared.keyed.KeyedRecord.{KeyedRecord}
-use Rattle.wb_states.specs.Lookups.{entry_of}
 
 -- the sooner of a first and an item, where the first stays at a tie
 abbrev pub sooner : {X : Type 0} → (X → X → Ordering) → X → Option X → X
@@ -161,10 +158,8 @@ head-heads machine arch = found (head_of machine arch) refl where
       let waits = head_of-waits machine arch entry is in
       (waits.1, (waits.2, ap (λ a. finite.get machine.records (a, entry.0.1)) (sym waits.1) ∙ waits.0))
 
--- the same of a copy of the head
-pub keyed-heads : (machine : Machine) (arch : List ℕ) (found : Option KeyedRecord) → option_map entry_of found ≡ head_of machine arch
-    → IfSome found (λ row. Heads machine arch (entry_of row))
-keyed-heads machine arch None is = tt
-keyed-heads machine arch (Some row) is =
+-- the same of what is found to be the head
+pub found-heads : (machine : Machine) (arch : List ℕ) (found : Option Entry) → found ≡ head_of machine arch → IfSome found (Heads machine arch)
+found-heads machine arch found is =
     let P : Option Entry → Type 0 = λ head. IfSome head (Heads machine arch) in
     subst P (sym is) (head-heads machine arch)

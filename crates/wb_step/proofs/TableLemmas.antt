@@ -9,8 +9,8 @@ use Rattle.std.specs.List.Sorted.{IsStrictlySortedBy}
 use Rattle.std.specs.BTreeMap.{is_at}
 use Rattle.std.specs.FinMap as finite
 use Rattle.std.specs.FinSet as set
-use Rattle.wb_step.specs.declared.store.Store.TheInside.{Inside}
-use Rattle.wb_step.specs.contracts.store.Store.{the_view}
+use Rattle.wb_step.specs.declared.office_part.OfficePart.TheInside.{Inside}
+use Rattle.wb_step.specs.contracts.office_part.OfficePart.{the_view}
 use Rattle.deb_text.specs.Text.{text_cmp, pair_cmp}
 use Rattle.wb_states.specs.declared.record.Record.{Record}
 use Rattle.wb_states.specs.declared.arch.OsCpu.{OsCpu}

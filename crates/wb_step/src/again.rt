@@ -1,17 +1,16 @@
 //! What a builder gets again.
-ghost use Rattle.std.specs.Prelude.{◌≡◌, [], map as each, IfOk, IfErr, option_and_then};
+ghost use Rattle.std.specs.Prelude.{◌≡◌, [], map as each, IfOk, option_and_then};
 ghost use Rattle.std.specs.List.{find};
+ghost use Rattle.std.specs.Map.Iter.{deref_pair};
 ghost use Rattle.std.specs.Option.{option_map};
-ghost use Rattle.wb_states.specs.declared.refusal.Refusal.TheVariants.{Memory};
 ghost use Rattle.wb_states.specs.Holds.{building_after, is_building_after};
-ghost use Rattle.wb_states.specs.Lookups.{entry_of};
 ghost use Rattle.wb_step.specs.Outcomes.{held_assignment};
 
-use crate::Store;
+use crate::OfficePart;
 use crate::builder::assignment;
 use deb_text::Text;
-use std::alloc::Global;
-use wb_states::{Assignment, KeyedRecord, Record, Refusal, State};
+use std::alloc::{AllocError, Global};
+use wb_states::{Assignment, Record, State};
 
 /// Whether the record is being built on the architecture under a take number after this one.
 fn is_later(of: &Text, current: &Record, arch: &Text, after: u64) -> bool
@@ -22,55 +21,59 @@ fn is_later(of: &Text, current: &Record, arch: &Text, after: u64) -> bool
 }
 
 /// The first of the rows that is being built on the architecture under a take number after this one.
-fn first_later(rows: Vec<KeyedRecord>, arch: &Text, after: u64) -> Option<KeyedRecord>
-    ensures value { option_map entry_of result
-        ≡ find (is_building_after arch.now after) (each entry_of rows.items) }
+fn first_later<'a>(
+    rows: Vec<(&'a (Text, Text), &'a Record)>,
+    arch: &Text,
+    after: u64,
+) -> Option<(&'a (Text, Text), &'a Record)>
+    ensures value { option_map deref_pair result
+        ≡ find (is_building_after arch.now after) (each deref_pair rows.entry.items) }
 {
-    for row in rows {
-        if is_later(&row.arch, &row.current, arch, after) {
-            return Some(row);
+    for (key, current) in rows {
+        if is_later(&key.0, current, arch, after) {
+            return Some((key, current));
         }
     }
     None
 }
 
-/// What the builder builds on the architecture under the least take number after this one.
+/// What the builder builds on the architecture under the least take number after this one. The only error is
+/// that memory ran out.
 fn assignment_after(
     alloc: Global,
-    store: &Store,
+    office: &OfficePart,
     arch: &Text,
     builder: &Text,
     after: u64,
-) -> Result<Option<Assignment>, Refusal>
+) -> Result<Option<Assignment>, AllocError>
     ensures value { IfOk result (λ found. found
-        ≡ option_map held_assignment (building_after store.now arch.now builder.now after)) }
-    ensures refused { IfErr result (λ refusal. refusal ≡ Memory) }
+        ≡ option_map held_assignment (building_after office.now arch.now builder.now after)) }
 {
-    let held = store.held_by(builder)?;
+    let held = office.held_by(builder)?;
     match first_later(held, arch, after) {
         None => Ok(None),
-        Some(row) => {
-            let take_number = row.current.take.unwrap_or(0);
-            let made = assignment(alloc, &row, take_number)?;
+        Some((key, current)) => {
+            let take_number = current.take.unwrap_or(0);
+            let made = assignment(alloc, &key.0, &key.1, current, take_number)?;
             Ok(Some(made))
         }
     }
 }
 
-/// What is reported to the builder again, if it asks after a take number and builds under a later one.
+/// What is reported to the builder again, if it asks after a take number and builds under a later one. The
+/// only error is that memory ran out.
 pub(crate) fn assignment_again(
     alloc: Global,
-    store: &Store,
+    office: &OfficePart,
     arch: &Text,
     builder: &Text,
     after: Option<u64>,
-) -> Result<Option<Assignment>, Refusal>
+) -> Result<Option<Assignment>, AllocError>
     ensures value { IfOk result (λ found. found ≡ option_map held_assignment
-        (option_and_then (building_after store.now arch.now builder.now) after)) }
-    ensures refused { IfErr result (λ refusal. refusal ≡ Memory) }
+        (option_and_then (building_after office.now arch.now builder.now) after)) }
 {
     match after {
         None => Ok(None),
-        Some(after) => assignment_after(alloc, store, arch, builder, after),
+        Some(after) => assignment_after(alloc, office, arch, builder, after),
     }
 }

@@ -14,18 +14,17 @@ ghost use Rattle.wb_step.specs.Checks.{builder_refusal};
 ghost use Rattle.wb_step.specs.Outcomes.{head_step, assignment_step, take_move, take_step};
 ghost use Rattle.wb_step.specs.Step.{assignment_of};
 
-use crate::Store;
+use crate::OfficePart;
 use crate::again::assignment_again;
 use crate::checks::{
-    accepted, find_source, handed, is_ahead, is_assignment_spent, is_for_other_archs, lacks_arch,
-    lacks_builder,
+    find_source, is_ahead, is_assignment_spent, is_for_other_archs, lacks_arch, lacks_builder,
 };
 use crate::forms::{has_bad_request, has_bad_take};
 use crate::texts::read_version;
 use crate::transition::move_checked;
 use deb_text::Text;
 use deb_version::Version;
-use std::alloc::Global;
+use std::alloc::{AllocError, Global};
 use wb_states::{
     Assignment, COUNT_LIMIT, Counts, KeyedRecord, Move, Record, Refusal, Reply, build_text, command,
 };
@@ -37,19 +36,20 @@ pub(crate) struct Assigned {
     pub(crate) assignment: Assignment,
 }
 
-/// The assignment of a record under a take number.
+/// The assignment of a record under a take number. The only error is that memory ran out.
 pub(crate) fn assignment(
     alloc: Global,
-    row: &KeyedRecord,
+    arch: &Text,
+    source: &Text,
+    current: &Record,
     take_number: u64,
-) -> Result<Assignment, Refusal>
-    ensures value { IfOk result (λ made. made ≡ assignment_of (entry_of row.now) take_number) }
-    ensures refused { IfErr result (λ refusal. refusal ≡ Memory) }
+) -> Result<Assignment, AllocError>
+    ensures value { IfOk result (λ made. made
+        ≡ assignment_of ((arch.now, source.now), current.now) take_number) }
 {
-    let current = &row.current;
     Ok(Assignment {
-        arch: row.arch.clone()?,
-        source: row.source.clone()?,
+        arch: arch.clone()?,
+        source: source.clone()?,
         version: Text::copied(alloc, current.version.text())?,
         build: build_text(alloc, current)?,
         number: current.number,
@@ -59,16 +59,15 @@ pub(crate) fn assignment(
 }
 
 /// The take number after the last, if one can be given.
-fn next_take(store: &Store) -> Result<u64, Refusal>
-    ensures value { IfOk result (λ take_number. nat_le count_limit store.now.handed ≡ false
-        → take_number ≡ store.now.handed + 1) }
-    ensures refused { IfErr result (λ refusal. refusal ≡ Memory) }
+fn next_take(office: &OfficePart) -> u64
+    ensures value { nat_le count_limit office.now.handed ≡ false
+        → result ≡ office.now.handed + 1 }
 {
-    let handed = handed(store)?;
-    if handed < COUNT_LIMIT {
-        Ok(handed + 1)
+    let counts = office.counts();
+    if counts.handed < COUNT_LIMIT {
+        counts.handed + 1
     } else {
-        Ok(handed)
+        counts.handed
     }
 }
 
@@ -96,33 +95,38 @@ fn take_checked(
 /// Nothing is written.
 pub(crate) fn prepare_assignment(
     alloc: Global,
-    store: &Store,
-    row: KeyedRecord,
+    office: &OfficePart,
+    arch: &Text,
+    source: &Text,
+    current: &Record,
     builder: &Text,
 ) -> Result<Assigned, Refusal>
     // what is handed out
     ensures value { IfOk result (λ given. entry_of given.made
-        ≡ ((row.arch, row.source), record_after_move (take_move store.now builder.now) row.current)) }
+        ≡ (
+          (arch.now, source.now),
+          record_after_move (take_move office.now builder.now) current.now,
+        )) }
     ensures reply { IfOk result (λ given. given.assignment
-        ≡ assignment_of (entry_of row) (store.now.handed + 1)) }
+        ≡ assignment_of ((arch.now, source.now), current.now) (office.now.handed + 1)) }
     // that nothing refuses it, or what does
-    ensures ok { OnOk result (move_refusal (take_move store.now builder.now) row.current ≡ None) }
+    ensures ok { OnOk result (move_refusal (take_move office.now builder.now) current.now ≡ None) }
     ensures room { OnOk result
-        ((nat_le count_limit store.now.accepted || nat_le count_limit store.now.handed) ≡ false) }
+        ((nat_le count_limit office.now.accepted || nat_le count_limit office.now.handed) ≡ false) }
     ensures refused { IfErr result (λ refusal. IsOfMachine refusal
-        → assignment_step store.now builder.now (entry_of row) ≡ (Err refusal, store.now)) }
+        → assignment_step office.now builder.now ((arch.now, source.now), current.now)
+        ≡ (Err refusal, office.now)) }
 {
-    let take_number = next_take(store)?;
-    let after = take_checked(alloc, &row.current, builder, take_number)?;
-    let is_full = is_assignment_spent(store)?;
-    if is_full {
+    let take_number = next_take(office);
+    let after = take_checked(alloc, current, builder, take_number)?;
+    if is_assignment_spent(office) {
         return Err(Refusal::Spent);
     }
-    let assignment = assignment(alloc, &row, take_number)?;
+    let assignment = assignment(alloc, arch, source, current, take_number)?;
     Ok(Assigned {
         made: KeyedRecord {
-            arch: row.arch,
-            source: row.source,
+            arch: arch.clone()?,
+            source: source.clone()?,
             current: after,
         },
         assignment,
@@ -130,23 +134,23 @@ pub(crate) fn prepare_assignment(
 }
 
 /// Writes the record that a builder took, and counts the take number and the command.
-pub(crate) fn keep_assignment(store: &mut Store, given: Assigned) -> Result<Reply, Refusal>
-    requires { (nat_le count_limit store.old.accepted || nat_le count_limit store.old.handed)
+pub(crate) fn keep_assignment(office: &mut OfficePart, given: Assigned) -> Result<Reply, Refusal>
+    requires { (nat_le count_limit office.old.accepted || nat_le count_limit office.old.handed)
         ≡ false }
-    ensures reply { IfOk result (λ reply. reply ≡ Job (store.old.accepted + 1) given.assignment) }
-    ensures ok { OnOk result (store.new ≡ record store.old {
-      records = map.insert store.old.records (given.made.arch, given.made.source) given.made.current;
-      handed = store.old.handed + 1;
-      accepted = store.old.accepted + 1;
+    ensures reply { IfOk result (λ reply. reply ≡ Job (office.old.accepted + 1) given.assignment) }
+    ensures ok { OnOk result (office.new ≡ record office.old {
+      records = map.insert office.old.records (given.made.arch, given.made.source) given.made.current;
+      handed = office.old.handed + 1;
+      accepted = office.old.accepted + 1;
     }) }
     ensures refused { IfErr result (λ refusal. refusal ≡ Memory) }
-    ensures unchanged { OnErr result (store.new ≡ store.old) }
+    ensures unchanged { OnErr result (office.new ≡ office.old) }
 {
-    let counts = store.office_row()?;
+    let counts = office.counts();
     let handed = counts.handed + 1;
     let accepted = counts.accepted + 1;
-    store.put(given.made.arch, given.made.source, given.made.current)?;
-    store.set_counts(Counts { handed, accepted })?;
+    office.put(given.made.arch, given.made.source, given.made.current)?;
+    office.set_counts(Counts { handed, accepted });
     Ok(Reply::Job {
         accepted,
         assignment: given.assignment,
@@ -154,20 +158,19 @@ pub(crate) fn keep_assignment(store: &mut Store, given: Assigned) -> Result<Repl
 }
 
 /// Whether the builder may build for the architecture.
-pub(crate) fn check_builds(store: &Store, arch: &Text, builder: &Text) -> Result<(), Refusal>
-    ensures ok { OnOk result (builder_refusal store.now arch.now builder.now ≡ None) }
+pub(crate) fn check_builds(office: &OfficePart, arch: &Text, builder: &Text) -> Result<(), Refusal>
+    ensures ok { OnOk result (builder_refusal office.now arch.now builder.now ≡ None) }
     ensures refused { IfErr result (λ refusal. IsOfMachine refusal
-        → builder_refusal store.now arch.now builder.now ≡ Some refusal) }
+        → builder_refusal office.now arch.now builder.now ≡ Some refusal) }
 {
-    let is_unknown_arch = lacks_arch(store, arch)?;
-    if is_unknown_arch {
+    if lacks_arch(office, arch) {
         return Err(Refusal::UnknownArch);
     }
-    let is_unknown = lacks_builder(store, builder)?;
+    let is_unknown = lacks_builder(office, builder)?;
     if is_unknown {
         return Err(Refusal::UnknownBuilder);
     }
-    let is_other = is_for_other_archs(store, arch, builder)?;
+    let is_other = is_for_other_archs(office, arch, builder)?;
     if is_other {
         return Err(Refusal::WrongArch);
     }
@@ -177,77 +180,76 @@ pub(crate) fn check_builds(store: &Store, arch: &Text, builder: &Text) -> Result
 /// Hands the head of the architecture's queue to the builder, under the take number after the last.
 fn next_head(
     alloc: Global,
-    store: &mut Store,
+    office: &mut OfficePart,
     arch: &Text,
     builder: &Text,
 ) -> Result<Reply, Refusal>
-    ensures reaches { Reaches store.old store.new
-        (head_step store.old arch.now builder.now) result }
+    ensures reaches { Reaches office.old office.new
+        (head_step office.old arch.now builder.now) result }
 {
-    let found = store.head(arch)?;
-    let Some(row) = found else {
+    let found = office.head(arch);
+    let Some((key, current)) = found else {
         return Err(Refusal::QueueEmpty);
     };
-    let given = prepare_assignment(alloc, store, row, builder)?;
-    keep_assignment(store, given)
+    let given = prepare_assignment(alloc, office, &key.0, &key.1, current, builder)?;
+    keep_assignment(office, given)
 }
 
 /// Hands the head of the architecture's queue to the builder, or reports to it again what it builds there
 /// under the least take number after the one that it knows of.
 pub(crate) fn next(
     alloc: Global,
-    store: &mut Store,
+    office: &mut OfficePart,
     command: &command::Next,
 ) -> Result<Reply, Refusal>
-    ensures carries { Carries store.old store.new (of.Next command.now) result }
+    ensures carries { Carries office.old office.new (of.Next command.now) result }
 {
     let (arch, builder) = (&command.arch, &command.builder);
     if has_bad_request(arch, builder) {
         return Err(Refusal::BadName);
     }
-    check_builds(store, arch, builder)?;
-    let handed = handed(store)?;
-    if is_ahead(handed, command.after) {
-        return Err(Refusal::AfterAhead { handed });
+    check_builds(office, arch, builder)?;
+    let counts = office.counts();
+    if is_ahead(counts.handed, command.after) {
+        return Err(Refusal::AfterAhead {
+            handed: counts.handed,
+        });
     }
-    let held = assignment_again(alloc, store, arch, builder, command.after)?;
+    let held = assignment_again(alloc, office, arch, builder, command.after)?;
     match held {
-        None => next_head(alloc, store, arch, builder),
-        Some(assignment) => {
-            let accepted = accepted(store)?;
-            Ok(Reply::Again {
-                accepted,
-                assignment,
-            })
-        }
+        None => next_head(alloc, office, arch, builder),
+        Some(assignment) => Ok(Reply::Again {
+            accepted: counts.accepted,
+            assignment,
+        }),
     }
 }
 
 /// Hands the source package to the builder, if it is of the version and waits in the queue.
 fn take_by_name(
     alloc: Global,
-    store: &mut Store,
+    office: &mut OfficePart,
     arch: &Text,
     builder: &Text,
     source: &Text,
     version: &Version,
 ) -> Result<Reply, Refusal>
-    ensures reaches { Reaches store.old store.new
-        (take_step store.old arch.now builder.now source.now version.now) result }
+    ensures reaches { Reaches office.old office.new
+        (take_step office.old arch.now builder.now source.now version.now) result }
 {
-    check_builds(store, arch, builder)?;
-    let row = find_source(alloc, store, arch, source, version)?;
-    let given = prepare_assignment(alloc, store, row, builder)?;
-    keep_assignment(store, given)
+    check_builds(office, arch, builder)?;
+    let current = find_source(alloc, office, arch, source, version)?;
+    let given = prepare_assignment(alloc, office, arch, source, current, builder)?;
+    keep_assignment(office, given)
 }
 
 /// Hands the source package that the builder names to it, under the take number after the last.
 pub(crate) fn take(
     alloc: Global,
-    store: &mut Store,
+    office: &mut OfficePart,
     command: &command::Take,
 ) -> Result<Reply, Refusal>
-    ensures carries { Carries store.old store.new (of.Take command.now) result }
+    ensures carries { Carries office.old office.new (of.Take command.now) result }
 {
     let command::Take {
         arch,
@@ -259,5 +261,5 @@ pub(crate) fn take(
         return Err(Refusal::BadName);
     }
     let read = read_version(alloc, version)?;
-    take_by_name(alloc, store, arch, builder, source, &read)
+    take_by_name(alloc, office, arch, builder, source, &read)
 }

@@ -1,90 +1,43 @@
-//! What commands ask of the tables, and the checks by what these have.
-ghost use Rattle.std.specs.Prelude.{◌≡◌, None, Some, nat_le, ◌||◌, IsOk, IfOk, IfErr};
+//! What commands ask of a part of the office, and the checks by what it has.
+ghost use Rattle.std.specs.Prelude.{◌≡◌, None, Some, nat_le, ◌||◌, IfOk, IfErr};
 ghost use Rattle.std.specs.FinMap as map;
-ghost use Rattle.std.specs.FinSet as set;
 ghost use Rattle.wb_states.specs.Limits.{count_limit};
-ghost use Rattle.wb_states.specs.declared.refusal.Refusal.TheVariants.{Memory};
 ghost use Rattle.wb_states.specs.Machine.{Machine, arch_words};
 ghost use Rattle.wb_states.specs.Refusals.{IsOfMachine};
 ghost use Rattle.wb_step.specs.Checks.{differing, found_refusal, is_for_others, is_number_ahead};
 ghost use Rattle.wb_states.specs.Machine.{is_unknown_arch, is_unknown_builder};
 
-use crate::Store;
+use crate::OfficePart;
 use deb_relations::ArchWords;
 use deb_text::Text;
 use deb_version::{Version, compare};
-use std::alloc::Global;
-use wb_states::{COUNT_LIMIT, KeyedRecord, Refusal};
+use std::alloc::{AllocError, Global};
+use wb_states::{COUNT_LIMIT, Record, Refusal};
 
 /// Whether the architecture was never added.
-pub(crate) fn lacks_arch(store: &Store, arch: &Text) -> Result<bool, Refusal>
-    ensures value { IfOk result (λ lacks. lacks ≡ is_unknown_arch store.now arch.now) }
-    ensures refused { IfErr result (λ refusal. refusal ≡ Memory) }
+pub(crate) fn lacks_arch(office: &OfficePart, arch: &Text) -> bool
+    ensures value { result ≡ is_unknown_arch office.now arch.now }
 {
-    Ok(!store.has_arch(arch)?)
+    !office.has_arch(arch)
 }
 
-/// Whether the architecture was added. On tables in memory it cannot fail.
-pub(crate) fn has_arch(store: &Store, arch: &Text) -> Result<bool, Refusal>
-    ensures value { IfOk result (λ has. has ≡ map.contains_key store.now.archs arch.now) }
-    ensures ok { IsOk result }
+/// Whether the builder was added for no architecture. The only error is that memory ran out.
+pub(crate) fn lacks_builder(office: &OfficePart, builder: &Text) -> Result<bool, AllocError>
+    ensures value { IfOk result (λ lacks. lacks ≡ is_unknown_builder office.now builder.now) }
 {
-    Ok(store.has_arch(arch)?)
+    Ok(!office.is_builder(builder)?)
 }
 
-/// Whether the source package has a record on the architecture.
-pub(crate) fn has_record(store: &Store, arch: &Text, source: &Text) -> Result<bool, Refusal>
-    ensures value { IfOk result (λ has.
-        has ≡ map.contains_key store.now.records (arch.now, source.now)) }
-    ensures refused { IfErr result (λ refusal. refusal ≡ Memory) }
-{
-    Ok(store.has_record(arch, source)?)
-}
-
-/// Whether the builder was added for no architecture.
-pub(crate) fn lacks_builder(store: &Store, builder: &Text) -> Result<bool, Refusal>
-    ensures value { IfOk result (λ lacks. lacks ≡ is_unknown_builder store.now builder.now) }
-    ensures refused { IfErr result (λ refusal. refusal ≡ Memory) }
-{
-    Ok(!store.is_builder(builder)?)
-}
-
-/// Whether the builder was added for the architecture.
-pub(crate) fn has_builder(store: &Store, builder: &Text, arch: &Text) -> Result<bool, Refusal>
-    ensures value { IfOk result (λ has.
-        has ≡ set.contains store.now.builders (builder.now, arch.now)) }
-    ensures refused { IfErr result (λ refusal. refusal ≡ Memory) }
-{
-    Ok(store.has_builder(builder, arch)?)
-}
-
-/// Whether the builder was not added for the architecture.
+/// Whether the builder was not added for the architecture. The only error is that memory ran out.
 pub(crate) fn is_for_other_archs(
-    store: &Store,
+    office: &OfficePart,
     arch: &Text,
     builder: &Text,
-) -> Result<bool, Refusal>
+) -> Result<bool, AllocError>
     ensures value { IfOk result (λ is_other.
-        is_other ≡ is_for_others store.now arch.now builder.now) }
-    ensures refused { IfErr result (λ refusal. refusal ≡ Memory) }
+        is_other ≡ is_for_others office.now arch.now builder.now) }
 {
-    Ok(!store.has_builder(builder, arch)?)
-}
-
-/// How many take numbers were given.
-pub(crate) fn handed(store: &Store) -> Result<u64, Refusal>
-    ensures value { IfOk result (λ handed. handed ≡ store.now.handed) }
-    ensures refused { IfErr result (λ refusal. refusal ≡ Memory) }
-{
-    Ok(store.office_row()?.handed)
-}
-
-/// How many commands were accepted.
-pub(crate) fn accepted(store: &Store) -> Result<u64, Refusal>
-    ensures value { IfOk result (λ accepted. accepted ≡ store.now.accepted) }
-    ensures refused { IfErr result (λ refusal. refusal ≡ Memory) }
-{
-    Ok(store.office_row()?.accepted)
+    Ok(!office.has_builder(builder, arch)?)
 }
 
 /// Whether the take number after which a builder asks was not given yet.
@@ -99,31 +52,33 @@ pub(crate) fn is_ahead(handed: u64, after: Option<u64>) -> bool
 }
 
 /// Whether no more command can be counted.
-pub(crate) fn is_spent(store: &Store) -> Result<bool, Refusal>
-    ensures value { IfOk result (λ is_spent. is_spent ≡ nat_le count_limit store.now.accepted) }
-    ensures refused { IfErr result (λ refusal. refusal ≡ Memory) }
+pub(crate) fn is_spent(office: &OfficePart) -> bool
+    ensures value { result ≡ nat_le count_limit office.now.accepted }
 {
-    Ok(COUNT_LIMIT <= accepted(store)?)
+    COUNT_LIMIT <= office.counts().accepted
 }
 
 /// Whether no more assignment can be counted.
-pub(crate) fn is_assignment_spent(store: &Store) -> Result<bool, Refusal>
-    ensures value { IfOk result (λ is_spent. is_spent
-        ≡ (nat_le count_limit store.now.accepted || nat_le count_limit store.now.handed)) }
-    ensures refused { IfErr result (λ refusal. refusal ≡ Memory) }
+pub(crate) fn is_assignment_spent(office: &OfficePart) -> bool
+    ensures value { result
+        ≡ (nat_le count_limit office.now.accepted || nat_le count_limit office.now.handed) }
 {
-    let counts = store.office_row()?;
-    Ok(COUNT_LIMIT <= counts.accepted || COUNT_LIMIT <= counts.handed)
+    let counts = office.counts();
+    COUNT_LIMIT <= counts.accepted || COUNT_LIMIT <= counts.handed
 }
 
-/// The architecture with its words, which are empty if it was never added.
+/// The architecture with its words, which are empty if it was never added. The only error is that memory
+/// ran out.
 #[tactic(auto, unfolding(wb_states::specs::Machine::arch_words))]
-pub(crate) fn words_of(alloc: Global, store: &Store, arch: &Text) -> Result<ArchWords, Refusal>
-    ensures value { IfOk result (λ words. words ≡ arch_words store.now arch.now) }
-    ensures refused { IfErr result (λ refusal. refusal ≡ Memory) }
+pub(crate) fn words_of(
+    alloc: Global,
+    office: &OfficePart,
+    arch: &Text,
+) -> Result<ArchWords, AllocError>
+    ensures value { IfOk result (λ words. words ≡ arch_words office.now arch.now) }
 {
     let name = arch.clone()?;
-    match store.arch(arch)? {
+    match office.arch(arch) {
         None => Ok(ArchWords {
             name,
             os: Text::new(alloc),
@@ -131,29 +86,27 @@ pub(crate) fn words_of(alloc: Global, store: &Store, arch: &Text) -> Result<Arch
         }),
         Some(words) => Ok(ArchWords {
             name,
-            os: words.os,
-            cpu: words.cpu,
+            os: words.os.clone()?,
+            cpu: words.cpu.clone()?,
         }),
     }
 }
 
-/// The record of the source package with its key, if it is of the version.
-pub(crate) fn find_source(
+/// The record of the source package, if it is of the version.
+pub(crate) fn find_source<'a>(
     alloc: Global,
-    store: &Store,
+    office: &'a OfficePart,
     arch: &Text,
     source: &Text,
     version: &Version,
-) -> Result<KeyedRecord, Refusal>
-    ensures key { IfOk result (λ row. (row.arch ≡ arch.now) × (row.source ≡ source.now)) }
-    ensures value { IfOk result (λ row.
-        map.get store.now.records (arch.now, source.now) ≡ Some row.current) }
-    ensures ok { IfOk result (λ row. differing version.now row.current ≡ None) }
+) -> Result<&'a Record, Refusal>
+    ensures value { IfOk result (λ current.
+        map.get office.now.records (arch.now, source.now) ≡ Some current.now) }
+    ensures ok { IfOk result (λ current. differing version.now current.now ≡ None) }
     ensures refused { IfErr result (λ refusal. IsOfMachine refusal
-        → found_refusal store.now arch.now source.now version.now ≡ Some refusal) }
+        → found_refusal office.now arch.now source.now version.now ≡ Some refusal) }
 {
-    let found = store.get(arch, source)?;
-    let Some(current) = found else {
+    let Some(current) = office.get(arch, source)? else {
         return Err(Refusal::UnknownSource);
     };
     if compare(version, &current.version).is_ne() {
@@ -161,9 +114,5 @@ pub(crate) fn find_source(
             have: Text::copied(alloc, current.version.text())?,
         });
     }
-    Ok(KeyedRecord {
-        arch: arch.clone()?,
-        source: source.clone()?,
-        current,
-    })
+    Ok(current)
 }

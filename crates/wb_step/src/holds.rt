@@ -1,31 +1,20 @@
 //! The records that builders hold.
-ghost use Rattle.std.specs.Prelude.{◌≡◌, IfOk, IfErr, bytes_eq, map as each};
+ghost use Rattle.std.specs.Prelude.{◌≡◌, IfOk, bytes_eq, map as each};
 ghost use Rattle.std.specs.Option.{option_map};
 ghost use Rattle.std.specs.Map.Iter.{deref_pair};
-ghost use Rattle.wb_states.specs.declared.store_fault.StoreFault.TheVariants.{Memory};
 ghost use Rattle.wb_states.specs.Holds.{taken_as, held_of};
 ghost use Rattle.deb_text.specs.Options.{has_value};
-ghost use Rattle.wb_states.specs.Lookups.{entry_of};
 
-use crate::Store;
-use crate::keyed::{keyed_list, keyed_option};
+use crate::OfficePart;
 use deb_text::Text;
 use std::alloc::AllocError;
-use wb_states::{KeyedRecord, Record, StoreFault};
+use wb_states::Record;
 
-impl Store {
-    /// The record that is held under the take number, or none: if several were, the first by architecture
-    /// and source package. The only error is `Memory` (this project's own).
-    pub fn by_take(&self, take_number: u64) -> Result<Option<KeyedRecord>, StoreFault>
-        ensures value { IfOk result (λ found.
-            option_map entry_of found ≡ taken_as self.now take_number) }
-        ensures fault { IfErr result (λ fault. fault ≡ Memory) }
-    {
-        Ok(keyed_option(self.taken(take_number))?)
-    }
-
+impl OfficePart {
+    /// The record that is held under the take number, with its key, or none: if several were, the first by
+    /// architecture and source package. Takes no memory (this project's own).
     #[tactic(auto, unfolding(wb_states::specs::Holds::taken_as))]
-    fn taken(&self, take_number: u64) -> Option<(&(Text, Text), &Record)>
+    pub fn by_take(&self, take_number: u64) -> Option<(&(Text, Text), &Record)>
         ensures value { option_map deref_pair result ≡ taken_as self.now take_number }
     {
         for (key, current) in self.records.iter() {
@@ -36,18 +25,9 @@ impl Store {
         None
     }
 
-    /// The records that the builder holds, of all architectures, by take number. The only error is
-    /// `Memory` (this project's own).
-    pub fn held_by(&self, builder: &Text) -> Result<Vec<KeyedRecord>, StoreFault>
-        ensures value { IfOk result (λ rows.
-            each entry_of rows.items ≡ held_of self.now builder.now) }
-        ensures fault { IfErr result (λ fault. fault ≡ Memory) }
-    {
-        let held = self.held(builder)?;
-        Ok(keyed_list(self.alloc, held)?)
-    }
-
-    fn held(&self, builder: &Text) -> Result<Vec<(&(Text, Text), &Record)>, AllocError>
+    /// The records that the builder holds, of all architectures, with their keys, by take number. The only
+    /// error is that memory ran out for the list (this project's own).
+    pub fn held_by(&self, builder: &Text) -> Result<Vec<(&(Text, Text), &Record)>, AllocError>
         ensures value { IfOk result (λ rows.
             each deref_pair rows.items ≡ held_of self.now builder.now) }
     {

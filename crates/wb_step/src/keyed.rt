@@ -1,6 +1,5 @@
 //! Records with their keys, as look-ups answer them.
 ghost use Rattle.std.specs.Prelude.{◌≡◌, IfOk, map as each};
-ghost use Rattle.std.specs.Option.{option_map};
 ghost use Rattle.std.specs.Map.Iter.{deref_pair};
 ghost use Rattle.wb_states.specs.Lookups.{entry_of};
 
@@ -24,18 +23,6 @@ pub(crate) fn keyed(key: &(Text, Text), current: &Record) -> Result<KeyedRecord,
         source: key.1.clone()?,
         current: current.clone()?,
     })
-}
-
-/// A copy of what was found, if anything was. The only error is that memory ran out.
-pub(crate) fn keyed_option(
-    found: Option<(&(Text, Text), &Record)>,
-) -> Result<Option<KeyedRecord>, AllocError>
-    ensures value { IfOk result (λ made. option_map entry_of made ≡ option_map deref_pair found.entry) }
-{
-    match found {
-        None => Ok(None),
-        Some((key, current)) => Ok(Some(keyed(key, current)?)),
-    }
 }
 
 /// A copy of each record that was found. The only error is that memory ran out.

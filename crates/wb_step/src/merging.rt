@@ -1,5 +1,5 @@
 //! The merge of what the archive lists into the records of the office.
-ghost use Rattle.std.specs.Prelude.{◌≡◌, ◌+◌, ℕ, List, not, None, Some, Ok, Err, true, false, nat_le, bytes_eq, IsOk, OnOk, IfOk, IfErr};
+ghost use Rattle.std.specs.Prelude.{◌≡◌, ◌+◌, ℕ, List, not, None, Some, Ok, Err, true, false, nat_le, bytes_eq, OnOk, IfOk, IfErr};
 ghost use Rattle.std.specs.List.{list_any};
 ghost use Rattle.wb_states.specs.declared.command.Command.TheVariants as of;
 ghost use Rattle.wb_states.specs.declared.command.Part.{Part};
@@ -15,9 +15,9 @@ ghost use Rattle.wb_step.specs.Parts.{is_good, is_known, is_merged, part_listing
 ghost use Rattle.wb_states.specs.Forms.{Merge};
 ghost use Rattle.wb_step.specs.Step.{step};
 
-use crate::checks::{has_arch, is_spent};
-use crate::part::merge_listing;
-use crate::{Records, Store};
+use crate::checks::is_spent;
+use crate::listed::merge_listing;
+use crate::{OfficePart, Records};
 use deb_relations::ArchWords;
 use deb_text::{Items, Text};
 use std::alloc::Global;
@@ -59,35 +59,32 @@ pub(crate) fn repeats_arch(parts: &[Part]) -> bool
     false
 }
 
-/// Whether one of the parts is for an architecture that was added. On tables in memory it cannot fail.
-fn is_any_known(store: &Store, parts: &[Part]) -> Result<bool, Refusal>
-    ensures value { IfOk result (λ known. known ≡ list_any (is_known store.now) parts.now) }
-    ensures ok { IsOk result }
+/// Whether one of the parts is for an architecture that was added.
+fn is_any_known(office: &OfficePart, parts: &[Part]) -> bool
+    ensures value { result ≡ list_any (is_known office.now) parts.now }
 {
     for part in parts {
-        let is_there = has_arch(store, &part.arch)?;
-        if is_there {
-            return Ok(true);
+        if office.has_arch(&part.arch) {
+            return true;
         }
     }
-    Ok(false)
+    false
 }
 
 /// The listing of a part, or why the part is refused.
 #[tactic(auto, unfolding(crate::specs::Parts::part_listing))]
 fn listing_of(
     alloc: Global,
-    store: &Store,
+    office: &OfficePart,
     sources: &Sources<'_>,
     part: &Part,
 ) -> Result<Listing, Refusal>
     ensures value { IfOk result (λ listing.
-        part_listing store.now sources.now part.now ≡ Ok listing) }
+        part_listing office.now sources.now part.now ≡ Ok listing) }
     ensures refused { IfErr result (λ refusal. IsOfMachine refusal
-        → part_listing store.now sources.now part.now ≡ Err refusal) }
+        → part_listing office.now sources.now part.now ≡ Err refusal) }
 {
-    let found = store.arch(&part.arch)?;
-    let Some(words) = found else {
+    let Some(words) = office.arch(&part.arch) else {
         return Err(Refusal::UnknownArch);
     };
     let (name, os, cpu) = (part.arch.as_str(), words.os.as_str(), words.cpu.as_str());
@@ -99,20 +96,20 @@ fn listing_of(
 /// the records are of no use.
 fn merge_part(
     alloc: Global,
-    store: &Store,
+    office: &OfficePart,
     sources: &Sources<'_>,
     part: &Part,
     records: &mut Records,
 ) -> Result<PartEnd, Refusal>
     ensures value { IfOk result (λ end.
         end ≡ end_with records.old part.now.arch
-        (part_listing store.now sources.now part.now)) }
+        (part_listing office.now sources.now part.now)) }
     ensures records { OnOk result (records.new
         ≡ records_with records.old part.now.arch
-        (part_listing store.now sources.now part.now)) }
+        (part_listing office.now sources.now part.now)) }
     ensures refused { IfErr result (λ refusal. refusal ≡ Memory) }
 {
-    match listing_of(alloc, store, sources, part) {
+    match listing_of(alloc, office, sources, part) {
         Ok(listing) => {
             let counts = merge_listing(alloc, records, &part.arch, &listing)?;
             Ok(PartEnd::Merged { counts })
@@ -131,24 +128,24 @@ fn is_merged(end: &PartEnd) -> bool
 /// Merges the parts in their order into a copy of the records. Sources is read once for all of them.
 fn merge_parts(
     alloc: Global,
-    store: &Store,
+    office: &OfficePart,
     sources: &[u8],
     parts: &[Part],
 ) -> Result<Parts, Refusal>
     ensures records { IfOk result (λ made. made.records
-        ≡ records_after store.now sources.now parts.now store.now.records) }
+        ≡ records_after office.now sources.now parts.now office.now.records) }
     ensures replies { IfOk result (λ made. made.replies.items
-        ≡ part_replies store.now sources.now parts.now store.now.records) }
+        ≡ part_replies office.now sources.now parts.now office.now.records) }
     ensures good { IfOk result (λ made.
-        made.is_any_good ≡ list_any (is_good store.now sources.now) parts.now) }
+        made.is_any_good ≡ list_any (is_good office.now sources.now) parts.now) }
     ensures refused { IfErr result (λ refusal. refusal ≡ Memory) }
 {
     let sources = Sources::read(alloc, sources)?;
-    let mut records = store.copy_records()?;
+    let mut records = office.copy_records()?;
     let mut replies = Vec::new(alloc);
     let mut is_any_good = false;
     for part in parts {
-        let end = merge_part(alloc, store, &sources, part, &mut records)?;
+        let end = merge_part(alloc, office, &sources, part, &mut records)?;
         is_any_good = is_any_good || is_merged(&end);
         let arch = part.arch.clone()?;
         replies.push(PartReply { arch, end })?;
@@ -181,24 +178,24 @@ fn first_part_refusal(replies: Vec<PartReply>) -> Refusal
 /// The parts of a merge, merged into a copy of the records, if the merge is not refused.
 fn prepare_merge(
     alloc: Global,
-    store: &Store,
+    office: &OfficePart,
     sources: &[u8],
     parts: &[Part],
 ) -> Result<Parts, Refusal>
     // what the parts make
     ensures records { IfOk result (λ made. made.records
-        ≡ records_after store.now sources.now parts.now store.now.records) }
+        ≡ records_after office.now sources.now parts.now office.now.records) }
     ensures replies { IfOk result (λ made. made.replies.items
-        ≡ part_replies store.now sources.now parts.now store.now.records) }
+        ≡ part_replies office.now sources.now parts.now office.now.records) }
     // that nothing refuses it, or what does
-    ensures ok { OnOk result (first_refusal store.now (Merge sources.now parts.now) ≡ None) }
-    ensures room { OnOk result (nat_le count_limit store.now.accepted ≡ false) }
+    ensures ok { OnOk result (first_refusal office.now (Merge sources.now parts.now) ≡ None) }
+    ensures room { OnOk result (nat_le count_limit office.now.accepted ≡ false) }
     ensures memory { IfErr result (λ refusal. refusal ≡ Memory
         → MayWantMemory (Merge sources.now parts.now)) }
     ensures known { IfErr result (λ refusal. refusal ≡ Memory
-        → list_any (is_known store.now) parts.now ≡ true) }
+        → list_any (is_known office.now) parts.now ≡ true) }
     ensures refused { IfErr result (λ refusal. IsOfMachine refusal
-        → first_refusal store.now (Merge sources.now parts.now) ≡ Some refusal) }
+        → first_refusal office.now (Merge sources.now parts.now) ≡ Some refusal) }
 {
     if has_bad_part(parts) {
         return Err(Refusal::BadName);
@@ -206,16 +203,15 @@ fn prepare_merge(
     if repeats_arch(parts) {
         return Err(Refusal::RepeatedArch);
     }
-    let has_known = is_any_known(store, parts)?;
+    let has_known = is_any_known(office, parts);
     if !has_known {
         return Err(Refusal::UnknownArch);
     }
-    let made = merge_parts(alloc, store, sources, parts)?;
+    let made = merge_parts(alloc, office, sources, parts)?;
     if !made.is_any_good {
         return Err(first_part_refusal(made.replies));
     }
-    let is_full = is_spent(store)?;
-    if is_full {
+    if is_spent(office) {
         return Err(Refusal::Spent);
     }
     Ok(made)
@@ -226,26 +222,26 @@ fn prepare_merge(
 #[tactic(auto, unfolding(crate::specs::Step::step))]
 pub(crate) fn merge(
     alloc: Global,
-    store: &mut Store,
+    office: &mut OfficePart,
     command: &command::Merge,
 ) -> Result<Reply, Refusal>
-    ensures carries { Carries store.old store.new (of.Merge command.now) result }
+    ensures carries { Carries office.old office.new (of.Merge command.now) result }
     ensures known { IfErr result (λ refusal. refusal ≡ Memory
-        → list_any (is_known store.old) command.now.parts ≡ true) }
+        → list_any (is_known office.old) command.now.parts ≡ true) }
 {
     let made = prepare_merge(
         alloc,
-        store,
+        office,
         command.sources.as_slice(),
         command.parts.as_slice(),
     )?;
-    let counts = store.office_row()?;
+    let counts = office.counts();
     let accepted = counts.accepted + 1;
-    store.replace_records(made.records);
-    store.set_counts(Counts {
+    office.replace_records(made.records);
+    office.set_counts(Counts {
         handed: counts.handed,
         accepted,
-    })?;
+    });
     Ok(Reply::Merged {
         accepted,
         parts: Items::from(made.replies),

@@ -8,7 +8,7 @@ ghost use Rattle.wb_step.specs.Carries.{Carries, Reaches};
 ghost use Rattle.wb_step.specs.Checks.{aside_refusal};
 ghost use Rattle.wb_step.specs.Outcomes.{named_step};
 
-use crate::Store;
+use crate::OfficePart;
 use crate::checks::{find_source, lacks_arch, words_of};
 use crate::texts::{is_long, read_key, read_refusal_or, read_relations, rebuild_number};
 use crate::transition::{keep_record, prepare_move};
@@ -20,36 +20,35 @@ use wb_states::{Move, Refusal, Reply, command};
 /// Moves the record of the source package, if it is of the version.
 fn move_named(
     alloc: Global,
-    store: &mut Store,
+    office: &mut OfficePart,
     arch: &Text,
     source: &Text,
     version: &Version,
     change: &Move,
 ) -> Result<Reply, Refusal>
-    ensures reaches { Reaches store.old store.new
-        (named_step store.old arch.now source.now version.now change.now) result }
+    ensures reaches { Reaches office.old office.new
+        (named_step office.old arch.now source.now version.now change.now) result }
 {
-    let is_unknown = lacks_arch(store, arch)?;
-    if is_unknown {
+    if lacks_arch(office, arch) {
         return Err(Refusal::UnknownArch);
     }
-    let row = find_source(alloc, store, arch, source, version)?;
-    let made = prepare_move(alloc, store, row, change)?;
-    keep_record(store, made)
+    let current = find_source(alloc, office, arch, source, version)?;
+    let made = prepare_move(alloc, office, arch, source, current, change)?;
+    keep_record(office, made)
 }
 
 /// Puts it back into the queue.
 pub(crate) fn give_back(
     alloc: Global,
-    store: &mut Store,
+    office: &mut OfficePart,
     command: &command::GiveBack,
 ) -> Result<Reply, Refusal>
-    ensures carries { Carries store.old store.new (of.GiveBack command.now) result }
+    ensures carries { Carries office.old office.new (of.GiveBack command.now) result }
 {
     let read = read_key(alloc, &command.arch, &command.source, &command.version)?;
     move_named(
         alloc,
-        store,
+        office,
         &command.arch,
         &command.source,
         &read,
@@ -60,10 +59,10 @@ pub(crate) fn give_back(
 /// Lets it wait for what the relations ask for.
 pub(crate) fn dep_wait(
     alloc: Global,
-    store: &mut Store,
+    office: &mut OfficePart,
     command: &command::DepWait,
 ) -> Result<Reply, Refusal>
-    ensures carries { Carries store.old store.new (of.DepWait command.now) result }
+    ensures carries { Carries office.old office.new (of.DepWait command.now) result }
 {
     let command::DepWait {
         arch,
@@ -77,12 +76,12 @@ pub(crate) fn dep_wait(
         Err(refusal) => return Err(read_refusal_or(key, refusal)),
     };
     let read = key?;
-    let words = words_of(alloc, store, arch)?;
+    let words = words_of(alloc, office, arch)?;
     let change = Move::DepWait {
         relations: groups,
         arch: words,
     };
-    move_named(alloc, store, arch, source, &read, &change)
+    move_named(alloc, office, arch, source, &read, &change)
 }
 
 /// What a command that sets a source package aside reads: the version that it names, and its note.
@@ -126,17 +125,17 @@ fn read_aside(alloc: Global, command: &command::SetAside) -> Result<Aside, Refus
 /// Says that a person found that its build fails.
 pub(crate) fn fail(
     alloc: Global,
-    store: &mut Store,
+    office: &mut OfficePart,
     command: &command::SetAside,
 ) -> Result<Reply, Refusal>
-    ensures carries { Carries store.old store.new (of.Fail command.now) result }
+    ensures carries { Carries office.old office.new (of.Fail command.now) result }
     ensures utf8 { OnOk result (IsUtf8 command.now.note) }
 {
     let read = read_aside(alloc, command)?;
     let change = Move::Fail { note: read.note };
     move_named(
         alloc,
-        store,
+        office,
         &command.arch,
         &command.source,
         &read.version,
@@ -147,17 +146,17 @@ pub(crate) fn fail(
 /// Says that it is not to be built.
 pub(crate) fn not_for_us(
     alloc: Global,
-    store: &mut Store,
+    office: &mut OfficePart,
     command: &command::SetAside,
 ) -> Result<Reply, Refusal>
-    ensures carries { Carries store.old store.new (of.NotForUs command.now) result }
+    ensures carries { Carries office.old office.new (of.NotForUs command.now) result }
     ensures utf8 { OnOk result (IsUtf8 command.now.note) }
 {
     let read = read_aside(alloc, command)?;
     let change = Move::NotForUs { note: read.note };
     move_named(
         alloc,
-        store,
+        office,
         &command.arch,
         &command.source,
         &read.version,
@@ -168,10 +167,10 @@ pub(crate) fn not_for_us(
 /// Builds it once more, as the binary-only rebuild of this number.
 pub(crate) fn rebuild(
     alloc: Global,
-    store: &mut Store,
+    office: &mut OfficePart,
     command: &command::Rebuild,
 ) -> Result<Reply, Refusal>
-    ensures carries { Carries store.old store.new (of.Rebuild command.now) result }
+    ensures carries { Carries office.old office.new (of.Rebuild command.now) result }
     ensures utf8 { OnOk result (IsUtf8 command.now.message) }
 {
     let command::Rebuild {
@@ -193,5 +192,5 @@ pub(crate) fn rebuild(
         number,
         message: message.clone()?,
     };
-    move_named(alloc, store, arch, source, &read, &change)
+    move_named(alloc, office, arch, source, &read, &change)
 }

@@ -1,5 +1,5 @@
 //! The commands that add architectures, builders and source packages.
-ghost use Rattle.std.specs.Prelude.{◌≡◌, ◌+◌, None, Some, Ok, Err, false, nat_le, OnOk, IfOk, IfErr};
+ghost use Rattle.std.specs.Prelude.{◌≡◌, ◌+◌, None, Some, Err, false, nat_le, OnOk, IfOk, IfErr};
 ghost use Rattle.wb_states.specs.declared.command.Command.TheVariants as of;
 ghost use Rattle.wb_states.specs.declared.refusal.Refusal.TheVariants.{Memory};
 ghost use Rattle.wb_states.specs.declared.reply.Reply.TheVariants.{Done};
@@ -9,8 +9,8 @@ ghost use Rattle.wb_step.specs.Carries.{Carries};
 ghost use Rattle.wb_step.specs.Checks.{MayWantMemory, first_refusal};
 ghost use Rattle.wb_step.specs.Step.{step, counted, entered};
 
-use crate::Store;
-use crate::checks::{has_arch, has_builder, has_record, is_spent, lacks_arch};
+use crate::OfficePart;
+use crate::checks::{is_spent, lacks_arch};
 use crate::forms::{has_bad_arch, has_bad_builder, has_bad_entry};
 use crate::texts::read_version;
 use deb_text::Text;
@@ -19,39 +19,37 @@ use std::alloc::Global;
 use wb_merge::blank_record;
 use wb_states::{Counts, OsCpu, Record, Refusal, Reply, command};
 
-/// Counts one more accepted command. On tables in memory it cannot fail.
-pub(crate) fn accept_one(store: &mut Store) -> Result<Reply, Refusal>
-    requires { nat_le count_limit store.old.accepted ≡ false }
-    ensures reply { result ≡ Ok (Done (store.old.accepted + 1)) }
-    ensures ok { store.new ≡ counted store.old store.old }
+/// Counts one more accepted command.
+pub(crate) fn accept_one(office: &mut OfficePart) -> Reply
+    requires { nat_le count_limit office.old.accepted ≡ false }
+    ensures reply { result ≡ Done (office.old.accepted + 1) }
+    ensures ok { office.new ≡ counted office.old office.old }
 {
-    let counts = store.office_row()?;
+    let counts = office.counts();
     let accepted = counts.accepted + 1;
-    store.set_counts(Counts {
+    office.set_counts(Counts {
         handed: counts.handed,
         accepted,
-    })?;
-    Ok(Reply::Done { accepted })
+    });
+    Reply::Done { accepted }
 }
 
 /// The checks of a command that adds an architecture.
-fn check_arch(store: &Store, command: &command::AddArch) -> Result<(), Refusal>
-    ensures ok { OnOk result (first_refusal store.now (of.AddArch command.now) ≡ None) }
+fn check_arch(office: &OfficePart, command: &command::AddArch) -> Result<(), Refusal>
+    ensures ok { OnOk result (first_refusal office.now (of.AddArch command.now) ≡ None) }
     ensures refused { IfErr result (λ refusal. IsOfMachine refusal
-        → first_refusal store.now (of.AddArch command.now) ≡ Some refusal) }
+        → first_refusal office.now (of.AddArch command.now) ≡ Some refusal) }
     ensures memory { IfErr result (λ refusal. refusal ≡ Memory
         → MayWantMemory (of.AddArch command.now)) }
-    ensures room { OnOk result (nat_le count_limit store.now.accepted ≡ false) }
+    ensures room { OnOk result (nat_le count_limit office.now.accepted ≡ false) }
 {
     if has_bad_arch(&command.name, &command.os, &command.cpu) {
         return Err(Refusal::BadName);
     }
-    let is_there = has_arch(store, &command.name)?;
-    if is_there {
+    if office.has_arch(&command.name) {
         return Err(Refusal::AlreadyThere);
     }
-    let is_full = is_spent(store)?;
-    if is_full {
+    if is_spent(office) {
         return Err(Refusal::Spent);
     }
     Ok(())
@@ -59,40 +57,41 @@ fn check_arch(store: &Store, command: &command::AddArch) -> Result<(), Refusal>
 
 /// Adds an architecture.
 #[tactic(auto, unfolding(crate::specs::Step::step))]
-pub(crate) fn add_arch(store: &mut Store, command: &command::AddArch) -> Result<Reply, Refusal>
-    ensures carries { Carries store.old store.new (of.AddArch command.now) result }
+pub(crate) fn add_arch(
+    office: &mut OfficePart,
+    command: &command::AddArch,
+) -> Result<Reply, Refusal>
+    ensures carries { Carries office.old office.new (of.AddArch command.now) result }
 {
-    check_arch(store, command)?;
+    check_arch(office, command)?;
     let words = OsCpu {
         os: command.os.clone()?,
         cpu: command.cpu.clone()?,
     };
-    store.add_arch(command.name.clone()?, words)?;
-    accept_one(store)
+    office.add_arch(command.name.clone()?, words)?;
+    Ok(accept_one(office))
 }
 
 /// The checks of a command that lets a builder build for an architecture.
-fn check_builder(store: &Store, command: &command::AddBuilder) -> Result<(), Refusal>
-    ensures ok { OnOk result (first_refusal store.now (of.AddBuilder command.now) ≡ None) }
+fn check_builder(office: &OfficePart, command: &command::AddBuilder) -> Result<(), Refusal>
+    ensures ok { OnOk result (first_refusal office.now (of.AddBuilder command.now) ≡ None) }
     ensures refused { IfErr result (λ refusal. IsOfMachine refusal
-        → first_refusal store.now (of.AddBuilder command.now) ≡ Some refusal) }
+        → first_refusal office.now (of.AddBuilder command.now) ≡ Some refusal) }
     ensures memory { IfErr result (λ refusal. refusal ≡ Memory
         → MayWantMemory (of.AddBuilder command.now)) }
-    ensures room { OnOk result (nat_le count_limit store.now.accepted ≡ false) }
+    ensures room { OnOk result (nat_le count_limit office.now.accepted ≡ false) }
 {
     if has_bad_builder(&command.name, &command.arch) {
         return Err(Refusal::BadName);
     }
-    let is_unknown = lacks_arch(store, &command.arch)?;
-    if is_unknown {
+    if lacks_arch(office, &command.arch) {
         return Err(Refusal::UnknownArch);
     }
-    let is_there = has_builder(store, &command.name, &command.arch)?;
+    let is_there = office.has_builder(&command.name, &command.arch)?;
     if is_there {
         return Err(Refusal::AlreadyThere);
     }
-    let is_full = is_spent(store)?;
-    if is_full {
+    if is_spent(office) {
         return Err(Refusal::Spent);
     }
     Ok(())
@@ -101,25 +100,29 @@ fn check_builder(store: &Store, command: &command::AddBuilder) -> Result<(), Ref
 /// Lets a builder build for an architecture.
 #[tactic(auto, unfolding(crate::specs::Step::step))]
 pub(crate) fn add_builder(
-    store: &mut Store,
+    office: &mut OfficePart,
     command: &command::AddBuilder,
 ) -> Result<Reply, Refusal>
-    ensures carries { Carries store.old store.new (of.AddBuilder command.now) result }
+    ensures carries { Carries office.old office.new (of.AddBuilder command.now) result }
 {
-    check_builder(store, command)?;
-    store.add_builder(command.name.clone()?, command.arch.clone()?)?;
-    accept_one(store)
+    check_builder(office, command)?;
+    office.add_builder(command.name.clone()?, command.arch.clone()?)?;
+    Ok(accept_one(office))
 }
 
 /// The checks of a command that enters a source package, and its version as it is read.
-fn check_entry(alloc: Global, store: &Store, command: &command::Enter) -> Result<Version, Refusal>
+fn check_entry(
+    alloc: Global,
+    office: &OfficePart,
+    command: &command::Enter,
+) -> Result<Version, Refusal>
     ensures value { IfOk result (λ read. read ≡ command.now.version) }
-    ensures ok { OnOk result (first_refusal store.now (of.Enter command.now) ≡ None) }
+    ensures ok { OnOk result (first_refusal office.now (of.Enter command.now) ≡ None) }
     ensures refused { IfErr result (λ refusal. IsOfMachine refusal
-        → first_refusal store.now (of.Enter command.now) ≡ Some refusal) }
+        → first_refusal office.now (of.Enter command.now) ≡ Some refusal) }
     ensures memory { IfErr result (λ refusal. refusal ≡ Memory
         → MayWantMemory (of.Enter command.now)) }
-    ensures room { OnOk result (nat_le count_limit store.now.accepted ≡ false) }
+    ensures room { OnOk result (nat_le count_limit office.now.accepted ≡ false) }
 {
     let command::Enter {
         arch,
@@ -132,16 +135,14 @@ fn check_entry(alloc: Global, store: &Store, command: &command::Enter) -> Result
         return Err(Refusal::BadName);
     }
     let read = read_version(alloc, version)?;
-    let is_unknown = lacks_arch(store, arch)?;
-    if is_unknown {
+    if lacks_arch(office, arch) {
         return Err(Refusal::UnknownArch);
     }
-    let is_there = has_record(store, arch, source)?;
+    let is_there = office.has_record(arch, source)?;
     if is_there {
         return Err(Refusal::AlreadyThere);
     }
-    let is_full = is_spent(store)?;
-    if is_full {
+    if is_spent(office) {
         return Err(Refusal::Spent);
     }
     Ok(read)
@@ -151,15 +152,15 @@ fn check_entry(alloc: Global, store: &Store, command: &command::Enter) -> Result
 #[tactic(auto, unfolding(crate::specs::Step::step))]
 pub(crate) fn enter(
     alloc: Global,
-    store: &mut Store,
+    office: &mut OfficePart,
     command: &command::Enter,
 ) -> Result<Reply, Refusal>
-    ensures carries { Carries store.old store.new (of.Enter command.now) result }
+    ensures carries { Carries office.old office.new (of.Enter command.now) result }
 {
-    let read = check_entry(alloc, store, command)?;
+    let read = check_entry(alloc, office, command)?;
     let waiting = entered_record(alloc, read, &command.priority, &command.section)?;
-    store.put(command.arch.clone()?, command.source.clone()?, waiting)?;
-    accept_one(store)
+    office.put(command.arch.clone()?, command.source.clone()?, waiting)?;
+    Ok(accept_one(office))
 }
 
 /// The record of a source package that waits for its first build.

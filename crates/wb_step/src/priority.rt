@@ -1,26 +1,26 @@
 //! The command by which operators say which source packages are built first.
-ghost use Rattle.std.specs.Prelude.{◌≡◌};
+ghost use Rattle.std.specs.Prelude.{◌≡◌, IfOk};
 ghost use Rattle.wb_states.specs.declared.command.Command.TheVariants as of;
 ghost use Rattle.wb_states.specs.Lookups.{entry_of};
 ghost use Rattle.wb_step.specs.Carries.{Carries, Reaches};
 ghost use Rattle.wb_step.specs.Outcomes.{prioritized_step};
 
-use crate::Store;
+use crate::OfficePart;
 use crate::checks::{find_source, is_spent, lacks_arch};
 use crate::texts::{self, read_key, read_refusal_or};
 use crate::transition::keep_record;
 use deb_text::Text;
 use deb_version::Version;
-use std::alloc::Global;
-use wb_states::{KeyedRecord, Refusal, Reply, command};
+use std::alloc::{AllocError, Global};
+use wb_states::{KeyedRecord, Record, Refusal, Reply, command};
 
 /// Gives the record of a source package the build priority that the command names.
 pub(crate) fn build_priority(
     alloc: Global,
-    store: &mut Store,
+    office: &mut OfficePart,
     command: &command::BuildPriority,
 ) -> Result<Reply, Refusal>
-    ensures carries { Carries store.old store.new (of.BuildPriority command.now) result }
+    ensures carries { Carries office.old office.new (of.BuildPriority command.now) result }
 {
     let command::BuildPriority {
         arch,
@@ -33,43 +33,47 @@ pub(crate) fn build_priority(
         return Err(read_refusal_or(key, Refusal::BadNumber));
     };
     let read = key?;
-    prioritize(alloc, store, arch, source, &read, build_priority)
+    prioritize(alloc, office, arch, source, &read, build_priority)
 }
 
 /// Gives the record of the source package this build priority, if it is of the version.
 fn prioritize(
     alloc: Global,
-    store: &mut Store,
+    office: &mut OfficePart,
     arch: &Text,
     source: &Text,
     version: &Version,
     build_priority: i16,
 ) -> Result<Reply, Refusal>
-    ensures reaches { Reaches store.old store.new
-        (prioritized_step store.old arch.now source.now version.now build_priority) result }
+    ensures reaches { Reaches office.old office.new
+        (prioritized_step office.old arch.now source.now version.now build_priority) result }
 {
-    let is_unknown = lacks_arch(store, arch)?;
-    if is_unknown {
+    if lacks_arch(office, arch) {
         return Err(Refusal::UnknownArch);
     }
-    let row = find_source(alloc, store, arch, source, version)?;
-    let is_full = is_spent(store)?;
-    if is_full {
+    let current = find_source(alloc, office, arch, source, version)?;
+    if is_spent(office) {
         return Err(Refusal::Spent);
     }
-    keep_record(store, with_priority(row, build_priority))
+    let made = with_priority(arch, source, current, build_priority)?;
+    keep_record(office, made)
 }
 
-/// The record with this build priority, all else as it was.
-fn with_priority(row: KeyedRecord, build_priority: i16) -> KeyedRecord
-    ensures value { entry_of result
-        ≡ ((row.arch, row.source), record row.current { build_priority = build_priority }) }
+/// The record with this build priority, all else as it was. The only error is that memory ran out.
+fn with_priority(
+    arch: &Text,
+    source: &Text,
+    current: &Record,
+    build_priority: i16,
+) -> Result<KeyedRecord, AllocError>
+    ensures value { IfOk result (λ made. entry_of made
+        ≡ ((arch.now, source.now), record current.now { build_priority = build_priority })) }
 {
-    let mut current = row.current;
-    current.build_priority = build_priority;
-    KeyedRecord {
-        arch: row.arch,
-        source: row.source,
-        current,
-    }
+    let mut made = current.clone()?;
+    made.build_priority = build_priority;
+    Ok(KeyedRecord {
+        arch: arch.clone()?,
+        source: source.clone()?,
+        current: made,
+    })
 }

@@ -1,33 +1,23 @@
 //! The head of an architecture's queue.
-ghost use Rattle.std.specs.Prelude.{◌≡◌, IfOk, IfErr, IfSome, Some};
+ghost use Rattle.std.specs.Prelude.{◌≡◌, IfSome, Some};
 ghost use Rattle.std.specs.Option.{option_map};
 ghost use Rattle.std.specs.Map.Iter.{deref_pair};
 ghost use Rattle.std.specs.FinMap as map;
 ghost use Rattle.wb_states.specs.declared.state.State.TheVariants.{NeedsBuild};
-ghost use Rattle.wb_states.specs.declared.store_fault.StoreFault.TheVariants.{Memory};
 ghost use Rattle.wb_states.specs.Queue.{head_of};
-ghost use Rattle.wb_states.specs.Lookups.{entry_of};
 
-use crate::Store;
-use crate::keyed::keyed_option;
+use crate::OfficePart;
 use deb_text::Text;
-use wb_states::{KeyedRecord, QueueKey, Record, State, StoreFault};
+use wb_states::{QueueKey, Record, State};
 
-impl Store {
-    /// The head of the architecture's queue, which is built next, or none if no source package of the
-    /// architecture waits for a builder. The only error is `Memory` (wanna-build's states page).
-    pub fn head(&self, arch: &Text) -> Result<Option<KeyedRecord>, StoreFault>
-        ensures value { IfOk result (λ found. option_map entry_of found ≡ head_of self.now arch.now) }
-        ensures first { IfOk result (λ found. IfSome found (λ row. (row.arch ≡ arch.now)
-            × ((row.current.state ≡ NeedsBuild)
-            × (map.get self.now.records (arch.now, row.source) ≡ Some row.current)))) }
-        ensures fault { IfErr result (λ fault. fault ≡ Memory) }
-    {
-        Ok(keyed_option(self.head_entry(arch))?)
-    }
-
-    fn head_entry(&self, arch: &Text) -> Option<(&(Text, Text), &Record)>
+impl OfficePart {
+    /// The head of the architecture's queue, which is built next, with its key, or none if no source package
+    /// of the architecture waits for a builder. Takes no memory (wanna-build's states page).
+    pub fn head(&self, arch: &Text) -> Option<(&(Text, Text), &Record)>
         ensures value { option_map deref_pair result ≡ head_of self.now arch.now }
+        ensures first { IfSome (option_map deref_pair result) (λ entry. (entry.0.0 ≡ arch.now)
+            × ((entry.1.state ≡ NeedsBuild)
+            × (map.get self.now.records (arch.now, entry.0.1) ≡ Some entry.1))) }
     {
         let mut best: Option<(&(Text, Text), &Record)> = None;
         for (key, current) in self.records.iter() {

@@ -1,4 +1,4 @@
-//! Records that stand apart from the tables until they take the place of the office's own.
+//! Records that stand apart from a part of the office until they take the place of its own.
 ghost use Rattle.std.specs.Prelude.{◌≡◌, IfOk, OnOk, OnErr, bytes_eq, filter, map as each};
 ghost use Rattle.std.specs.Option.{option_copied};
 ghost use Rattle.std.specs.FinMap as map;
@@ -10,8 +10,8 @@ use std::collections::BTreeMap;
 use std::marker::Model;
 use wb_states::Record;
 
-/// The records that a merge is making, by architecture and source package, apart from the tables: they are
-/// copied from them, changed, and put in the place of the tables' own at the end, all or none. Clauses see
+/// The records that a merge is making, by architecture and source package, apart from the office: they are
+/// copied from it, changed, and put in the place of its own at the end, all or none. Clauses see
 /// them as the map of the records (this project's own).
 #[derive(Drop)]
 pub struct Records {

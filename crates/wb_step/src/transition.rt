@@ -10,9 +10,10 @@ ghost use Rattle.wb_states.specs.Lookups.{entry_of};
 ghost use Rattle.wb_step.specs.Outcomes.{move_step};
 ghost use Rattle.wb_step.specs.Step.{counted};
 
-use crate::Store;
+use crate::OfficePart;
 use crate::checks::is_spent;
 use crate::operator::accept_one;
+use deb_text::Text;
 use std::alloc::Global;
 use wb_states::{KeyedRecord, Move, Record, Refusal, Reply, move_record};
 
@@ -33,40 +34,42 @@ pub(crate) fn move_checked(
 /// The record after the move of a command that can be counted. Nothing is written.
 pub(crate) fn prepare_move(
     alloc: Global,
-    store: &Store,
-    row: KeyedRecord,
+    office: &OfficePart,
+    arch: &Text,
+    source: &Text,
+    current: &Record,
     change: &Move,
 ) -> Result<KeyedRecord, Refusal>
     ensures value { IfOk result (λ made. entry_of made
-        ≡ ((row.arch, row.source), record_after_move change.now row.current)) }
-    ensures ok { OnOk result (move_refusal change.now row.current ≡ None) }
-    ensures room { OnOk result (nat_le count_limit store.now.accepted ≡ false) }
+        ≡ ((arch.now, source.now), record_after_move change.now current.now)) }
+    ensures ok { OnOk result (move_refusal change.now current.now ≡ None) }
+    ensures room { OnOk result (nat_le count_limit office.now.accepted ≡ false) }
     ensures refused { IfErr result (λ refusal. IsOfMachine refusal
-        → move_step store.now (entry_of row) change.now ≡ (Err refusal, store.now)) }
+        → move_step office.now ((arch.now, source.now), current.now) change.now
+        ≡ (Err refusal, office.now)) }
 {
-    let after = move_checked(alloc, &row.current, change)?;
-    let is_full = is_spent(store)?;
-    if is_full {
+    let after = move_checked(alloc, current, change)?;
+    if is_spent(office) {
         return Err(Refusal::Spent);
     }
     Ok(KeyedRecord {
-        arch: row.arch,
-        source: row.source,
+        arch: arch.clone()?,
+        source: source.clone()?,
         current: after,
     })
 }
 
 /// Writes a record that a command changed, and counts the command.
-pub(crate) fn keep_record(store: &mut Store, made: KeyedRecord) -> Result<Reply, Refusal>
-    requires { nat_le count_limit store.old.accepted ≡ false }
-    ensures reply { IfOk result (λ reply. reply ≡ Done (store.old.accepted + 1)) }
-    ensures ok { OnOk result (store.new ≡ counted store.old
-        (record store.old {
-          records = map.insert store.old.records (made.arch, made.source) made.current;
+pub(crate) fn keep_record(office: &mut OfficePart, made: KeyedRecord) -> Result<Reply, Refusal>
+    requires { nat_le count_limit office.old.accepted ≡ false }
+    ensures reply { IfOk result (λ reply. reply ≡ Done (office.old.accepted + 1)) }
+    ensures ok { OnOk result (office.new ≡ counted office.old
+        (record office.old {
+          records = map.insert office.old.records (made.arch, made.source) made.current;
         })) }
     ensures refused { IfErr result (λ refusal. refusal ≡ Memory) }
-    ensures unchanged { OnErr result (store.new ≡ store.old) }
+    ensures unchanged { OnErr result (office.new ≡ office.old) }
 {
-    store.put(made.arch, made.source, made.current)?;
-    accept_one(store)
+    office.put(made.arch, made.source, made.current)?;
+    Ok(accept_one(office))
 }

@@ -1,6 +1,5 @@
 use Rattle.std.proofs.Common.{◌∙◌, sym}
 use Rattle.std.proofs.lemmas.Result.{IfOk-weaker}
-use Rattle.wb_states.specs.Lookups.{entry_of}
 use Rattle.wb_step.specs.Outcomes.{assignment_step}
 use Rattle.wb_step.proofs.CarriesLemmas.{reaches-returned, reaches-kept}
 use Rattle.wb_step.proofs.SoughtLemmas.{sought-first, sought-found, sought-is}
@@ -11,31 +10,30 @@ use Rattle.wb_step.proofs.builder.take_by_name.Goals as goal
 pub returns-in_err-check_builds : goal.returns-in_err-check_builds
 returns-in_err-check_builds c = record {
   reaches = reaches-returned c.from_residual.result c.from_residual.ensures.1
-      (λ differs. sought-first c.args.store.now c.args.arch.now c.args.source.now c.args.version.now (assignment_step c.args.store.now c.args.builder.now) _ _
+      (λ differs. sought-first c.args.office.now c.args.arch.now c.args.source.now c.args.version.now (assignment_step c.args.office.now c.args.builder.now) _ _
       (c.in_err-check_builds.ensures.refused differs));
 }
 
-pub returns-in_err-row : goal.returns-in_err-row
-returns-in_err-row c = record {
-  reaches = reaches-returned c.from_residual-in_err-row.result c.from_residual-in_err-row.ensures.1
-      (λ differs. sought-found c.args.store.now c.args.arch.now c.args.source.now c.args.version.now (assignment_step c.args.store.now c.args.builder.now) _ _
-      c.in_ok-check_builds.ensures.ok (c.in_err-row.ensures.refused differs));
+pub returns-in_err-current : goal.returns-in_err-current
+returns-in_err-current c = record {
+  reaches = reaches-returned c.from_residual-in_err-current.result c.from_residual-in_err-current.ensures.1
+      (λ differs. sought-found c.args.office.now c.args.arch.now c.args.source.now c.args.version.now (assignment_step c.args.office.now c.args.builder.now) _ _
+      c.in_ok-check_builds.ensures.ok (c.in_err-current.ensures.refused differs));
 }
 
 pub returns-in_err-given : goal.returns-in_err-given
 returns-in_err-given c = record {
   reaches = reaches-returned c.from_residual-in_err-given.result c.from_residual-in_err-given.ensures.1
-      (λ differs. sought-is c.args.store.now c.args.arch.now c.args.source.now c.args.version.now (assignment_step c.args.store.now c.args.builder.now) _ c.in_ok-row.row.current
-      c.in_ok-check_builds.ensures.ok c.in_ok-row.ensures.value c.in_ok-row.ensures.ok ∙ (λ i. assignment_step c.args.store.now c.args.builder.now ((sym c.in_ok-row.ensures.key.0 i, sym c.in_ok-row.ensures.key.1 i), c.in_ok-row.row.current)) ∙ c.in_err-given.ensures.refused differs);
+      (λ differs. sought-is c.args.office.now c.args.arch.now c.args.source.now c.args.version.now (assignment_step c.args.office.now c.args.builder.now) _ c.in_ok-current.current.now
+      c.in_ok-check_builds.ensures.ok c.in_ok-current.ensures.value c.in_ok-current.ensures.ok ∙ c.in_err-given.ensures.refused differs);
 }
 
 pub returns : goal.returns
 returns c = record {
   reaches = reaches-kept (IfOk-weaker c.keep_assignment.result _ _ (λ _ is.
-      sought-is c.args.store.now c.args.arch.now c.args.source.now c.args.version.now (assignment_step c.args.store.now c.args.builder.now) _ c.in_ok-row.row.current
-      c.in_ok-check_builds.ensures.ok c.in_ok-row.ensures.value c.in_ok-row.ensures.ok
-      ∙ (λ i. assignment_step c.args.store.now c.args.builder.now ((sym c.in_ok-row.ensures.key.0 i, sym c.in_ok-row.ensures.key.1 i), c.in_ok-row.row.current))
-      ∙ assignment_step-kept c.args.store.now _ c.args.builder.now (entry_of c.in_ok-row.row) _ _ _
+      sought-is c.args.office.now c.args.arch.now c.args.source.now c.args.version.now (assignment_step c.args.office.now c.args.builder.now) _ c.in_ok-current.current.now
+      c.in_ok-check_builds.ensures.ok c.in_ok-current.ensures.value c.in_ok-current.ensures.ok
+      ∙ assignment_step-kept c.args.office.now _ c.args.builder.now ((c.args.arch.now, c.args.source.now), c.in_ok-current.current.now) _ _ _
       c.in_ok-given.ensures.ok c.in_ok-given.ensures.room c.in_ok-given.ensures.value c.in_ok-given.ensures.reply is.0 is.1)
       (with-known c.keep_assignment.result _ _ c.keep_assignment.ensures.reply c.keep_assignment.ensures.ok))
       c.keep_assignment.ensures.refused c.keep_assignment.ensures.unchanged;

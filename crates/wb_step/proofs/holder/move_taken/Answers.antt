@@ -1,6 +1,6 @@
 use Rattle.std.proofs.Common.{◌∙◌, ap, sym, option_map}
 use Rattle.std.proofs.lemmas.Result.{IfOk-weaker}
-use Rattle.wb_states.specs.Lookups.{entry_of}
+use Rattle.std.specs.Map.Iter.{deref_pair}
 use Rattle.wb_step.proofs.CarriesLemmas.{reaches-refused, reaches-returned, reaches-kept}
 use Rattle.wb_step.proofs.HeldLemmas.{taken_step-NotHeld, taken_step-moves}
 use Rattle.wb_step.proofs.MoveLemmas.{move_step-made}
@@ -10,24 +10,24 @@ use Rattle.wb_step.proofs.holder.move_taken.Goals as goal
 pub returns-in_default : goal.returns-in_default
 returns-in_default c = record {
   reaches = reaches-refused
-      (taken_step-NotHeld c.args.store.now c.args.take_number (λ _. c.args.change.now)
-      (sym (sym (ap (option_map entry_of) c.in_default.is) ∙ c.in_ok-found.ensures.value)));
+      (taken_step-NotHeld c.args.office.now c.args.take_number (λ _. c.args.change.now)
+      (sym (sym (ap (option_map deref_pair) c.in_default.is) ∙ c.by_take-found.ensures.value)));
 }
 
 pub returns-in_err-made : goal.returns-in_err-made
 returns-in_err-made c = record {
-  reaches = reaches-returned c.from_residual-in_err-made.result c.from_residual-in_err-made.ensures.1
-      (λ differs. taken_step-moves c.args.store.now c.args.take_number (λ _. c.args.change.now) (entry_of c.in-Some.row)
-      (sym (sym (ap (option_map entry_of) c.in-Some.is) ∙ c.in_ok-found.ensures.value))
+  reaches = reaches-returned c.from_residual.result c.from_residual.ensures.1
+      (λ differs. taken_step-moves c.args.office.now c.args.take_number (λ _. c.args.change.now) (deref_pair (c.in-Some.key, c.in-Some.current))
+      (sym (sym (ap (option_map deref_pair) c.in-Some.is) ∙ c.by_take-found.ensures.value))
       ∙ c.in_err-made.ensures.refused differs);
 }
 
 pub returns : goal.returns
 returns c = record {
   reaches = reaches-kept (IfOk-weaker c.keep_record.result _ _ (λ _ is.
-      taken_step-moves c.args.store.now c.args.take_number (λ _. c.args.change.now) (entry_of c.in-Some.row)
-      (sym (sym (ap (option_map entry_of) c.in-Some.is) ∙ c.in_ok-found.ensures.value))
-      ∙ move_step-made c.args.store.now _ (entry_of c.in-Some.row) c.args.change.now c.in_ok-made.made _
+      taken_step-moves c.args.office.now c.args.take_number (λ _. c.args.change.now) (deref_pair (c.in-Some.key, c.in-Some.current))
+      (sym (sym (ap (option_map deref_pair) c.in-Some.is) ∙ c.by_take-found.ensures.value))
+      ∙ move_step-made c.args.office.now _ (deref_pair (c.in-Some.key, c.in-Some.current)) c.args.change.now c.in_ok-made.made _
       c.in_ok-made.ensures.ok c.in_ok-made.ensures.room c.in_ok-made.ensures.value is.0 is.1)
       (with-known c.keep_record.result _ _ c.keep_record.ensures.reply c.keep_record.ensures.ok))
       c.keep_record.ensures.refused c.keep_record.ensures.unchanged;

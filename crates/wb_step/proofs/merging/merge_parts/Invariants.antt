@@ -6,10 +6,10 @@ use Rattle.wb_step.proofs.merging.merge_parts.Given as goal
 
 abbrev pub invariant-loop-part : goal.invariant-loop-part
 invariant-loop-part l = record {
-  records : records_after l.store l.sources (drop l.part-index l.parts) l.records
-      ≡ records_after l.store l.sources l.parts l.store.records;
-  replies : l.replies.items ++ part_replies l.store l.sources (drop l.part-index l.parts) l.records
-      ≡ part_replies l.store l.sources l.parts l.store.records;
-  good : (l.is_any_good || list_any (is_good l.store l.sources) (drop l.part-index l.parts))
-      ≡ list_any (is_good l.store l.sources) l.parts;
+  records : records_after l.office l.sources (drop l.part-index l.parts) l.records
+      ≡ records_after l.office l.sources l.parts l.office.records;
+  replies : l.replies.items ++ part_replies l.office l.sources (drop l.part-index l.parts) l.records
+      ≡ part_replies l.office l.sources l.parts l.office.records;
+  good : (l.is_any_good || list_any (is_good l.office l.sources) (drop l.part-index l.parts))
+      ≡ list_any (is_good l.office l.sources) l.parts;
 }

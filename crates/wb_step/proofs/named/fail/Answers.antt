@@ -11,11 +11,11 @@ use Rattle.wb_step.proofs.named.fail.Goals as goal
 
 pub returns-in_err-read-clause-carries : goal.returns-in_err-read-clause-carries
 returns-in_err-read-clause-carries c = carries-returned c.from_residual.result c.from_residual.ensures.1
-    (λ differs. step-text c.args.store.now (of.Fail c.args.command.now) _ (aside-Fail c.args.command.now ∙ c.in_err-read.ensures.refused differs))
+    (λ differs. step-text c.args.office.now (of.Fail c.args.command.now) _ (aside-Fail c.args.command.now ∙ c.in_err-read.ensures.refused differs))
     (λ none. want-text (of.Fail c.args.command.now) (aside-Fail c.args.command.now ∙ c.in_err-read.ensures.memory none) refl)
 
 pub returns-clause-carries : goal.returns-clause-carries
 returns-clause-carries c = carries-reached c.move_named.ensures.reaches
-    (step-Fail c.args.store.now c.args.command.now.arch c.args.command.now.source c.args.command.now.version c.args.command.now.note (aside-Fail c.args.command.now ∙ c.in_ok-read.ensures.ok)
-    ∙ (λ i. named_step c.args.store.now c.args.command.now.arch c.args.command.now.source (sym c.in_ok-read.ensures.value.0 i) (to.Fail (sym c.in_ok-read.ensures.value.1 i))))
+    (step-Fail c.args.office.now c.args.command.now.arch c.args.command.now.source c.args.command.now.version c.args.command.now.note (aside-Fail c.args.command.now ∙ c.in_ok-read.ensures.ok)
+    ∙ (λ i. named_step c.args.office.now c.args.command.now.arch c.args.command.now.source (sym c.in_ok-read.ensures.value.0 i) (to.Fail (sym c.in_ok-read.ensures.value.1 i))))
     (want-text (of.Fail c.args.command.now) (aside-Fail c.args.command.now ∙ c.in_ok-read.ensures.ok) refl)

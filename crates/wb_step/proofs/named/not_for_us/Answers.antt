@@ -11,11 +11,11 @@ use Rattle.wb_step.proofs.named.not_for_us.Goals as goal
 
 pub returns-in_err-read-clause-carries : goal.returns-in_err-read-clause-carries
 returns-in_err-read-clause-carries c = carries-returned c.from_residual.result c.from_residual.ensures.1
-    (λ differs. step-text c.args.store.now (of.NotForUs c.args.command.now) _ (aside-NotForUs c.args.command.now ∙ c.in_err-read.ensures.refused differs))
+    (λ differs. step-text c.args.office.now (of.NotForUs c.args.command.now) _ (aside-NotForUs c.args.command.now ∙ c.in_err-read.ensures.refused differs))
     (λ none. want-text (of.NotForUs c.args.command.now) (aside-NotForUs c.args.command.now ∙ c.in_err-read.ensures.memory none) refl)
 
 pub returns-clause-carries : goal.returns-clause-carries
 returns-clause-carries c = carries-reached c.move_named.ensures.reaches
-    (step-NotForUs c.args.store.now c.args.command.now.arch c.args.command.now.source c.args.command.now.version c.args.command.now.note (aside-NotForUs c.args.command.now ∙ c.in_ok-read.ensures.ok)
-    ∙ (λ i. named_step c.args.store.now c.args.command.now.arch c.args.command.now.source (sym c.in_ok-read.ensures.value.0 i) (to.NotForUs (sym c.in_ok-read.ensures.value.1 i))))
+    (step-NotForUs c.args.office.now c.args.command.now.arch c.args.command.now.source c.args.command.now.version c.args.command.now.note (aside-NotForUs c.args.command.now ∙ c.in_ok-read.ensures.ok)
+    ∙ (λ i. named_step c.args.office.now c.args.command.now.arch c.args.command.now.source (sym c.in_ok-read.ensures.value.0 i) (to.NotForUs (sym c.in_ok-read.ensures.value.1 i))))
     (want-text (of.NotForUs c.args.command.now) (aside-NotForUs c.args.command.now ∙ c.in_ok-read.ensures.ok) refl)

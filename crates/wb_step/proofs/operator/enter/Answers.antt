@@ -5,23 +5,23 @@ use Rattle.wb_step.proofs.operator.enter.Goals as goal
 pub returns-in_err-waiting : goal.returns-in_err-waiting
 returns-in_err-waiting c = record {
   carries = carries-returned c.from_residual-in_err-waiting.result c.from_residual-in_err-waiting.ensures.1
-      (λ differs. absurd (differs c.in_err-waiting.ensures.refused)) (λ _. want-Enter c.args.store.now c.args.command.now.arch c.args.command.now.source c.args.command.now.version c.args.command.now.priority c.args.command.now.section c.in_ok-read.ensures.ok);
+      (λ differs. absurd (differs c.in_err-waiting.ensures.refused)) (λ _. want-Enter c.args.office.now c.args.command.now.arch c.args.command.now.source c.args.command.now.version c.args.command.now.priority c.args.command.now.section c.in_ok-read.ensures.ok);
 }
 
 pub returns-in_err-clone : goal.returns-in_err-clone
 returns-in_err-clone c = record {
   carries = carries-memory c.from_residual-in_err-clone.result c.from_residual-in_err-clone.ensures.1
-      (want-Enter c.args.store.now c.args.command.now.arch c.args.command.now.source c.args.command.now.version c.args.command.now.priority c.args.command.now.section c.in_ok-read.ensures.ok);
+      (want-Enter c.args.office.now c.args.command.now.arch c.args.command.now.source c.args.command.now.version c.args.command.now.priority c.args.command.now.section c.in_ok-read.ensures.ok);
 }
 
 pub returns-in_err-clone-2 : goal.returns-in_err-clone-2
 returns-in_err-clone-2 c = record {
   carries = carries-memory c.from_residual-in_err-clone-2.result c.from_residual-in_err-clone-2.ensures.1
-      (want-Enter c.args.store.now c.args.command.now.arch c.args.command.now.source c.args.command.now.version c.args.command.now.priority c.args.command.now.section c.in_ok-read.ensures.ok);
+      (want-Enter c.args.office.now c.args.command.now.arch c.args.command.now.source c.args.command.now.version c.args.command.now.priority c.args.command.now.section c.in_ok-read.ensures.ok);
 }
 
 pub returns-in_err-put : goal.returns-in_err-put
 returns-in_err-put c = record {
   carries = carries-failed c.from_residual-in_err-put.result c.from_residual-in_err-put.ensures.1
-      c.in_err-put.ensures.fault c.in_err-put.ensures.err (want-Enter c.args.store.now c.args.command.now.arch c.args.command.now.source c.args.command.now.version c.args.command.now.priority c.args.command.now.section c.in_ok-read.ensures.ok);
+      c.in_err-put.ensures.err (want-Enter c.args.office.now c.args.command.now.arch c.args.command.now.source c.args.command.now.version c.args.command.now.priority c.args.command.now.section c.in_ok-read.ensures.ok);
 }
