@@ -78,16 +78,7 @@ asked-other take_number machine command words move below is = at command is wher
   at (of.Merge fields) e = cc
   at (of.Next fields) e = made (to.Take fields.builder (machine.handed + 1)) next e
   at (of.Take fields) e = made (to.Take fields.builder (machine.handed + 1)) next e
-  at (of.Built fields) e = made _ tt e
-  at (of.Uploaded fields) e = made _ tt e
-  at (of.Waits fields) e = made _ tt e
-  at (of.PutBack fields) e = made _ tt e
-  at (of.Attempted fields) e = made _ tt e
-  at (of.GiveBack fields) e = made _ tt e
-  at (of.DepWait fields) e = made _ tt e
-  at (of.Fail fields) e = made _ tt e
-  at (of.NotForUs fields) e = made _ tt e
-  at (of.Rebuild fields) e = made _ tt e
+  at _ e = made _ tt e
 
 after-free : (take_number : ℕ) (found : Option Record) (listed : Option Listed) (built : Option WasBuilt) (available : Pairs)
     → IfSome found (IsNotTaken take_number) → IfSome (record_after found listed built available) (IsNotTaken take_number)
@@ -125,23 +116,9 @@ state_after-free take_number machine (of.Enter fields) below old allowed =
 state_after-free take_number machine (of.Merge fields) below old allowed =
     records_after-keeps (λ key. IsNotTaken take_number) machine fields.sources fields.parts
     (λ part listing is source found had. after-free take_number found (map.get listing.listed source) (map.get listing.built source) listing.available had) machine.records old
-state_after-free take_number machine (of.Next fields) below old allowed = transition_of-free take_number machine (of.Next fields) below old allowed
-state_after-free take_number machine (of.Take fields) below old allowed = transition_of-free take_number machine (of.Take fields) below old allowed
-state_after-free take_number machine (of.Built fields) below old allowed = transition_of-free take_number machine (of.Built fields) below old allowed
-state_after-free take_number machine (of.Uploaded fields) below old allowed = transition_of-free take_number machine (of.Uploaded fields) below old allowed
-state_after-free take_number machine (of.Waits fields) below old allowed = transition_of-free take_number machine (of.Waits fields) below old allowed
-state_after-free take_number machine (of.PutBack fields) below old allowed = transition_of-free take_number machine (of.PutBack fields) below old allowed
-state_after-free take_number machine (of.Attempted fields) below old allowed = transition_of-free take_number machine (of.Attempted fields) below old allowed
-state_after-free take_number machine (of.GiveBack fields) below old allowed = transition_of-free take_number machine (of.GiveBack fields) below old allowed
-state_after-free take_number machine (of.DepWait fields) below old allowed =
-    transition_of-free take_number machine (of.DepWait fields) below old allowed
-state_after-free take_number machine (of.Fail fields) below old allowed = transition_of-free take_number machine (of.Fail fields) below old allowed
-state_after-free take_number machine (of.NotForUs fields) below old allowed =
-    transition_of-free take_number machine (of.NotForUs fields) below old allowed
-state_after-free take_number machine (of.Rebuild fields) below old allowed =
-    transition_of-free take_number machine (of.Rebuild fields) below old allowed
 state_after-free take_number machine (of.BuildPriority fields) below old allowed =
     after_priority-free take_number machine (fields.arch, fields.source) fields.value old
+state_after-free take_number machine command below old allowed = transition_of-free take_number machine command below old allowed
 
 step-free : (take_number : ℕ) (machine : Machine) (command : Command) → take_number ≤ machine.handed → IsFree take_number machine → IsFree take_number (step machine command).1
 step-free take_number machine command below old =

@@ -81,21 +81,9 @@ state_after-others machine (of.AddBuilder fields) key allowed apart = refl
 state_after-others machine (of.Enter fields) key allowed apart =
     insert-other machine.records (fields.arch, fields.source) key (entered fields.version fields.priority fields.section) apart
 state_after-others machine (of.Merge fields) key allowed apart = parts-others machine fields.sources fields.parts machine.records key apart
-state_after-others machine (of.Next fields) key allowed apart = transition_of-others machine (of.Next fields) key allowed apart
-state_after-others machine (of.Take fields) key allowed apart = transition_of-others machine (of.Take fields) key allowed apart
-state_after-others machine (of.Built fields) key allowed apart = transition_of-others machine (of.Built fields) key allowed apart
-state_after-others machine (of.Uploaded fields) key allowed apart = transition_of-others machine (of.Uploaded fields) key allowed apart
-state_after-others machine (of.Waits fields) key allowed apart = transition_of-others machine (of.Waits fields) key allowed apart
-state_after-others machine (of.PutBack fields) key allowed apart = transition_of-others machine (of.PutBack fields) key allowed apart
-state_after-others machine (of.Attempted fields) key allowed apart = transition_of-others machine (of.Attempted fields) key allowed apart
-state_after-others machine (of.GiveBack fields) key allowed apart = transition_of-others machine (of.GiveBack fields) key allowed apart
-state_after-others machine (of.DepWait fields) key allowed apart = transition_of-others machine (of.DepWait fields) key allowed apart
-state_after-others machine (of.Fail fields) key allowed apart = transition_of-others machine (of.Fail fields) key allowed apart
-state_after-others machine (of.NotForUs fields) key allowed apart = transition_of-others machine (of.NotForUs fields) key allowed apart
-state_after-others machine (of.Rebuild fields) key allowed apart =
-    transition_of-others machine (of.Rebuild fields) key allowed apart
 state_after-others machine (of.BuildPriority fields) key allowed apart =
     after_priority-others machine (fields.arch, fields.source) key fields.value (map.get machine.records (fields.arch, fields.source)) apart
+state_after-others machine command key allowed apart = transition_of-others machine command key allowed apart
 
 pub step-others : (machine : Machine) (command : Command) (key : List ℕ × List ℕ) → (MayChange machine command key → ⊥)
     → map.get (step machine command).1.records key ≡ map.get machine.records key

@@ -122,18 +122,9 @@ state_after-handed machine (of.Enter fields) = omega arith
 state_after-handed machine (of.Next fields) = omega arith
 state_after-handed machine (of.Take fields) = omega arith
 state_after-handed machine (of.Merge fields) = omega arith
-state_after-handed machine (of.Built fields) = move-handed machine (transition_of machine (of.Built fields))
-state_after-handed machine (of.Uploaded fields) = move-handed machine (transition_of machine (of.Uploaded fields))
-state_after-handed machine (of.Waits fields) = move-handed machine (transition_of machine (of.Waits fields))
-state_after-handed machine (of.PutBack fields) = move-handed machine (transition_of machine (of.PutBack fields))
-state_after-handed machine (of.Attempted fields) = move-handed machine (transition_of machine (of.Attempted fields))
-state_after-handed machine (of.GiveBack fields) = move-handed machine (transition_of machine (of.GiveBack fields))
-state_after-handed machine (of.DepWait fields) = move-handed machine (transition_of machine (of.DepWait fields))
-state_after-handed machine (of.Fail fields) = move-handed machine (transition_of machine (of.Fail fields))
-state_after-handed machine (of.NotForUs fields) = move-handed machine (transition_of machine (of.NotForUs fields))
-state_after-handed machine (of.Rebuild fields) = move-handed machine (transition_of machine (of.Rebuild fields))
 state_after-handed machine (of.BuildPriority fields) =
     priority-handed machine (fields.arch, fields.source) fields.value (map.get machine.records (fields.arch, fields.source))
+state_after-handed machine command = move-handed machine (transition_of machine command)
 
 pub step-handed : (machine : Machine) (command : Command) → machine.handed ≤ (step machine command).1.handed
 step-handed machine command = step-either (λ after. machine.handed ≤ after.handed) machine command (omega arith) (λ _ _. state_after-handed machine command)

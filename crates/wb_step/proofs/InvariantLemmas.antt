@@ -190,25 +190,9 @@ state_after-keeps machine (of.Take fields) old utf8 pass again =
     let spent = or_parts (nat_le count_limit machine.accepted) (nat_le count_limit machine.handed) pass.room in
     taking-keeps machine (of.Take fields) old utf8 refl pass (leb-false count_limit machine.handed spent.1) (room-for machine spent.0)
 state_after-keeps machine (of.Merge fields) old utf8 pass again = merging-keeps machine fields.sources fields.parts old (room-for machine pass.room)
-state_after-keeps machine (of.Built fields) old utf8 pass again = transition_of-keeps machine (of.Built fields) old utf8 tt pass (room-for machine pass.room)
-state_after-keeps machine (of.Uploaded fields) old utf8 pass again = transition_of-keeps machine (of.Uploaded fields) old utf8 tt pass (room-for machine pass.room)
-state_after-keeps machine (of.Waits fields) old utf8 pass again =
-    transition_of-keeps machine (of.Waits fields) old utf8 tt pass (room-for machine pass.room)
-state_after-keeps machine (of.PutBack fields) old utf8 pass again = transition_of-keeps machine (of.PutBack fields) old utf8 tt pass (room-for machine pass.room)
-state_after-keeps machine (of.Attempted fields) old utf8 pass again =
-    transition_of-keeps machine (of.Attempted fields) old utf8 tt pass (room-for machine pass.room)
-state_after-keeps machine (of.GiveBack fields) old utf8 pass again =
-    transition_of-keeps machine (of.GiveBack fields) old utf8 tt pass (room-for machine pass.room)
-state_after-keeps machine (of.DepWait fields) old utf8 pass again =
-    transition_of-keeps machine (of.DepWait fields) old utf8 tt pass (room-for machine pass.room)
-state_after-keeps machine (of.Fail fields) old utf8 pass again =
-    transition_of-keeps machine (of.Fail fields) old utf8 tt pass (room-for machine pass.room)
-state_after-keeps machine (of.NotForUs fields) old utf8 pass again =
-    transition_of-keeps machine (of.NotForUs fields) old utf8 tt pass (room-for machine pass.room)
-state_after-keeps machine (of.Rebuild fields) old utf8 pass again =
-    transition_of-keeps machine (of.Rebuild fields) old utf8 tt pass (room-for machine pass.room)
 state_after-keeps machine (of.BuildPriority fields) old utf8 pass again =
     priority-keeps machine (fields.arch, fields.source) fields.value old (good-priority fields.value pass.number) (room-for machine pass.room)
+state_after-keeps machine command old utf8 pass again = transition_of-keeps machine command old utf8 tt pass (room-for machine pass.room)
 
 pub step-keeps : (machine : Machine) (command : Command) → HasUtf8Texts command → IsConsistent machine → IsConsistent (step machine command).1
 step-keeps machine command utf8 old = step-either IsConsistent machine command old (state_after-keeps machine command old utf8)

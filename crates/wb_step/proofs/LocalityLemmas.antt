@@ -27,13 +27,14 @@ use Rattle.wb_states.specs.Holds.{taken_as}
 use Rattle.wb_states.specs.Machine.{Machine, Key, archs_of, arch_words}
 use Rattle.wb_states.specs.Moves.{move_refusal}
 use Rattle.wb_states.specs.Queue.{Entry, head_of}
-use Rattle.wb_step.specs.Arguments.{arguments_of}
-use Rattle.wb_step.specs.Checks.{first_refusal, state_refusal, text_refusal, lacks_arch, merge_refusal, lacks_builder, is_for_other_archs, is_ahead, is_not_held, lacks_source, other_version, refused_move, has_empty_queue, is_spent, is_for_others, is_unknown_source, other_version_at, source_named, take_named}
+use Rattle.wb_states.specs.Subject.{Subject, Nothing, Source, Taken, Head, subject_of}
+use Rattle.wb_step.specs.Arguments.{Addition, arguments_of}
+use Rattle.wb_step.specs.Checks.{first_refusal, state_refusal, text_refusal, lacks_arch, merge_refusal, lacks_builder, is_for_other_archs, is_ahead, is_not_held, lacks_source, other_version, refused_move, has_empty_queue, has_full_count, is_spent, is_for_others, is_unknown_source, other_version_at, source_in, source_named, take_in, take_named}
 use Rattle.wb_states.specs.Machine.{is_unknown_arch, is_unknown_builder}
 use Rattle.wb_step.specs.Parts.{parts_refusal}
-use Rattle.wb_step.specs.Targets.{again_of, target_of, transition_of, record_named, with_move, move_of_command}
-use Rattle.wb_step.specs.Step.{step, outcome, reply_to, state_after, counted, after_move, after_take, after_priority}
-use Rattle.wb_step.specs.Locality.{LooksAlike, moved, entry_put, with_entry, changed}
+use Rattle.wb_step.specs.Targets.{again_of, first_named, next_in, next_named, target_of, transition_of, record_named, with_move, move_of_command}
+use Rattle.wb_step.specs.Step.{step, outcome, reply_by, reply_to, state_after, counted, after_move, after_take, after_priority}
+use Rattle.wb_step.specs.Locality.{LooksAlike, moved, entry_by, entry_put, prioritized, with_entry, changed}
 
 -- two functions of a value that may be missing agree if they do where it is there
 where_there : {X Y : Type 0} (f g : Option X → Y) (value : Option X) → f None ≡ g None → ((x : X) → value ≡ Some x → f (Some x) ≡ g (Some x)) → f value ≡ g value
@@ -70,7 +71,7 @@ module _ (command : Command) (one other : Machine) (alike : LooksAlike command o
       (λ name is i. has_value (λ arch. not (alike.builder name arch is i)) (arguments_of command).arch)
 
   same_ahead : is_ahead one command ≡ is_ahead other command
-  same_ahead i = has_value (λ (next : Next). has_value (nat_lt (alike.handed i)) next.after) (arguments_of command).next
+  same_ahead i = has_value (λ (next : Next). has_value (nat_lt (alike.handed i)) next.after) (next_named command)
 
   same_held : is_not_held one command ≡ is_not_held other command
   same_held =
@@ -102,46 +103,29 @@ module _ (command : Command) (one other : Machine) (alike : LooksAlike command o
   same_empty : has_empty_queue one command ≡ has_empty_queue other command
   same_empty =
       where_there (has_value (λ (next : Next). is_none (again_of one command) && is_none (head_of one next.arch)))
-      (has_value (λ (next : Next). is_none (again_of other command) && is_none (head_of other next.arch))) (arguments_of command).next refl
+      (has_value (λ (next : Next). is_none (again_of other command) && is_none (head_of other next.arch))) (next_named command) refl
       (λ next is i. is_none (alike.again i) && is_none (alike.head next is i))
+
+-- the record by which what a command names is found, unless the command adds it
+same_first : (command : Command) (one other : Machine) → LooksAlike command one other → (subject : Subject) → subject_of command ≡ subject → (arguments_of command).adds ≡ None
+    → first_named one subject ≡ first_named other subject
+same_first command one other alike Nothing is none = refl
+same_first command one other alike (Source arch source) is none = same_named command one other alike arch source (λ i. source_in (is i) (none i))
+same_first command one other alike (Taken take_number) is none = alike.taken take_number (ap take_in is)
+same_first command one other alike (Head next) is none = alike.head next (ap next_in is)
 
 same_target : (command : Command) (one other : Machine) → LooksAlike command one other → target_of one command ≡ target_of other command
 same_target (of.AddArch fields) one other alike = refl
 same_target (of.AddBuilder fields) one other alike = refl
 same_target (of.Enter fields) one other alike = refl
-same_target (of.Next fields) one other alike = alike.head fields refl
-same_target (of.Take fields) one other alike = same_named (of.Take fields) one other alike fields.arch fields.source refl
-same_target (of.Built fields) one other alike = alike.taken fields.take_number refl
-same_target (of.Uploaded fields) one other alike = alike.taken fields.take_number refl
-same_target (of.Waits fields) one other alike = alike.taken fields.take_number refl
-same_target (of.PutBack fields) one other alike = alike.taken fields.take_number refl
-same_target (of.Attempted fields) one other alike = alike.taken fields.take_number refl
-same_target (of.GiveBack fields) one other alike = same_named (of.GiveBack fields) one other alike fields.arch fields.source refl
-same_target (of.DepWait fields) one other alike = same_named (of.DepWait fields) one other alike fields.arch fields.source refl
-same_target (of.Fail fields) one other alike = same_named (of.Fail fields) one other alike fields.arch fields.source refl
-same_target (of.NotForUs fields) one other alike = same_named (of.NotForUs fields) one other alike fields.arch fields.source refl
-same_target (of.Rebuild fields) one other alike = same_named (of.Rebuild fields) one other alike fields.arch fields.source refl
 same_target (of.BuildPriority fields) one other alike = refl
 same_target (of.Merge fields) one other alike = refl
+same_target command one other alike = same_first command one other alike (subject_of command) refl refl
 
 same_move : (command : Command) (one other : Machine) → LooksAlike command one other → (words : ArchWords) → move_of_command one command words ≡ move_of_command other command words
-same_move (of.AddArch fields) one other alike words = refl
-same_move (of.AddBuilder fields) one other alike words = refl
-same_move (of.Enter fields) one other alike words = refl
 same_move (of.Next fields) one other alike words = ap (λ n. Some (to.Take fields.builder (n + 1))) alike.handed
 same_move (of.Take fields) one other alike words = ap (λ n. Some (to.Take fields.builder (n + 1))) alike.handed
-same_move (of.Built fields) one other alike words = refl
-same_move (of.Uploaded fields) one other alike words = refl
-same_move (of.Waits fields) one other alike words = refl
-same_move (of.PutBack fields) one other alike words = refl
-same_move (of.Attempted fields) one other alike words = refl
-same_move (of.GiveBack fields) one other alike words = refl
-same_move (of.DepWait fields) one other alike words = refl
-same_move (of.Fail fields) one other alike words = refl
-same_move (of.NotForUs fields) one other alike words = refl
-same_move (of.Rebuild fields) one other alike words = refl
-same_move (of.BuildPriority fields) one other alike words = refl
-same_move (of.Merge fields) one other alike words = refl
+same_move _ one other alike words = refl
 
 same_with_move : (command : Command) (one other : Machine) → LooksAlike command one other → (entry : Entry) → with_move one command entry ≡ with_move other command entry
 same_with_move command one other alike entry =
@@ -154,24 +138,13 @@ same_transition command one other alike i = option_and_then (λ entry. same_with
 same_refused : (command : Command) (one other : Machine) → LooksAlike command one other → refused_move one command ≡ refused_move other command
 same_refused command one other alike = ap (option_and_then (λ (asked : Entry × Move). move_refusal asked.1 asked.0.1)) (same_transition command one other alike)
 
+same_full : (builder : Option (List ℕ)) (one other : Machine) → one.accepted ≡ other.accepted → one.handed ≡ other.handed → has_full_count one builder ≡ has_full_count other builder
+same_full None one other accepted handed = ap (nat_le count_limit) accepted
+same_full (Some builder) one other accepted handed = λ i. nat_le count_limit (accepted i) || nat_le count_limit (handed i)
+
 same_limit : (command : Command) (one other : Machine) → LooksAlike command one other → is_spent one command ≡ is_spent other command
-same_limit (of.AddArch fields) one other alike = ap (nat_le count_limit) alike.accepted
-same_limit (of.AddBuilder fields) one other alike = ap (nat_le count_limit) alike.accepted
-same_limit (of.Enter fields) one other alike = ap (nat_le count_limit) alike.accepted
-same_limit (of.Next fields) one other alike = λ i. is_none (alike.again i) && (nat_le count_limit (alike.accepted i) || nat_le count_limit (alike.handed i))
-same_limit (of.Take fields) one other alike = λ i. nat_le count_limit (alike.accepted i) || nat_le count_limit (alike.handed i)
-same_limit (of.Built fields) one other alike = ap (nat_le count_limit) alike.accepted
-same_limit (of.Uploaded fields) one other alike = ap (nat_le count_limit) alike.accepted
-same_limit (of.Waits fields) one other alike = ap (nat_le count_limit) alike.accepted
-same_limit (of.PutBack fields) one other alike = ap (nat_le count_limit) alike.accepted
-same_limit (of.Attempted fields) one other alike = ap (nat_le count_limit) alike.accepted
-same_limit (of.GiveBack fields) one other alike = ap (nat_le count_limit) alike.accepted
-same_limit (of.DepWait fields) one other alike = ap (nat_le count_limit) alike.accepted
-same_limit (of.Fail fields) one other alike = ap (nat_le count_limit) alike.accepted
-same_limit (of.NotForUs fields) one other alike = ap (nat_le count_limit) alike.accepted
-same_limit (of.Rebuild fields) one other alike = ap (nat_le count_limit) alike.accepted
-same_limit (of.BuildPriority fields) one other alike = ap (nat_le count_limit) alike.accepted
-same_limit (of.Merge fields) one other alike = ap (nat_le count_limit) alike.accepted
+same_limit command one other alike i =
+    is_none (alike.again i) && same_full (arguments_of command).builder one other alike.accepted alike.handed i
 
 pub same_refusal : (command : Command) (one other : Machine) → LooksAlike command one other → first_refusal one command ≡ first_refusal other command
 unfolding first_refusal state_refusal
@@ -202,26 +175,17 @@ assigned machine (Some entry) = refl
 no_merge : (fields : Merge) → Some fields ≢ None
 no_merge fields e = cc
 
+-- the reply to a command that is no merge
+same_answered : (command : Command) (builder : Option (List ℕ)) (one other : Machine) → LooksAlike command one other → reply_by one command None builder ≡ reply_by other command None builder
+same_answered command None one other alike = ap (λ n. Done (n + 1)) alike.accepted
+same_answered command (Some builder) one other alike =
+    assigned one _ ∙ (λ i. assignment_of_target (alike.accepted i) (alike.handed i) (same_target command one other alike i)) ∙ sym (assigned other _)
+
 same_reply : (command : Command) (one other : Machine) → LooksAlike command one other → reply_to one command ≡ reply_to other command
-same_reply (of.AddArch fields) one other alike = ap (λ n. Done (n + 1)) alike.accepted
-same_reply (of.AddBuilder fields) one other alike = ap (λ n. Done (n + 1)) alike.accepted
-same_reply (of.Enter fields) one other alike = ap (λ n. Done (n + 1)) alike.accepted
-same_reply (of.Next fields) one other alike =
-    assigned one _ ∙ (λ i. assignment_of_target (alike.accepted i) (alike.handed i) (same_target (of.Next fields) one other alike i)) ∙ sym (assigned other _)
-same_reply (of.Take fields) one other alike =
-    assigned one _ ∙ (λ i. assignment_of_target (alike.accepted i) (alike.handed i) (same_target (of.Take fields) one other alike i)) ∙ sym (assigned other _)
-same_reply (of.Built fields) one other alike = ap (λ n. Done (n + 1)) alike.accepted
-same_reply (of.Uploaded fields) one other alike = ap (λ n. Done (n + 1)) alike.accepted
-same_reply (of.Waits fields) one other alike = ap (λ n. Done (n + 1)) alike.accepted
-same_reply (of.PutBack fields) one other alike = ap (λ n. Done (n + 1)) alike.accepted
-same_reply (of.Attempted fields) one other alike = ap (λ n. Done (n + 1)) alike.accepted
-same_reply (of.GiveBack fields) one other alike = ap (λ n. Done (n + 1)) alike.accepted
-same_reply (of.DepWait fields) one other alike = ap (λ n. Done (n + 1)) alike.accepted
-same_reply (of.Fail fields) one other alike = ap (λ n. Done (n + 1)) alike.accepted
-same_reply (of.NotForUs fields) one other alike = ap (λ n. Done (n + 1)) alike.accepted
-same_reply (of.Rebuild fields) one other alike = ap (λ n. Done (n + 1)) alike.accepted
-same_reply (of.BuildPriority fields) one other alike = ap (λ n. Done (n + 1)) alike.accepted
-same_reply (of.Merge fields) one other alike = absurd (no_merge fields alike.single)
+same_reply command one other alike =
+    ap (λ merge. reply_by one command merge (arguments_of command).builder) alike.single
+    ∙ same_answered command (arguments_of command).builder one other alike
+    ∙ sym (ap (λ merge. reply_by other command merge (arguments_of command).builder) alike.single)
 
 -- what is answered, without the state after it
 abbrev answered : Option Refusal → Option Entry → ℕ → Reply → Result Reply Refusal
@@ -241,24 +205,16 @@ same_answer command one other alike =
     ∙ (λ i. answered (same_refusal command one other alike i) (alike.again i) (alike.accepted i) (same_reply command one other alike i))
     ∙ sym (answered_as (first_refusal other command) (again_of other command) other command)
 
+same_entry_by : (command : Command) (added : Option Addition) (value : Option ℤ) (one other : Machine) → LooksAlike command one other
+    → entry_by one command added value ≡ entry_by other command added value
+same_entry_by command (Some added) value one other alike = refl
+same_entry_by command None (Some value) one other alike =
+    where_there (option_and_then (prioritized one value)) (option_and_then (prioritized other value)) (source_named command) refl
+    (λ key is. ap (option_map (λ (current : Record). (key, record current { build_priority = value }))) (alike.source key is))
+same_entry_by command None None one other alike = ap (option_map moved) (same_transition command one other alike)
+
 pub same_entry : (command : Command) (one other : Machine) → LooksAlike command one other → entry_put one command ≡ entry_put other command
-same_entry (of.AddArch fields) one other alike = refl
-same_entry (of.AddBuilder fields) one other alike = refl
-same_entry (of.Enter fields) one other alike = refl
-same_entry (of.Next fields) one other alike = ap (option_map moved) (same_transition (of.Next fields) one other alike)
-same_entry (of.Take fields) one other alike = ap (option_map moved) (same_transition (of.Take fields) one other alike)
-same_entry (of.Built fields) one other alike = ap (option_map moved) (same_transition (of.Built fields) one other alike)
-same_entry (of.Uploaded fields) one other alike = ap (option_map moved) (same_transition (of.Uploaded fields) one other alike)
-same_entry (of.Waits fields) one other alike = ap (option_map moved) (same_transition (of.Waits fields) one other alike)
-same_entry (of.PutBack fields) one other alike = ap (option_map moved) (same_transition (of.PutBack fields) one other alike)
-same_entry (of.Attempted fields) one other alike = ap (option_map moved) (same_transition (of.Attempted fields) one other alike)
-same_entry (of.GiveBack fields) one other alike = ap (option_map moved) (same_transition (of.GiveBack fields) one other alike)
-same_entry (of.DepWait fields) one other alike = ap (option_map moved) (same_transition (of.DepWait fields) one other alike)
-same_entry (of.Fail fields) one other alike = ap (option_map moved) (same_transition (of.Fail fields) one other alike)
-same_entry (of.NotForUs fields) one other alike = ap (option_map moved) (same_transition (of.NotForUs fields) one other alike)
-same_entry (of.Rebuild fields) one other alike = ap (option_map moved) (same_transition (of.Rebuild fields) one other alike)
-same_entry (of.BuildPriority fields) one other alike = ap (option_map (λ (current : Record). ((fields.arch, fields.source), record current { build_priority = fields.value }))) (alike.source (fields.arch, fields.source) refl)
-same_entry (of.Merge fields) one other alike = refl
+same_entry command one other alike = same_entry_by command (arguments_of command).adds (arguments_of command).build_priority one other alike
 
 by_move : (machine : Machine) (asked : Option (Entry × Move)) → after_move machine asked ≡ record machine { records = with_entry (option_map moved asked) machine.records }
 by_move machine None = refl
@@ -282,18 +238,9 @@ as_changed (of.AddBuilder fields) machine single = refl
 as_changed (of.Enter fields) machine single = refl
 as_changed (of.Next fields) machine single = counted_take machine (transition_of machine (of.Next fields))
 as_changed (of.Take fields) machine single = counted_take machine (transition_of machine (of.Take fields))
-as_changed (of.Built fields) machine single = counted_move machine (transition_of machine (of.Built fields))
-as_changed (of.Uploaded fields) machine single = counted_move machine (transition_of machine (of.Uploaded fields))
-as_changed (of.Waits fields) machine single = counted_move machine (transition_of machine (of.Waits fields))
-as_changed (of.PutBack fields) machine single = counted_move machine (transition_of machine (of.PutBack fields))
-as_changed (of.Attempted fields) machine single = counted_move machine (transition_of machine (of.Attempted fields))
-as_changed (of.GiveBack fields) machine single = counted_move machine (transition_of machine (of.GiveBack fields))
-as_changed (of.DepWait fields) machine single = counted_move machine (transition_of machine (of.DepWait fields))
-as_changed (of.Fail fields) machine single = counted_move machine (transition_of machine (of.Fail fields))
-as_changed (of.NotForUs fields) machine single = counted_move machine (transition_of machine (of.NotForUs fields))
-as_changed (of.Rebuild fields) machine single = counted_move machine (transition_of machine (of.Rebuild fields))
 as_changed (of.BuildPriority fields) machine single = ap (counted machine) (by_priority machine (fields.arch, fields.source) fields.value (map.get machine.records (fields.arch, fields.source)))
 as_changed (of.Merge fields) machine single = absurd (no_merge fields single)
+as_changed command machine single = counted_move machine (transition_of machine command)
 
 -- a command that is accepted, is not told again and is no merge makes this change
 pub steps_change : (command : Command) (machine : Machine) → (arguments_of command).merge ≡ None → first_refusal machine command ≡ None → again_of machine command ≡ None

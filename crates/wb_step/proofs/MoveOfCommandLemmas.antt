@@ -82,12 +82,8 @@ asked-good machine handed (of.Take fields) entry move utf8 given pass target is 
     let here : entry.0.0 ≡ fields.arch = ap (λ (key : List ℕ × List ℕ). key.0) (record_named-is machine fields.arch fields.source entry target).1 in
     let may : IsTrue (set.contains machine.builders (fields.builder, entry.0.0)) = subst (λ a. IsTrue (set.contains machine.builders (fields.builder, a))) (sym here) (not-false _ pass.others) in
     same-move machine handed entry.0.0 (to.Take fields.builder (machine.handed + 1)) move is (later.0, (may, (refl, given)))
-asked-good machine handed (of.Built fields) entry move utf8 given pass target is = same-move machine handed entry.0.0 to.Built move is tt
-asked-good machine handed (of.Uploaded fields) entry move utf8 given pass target is = same-move machine handed entry.0.0 to.Uploaded move is tt
-asked-good machine handed (of.PutBack fields) entry move utf8 given pass target is = same-move machine handed entry.0.0 to.PutBack move is tt
 asked-good machine handed (of.Attempted fields) entry move utf8 given pass target is =
     same-move machine handed entry.0.0 (to.Attempted fields.reason) move is (short-text note_limit fields.reason utf8 pass.short)
-asked-good machine handed (of.GiveBack fields) entry move utf8 given pass target is = same-move machine handed entry.0.0 to.GiveBack move is tt
 asked-good machine handed (of.Waits fields) entry move utf8 given pass target is =
     same-move machine handed entry.0.0 (to.Waits (result_unwrap_or (reading_of fields.relations) []) (arch_words machine entry.0.0)) move is
     (refl, (fields.relations, groups-read fields.relations pass.relations))
@@ -101,3 +97,4 @@ asked-good machine handed (of.NotForUs fields) entry move utf8 given pass target
 asked-good machine handed (of.Rebuild fields) entry move utf8 given pass target is =
     same-move machine handed entry.0.0 (to.Rebuild fields.number fields.message) move is
     (good-rebuild fields.number pass.number, short-text note_limit fields.message utf8 pass.short)
+asked-good machine handed _ entry move utf8 given pass target is = same-move machine handed entry.0.0 _ move is tt

@@ -22,14 +22,15 @@ use Rattle.wb_states.specs.declared.record.Record.{Record}
 use Rattle.wb_states.specs.Holds.{taken_as, building_after}
 use Rattle.wb_states.specs.Machine.{Machine, Key, IsRecord, IsConsistent, archs_of}
 use Rattle.wb_states.specs.Queue.{Entry, head_of}
-use Rattle.wb_states.proofs.HoldLemmas.{taken_as-is, held_of-in, building_after-is}
-use Rattle.wb_states.proofs.QueueLemmas.{head_of-waits}
-use Rattle.wb_step.specs.Arguments.{arguments_of}
-use Rattle.wb_step.specs.Checks.{source_named, take_named, is_there_already}
-use Rattle.wb_step.specs.Targets.{again_of, record_named}
+use Rattle.wb_states.specs.Subject.{Subject, Nothing, Source, Taken, Head, subject_of}
+use Rattle.wb_states.proofs.HoldLemmas.{held_of-in, building_after-is}
+use Rattle.wb_step.specs.Arguments.{Addition, Arch, Builder, Package, arguments_of}
+use Rattle.wb_step.specs.Checks.{source_in, source_named, take_in, take_named, is_there_already}
+use Rattle.wb_step.specs.Targets.{again_of, first_named, next_in, next_named, record_named}
 use Rattle.wb_step.specs.Locality.{IsKept, IsPartOf, HasAllNamed}
-use Rattle.wb_step.specs.Named.{listed, held_again, entries_named, pairs_named, holder_pairs, part_named}
+use Rattle.wb_step.specs.Named.{listed, held_again, others_named, entries_named, pairs_sought, pairs_named, holder_pairs, part_named}
 use Rattle.wb_step.proofs.PartOfLemmas.{at_some, same_value, same_test, one_at, same_source_named}
+use Rattle.wb_step.proofs.TransitionLemmas.{first_named-stands}
 
 -- ---- membership
 
@@ -130,14 +131,6 @@ find_there machine (e ∷ entries) all entry h =
 
 -- ---- what a command names is kept
 
-kept_named : (machine : Machine) (arch source : List ℕ) (entry : Entry) → record_named machine arch source ≡ Some entry → IsKept machine entry
-unfolding record_named
-kept_named machine arch source entry is = by_cases (map.get machine.records (arch, source)) refl is
-  where
-    by_cases : (found : Option Record) → map.get machine.records (arch, source) ≡ found → option_map (λ current. ((arch, source), current)) found ≡ Some entry → IsKept machine entry
-    by_cases None there e = absurd (cc)
-    by_cases (Some current) there e = subst (IsKept machine) (same_value ((arch, source), current) entry e) there
-
 named_kept : (machine : Machine) (arch source : List ℕ) (current : Record) → map.get machine.records (arch, source) ≡ Some current → record_named machine arch source ≡ Some ((arch, source), current)
 unfolding record_named
 named_kept machine arch source current is = ap (option_map (λ (c : Record). ((arch, source), c))) is
@@ -146,27 +139,19 @@ kept_again : (machine : Machine) (builder : List ℕ) (after : Option ℕ) (entr
 kept_again machine builder None entry h = absurd h
 kept_again machine builder (Some after) entry h = ((held_of-in machine builder entry).0 h).0
 
+kept_others : (machine : Machine) (subject : Subject) (entry : Entry) → IsIn entry (others_named machine subject) → IsKept machine entry
+kept_others machine Nothing entry h = absurd h
+kept_others machine (Source arch source) entry h = absurd h
+kept_others machine (Taken take_number) entry h = absurd h
+kept_others machine (Head next) entry h = kept_again machine next.builder next.after entry h
+
 all_kept : (machine : Machine) (command : Command) (entry : Entry) → IsIn entry (entries_named machine command) → IsKept machine entry
-all_kept machine (of.AddArch fields) entry h = absurd h
-all_kept machine (of.AddBuilder fields) entry h = absurd h
-all_kept machine (of.Enter fields) entry h = kept_named machine fields.arch fields.source entry (in_listed entry (record_named machine fields.arch fields.source) h)
-all_kept machine (of.Next fields) entry h = elim (in_joined entry (listed (head_of machine fields.arch)) (held_again machine fields.builder fields.after) h) [
-  | inl first ↦ (head_of-waits machine fields.arch entry (in_listed entry (head_of machine fields.arch) first)).0
-  | inr later ↦ kept_again machine fields.builder fields.after entry later
-]
-all_kept machine (of.Take fields) entry h = kept_named machine fields.arch fields.source entry (in_listed entry (record_named machine fields.arch fields.source) h)
-all_kept machine (of.Built fields) entry h = (taken_as-is machine fields.take_number entry (in_listed entry (taken_as machine fields.take_number) h)).0
-all_kept machine (of.Uploaded fields) entry h = (taken_as-is machine fields.take_number entry (in_listed entry (taken_as machine fields.take_number) h)).0
-all_kept machine (of.Waits fields) entry h = (taken_as-is machine fields.take_number entry (in_listed entry (taken_as machine fields.take_number) h)).0
-all_kept machine (of.PutBack fields) entry h = (taken_as-is machine fields.take_number entry (in_listed entry (taken_as machine fields.take_number) h)).0
-all_kept machine (of.Attempted fields) entry h = (taken_as-is machine fields.take_number entry (in_listed entry (taken_as machine fields.take_number) h)).0
-all_kept machine (of.GiveBack fields) entry h = kept_named machine fields.arch fields.source entry (in_listed entry (record_named machine fields.arch fields.source) h)
-all_kept machine (of.DepWait fields) entry h = kept_named machine fields.arch fields.source entry (in_listed entry (record_named machine fields.arch fields.source) h)
-all_kept machine (of.Fail fields) entry h = kept_named machine fields.arch fields.source entry (in_listed entry (record_named machine fields.arch fields.source) h)
-all_kept machine (of.NotForUs fields) entry h = kept_named machine fields.arch fields.source entry (in_listed entry (record_named machine fields.arch fields.source) h)
-all_kept machine (of.Rebuild fields) entry h = kept_named machine fields.arch fields.source entry (in_listed entry (record_named machine fields.arch fields.source) h)
-all_kept machine (of.BuildPriority fields) entry h = kept_named machine fields.arch fields.source entry (in_listed entry (record_named machine fields.arch fields.source) h)
-all_kept machine (of.Merge fields) entry h = absurd h
+all_kept machine command entry h =
+    let subject = subject_of command in
+    elim (in_joined entry (listed (first_named machine subject)) (others_named machine subject) h) [
+      | inl first ↦ first_named-stands machine subject entry (in_listed entry (first_named machine subject) first)
+      | inr later ↦ kept_others machine subject entry later
+    ]
 
 -- the record is kept by the part
 kept_by_part : (machine : Machine) (command : Command) (entry : Entry) → IsIn entry (entries_named machine command) → IsKept (part_named machine command) entry
@@ -220,24 +205,17 @@ there_pair P false is h = absurd (clash (sym is ∙ h))
     clash : false ≡ true → ⊥
     clash e = cc
 
+pairs_kept_by : (machine : Machine) (added : Option Addition) (builder : Option (List ℕ)) (pair : Key) → IsIn pair (pairs_sought machine added builder)
+    → IsTrue (set.contains machine.builders pair)
+pairs_kept_by machine added (Some builder) pair h = pair_of machine builder pair h
+pairs_kept_by machine (Some (Builder fields)) None pair h =
+    pair_there (set.contains machine.builders) (set.contains machine.builders (fields.name, fields.arch)) refl h
+pairs_kept_by machine (Some (Arch fields)) None pair h = absurd h
+pairs_kept_by machine (Some (Package fields)) None pair h = absurd h
+pairs_kept_by machine None None pair h = absurd h
+
 pairs_kept : (machine : Machine) (command : Command) (pair : Key) → IsIn pair (pairs_named machine command) → IsTrue (set.contains machine.builders pair)
-pairs_kept machine (of.AddArch fields) pair h = absurd h
-pairs_kept machine (of.AddBuilder fields) pair h = pair_there (set.contains machine.builders) (set.contains machine.builders (fields.name, fields.arch)) refl h
-pairs_kept machine (of.Enter fields) pair h = absurd h
-pairs_kept machine (of.Next fields) pair h = pair_of machine fields.builder pair h
-pairs_kept machine (of.Take fields) pair h = pair_of machine fields.builder pair h
-pairs_kept machine (of.Built fields) pair h = absurd h
-pairs_kept machine (of.Uploaded fields) pair h = absurd h
-pairs_kept machine (of.Waits fields) pair h = absurd h
-pairs_kept machine (of.PutBack fields) pair h = absurd h
-pairs_kept machine (of.Attempted fields) pair h = absurd h
-pairs_kept machine (of.GiveBack fields) pair h = absurd h
-pairs_kept machine (of.DepWait fields) pair h = absurd h
-pairs_kept machine (of.Fail fields) pair h = absurd h
-pairs_kept machine (of.NotForUs fields) pair h = absurd h
-pairs_kept machine (of.Rebuild fields) pair h = absurd h
-pairs_kept machine (of.BuildPriority fields) pair h = absurd h
-pairs_kept machine (of.Merge fields) pair h = absurd h
+pairs_kept machine command pair h = pairs_kept_by machine (arguments_of command).adds (arguments_of command).builder pair h
 
 pub part_of_named : (machine : Machine) (command : Command) → IsConsistent machine → IsPartOf (part_named machine command) machine
 unfolding part_named
@@ -271,100 +249,61 @@ pub if_found : {X : Type 0} (P : X → Type 0) (found : Option X) → ((x : X) �
 if_found P None all = tt
 if_found P (Some x) all = all x refl
 
+builder_among : (machine : Machine) (added : Option Addition) (builder : Option (List ℕ)) → IsConsistent machine → (name arch : List ℕ) → builder ≡ Some name
+    → IsTrue (set.contains machine.builders (name, arch)) → IsIn {X = Key} (name, arch) (pairs_sought machine added builder)
+builder_among machine added (Some builder) is name arch named h =
+    subst (λ b. IsIn {X = Key} (name, arch) (each (λ a. (b, a)) (archs_of machine b))) (sym (same_value builder name named)) (of_pair machine is name arch h)
+builder_among machine added None is name arch named h = absurd (not_some named)
+
 named_builder : (machine : Machine) (command : Command) → IsConsistent machine → (name arch : List ℕ) → (arguments_of command).builder ≡ Some name
     → IsTrue (set.contains machine.builders (name, arch)) → IsIn {X = Key} (name, arch) (pairs_named machine command)
-named_builder machine (of.AddArch fields) is name arch named h = absurd (not_some named)
-named_builder machine (of.AddBuilder fields) is name arch named h = absurd (not_some named)
-named_builder machine (of.Enter fields) is name arch named h = absurd (not_some named)
-named_builder machine (of.Next fields) is name arch named h = subst (λ b. IsIn {X = Key} (name, arch) (each (λ a. (b, a)) (archs_of machine b))) (sym (same_value fields.builder name named)) (of_pair machine is name arch h)
-named_builder machine (of.Take fields) is name arch named h = subst (λ b. IsIn {X = Key} (name, arch) (each (λ a. (b, a)) (archs_of machine b))) (sym (same_value fields.builder name named)) (of_pair machine is name arch h)
-named_builder machine (of.Built fields) is name arch named h = absurd (not_some named)
-named_builder machine (of.Uploaded fields) is name arch named h = absurd (not_some named)
-named_builder machine (of.Waits fields) is name arch named h = absurd (not_some named)
-named_builder machine (of.PutBack fields) is name arch named h = absurd (not_some named)
-named_builder machine (of.Attempted fields) is name arch named h = absurd (not_some named)
-named_builder machine (of.GiveBack fields) is name arch named h = absurd (not_some named)
-named_builder machine (of.DepWait fields) is name arch named h = absurd (not_some named)
-named_builder machine (of.Fail fields) is name arch named h = absurd (not_some named)
-named_builder machine (of.NotForUs fields) is name arch named h = absurd (not_some named)
-named_builder machine (of.Rebuild fields) is name arch named h = absurd (not_some named)
-named_builder machine (of.BuildPriority fields) is name arch named h = absurd (not_some named)
-named_builder machine (of.Merge fields) is name arch named h = absurd (not_some named)
+named_builder machine command is name arch named h = builder_among machine (arguments_of command).adds (arguments_of command).builder is name arch named h
 
-source_kept : (machine : Machine) (arch source : List ℕ) (key : Key) → Some (arch, source) ≡ Some key → IfSome (map.get machine.records key) (λ current. IsIn (key, current) (listed (record_named machine arch source)))
+source_kept : (machine : Machine) (arch source : List ℕ) (key : Key) → Some (arch, source) ≡ Some key
+    → IfSome (map.get machine.records key) (λ current. IsIn (key, current) (listed (record_named machine arch source) ++ []))
 source_kept machine arch source key is =
-    if_found (λ current. IsIn (key, current) (listed (record_named machine arch source))) (map.get machine.records key) (λ current there.
-    subst (λ (k : Key). map.get machine.records k ≡ Some current → IsIn (k, current) (listed (record_named machine arch source))) (same_value (arch, source) key is)
-    (λ here. listed_in _ _ (named_kept machine arch source current here)) there)
+    if_found (λ current. IsIn (key, current) (listed (record_named machine arch source) ++ [])) (map.get machine.records key) (λ current there.
+    subst (λ (k : Key). map.get machine.records k ≡ Some current → IsIn (k, current) (listed (record_named machine arch source) ++ [])) (same_value (arch, source) key is)
+    (λ here. joined_first _ (listed (record_named machine arch source)) [] (listed_in _ _ (named_kept machine arch source current here))) there)
+
+source_among : (machine : Machine) (subject : Subject) (added : Option Addition) (key : Key) → source_in subject added ≡ Some key
+    → IfSome (map.get machine.records key) (λ current. IsIn (key, current) (listed (first_named machine subject) ++ others_named machine subject))
+source_among machine Nothing added key is = absurd (not_some is)
+source_among machine (Source arch source) None key is = source_kept machine arch source key is
+source_among machine (Source arch source) (Some added) key is = absurd (not_some is)
+source_among machine (Taken take_number) added key is = absurd (not_some is)
+source_among machine (Head next) added key is = absurd (not_some is)
 
 named_source : (machine : Machine) (command : Command) (key : Key) → source_named command ≡ Some key → IfSome (map.get machine.records key) (λ current. IsIn (key, current) (entries_named machine command))
-named_source machine (of.AddArch fields) key is = absurd (not_some is)
-named_source machine (of.AddBuilder fields) key is = absurd (not_some is)
-named_source machine (of.Enter fields) key is = absurd (not_some is)
-named_source machine (of.Next fields) key is = absurd (not_some is)
-named_source machine (of.Take fields) key is = source_kept machine fields.arch fields.source key is
-named_source machine (of.Built fields) key is = absurd (not_some is)
-named_source machine (of.Uploaded fields) key is = absurd (not_some is)
-named_source machine (of.Waits fields) key is = absurd (not_some is)
-named_source machine (of.PutBack fields) key is = absurd (not_some is)
-named_source machine (of.Attempted fields) key is = absurd (not_some is)
-named_source machine (of.GiveBack fields) key is = source_kept machine fields.arch fields.source key is
-named_source machine (of.DepWait fields) key is = source_kept machine fields.arch fields.source key is
-named_source machine (of.Fail fields) key is = source_kept machine fields.arch fields.source key is
-named_source machine (of.NotForUs fields) key is = source_kept machine fields.arch fields.source key is
-named_source machine (of.Rebuild fields) key is = source_kept machine fields.arch fields.source key is
-named_source machine (of.BuildPriority fields) key is = source_kept machine fields.arch fields.source key is
-named_source machine (of.Merge fields) key is = absurd (not_some is)
+named_source machine command key is = source_among machine (subject_of command) (arguments_of command).adds key is
+
+-- what is found first is among what is named
+first_among : (machine : Machine) (subject : Subject) → IfSome (first_named machine subject) (λ entry. IsIn entry (listed (first_named machine subject) ++ others_named machine subject))
+first_among machine subject =
+    if_found _ (first_named machine subject) (λ entry found. joined_first entry (listed (first_named machine subject)) (others_named machine subject) (listed_in entry _ found))
+
+taken_among : (machine : Machine) (subject : Subject) (take_number : ℕ) → take_in subject ≡ Some take_number
+    → IfSome (taken_as machine take_number) (λ entry. IsIn entry (listed (first_named machine subject) ++ others_named machine subject))
+taken_among machine Nothing take_number is = absurd (not_some is)
+taken_among machine (Source arch source) take_number is = absurd (not_some is)
+taken_among machine (Taken number) take_number is =
+    subst (λ t. IfSome (taken_as machine t) (λ entry. IsIn entry (listed (taken_as machine number) ++ []))) (same_value number take_number is) (first_among machine (Taken number))
+taken_among machine (Head next) take_number is = absurd (not_some is)
 
 named_taken : (machine : Machine) (command : Command) (take_number : ℕ) → take_named command ≡ Some take_number → IfSome (taken_as machine take_number) (λ entry. IsIn entry (entries_named machine command))
-named_taken machine (of.AddArch fields) take_number is = absurd (not_some is)
-named_taken machine (of.AddBuilder fields) take_number is = absurd (not_some is)
-named_taken machine (of.Enter fields) take_number is = absurd (not_some is)
-named_taken machine (of.Next fields) take_number is = absurd (not_some is)
-named_taken machine (of.Take fields) take_number is = absurd (not_some is)
-named_taken machine (of.Built fields) take_number is =
-    subst (λ t. IfSome (taken_as machine t) (λ entry. IsIn entry (listed (taken_as machine fields.take_number)))) (same_value fields.take_number take_number is)
-    (if_found _ (taken_as machine fields.take_number) (λ entry found. listed_in entry _ found))
-named_taken machine (of.Uploaded fields) take_number is =
-    subst (λ t. IfSome (taken_as machine t) (λ entry. IsIn entry (listed (taken_as machine fields.take_number)))) (same_value fields.take_number take_number is)
-    (if_found _ (taken_as machine fields.take_number) (λ entry found. listed_in entry _ found))
-named_taken machine (of.Waits fields) take_number is =
-    subst (λ t. IfSome (taken_as machine t) (λ entry. IsIn entry (listed (taken_as machine fields.take_number)))) (same_value fields.take_number take_number is)
-    (if_found _ (taken_as machine fields.take_number) (λ entry found. listed_in entry _ found))
-named_taken machine (of.PutBack fields) take_number is =
-    subst (λ t. IfSome (taken_as machine t) (λ entry. IsIn entry (listed (taken_as machine fields.take_number)))) (same_value fields.take_number take_number is)
-    (if_found _ (taken_as machine fields.take_number) (λ entry found. listed_in entry _ found))
-named_taken machine (of.Attempted fields) take_number is =
-    subst (λ t. IfSome (taken_as machine t) (λ entry. IsIn entry (listed (taken_as machine fields.take_number)))) (same_value fields.take_number take_number is)
-    (if_found _ (taken_as machine fields.take_number) (λ entry found. listed_in entry _ found))
-named_taken machine (of.GiveBack fields) take_number is = absurd (not_some is)
-named_taken machine (of.DepWait fields) take_number is = absurd (not_some is)
-named_taken machine (of.Fail fields) take_number is = absurd (not_some is)
-named_taken machine (of.NotForUs fields) take_number is = absurd (not_some is)
-named_taken machine (of.Rebuild fields) take_number is = absurd (not_some is)
-named_taken machine (of.BuildPriority fields) take_number is = absurd (not_some is)
-named_taken machine (of.Merge fields) take_number is = absurd (not_some is)
+named_taken machine command take_number is = taken_among machine (subject_of command) take_number is
 
-named_head : (machine : Machine) (command : Command) (next : Next) → (arguments_of command).next ≡ Some next → IfSome (head_of machine next.arch) (λ entry. IsIn entry (entries_named machine command))
-named_head machine (of.AddArch fields) next is = absurd (not_some is)
-named_head machine (of.AddBuilder fields) next is = absurd (not_some is)
-named_head machine (of.Enter fields) next is = absurd (not_some is)
-named_head machine (of.Next fields) next is =
-    subst (λ (n : Next). IfSome (head_of machine n.arch) (λ entry. IsIn entry (listed (head_of machine fields.arch) ++ held_again machine fields.builder fields.after))) (same_value fields next is)
-    (if_found _ (head_of machine fields.arch) (λ entry found. joined_first entry (listed (head_of machine fields.arch)) (held_again machine fields.builder fields.after) (listed_in entry _ found)))
-named_head machine (of.Take fields) next is = absurd (not_some is)
-named_head machine (of.Built fields) next is = absurd (not_some is)
-named_head machine (of.Uploaded fields) next is = absurd (not_some is)
-named_head machine (of.Waits fields) next is = absurd (not_some is)
-named_head machine (of.PutBack fields) next is = absurd (not_some is)
-named_head machine (of.Attempted fields) next is = absurd (not_some is)
-named_head machine (of.GiveBack fields) next is = absurd (not_some is)
-named_head machine (of.DepWait fields) next is = absurd (not_some is)
-named_head machine (of.Fail fields) next is = absurd (not_some is)
-named_head machine (of.NotForUs fields) next is = absurd (not_some is)
-named_head machine (of.Rebuild fields) next is = absurd (not_some is)
-named_head machine (of.BuildPriority fields) next is = absurd (not_some is)
-named_head machine (of.Merge fields) next is = absurd (not_some is)
+head_among : (machine : Machine) (subject : Subject) (next : Next) → next_in subject ≡ Some next
+    → IfSome (head_of machine next.arch) (λ entry. IsIn entry (listed (first_named machine subject) ++ others_named machine subject))
+head_among machine Nothing next is = absurd (not_some is)
+head_among machine (Source arch source) next is = absurd (not_some is)
+head_among machine (Taken take_number) next is = absurd (not_some is)
+head_among machine (Head asked) next is =
+    subst (λ (n : Next). IfSome (head_of machine n.arch) (λ entry. IsIn entry (listed (head_of machine asked.arch) ++ held_again machine asked.builder asked.after))) (same_value asked next is)
+    (first_among machine (Head asked))
+
+named_head : (machine : Machine) (command : Command) (next : Next) → next_named command ≡ Some next → IfSome (head_of machine next.arch) (λ entry. IsIn entry (entries_named machine command))
+named_head machine command next is = head_among machine (subject_of command) next is
 
 again_held : (machine : Machine) (arch builder : List ℕ) (after : Option ℕ) → IfSome (option_and_then (building_after machine arch builder) after) (λ entry. IsIn entry (held_again machine builder after))
 again_held machine arch builder None = tt
@@ -375,26 +314,18 @@ weaker : {X : Type 0} {P Q : X → Type 0} (found : Option X) → ((x : X) → P
 weaker None all h = tt
 weaker (Some x) all h = all x h
 
+again_among : (machine : Machine) (subject : Subject)
+    → IfSome (option_and_then (λ (next : Next). option_and_then (building_after machine next.arch next.builder) next.after) (next_in subject))
+    (λ entry. IsIn entry (listed (first_named machine subject) ++ others_named machine subject))
+again_among machine Nothing = tt
+again_among machine (Source arch source) = tt
+again_among machine (Taken take_number) = tt
+again_among machine (Head next) =
+    weaker (option_and_then (building_after machine next.arch next.builder) next.after) (λ entry. joined_later entry (listed (head_of machine next.arch)) (held_again machine next.builder next.after))
+    (again_held machine next.arch next.builder next.after)
+
 named_again : (machine : Machine) (command : Command) → IfSome (again_of machine command) (λ entry. IsIn entry (entries_named machine command))
-named_again machine (of.AddArch fields) = tt
-named_again machine (of.AddBuilder fields) = tt
-named_again machine (of.Enter fields) = tt
-named_again machine (of.Next fields) =
-    weaker (option_and_then (building_after machine fields.arch fields.builder) fields.after) (λ entry. joined_later entry (listed (head_of machine fields.arch)) (held_again machine fields.builder fields.after))
-    (again_held machine fields.arch fields.builder fields.after)
-named_again machine (of.Take fields) = tt
-named_again machine (of.Built fields) = tt
-named_again machine (of.Uploaded fields) = tt
-named_again machine (of.Waits fields) = tt
-named_again machine (of.PutBack fields) = tt
-named_again machine (of.Attempted fields) = tt
-named_again machine (of.GiveBack fields) = tt
-named_again machine (of.DepWait fields) = tt
-named_again machine (of.Fail fields) = tt
-named_again machine (of.NotForUs fields) = tt
-named_again machine (of.Rebuild fields) = tt
-named_again machine (of.BuildPriority fields) = tt
-named_again machine (of.Merge fields) = tt
+named_again machine command = again_among machine (subject_of command)
 
 named_there : (machine : Machine) (command : Command) → IsConsistent machine → is_there_already (part_named machine command) command ≡ is_there_already machine command
 unfolding part_named
@@ -405,20 +336,7 @@ named_there machine (of.AddBuilder fields) is =
 named_there machine (of.Enter fields) is =
     ap is_some (same_source_named (part_named machine (of.Enter fields)) machine (part_of_named machine (of.Enter fields) is) (fields.arch, fields.source)
     (weaker (map.get machine.records (fields.arch, fields.source)) (λ current. kept_by_part machine (of.Enter fields) ((fields.arch, fields.source), current)) (source_kept machine fields.arch fields.source (fields.arch, fields.source) refl)))
-named_there machine (of.Next fields) is = refl
-named_there machine (of.Take fields) is = refl
-named_there machine (of.Built fields) is = refl
-named_there machine (of.Uploaded fields) is = refl
-named_there machine (of.Waits fields) is = refl
-named_there machine (of.PutBack fields) is = refl
-named_there machine (of.Attempted fields) is = refl
-named_there machine (of.GiveBack fields) is = refl
-named_there machine (of.DepWait fields) is = refl
-named_there machine (of.Fail fields) is = refl
-named_there machine (of.NotForUs fields) is = refl
-named_there machine (of.Rebuild fields) is = refl
-named_there machine (of.BuildPriority fields) is = refl
-named_there machine (of.Merge fields) is = refl
+named_there machine _ is = refl
 
 builder_in_part : (machine : Machine) (command : Command) → IsConsistent machine → (name arch : List ℕ) → (arguments_of command).builder ≡ Some name → IsTrue (set.contains machine.builders (name, arch))
     → IsTrue (set.contains (part_named machine command).builders (name, arch))

@@ -16,8 +16,8 @@ use Rattle.wb_states.specs.Machine.{Machine, Key, IsArch, IsRecord, IsConsistent
 use Rattle.wb_states.specs.Queue.{Entry, entry_cmp, head_of}
 use Rattle.wb_states.proofs.HoldLemmas.{taken_as-is, taken_as-only, taken_as-none, building_after-is, building_after-least, building_after-none}
 use Rattle.wb_states.proofs.QueueLemmas.{place_cmp-names, entry_cmp_total, head_of-waits, head_of-first, head_of-none}
-use Rattle.wb_step.specs.Arguments.{arguments_of}
 use Rattle.wb_step.specs.Locality.{LooksAlike, IsKept, IsPartOf, HasAllNamed}
+use Rattle.wb_step.specs.Targets.{next_named}
 
 pub at_some : {X : Type 0} (P : X → Type 0) (found : Option X) (x : X) → found ≡ Some x → IfSome found P → P x
 at_some P found x is h = subst (λ o. IfSome o P) is h
@@ -152,7 +152,7 @@ module _ (part whole : Machine) (within : IsPartOf part whole) where
     source = λ key is. same_source_named key (has.source key is);
     taken = λ number is. same_taken whole_is.takes number (has.taken number is);
     head = λ next is. same_head next.arch (has.head next is);
-    again = same_again (arguments_of command).next has.again;
+    again = same_again (next_named command) has.again;
     there = has.there;
     single = has.single;
   }

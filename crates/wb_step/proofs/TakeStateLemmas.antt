@@ -143,21 +143,9 @@ state_after-takes machine (of.Enter fields) old allowed =
 state_after-takes machine (of.Merge fields) old allowed =
     records_after-keeps (λ key. HasTakeByState) machine fields.sources fields.parts
     (λ part listing is source found had. after-take found (map.get listing.listed source) (map.get listing.built source) listing.available had) machine.records old
-state_after-takes machine (of.Next fields) old allowed = transition_of-takes machine (of.Next fields) old allowed
-state_after-takes machine (of.Take fields) old allowed = transition_of-takes machine (of.Take fields) old allowed
-state_after-takes machine (of.Built fields) old allowed = transition_of-takes machine (of.Built fields) old allowed
-state_after-takes machine (of.Uploaded fields) old allowed = transition_of-takes machine (of.Uploaded fields) old allowed
-state_after-takes machine (of.Waits fields) old allowed = transition_of-takes machine (of.Waits fields) old allowed
-state_after-takes machine (of.PutBack fields) old allowed = transition_of-takes machine (of.PutBack fields) old allowed
-state_after-takes machine (of.Attempted fields) old allowed = transition_of-takes machine (of.Attempted fields) old allowed
-state_after-takes machine (of.GiveBack fields) old allowed = transition_of-takes machine (of.GiveBack fields) old allowed
-state_after-takes machine (of.DepWait fields) old allowed = transition_of-takes machine (of.DepWait fields) old allowed
-state_after-takes machine (of.Fail fields) old allowed = transition_of-takes machine (of.Fail fields) old allowed
-state_after-takes machine (of.NotForUs fields) old allowed = transition_of-takes machine (of.NotForUs fields) old allowed
-state_after-takes machine (of.Rebuild fields) old allowed =
-    transition_of-takes machine (of.Rebuild fields) old allowed
 state_after-takes machine (of.BuildPriority fields) old allowed =
     after_priority-takes machine (fields.arch, fields.source) fields.value old
+state_after-takes machine command old allowed = transition_of-takes machine command old allowed
 
 pub empty-takes : HasTakesByState empty_office
 unfolding empty_office

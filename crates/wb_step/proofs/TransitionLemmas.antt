@@ -2,18 +2,18 @@
 use Rattle.std.proofs.Common.{◌≡◌, ℕ, List, [], ◌∷◌, filter, Option, Some, None, inl, refl, sym, ap, subst, ◌∙◌, option_map, option_and_then}
 use Rattle.std.specs.FinMap as map
 use Rattle.wb_states.specs.declared.command.Command.{Command}
-use Rattle.wb_states.specs.declared.command.Command.TheVariants as of
 use Rattle.wb_states.specs.declared.moves.Move.{Move}
 use Rattle.wb_states.specs.Holds.{is_taken_as, taken_as}
 use Rattle.wb_states.specs.Machine.{Machine, arch_words}
 use Rattle.wb_states.specs.Moves.{move_refusal}
 use Rattle.wb_states.specs.Queue.{Entry}
+use Rattle.wb_states.specs.Subject.{Subject, Nothing, Source, Taken, Head, subject_of}
 use Rattle.deb_text.specs.Lists.{first_of, IsIn}
 use Rattle.deb_text.proofs.KeyLemmas.{pair_cmp_total, pair_cmp-same}
 use Rattle.wb_states.proofs.QueueLemmas.{head_of-waits}
 use Rattle.deb_text.proofs.SortedLemmas.{IsIn-filter, IsIn-find}
 use Rattle.wb_step.specs.Checks.{refused_move}
-use Rattle.wb_step.specs.Targets.{record_named, target_of, move_of_command, with_move, transition_of}
+use Rattle.wb_step.specs.Targets.{record_named, first_named, target_of, move_of, move_of_command, with_move, transition_of}
 
 -- a record of the office, with its key
 abbrev pub Stands : Machine → Entry → Type 0
@@ -51,24 +51,21 @@ record_named-is machine arch source entry is =
     only : (x y : Entry) → Some x ≡ Some y → x ≡ y
     only x y e = cc
 
+-- the record by which what a command names is found stands at its key
+pub first_named-stands : (machine : Machine) (subject : Subject) (entry : Entry) → first_named machine subject ≡ Some entry → Stands machine entry
+first_named-stands machine Nothing entry is = cc
+first_named-stands machine (Source arch source) entry is = (record_named-is machine arch source entry is).0
+first_named-stands machine (Taken take_number) entry is = taken_as-stands machine take_number entry is
+first_named-stands machine (Head next) entry is = (head_of-waits machine next.arch entry is).0
+
+-- a value that is made of another is made of one that is there
+and_then-Some : {X Y : Type 0} (f : X → Option Y) (found : Option X) (y : Y) → option_and_then f found ≡ Some y → (x : X) × ((found ≡ Some x) × (f x ≡ Some y))
+and_then-Some f None y is = cc
+and_then-Some f (Some x) y is = (x, (refl, is))
+
 pub target_of-stands : (machine : Machine) (command : Command) (entry : Entry) → target_of machine command ≡ Some entry → Stands machine entry
-target_of-stands machine (of.AddArch fields) entry is = cc
-target_of-stands machine (of.AddBuilder fields) entry is = cc
-target_of-stands machine (of.Enter fields) entry is = cc
-target_of-stands machine (of.BuildPriority fields) entry is = cc
-target_of-stands machine (of.Next fields) entry is = (head_of-waits machine fields.arch entry is).0
-target_of-stands machine (of.Take fields) entry is = (record_named-is machine fields.arch fields.source entry is).0
-target_of-stands machine (of.Built fields) entry is = taken_as-stands machine fields.take_number entry is
-target_of-stands machine (of.Uploaded fields) entry is = taken_as-stands machine fields.take_number entry is
-target_of-stands machine (of.Waits fields) entry is = taken_as-stands machine fields.take_number entry is
-target_of-stands machine (of.PutBack fields) entry is = taken_as-stands machine fields.take_number entry is
-target_of-stands machine (of.Attempted fields) entry is = taken_as-stands machine fields.take_number entry is
-target_of-stands machine (of.GiveBack fields) entry is = (record_named-is machine fields.arch fields.source entry is).0
-target_of-stands machine (of.DepWait fields) entry is = (record_named-is machine fields.arch fields.source entry is).0
-target_of-stands machine (of.Fail fields) entry is = (record_named-is machine fields.arch fields.source entry is).0
-target_of-stands machine (of.NotForUs fields) entry is = (record_named-is machine fields.arch fields.source entry is).0
-target_of-stands machine (of.Rebuild fields) entry is = (record_named-is machine fields.arch fields.source entry is).0
-target_of-stands machine (of.Merge fields) entry is = cc
+target_of-stands machine command entry is =
+    first_named-stands machine (subject_of command) entry (and_then-Some (λ move. first_named machine (subject_of command)) (move_of machine command) entry is).1.1
 
 -- what is known of the record that a command moves, and of the move
 pub record MayMove (machine : Machine) (command : Command) (asked : Entry × Move) : Type 0 where
@@ -76,11 +73,6 @@ pub record MayMove (machine : Machine) (command : Command) (asked : Entry × Mov
   pub asks : move_of_command machine command (arch_words machine asked.0.0.0) ≡ Some asked.1
   pub stands : Stands machine asked.0
   pub allowed : move_refusal asked.1 asked.0.1 ≡ None
-
--- a value that is made of another is made of one that is there
-and_then-Some : {X Y : Type 0} (f : X → Option Y) (found : Option X) (y : Y) → option_and_then f found ≡ Some y → (x : X) × ((found ≡ Some x) × (f x ≡ Some y))
-and_then-Some f None y is = cc
-and_then-Some f (Some x) y is = (x, (refl, is))
 
 map-Some : {X Y : Type 0} (f : X → Y) (found : Option X) (y : Y) → option_map f found ≡ Some y → (x : X) × ((found ≡ Some x) × (f x ≡ y))
 map-Some f None y is = cc

@@ -1,24 +1,32 @@
--- What each command names. Each of these is checked alike, whatever the command is.
+-- What each command brings besides the records that it names. Each of these is checked alike, whatever the command is.
 use Rattle.std.specs.Prelude.{ℕ, ℤ, List, Option, Some, None}
+use Rattle.wb_states.specs.declared.command.AddArch.{AddArch}
+use Rattle.wb_states.specs.declared.command.AddBuilder.{AddBuilder}
 use Rattle.wb_states.specs.declared.command.Command.{Command}
 use Rattle.wb_states.specs.declared.command.Command.TheVariants as of
+use Rattle.wb_states.specs.declared.command.Enter.{Enter}
 use Rattle.wb_states.specs.declared.command.Merge.{Merge}
-use Rattle.wb_states.specs.declared.command.Next.{Next}
 
--- what a command may name: an architecture that must be there, a builder that may build for it, a source package that must have a
--- record, its version, relations, the number of a rebuild, a build priority, a note, a reason or a message, a take number, and what
--- two commands ask besides
+-- what a command adds
+pub data Addition : Type 0 where
+  -- an architecture with its words
+  Arch : AddArch → Addition
+  -- a builder for an architecture
+  Builder : AddBuilder → Addition
+  -- a record of a source package
+  Package : Enter → Addition
+
+-- what a command may bring: an architecture that must be there, a builder that may build for it and is handed a record, a version,
+-- relations, the number of a rebuild, a build priority, a note, a reason or a message, what it adds, and the lists of a merge
 pub record Arguments : Type 0 where
   pub arch : Option (List ℕ)
   pub builder : Option (List ℕ)
-  pub source : Option (List ℕ)
   pub version : Option (List ℕ)
   pub relations : Option (List ℕ)
   pub number : Option ℕ
   pub build_priority : Option ℤ
   pub text : Option (List ℕ)
-  pub take_number : Option ℕ
-  pub next : Option Next
+  pub adds : Option Addition
   pub merge : Option Merge
 
 -- nothing
@@ -26,44 +34,36 @@ abbrev pub no_arguments : Arguments
 no_arguments = record {
   arch = None;
   builder = None;
-  source = None;
   version = None;
   relations = None;
   number = None;
   build_priority = None;
   text = None;
-  take_number = None;
-  next = None;
+  adds = None;
   merge = None;
 }
 
--- a record that is found by its architecture and its source package, and its version
-abbrev pub package_arguments : List ℕ → List ℕ → List ℕ → Arguments
-package_arguments arch source version = record no_arguments { arch = Some arch; source = Some source; version = Some version }
+-- an architecture that must be there, and a version
+abbrev pub version_arguments : List ℕ → List ℕ → Arguments
+version_arguments arch version = record no_arguments { arch = Some arch; version = Some version }
 
--- a record that is found by its take number
-abbrev pub held_arguments : ℕ → Arguments
-held_arguments take_number = record no_arguments { take_number = Some take_number }
-
--- what a command names
+-- what a command brings
 abbrev pub arguments_of : Command → Arguments
-arguments_of (of.AddArch fields) = no_arguments
-arguments_of (of.AddBuilder fields) = record no_arguments { arch = Some fields.arch }
-arguments_of (of.Enter fields) = record no_arguments { arch = Some fields.arch; version = Some fields.version }
-arguments_of (of.Next fields) = record no_arguments { arch = Some fields.arch; builder = Some fields.builder; next = Some fields }
-arguments_of (of.Take fields) = record (package_arguments fields.arch fields.source fields.version) { builder = Some fields.builder }
-arguments_of (of.Built fields) = held_arguments fields.take_number
-arguments_of (of.Uploaded fields) = held_arguments fields.take_number
-arguments_of (of.Waits fields) = record (held_arguments fields.take_number) { relations = Some fields.relations }
-arguments_of (of.PutBack fields) = held_arguments fields.take_number
-arguments_of (of.Attempted fields) = record (held_arguments fields.take_number) { text = Some fields.reason }
-arguments_of (of.GiveBack fields) = package_arguments fields.arch fields.source fields.version
-arguments_of (of.DepWait fields) =
-    record (package_arguments fields.arch fields.source fields.version) { relations = Some fields.relations }
-arguments_of (of.Fail fields) = record (package_arguments fields.arch fields.source fields.version) { text = Some fields.note }
-arguments_of (of.NotForUs fields) = record (package_arguments fields.arch fields.source fields.version) { text = Some fields.note }
+arguments_of (of.AddArch fields) = record no_arguments { adds = Some (Arch fields) }
+arguments_of (of.AddBuilder fields) = record no_arguments { arch = Some fields.arch; adds = Some (Builder fields) }
+arguments_of (of.Enter fields) = record (version_arguments fields.arch fields.version) { adds = Some (Package fields) }
+arguments_of (of.Next fields) = record no_arguments { arch = Some fields.arch; builder = Some fields.builder }
+arguments_of (of.Take fields) = record (version_arguments fields.arch fields.version) { builder = Some fields.builder }
+arguments_of (of.Built fields) = no_arguments
+arguments_of (of.Uploaded fields) = no_arguments
+arguments_of (of.Waits fields) = record no_arguments { relations = Some fields.relations }
+arguments_of (of.PutBack fields) = no_arguments
+arguments_of (of.Attempted fields) = record no_arguments { text = Some fields.reason }
+arguments_of (of.GiveBack fields) = version_arguments fields.arch fields.version
+arguments_of (of.DepWait fields) = record (version_arguments fields.arch fields.version) { relations = Some fields.relations }
+arguments_of (of.Fail fields) = record (version_arguments fields.arch fields.version) { text = Some fields.note }
+arguments_of (of.NotForUs fields) = record (version_arguments fields.arch fields.version) { text = Some fields.note }
 arguments_of (of.Rebuild fields) =
-    record (package_arguments fields.arch fields.source fields.version) { number = Some fields.number; text = Some fields.message }
-arguments_of (of.BuildPriority fields) =
-    record (package_arguments fields.arch fields.source fields.version) { build_priority = Some fields.value }
+    record (version_arguments fields.arch fields.version) { number = Some fields.number; text = Some fields.message }
+arguments_of (of.BuildPriority fields) = record (version_arguments fields.arch fields.version) { build_priority = Some fields.value }
 arguments_of (of.Merge fields) = record no_arguments { merge = Some fields }

@@ -13,7 +13,7 @@ use Rattle.deb_version.specs.declared.fault.VersionFault.TheVariants.{Memory as 
 use Rattle.deb_relations.specs.declared.fault.RelationFault.{RelationFault}
 use Rattle.deb_relations.specs.Reading.{reading_of}
 use Rattle.wb_states.specs.declared.command.Command.{Command}
-use Rattle.wb_states.specs.declared.command.Command.TheVariants as of
+use Rattle.wb_states.specs.declared.command.Merge.{Merge}
 use Rattle.wb_states.specs.declared.command.Part.{Part}
 use Rattle.wb_states.specs.declared.record.Record.{Record}
 use Rattle.wb_states.specs.declared.refusal.Refusal.{Refusal}
@@ -26,8 +26,9 @@ use Rattle.wb_states.specs.Moves.{move_refusal}
 use Rattle.deb_relations.specs.Names.{is_package_name}
 use Rattle.wb_states.specs.Names.{has_bad_key, is_arch_name, is_os_cpu_word, is_builder_name, is_label_text}
 use Rattle.wb_states.specs.Queue.{head_of}
-use Rattle.wb_step.specs.Arguments.{arguments_of}
-use Rattle.wb_step.specs.Targets.{again_of, transition_of}
+use Rattle.wb_states.specs.Subject.{Subject, Nothing, Source, Taken, Head, subject_of}
+use Rattle.wb_step.specs.Arguments.{Addition, Arch, Builder, Package, arguments_of}
+use Rattle.wb_step.specs.Targets.{again_of, next_named, transition_of}
 use Rattle.wb_step.specs.Parts.{parts_refusal}
 
 -- a refusal if a test holds
@@ -102,25 +103,30 @@ has_repeated_arch (part ∷ parts) = list_any (λ other. bytes_eq part.arch othe
 
 -- ---- the forms of a command's texts
 
+-- what is added has a name, a priority or a section that is malformed
+abbrev pub has_bad_form : Addition → Bool
+has_bad_form (Arch fields) = has_bad_arch fields.name fields.os fields.cpu
+has_bad_form (Builder fields) = has_bad_builder fields.name fields.arch
+has_bad_form (Package fields) = has_bad_entry fields.arch fields.source fields.priority fields.section
+
+-- a name by which records are named is malformed, of a source package or of a queue, or that of the builder that asks
+abbrev pub has_bad_subject : Subject → Option (List ℕ) → Bool
+has_bad_subject Nothing builder = false
+has_bad_subject (Source arch source) None = has_bad_key arch source
+has_bad_subject (Source arch source) (Some builder) = has_bad_take arch builder source
+has_bad_subject (Taken take_number) builder = false
+has_bad_subject (Head next) builder = has_bad_request next.arch next.builder
+
+-- a name, a priority or a section is malformed of what is added, of the parts of a merge, or else of what is named
+abbrev pub has_bad_name_by : Option Addition → Option Merge → Subject → Option (List ℕ) → Bool
+has_bad_name_by (Some added) merge subject builder = has_bad_form added
+has_bad_name_by None (Some merge) subject builder = has_bad_part merge.parts
+has_bad_name_by None None subject builder = has_bad_subject subject builder
+
 -- a name, a priority or a section of the command is malformed
 abbrev pub has_bad_name : Command → Bool
-has_bad_name (of.AddArch fields) = has_bad_arch fields.name fields.os fields.cpu
-has_bad_name (of.AddBuilder fields) = has_bad_builder fields.name fields.arch
-has_bad_name (of.Enter fields) = has_bad_entry fields.arch fields.source fields.priority fields.section
-has_bad_name (of.Next fields) = has_bad_request fields.arch fields.builder
-has_bad_name (of.Take fields) = has_bad_take fields.arch fields.builder fields.source
-has_bad_name (of.Built fields) = false
-has_bad_name (of.Uploaded fields) = false
-has_bad_name (of.Waits fields) = false
-has_bad_name (of.PutBack fields) = false
-has_bad_name (of.Attempted fields) = false
-has_bad_name (of.GiveBack fields) = has_bad_key fields.arch fields.source
-has_bad_name (of.DepWait fields) = has_bad_key fields.arch fields.source
-has_bad_name (of.Fail fields) = has_bad_key fields.arch fields.source
-has_bad_name (of.NotForUs fields) = has_bad_key fields.arch fields.source
-has_bad_name (of.Rebuild fields) = has_bad_key fields.arch fields.source
-has_bad_name (of.BuildPriority fields) = has_bad_key fields.arch fields.source
-has_bad_name (of.Merge fields) = has_bad_part fields.parts
+has_bad_name command =
+    has_bad_name_by (arguments_of command).adds (arguments_of command).merge (subject_of command) (arguments_of command).builder
 
 -- the fault of the command's version
 abbrev pub version_fault : Command → Option VersionFault
@@ -209,20 +215,29 @@ is_for_other_archs machine command =
 
 -- it asks after a take number that was not given yet
 abbrev pub is_ahead : Machine → Command → Bool
-is_ahead machine command = has_value (λ next. is_number_ahead machine next.after) (arguments_of command).next
+is_ahead machine command = has_value (λ next. is_number_ahead machine next.after) (next_named command)
+
+-- the take number that what is named has
+abbrev pub take_in : Subject → Option ℕ
+take_in (Taken take_number) = Some take_number
+take_in subject = None
 
 -- the take number that the command names
 abbrev pub take_named : Command → Option ℕ
-take_named command = (arguments_of command).take_number
+take_named command = take_in (subject_of command)
 
 -- no record is held under its take number (this project's own)
 abbrev pub is_not_held : Machine → Command → Bool
 is_not_held machine command = has_value (λ take_number. is_none (taken_as machine take_number)) (take_named command)
 
+-- the source package of which a record must be there: the one that is named, unless it is added
+abbrev pub source_in : Subject → Option Addition → Option (List ℕ × List ℕ)
+source_in (Source arch source) None = Some (arch, source)
+source_in subject added = None
+
 -- the record that the command moves or gives a build priority, by its architecture and source package
 abbrev pub source_named : Command → Option (List ℕ × List ℕ)
-source_named command =
-    option_and_then (λ arch. option_map (λ source. (arch, source)) (arguments_of command).source) (arguments_of command).arch
+source_named command = source_in (subject_of command) (arguments_of command).adds
 
 -- there is no record that the command could move or give a build priority
 abbrev pub lacks_source : Machine → Command → Bool
@@ -241,49 +256,26 @@ refused_move machine command = option_and_then (λ asked. move_refusal asked.1 a
 -- it asks for the head of a queue that is empty, and what its builder builds is not reported again
 abbrev pub has_empty_queue : Machine → Command → Bool
 has_empty_queue machine command =
-    has_value (λ next. is_none (again_of machine command) && is_none (head_of machine next.arch)) (arguments_of command).next
+    has_value (λ next. is_none (again_of machine command) && is_none (head_of machine next.arch)) (next_named command)
 
--- what it adds is there already: the architecture, the builder on the architecture, or the record
+-- what is added is there already: the architecture, the builder on the architecture, or the record
+abbrev pub is_there : Machine → Addition → Bool
+is_there machine (Arch fields) = map.contains_key machine.archs fields.name
+is_there machine (Builder fields) = set.contains machine.builders (fields.name, fields.arch)
+is_there machine (Package fields) = map.contains_key machine.records (fields.arch, fields.source)
+
+-- what it adds is there already
 abbrev pub is_there_already : Machine → Command → Bool
-is_there_already machine (of.AddArch fields) = map.contains_key machine.archs fields.name
-is_there_already machine (of.AddBuilder fields) = set.contains machine.builders (fields.name, fields.arch)
-is_there_already machine (of.Enter fields) = map.contains_key machine.records (fields.arch, fields.source)
-is_there_already machine (of.Next fields) = false
-is_there_already machine (of.Take fields) = false
-is_there_already machine (of.Built fields) = false
-is_there_already machine (of.Uploaded fields) = false
-is_there_already machine (of.Waits fields) = false
-is_there_already machine (of.PutBack fields) = false
-is_there_already machine (of.Attempted fields) = false
-is_there_already machine (of.GiveBack fields) = false
-is_there_already machine (of.DepWait fields) = false
-is_there_already machine (of.Fail fields) = false
-is_there_already machine (of.NotForUs fields) = false
-is_there_already machine (of.Rebuild fields) = false
-is_there_already machine (of.BuildPriority fields) = false
-is_there_already machine (of.Merge fields) = false
+is_there_already machine command = has_value (is_there machine) (arguments_of command).adds
+
+-- a count is at its limit: that of accepted commands, or for a builder that of take numbers
+abbrev pub has_full_count : Machine → Option (List ℕ) → Bool
+has_full_count machine None = nat_le count_limit machine.accepted
+has_full_count machine (Some builder) = nat_le count_limit machine.accepted || nat_le count_limit machine.handed
 
 -- a count that it would raise is at its limit
 abbrev pub is_spent : Machine → Command → Bool
-is_spent machine (of.Next fields) =
-    is_none (again_of machine (of.Next fields))
-    && (nat_le count_limit machine.accepted || nat_le count_limit machine.handed)
-is_spent machine (of.Take fields) = nat_le count_limit machine.accepted || nat_le count_limit machine.handed
-is_spent machine (of.AddArch fields) = nat_le count_limit machine.accepted
-is_spent machine (of.AddBuilder fields) = nat_le count_limit machine.accepted
-is_spent machine (of.Enter fields) = nat_le count_limit machine.accepted
-is_spent machine (of.Built fields) = nat_le count_limit machine.accepted
-is_spent machine (of.Uploaded fields) = nat_le count_limit machine.accepted
-is_spent machine (of.Waits fields) = nat_le count_limit machine.accepted
-is_spent machine (of.PutBack fields) = nat_le count_limit machine.accepted
-is_spent machine (of.Attempted fields) = nat_le count_limit machine.accepted
-is_spent machine (of.GiveBack fields) = nat_le count_limit machine.accepted
-is_spent machine (of.DepWait fields) = nat_le count_limit machine.accepted
-is_spent machine (of.Fail fields) = nat_le count_limit machine.accepted
-is_spent machine (of.NotForUs fields) = nat_le count_limit machine.accepted
-is_spent machine (of.Rebuild fields) = nat_le count_limit machine.accepted
-is_spent machine (of.BuildPriority fields) = nat_le count_limit machine.accepted
-is_spent machine (of.Merge fields) = nat_le count_limit machine.accepted
+is_spent machine command = is_none (again_of machine command) && has_full_count machine (arguments_of command).builder
 
 -- ---- the one order
 

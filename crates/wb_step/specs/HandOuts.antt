@@ -1,9 +1,8 @@
 -- What is handed out, and when a hold ends.
-use Rattle.std.specs.Prelude.{◌≡◌, ℕ, ◌<◌, Bool, true, false, nat_eq, List, [], ◌∷◌, ◌⊎◌, Option, Some, None, Result, Ok, is_ok, is_some, IfSome, ⊤}
+use Rattle.std.specs.Prelude.{◌≡◌, ℕ, ◌<◌, Bool, true, false, nat_eq, List, [], ◌∷◌, ◌⊎◌, Option, Some, None, option_and_then, Result, Ok, is_ok, is_some, IfSome, ⊤}
 use Rattle.std.specs.List.{cons_option}
 use Rattle.std.specs.FinMap as map
 use Rattle.wb_states.specs.declared.command.Command.{Command}
-use Rattle.wb_states.specs.declared.command.Command.TheVariants as of
 use Rattle.wb_states.specs.declared.record.Record.{Record}
 use Rattle.wb_states.specs.declared.reply.Reply.{Reply}
 use Rattle.wb_states.specs.declared.reply.Reply.TheVariants.{Job}
@@ -12,6 +11,7 @@ use Rattle.wb_states.specs.declared.state.State.TheVariants.{Building}
 use Rattle.deb_text.specs.Options.{has_value}
 use Rattle.wb_states.specs.Machine.{Machine}
 use Rattle.wb_states.specs.State.{is_held}
+use Rattle.wb_step.specs.Arguments.{arguments_of}
 use Rattle.wb_step.specs.Step.{step}
 
 -- a source package on an architecture that was handed to a builder under a take number
@@ -26,25 +26,9 @@ given_by builder (Ok (Job accepted assignment)) =
     Some (record { builder = builder; key = (assignment.arch, assignment.source); take = assignment.take })
 given_by builder _ = None
 
--- what a command hands out by its answer (this project's own)
+-- what a command hands out by its answer: something to its builder, if it has one (this project's own)
 abbrev pub handed_by : Command → Result Reply Refusal → Option HandOut
-handed_by (of.Next fields) answer = given_by fields.builder answer
-handed_by (of.Take fields) answer = given_by fields.builder answer
-handed_by (of.AddArch fields) answer = None
-handed_by (of.AddBuilder fields) answer = None
-handed_by (of.Enter fields) answer = None
-handed_by (of.Built fields) answer = None
-handed_by (of.Uploaded fields) answer = None
-handed_by (of.Waits fields) answer = None
-handed_by (of.PutBack fields) answer = None
-handed_by (of.Attempted fields) answer = None
-handed_by (of.GiveBack fields) answer = None
-handed_by (of.DepWait fields) answer = None
-handed_by (of.Fail fields) answer = None
-handed_by (of.NotForUs fields) answer = None
-handed_by (of.Rebuild fields) answer = None
-handed_by (of.BuildPriority fields) answer = None
-handed_by (of.Merge fields) answer = None
+handed_by command answer = option_and_then (λ builder. given_by builder answer) (arguments_of command).builder
 
 -- what a command hands out
 abbrev pub hand_out : Machine → Command → Option HandOut

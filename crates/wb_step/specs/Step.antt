@@ -3,7 +3,7 @@ use Rattle.std.specs.Prelude.{ℕ, ℤ, ◌+◌, List, [], Option, Some, None, R
 use Rattle.std.specs.FinMap as map
 use Rattle.std.specs.FinSet as set
 use Rattle.wb_states.specs.declared.command.Command.{Command}
-use Rattle.wb_states.specs.declared.command.Command.TheVariants as of
+use Rattle.wb_states.specs.declared.command.Merge.{Merge}
 use Rattle.wb_states.specs.declared.moves.Move.{Move}
 use Rattle.wb_states.specs.declared.record.Record.{Record}
 use Rattle.wb_states.specs.declared.reply.Assignment.{Assignment}
@@ -15,7 +15,8 @@ use Rattle.wb_states.specs.Machine.{Machine}
 use Rattle.wb_states.specs.Moves.{build_text_of, record_after_move}
 use Rattle.wb_states.specs.Queue.{Entry}
 use Rattle.wb_merge.specs.Merge.{blank_record}
-use Rattle.wb_step.specs.Checks.{first_refusal}
+use Rattle.wb_step.specs.Arguments.{Addition, Arch, Builder, Package, arguments_of}
+use Rattle.wb_step.specs.Checks.{first_refusal, source_named}
 use Rattle.wb_step.specs.Targets.{again_of, transition_of, target_of}
 use Rattle.wb_step.specs.Parts.{part_replies, records_after}
 
@@ -46,29 +47,36 @@ after_priority machine key value None = machine
 after_priority machine key value (Some current) =
     record machine { records = map.insert machine.records key (record current { build_priority = value }) }
 
+-- the state with what is added
+abbrev pub after_adding : Machine → Addition → Machine
+after_adding machine (Arch fields) =
+    record machine { archs = map.insert machine.archs fields.name (record { os = fields.os; cpu = fields.cpu }) }
+after_adding machine (Builder fields) = record machine { builders = set.insert machine.builders (fields.name, fields.arch) }
+after_adding machine (Package fields) =
+    record machine { records = map.insert machine.records (fields.arch, fields.source) (entered fields.version fields.priority fields.section) }
+
+-- the state after a move, under a new take number if a builder is handed the record
+abbrev pub after_moving : Machine → Option (List ℕ) → Option (Entry × Move) → Machine
+after_moving machine None asked = after_move machine asked
+after_moving machine (Some builder) asked = after_take machine asked
+
+-- the record of a source package that is named gets a build priority
+abbrev pub after_value : Machine → ℤ → Option (List ℕ × List ℕ) → Machine
+after_value machine value None = machine
+after_value machine value (Some key) = after_priority machine key value (map.get machine.records key)
+
+-- the state after a command that adds this, or else is this merge, or else gives this build priority, or else moves a record
+abbrev pub state_by : Machine → Command → Option Addition → Option Merge → Option ℤ → Machine
+state_by machine command (Some added) merge value = after_adding machine added
+state_by machine command None (Some merge) value =
+    record machine { records = records_after machine merge.sources merge.parts machine.records }
+state_by machine command None None (Some value) = after_value machine value (source_named command)
+state_by machine command None None None = after_moving machine (arguments_of command).builder (transition_of machine command)
+
 -- the state after a command
 abbrev pub state_after : Machine → Command → Machine
-state_after machine (of.AddArch fields) =
-    record machine { archs = map.insert machine.archs fields.name (record { os = fields.os; cpu = fields.cpu }) }
-state_after machine (of.AddBuilder fields) = record machine { builders = set.insert machine.builders (fields.name, fields.arch) }
-state_after machine (of.Enter fields) =
-    record machine { records = map.insert machine.records (fields.arch, fields.source) (entered fields.version fields.priority fields.section) }
-state_after machine (of.Next fields) = after_take machine (transition_of machine (of.Next fields))
-state_after machine (of.Take fields) = after_take machine (transition_of machine (of.Take fields))
-state_after machine (of.Merge fields) =
-    record machine { records = records_after machine fields.sources fields.parts machine.records }
-state_after machine (of.Built fields) = after_move machine (transition_of machine (of.Built fields))
-state_after machine (of.Uploaded fields) = after_move machine (transition_of machine (of.Uploaded fields))
-state_after machine (of.Waits fields) = after_move machine (transition_of machine (of.Waits fields))
-state_after machine (of.PutBack fields) = after_move machine (transition_of machine (of.PutBack fields))
-state_after machine (of.Attempted fields) = after_move machine (transition_of machine (of.Attempted fields))
-state_after machine (of.GiveBack fields) = after_move machine (transition_of machine (of.GiveBack fields))
-state_after machine (of.DepWait fields) = after_move machine (transition_of machine (of.DepWait fields))
-state_after machine (of.Fail fields) = after_move machine (transition_of machine (of.Fail fields))
-state_after machine (of.NotForUs fields) = after_move machine (transition_of machine (of.NotForUs fields))
-state_after machine (of.Rebuild fields) = after_move machine (transition_of machine (of.Rebuild fields))
-state_after machine (of.BuildPriority fields) =
-    after_priority machine (fields.arch, fields.source) fields.value (map.get machine.records (fields.arch, fields.source))
+state_after machine command =
+    state_by machine command (arguments_of command).adds (arguments_of command).merge (arguments_of command).build_priority
 
 -- ---- the reply to a command that is accepted
 
@@ -89,26 +97,16 @@ abbrev pub assignment_reply : Machine → Option Entry → Reply
 assignment_reply machine None = Done (machine.accepted + 1)
 assignment_reply machine (Some entry) = Job (machine.accepted + 1) (assignment_of entry (machine.handed + 1))
 
+-- the reply to a command that is this merge, or else asks for this builder
+abbrev pub reply_by : Machine → Command → Option Merge → Option (List ℕ) → Reply
+reply_by machine command (Some merge) builder =
+    Merged (machine.accepted + 1) (part_replies machine merge.sources merge.parts machine.records)
+reply_by machine command None (Some builder) = assignment_reply machine (target_of machine command)
+reply_by machine command None None = Done (machine.accepted + 1)
+
 -- the reply to a command
 abbrev pub reply_to : Machine → Command → Reply
-reply_to machine (of.Next fields) = assignment_reply machine (target_of machine (of.Next fields))
-reply_to machine (of.Take fields) = assignment_reply machine (target_of machine (of.Take fields))
-reply_to machine (of.Merge fields) =
-    Merged (machine.accepted + 1) (part_replies machine fields.sources fields.parts machine.records)
-reply_to machine (of.AddArch fields) = Done (machine.accepted + 1)
-reply_to machine (of.AddBuilder fields) = Done (machine.accepted + 1)
-reply_to machine (of.Enter fields) = Done (machine.accepted + 1)
-reply_to machine (of.Built fields) = Done (machine.accepted + 1)
-reply_to machine (of.Uploaded fields) = Done (machine.accepted + 1)
-reply_to machine (of.Waits fields) = Done (machine.accepted + 1)
-reply_to machine (of.PutBack fields) = Done (machine.accepted + 1)
-reply_to machine (of.Attempted fields) = Done (machine.accepted + 1)
-reply_to machine (of.GiveBack fields) = Done (machine.accepted + 1)
-reply_to machine (of.DepWait fields) = Done (machine.accepted + 1)
-reply_to machine (of.Fail fields) = Done (machine.accepted + 1)
-reply_to machine (of.NotForUs fields) = Done (machine.accepted + 1)
-reply_to machine (of.Rebuild fields) = Done (machine.accepted + 1)
-reply_to machine (of.BuildPriority fields) = Done (machine.accepted + 1)
+reply_to machine command = reply_by machine command (arguments_of command).merge (arguments_of command).builder
 
 -- ---- the step
 
