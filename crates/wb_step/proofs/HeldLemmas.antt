@@ -2,7 +2,6 @@
 use Rattle.std.specs.Option.{option_or}
 use Rattle.std.proofs.Common.{◌≡◌, ℕ, ◌+◌, nat_lt, length, true, false, List, [], ◌∷◌, Option, Some, None, Ok, Err, refl, sym, ap, ◌∙◌, nat_le, is_none, option_and_then, option_map}
 use Rattle.std.specs.Result.{result_err, result_unwrap_or}
-use Rattle.deb_relations.specs.declared.arch.ArchWords.{ArchWords}
 use Rattle.deb_relations.specs.declared.relations.Alternative.{Alternative}
 use Rattle.deb_relations.specs.Reading.{reading_of}
 use Rattle.wb_states.specs.Forms.{Attempted, Built, Uploaded, Waits, PutBack}
@@ -90,19 +89,13 @@ unfolding text_refusal
 waits-BadRelations machine take_number relations refusal is =
     step-text machine (Waits take_number relations) refusal (ap (λ first. option_or first None) is)
 
-pub waits-NotHeld : (machine : Machine) (take_number : ℕ) (relations : List ℕ) (groups : List (List Alternative)) → reading_of relations ≡ Ok groups
-    → taken_as machine take_number ≡ None → step machine (Waits take_number relations) ≡ (Err NotHeld, machine)
-unfolding taken_step
-waits-NotHeld machine take_number relations groups reads none =
-    step-Waits machine take_number relations groups reads ∙ ap (taken_at machine (waits_move machine relations)) none
-
-pub waits-moves : (machine : Machine) (take_number : ℕ) (relations : List ℕ) (groups : List (List Alternative)) (words : ArchWords) (entry : Entry)
-    → reading_of relations ≡ Ok groups → taken_as machine take_number ≡ Some entry → words ≡ arch_words machine entry.0.0
-    → step machine (Waits take_number relations) ≡ move_step machine entry (to.Waits groups words)
-unfolding taken_step waits_move
-waits-moves machine take_number relations groups words entry reads found named =
-    step-Waits machine take_number relations groups reads ∙ ap (taken_at machine (waits_move machine relations)) found
-    ∙ (λ i. move_step machine entry (to.Waits (result_unwrap_or (reads i) []) (sym named i)))
+-- relations that are read
+pub waits-is : (machine : Machine) (take_number : ℕ) (relations : List ℕ) (groups : List (List Alternative)) → reading_of relations ≡ Ok groups
+    → step machine (Waits take_number relations) ≡ taken_step machine take_number (λ entry. to.Waits groups (arch_words machine entry.0.0))
+unfolding waits_move
+waits-is machine take_number relations groups reads =
+    step-Waits machine take_number relations groups reads
+    ∙ (λ i. taken_step machine take_number (λ entry. to.Waits (result_unwrap_or (reads i) []) (arch_words machine entry.0.0)))
 
 pub taken_step-NotHeld : (machine : Machine) (take_number : ℕ) (moves : Entry → Move) → taken_as machine take_number ≡ None
     → taken_step machine take_number moves ≡ (Err NotHeld, machine)

@@ -20,6 +20,7 @@ use crate::checks::{
     find_source, is_ahead, is_assignment_spent, is_for_other_archs, lacks_arch, lacks_builder,
 };
 use crate::forms::{has_bad_request, has_bad_take};
+use crate::keyed::with_key;
 use crate::texts::read_version;
 use crate::transition::move_checked;
 use deb_text::Text;
@@ -88,7 +89,7 @@ fn take_checked(
         holder: builder.clone()?,
         take_number,
     };
-    move_checked(alloc, current, &change)
+    move_checked(alloc, current, change)
 }
 
 /// The record after the builder took it, and the assignment that answers it, if both counts have room.
@@ -122,15 +123,9 @@ pub(crate) fn prepare_assignment(
     if is_assignment_spent(office) {
         return Err(Refusal::Spent);
     }
+    let made = with_key(arch, source, after)?;
     let assignment = assignment(alloc, arch, source, current, take_number)?;
-    Ok(Assigned {
-        made: KeyedRecord {
-            arch: arch.clone()?,
-            source: source.clone()?,
-            current: after,
-        },
-        assignment,
-    })
+    Ok(Assigned { made, assignment })
 }
 
 /// Writes the record that a builder took, and counts the take number and the command.

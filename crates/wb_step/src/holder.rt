@@ -2,6 +2,8 @@
 ghost use Rattle.std.specs.Prelude.{OnOk};
 ghost use Rattle.std.specs.Str.{IsUtf8};
 ghost use Rattle.wb_states.specs.declared.command.Command.TheVariants as of;
+ghost use Rattle.wb_states.specs.declared.moves.Move.TheVariants as to;
+ghost use Rattle.wb_states.specs.Machine.{arch_words};
 ghost use Rattle.wb_step.specs.Carries.{Carries, Reaches};
 ghost use Rattle.wb_step.specs.Outcomes.{taken_step};
 
@@ -9,6 +11,7 @@ use crate::OfficePart;
 use crate::checks::words_of;
 use crate::texts::{is_long, read_relations};
 use crate::transition::{keep_record, prepare_move};
+use deb_relations::Relations;
 use std::alloc::Global;
 use wb_states::{Move, Refusal, Reply, command};
 
@@ -17,10 +20,10 @@ pub(crate) fn move_taken(
     alloc: Global,
     office: &mut OfficePart,
     take_number: u64,
-    change: &Move,
+    change: Move,
 ) -> Result<Reply, Refusal>
     ensures reaches { Reaches office.old office.new
-        (taken_step office.old take_number (λ _. change.now)) result }
+        (taken_step office.old take_number (λ _. change)) result }
 {
     let found = office.by_take(take_number);
     let Some((key, current)) = found else {
@@ -45,7 +48,7 @@ pub(crate) fn attempted(
     let change = Move::Attempted {
         reason: command.reason.clone()?,
     };
-    move_taken(alloc, office, command.take_number, &change)
+    move_taken(alloc, office, command.take_number, change)
 }
 
 /// Lets it wait for what the relations ask for.
@@ -57,15 +60,28 @@ pub(crate) fn waits(
     ensures carries { Carries office.old office.new (of.Waits command.now) result }
 {
     let read = read_relations(alloc, &command.relations)?;
-    let found = office.by_take(command.take_number);
+    wait_taken(alloc, office, command.take_number, read)
+}
+
+/// Lets the record that is held under the take number wait for the relations, as they are on its architecture.
+fn wait_taken(
+    alloc: Global,
+    office: &mut OfficePart,
+    take_number: u64,
+    relations: Relations,
+) -> Result<Reply, Refusal>
+    ensures reaches { Reaches office.old office.new (taken_step office.old take_number
+        (λ entry. to.Waits relations (arch_words office.old entry.0.0))) result }
+{
+    let found = office.by_take(take_number);
     let Some((key, current)) = found else {
         return Err(Refusal::NotHeld);
     };
     let words = words_of(alloc, office, &key.0)?;
     let change = Move::Waits {
-        relations: read,
+        relations,
         arch: words,
     };
-    let made = prepare_move(alloc, office, &key.0, &key.1, current, &change)?;
+    let made = prepare_move(alloc, office, &key.0, &key.1, current, change)?;
     keep_record(office, made)
 }

@@ -14,6 +14,21 @@ pub(crate) fn key_of(first: &Text, second: &Text) -> Result<(Text, Text), AllocE
     Ok((first.clone()?, second.clone()?))
 }
 
+/// A record with a copy of its key. The only error is that memory ran out.
+pub(crate) fn with_key(
+    arch: &Text,
+    source: &Text,
+    current: Record,
+) -> Result<KeyedRecord, AllocError>
+    ensures value { IfOk result (λ made. entry_of made ≡ ((arch.now, source.now), current)) }
+{
+    Ok(KeyedRecord {
+        arch: arch.clone()?,
+        source: source.clone()?,
+        current,
+    })
+}
+
 /// A copy of a record with its key. The only error is that memory ran out.
 pub(crate) fn keyed(key: &(Text, Text), current: &Record) -> Result<KeyedRecord, AllocError>
     ensures value { IfOk result (λ made. entry_of made ≡ (key.now, current.now)) }

@@ -24,10 +24,10 @@ fn move_named(
     arch: &Text,
     source: &Text,
     version: &Version,
-    change: &Move,
+    change: Move,
 ) -> Result<Reply, Refusal>
     ensures reaches { Reaches office.old office.new
-        (named_step office.old arch.now source.now version.now change.now) result }
+        (named_step office.old arch.now source.now version.now change) result }
 {
     if lacks_arch(office, arch) {
         return Err(Refusal::UnknownArch);
@@ -52,7 +52,7 @@ pub(crate) fn give_back(
         &command.arch,
         &command.source,
         &read,
-        &Move::GiveBack,
+        Move::GiveBack,
     )
 }
 
@@ -81,7 +81,7 @@ pub(crate) fn dep_wait(
         relations: groups,
         arch: words,
     };
-    move_named(alloc, office, arch, source, &read, &change)
+    move_named(alloc, office, arch, source, &read, change)
 }
 
 /// What a command that sets a source package aside reads: the version that it names, and its note.
@@ -139,7 +139,7 @@ pub(crate) fn fail(
         &command.arch,
         &command.source,
         &read.version,
-        &change,
+        change,
     )
 }
 
@@ -160,7 +160,7 @@ pub(crate) fn not_for_us(
         &command.arch,
         &command.source,
         &read.version,
-        &change,
+        change,
     )
 }
 
@@ -192,5 +192,5 @@ pub(crate) fn rebuild(
         number,
         message: message.clone()?,
     };
-    move_named(alloc, office, arch, source, &read, &change)
+    move_named(alloc, office, arch, source, &read, change)
 }

@@ -158,8 +158,10 @@ pub(crate) fn enter(
     ensures carries { Carries office.old office.new (of.Enter command.now) result }
 {
     let read = check_entry(alloc, office, command)?;
+    let arch = command.arch.clone()?;
+    let source = command.source.clone()?;
     let waiting = entered_record(alloc, read, &command.priority, &command.section)?;
-    office.put(command.arch.clone()?, command.source.clone()?, waiting)?;
+    office.put(arch, source, waiting)?;
     Ok(accept_one(office))
 }
 
@@ -173,9 +175,11 @@ fn entered_record(
     ensures value { IfOk result (λ made. made ≡ entered version priority.now section.now) }
     ensures refused { IfErr result (λ refusal. refusal ≡ Memory) }
 {
+    let own_priority = priority.clone()?;
+    let own_section = section.clone()?;
     let mut waiting = blank_record(alloc, version);
-    waiting.priority = priority.clone()?;
-    waiting.section = section.clone()?;
+    waiting.priority = own_priority;
+    waiting.section = own_section;
     waiting.depends = Some(Text::new(alloc));
     Ok(waiting)
 }

@@ -1,18 +1,18 @@
 //! The command by which operators say which source packages are built first.
 ghost use Rattle.std.specs.Prelude.{◌≡◌, IfOk};
 ghost use Rattle.wb_states.specs.declared.command.Command.TheVariants as of;
-ghost use Rattle.wb_states.specs.Lookups.{entry_of};
 ghost use Rattle.wb_step.specs.Carries.{Carries, Reaches};
 ghost use Rattle.wb_step.specs.Outcomes.{prioritized_step};
 
 use crate::OfficePart;
 use crate::checks::{find_source, is_spent, lacks_arch};
+use crate::keyed::with_key;
 use crate::texts::{self, read_key, read_refusal_or};
 use crate::transition::keep_record;
 use deb_text::Text;
 use deb_version::Version;
 use std::alloc::{AllocError, Global};
-use wb_states::{KeyedRecord, Record, Refusal, Reply, command};
+use wb_states::{Record, Refusal, Reply, command};
 
 /// Gives the record of a source package the build priority that the command names.
 pub(crate) fn build_priority(
@@ -55,25 +55,17 @@ fn prioritize(
     if is_spent(office) {
         return Err(Refusal::Spent);
     }
-    let made = with_priority(arch, source, current, build_priority)?;
+    let changed = with_priority(current, build_priority)?;
+    let made = with_key(arch, source, changed)?;
     keep_record(office, made)
 }
 
 /// The record with this build priority, all else as it was. The only error is that memory ran out.
-fn with_priority(
-    arch: &Text,
-    source: &Text,
-    current: &Record,
-    build_priority: i16,
-) -> Result<KeyedRecord, AllocError>
-    ensures value { IfOk result (λ made. entry_of made
-        ≡ ((arch.now, source.now), record current.now { build_priority = build_priority })) }
+fn with_priority(current: &Record, build_priority: i16) -> Result<Record, AllocError>
+    ensures value { IfOk result (λ made.
+        made ≡ record current.now { build_priority = build_priority }) }
 {
     let mut made = current.clone()?;
     made.build_priority = build_priority;
-    Ok(KeyedRecord {
-        arch: arch.clone()?,
-        source: source.clone()?,
-        current: made,
-    })
+    Ok(made)
 }

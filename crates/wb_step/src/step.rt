@@ -28,14 +28,14 @@ pub fn carry_out(
         Command::Next(command) => builder::next(alloc, office, command),
         Command::Take(command) => builder::take(alloc, office, command),
         Command::Built(command) => {
-            holder::move_taken(alloc, office, command.take_number, &Move::Built)
+            holder::move_taken(alloc, office, command.take_number, Move::Built)
         }
         Command::Uploaded(command) => {
-            holder::move_taken(alloc, office, command.take_number, &Move::Uploaded)
+            holder::move_taken(alloc, office, command.take_number, Move::Uploaded)
         }
         Command::Waits(command) => holder::waits(alloc, office, command),
         Command::PutBack(command) => {
-            holder::move_taken(alloc, office, command.take_number, &Move::PutBack)
+            holder::move_taken(alloc, office, command.take_number, Move::PutBack)
         }
         Command::Attempted(command) => holder::attempted(alloc, office, command),
         Command::GiveBack(command) => named::give_back(alloc, office, command),

@@ -12,23 +12,20 @@ ghost use Rattle.wb_step.specs.Step.{counted};
 
 use crate::OfficePart;
 use crate::checks::is_spent;
+use crate::keyed::with_key;
 use crate::operator::accept_one;
 use deb_text::Text;
 use std::alloc::Global;
 use wb_states::{KeyedRecord, Move, Record, Refusal, Reply, move_record};
 
 /// The record after a move that nothing refuses.
-pub(crate) fn move_checked(
-    alloc: Global,
-    current: &Record,
-    change: &Move,
-) -> Result<Record, Refusal>
-    ensures value { IfOk result (λ after. after ≡ record_after_move change.now current.now) }
-    ensures ok { OnOk result (move_refusal change.now current.now ≡ None) }
+pub(crate) fn move_checked(alloc: Global, current: &Record, change: Move) -> Result<Record, Refusal>
+    ensures value { IfOk result (λ after. after ≡ record_after_move change current.now) }
+    ensures ok { OnOk result (move_refusal change current.now ≡ None) }
     ensures refused { IfErr result (λ refusal. IsOfMachine refusal
-        → move_refusal change.now current.now ≡ Some refusal) }
+        → move_refusal change current.now ≡ Some refusal) }
 {
-    move_record(alloc, current, change)
+    move_record(alloc, current, &change)
 }
 
 /// The record after the move of a command that can be counted. Nothing is written.
@@ -38,25 +35,21 @@ pub(crate) fn prepare_move(
     arch: &Text,
     source: &Text,
     current: &Record,
-    change: &Move,
+    change: Move,
 ) -> Result<KeyedRecord, Refusal>
     ensures value { IfOk result (λ made. entry_of made
-        ≡ ((arch.now, source.now), record_after_move change.now current.now)) }
-    ensures ok { OnOk result (move_refusal change.now current.now ≡ None) }
+        ≡ ((arch.now, source.now), record_after_move change current.now)) }
+    ensures ok { OnOk result (move_refusal change current.now ≡ None) }
     ensures room { OnOk result (nat_le count_limit office.now.accepted ≡ false) }
     ensures refused { IfErr result (λ refusal. IsOfMachine refusal
-        → move_step office.now ((arch.now, source.now), current.now) change.now
+        → move_step office.now ((arch.now, source.now), current.now) change
         ≡ (Err refusal, office.now)) }
 {
     let after = move_checked(alloc, current, change)?;
     if is_spent(office) {
         return Err(Refusal::Spent);
     }
-    Ok(KeyedRecord {
-        arch: arch.clone()?,
-        source: source.clone()?,
-        current: after,
-    })
+    Ok(with_key(arch, source, after)?)
 }
 
 /// Writes a record that a command changed, and counts the command.

@@ -2,6 +2,7 @@ use Rattle.std.proofs.Common.{◌≡◌, ◌+◌, ◌∙◌, sym, ap, ℕ, nat_l
 use Rattle.std.proofs.lemmas.Result.{err_from_is_err_and}
 use Rattle.std.proofs.lemmas.Bool.{or_parts}
 use Rattle.wb_states.specs.declared.moves.Move.TheVariants as to
+use Rattle.wb_states.specs.declared.record.Record.{Record}
 use Rattle.wb_states.specs.Limits.{count_limit}
 use Rattle.wb_states.specs.Moves.{record_after_move}
 use Rattle.wb_step.specs.Step.{assignment_of}
@@ -27,7 +28,7 @@ returns-clause-value c =
     let moved : c.in_ok-after.after ≡ record_after_move (to.Take c.args.builder.now (c.args.office.now.handed + 1)) c.args.current.now =
     c.in_ok-after.ensures.value
     ∙ ap (λ (k : ℕ). record_after_move (to.Take c.args.builder.now k) c.args.current.now) (c.next_take-take_number.ensures.value (or_parts _ _ room).1) in
-    λ i. ((c.in_ok-clone.ensures.cases i, c.in_ok-clone-2.ensures.cases i), moved i)
+    c.in_ok-made.ensures.value ∙ ap (λ (after : Record). ((c.args.arch.now, c.args.source.now), after)) moved
 
 pub returns-clause-reply : goal.returns-clause-reply
 returns-clause-reply c =

@@ -10,14 +10,14 @@ use Rattle.wb_step.proofs.holder.move_taken.Goals as goal
 pub returns-in_default : goal.returns-in_default
 returns-in_default c = record {
   reaches = reaches-refused
-      (taken_step-NotHeld c.args.office.now c.args.take_number (λ _. c.args.change.now)
+      (taken_step-NotHeld c.args.office.now c.args.take_number (λ _. c.args.change)
       (sym (sym (ap (option_map deref_pair) c.in_default.is) ∙ c.by_take-found.ensures.value)));
 }
 
 pub returns-in_err-made : goal.returns-in_err-made
 returns-in_err-made c = record {
   reaches = reaches-returned c.from_residual.result c.from_residual.ensures.1
-      (λ differs. taken_step-moves c.args.office.now c.args.take_number (λ _. c.args.change.now) (deref_pair (c.in-Some.key, c.in-Some.current))
+      (λ differs. taken_step-moves c.args.office.now c.args.take_number (λ _. c.args.change) (deref_pair (c.in-Some.key, c.in-Some.current))
       (sym (sym (ap (option_map deref_pair) c.in-Some.is) ∙ c.by_take-found.ensures.value))
       ∙ c.in_err-made.ensures.refused differs);
 }
@@ -25,9 +25,9 @@ returns-in_err-made c = record {
 pub returns : goal.returns
 returns c = record {
   reaches = reaches-kept (IfOk-weaker c.keep_record.result _ _ (λ _ is.
-      taken_step-moves c.args.office.now c.args.take_number (λ _. c.args.change.now) (deref_pair (c.in-Some.key, c.in-Some.current))
+      taken_step-moves c.args.office.now c.args.take_number (λ _. c.args.change) (deref_pair (c.in-Some.key, c.in-Some.current))
       (sym (sym (ap (option_map deref_pair) c.in-Some.is) ∙ c.by_take-found.ensures.value))
-      ∙ move_step-made c.args.office.now _ (deref_pair (c.in-Some.key, c.in-Some.current)) c.args.change.now c.in_ok-made.made _
+      ∙ move_step-made c.args.office.now _ (deref_pair (c.in-Some.key, c.in-Some.current)) c.args.change c.in_ok-made.made _
       c.in_ok-made.ensures.ok c.in_ok-made.ensures.room c.in_ok-made.ensures.value is.0 is.1)
       (with-known c.keep_record.result _ _ c.keep_record.ensures.reply c.keep_record.ensures.ok))
       c.keep_record.ensures.refused c.keep_record.ensures.unchanged;

@@ -8,15 +8,15 @@ returns-in_err-waiting c = record {
       (λ differs. absurd (differs c.in_err-waiting.ensures.refused)) (λ _. want-Enter c.args.office.now c.args.command.now.arch c.args.command.now.source c.args.command.now.version c.args.command.now.priority c.args.command.now.section c.in_ok-read.ensures.ok);
 }
 
-pub returns-in_err-clone : goal.returns-in_err-clone
-returns-in_err-clone c = record {
-  carries = carries-memory c.from_residual-in_err-clone.result c.from_residual-in_err-clone.ensures.1
+pub returns-in_err-arch : goal.returns-in_err-arch
+returns-in_err-arch c = record {
+  carries = carries-memory c.from_residual-in_err-arch.result c.from_residual-in_err-arch.ensures.1
       (want-Enter c.args.office.now c.args.command.now.arch c.args.command.now.source c.args.command.now.version c.args.command.now.priority c.args.command.now.section c.in_ok-read.ensures.ok);
 }
 
-pub returns-in_err-clone-2 : goal.returns-in_err-clone-2
-returns-in_err-clone-2 c = record {
-  carries = carries-memory c.from_residual-in_err-clone-2.result c.from_residual-in_err-clone-2.ensures.1
+pub returns-in_err-source : goal.returns-in_err-source
+returns-in_err-source c = record {
+  carries = carries-memory c.from_residual-in_err-source.result c.from_residual-in_err-source.ensures.1
       (want-Enter c.args.office.now c.args.command.now.arch c.args.command.now.source c.args.command.now.version c.args.command.now.priority c.args.command.now.section c.in_ok-read.ensures.ok);
 }
 
