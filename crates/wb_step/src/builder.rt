@@ -123,6 +123,23 @@ pub(crate) fn prepare_assignment(
     if is_assignment_spent(office) {
         return Err(Refusal::Spent);
     }
+    Ok(make_assigned(alloc, arch, source, current, after, take_number)?)
+}
+
+/// The record after a builder took it, with its key, and the assignment of the record before, which is `current`. The
+/// only error is that memory ran out.
+fn make_assigned(
+    alloc: Global,
+    arch: &Text,
+    source: &Text,
+    current: &Record,
+    after: Record,
+    take_number: u64,
+) -> Result<Assigned, AllocError>
+    ensures value { IfOk result (λ given. entry_of given.made ≡ ((arch.now, source.now), after)) }
+    ensures reply { IfOk result (λ given. given.assignment
+        ≡ assignment_of ((arch.now, source.now), current.now) take_number) }
+{
     let made = with_key(arch, source, after)?;
     let assignment = assignment(alloc, arch, source, current, take_number)?;
     Ok(Assigned { made, assignment })

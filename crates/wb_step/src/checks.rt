@@ -1,10 +1,14 @@
 //! What commands ask of a part of the office, and the checks by what it has.
-ghost use Rattle.std.specs.Prelude.{◌≡◌, None, Some, nat_le, ◌||◌, IfOk, IfErr};
+ghost use Rattle.std.specs.Prelude.{◌≡◌, None, Some, Err, false, nat_le, ◌||◌, IfOk, IfErr, OnOk};
 ghost use Rattle.std.specs.FinMap as map;
 ghost use Rattle.wb_states.specs.Limits.{count_limit};
 ghost use Rattle.wb_states.specs.Machine.{Machine, arch_words};
+ghost use Rattle.wb_states.specs.declared.refusal.Refusal.TheVariants.{UnknownArch};
+ghost use Rattle.wb_states.specs.Queue.{Entry};
 ghost use Rattle.wb_states.specs.Refusals.{IsOfMachine};
-ghost use Rattle.wb_step.specs.Checks.{differing, found_refusal, is_for_others, is_number_ahead};
+ghost use Rattle.wb_step.specs.Checks.{differing, found_refusal, is_for_others, is_number_ahead, when};
+ghost use Rattle.wb_step.specs.Outcomes.{sought_step};
+ghost use Rattle.wb_step.specs.Step.{Outcome};
 ghost use Rattle.wb_states.specs.Machine.{is_unknown_arch, is_unknown_builder};
 
 use crate::OfficePart;
@@ -115,4 +119,26 @@ pub(crate) fn find_source<'a>(
         });
     }
     Ok(current)
+}
+
+/// The record of the source package, if the architecture was added and it is of the version.
+pub(crate) fn find_known<'a>(
+    alloc: Global,
+    office: &'a OfficePart,
+    arch: &Text,
+    source: &Text,
+    version: &Version,
+) -> Result<&'a Record, Refusal>
+    ensures value { IfOk result (λ current.
+        map.get office.now.records (arch.now, source.now) ≡ Some current.now) }
+    ensures ok { IfOk result (λ current. differing version.now current.now ≡ None) }
+    ensures known { OnOk result (is_unknown_arch office.now arch.now ≡ false) }
+    ensures refused { IfErr result (λ refusal. IsOfMachine refusal → (done : Entry → Outcome)
+        → sought_step (when (is_unknown_arch office.now arch.now) UnknownArch)
+        office.now arch.now source.now version.now done ≡ (Err refusal, office.now)) }
+{
+    if lacks_arch(office, arch) {
+        return Err(Refusal::UnknownArch);
+    }
+    find_source(alloc, office, arch, source, version)
 }

@@ -9,7 +9,7 @@ ghost use Rattle.wb_step.specs.Checks.{aside_refusal};
 ghost use Rattle.wb_step.specs.Outcomes.{named_step};
 
 use crate::OfficePart;
-use crate::checks::{find_source, lacks_arch, words_of};
+use crate::checks::{find_known, words_of};
 use crate::texts::{is_long, read_key, read_refusal_or, read_relations, rebuild_number};
 use crate::transition::{keep_record, prepare_move};
 use deb_text::Text;
@@ -29,10 +29,7 @@ fn move_named(
     ensures reaches { Reaches office.old office.new
         (named_step office.old arch.now source.now version.now change) result }
 {
-    if lacks_arch(office, arch) {
-        return Err(Refusal::UnknownArch);
-    }
-    let current = find_source(alloc, office, arch, source, version)?;
+    let current = find_known(alloc, office, arch, source, version)?;
     let made = prepare_move(alloc, office, arch, source, current, change)?;
     keep_record(office, made)
 }

@@ -5,7 +5,7 @@ ghost use Rattle.wb_step.specs.Carries.{Carries, Reaches};
 ghost use Rattle.wb_step.specs.Outcomes.{prioritized_step};
 
 use crate::OfficePart;
-use crate::checks::{find_source, is_spent, lacks_arch};
+use crate::checks::{find_known, is_spent};
 use crate::keyed::with_key;
 use crate::texts::{self, read_key, read_refusal_or};
 use crate::transition::keep_record;
@@ -48,10 +48,7 @@ fn prioritize(
     ensures reaches { Reaches office.old office.new
         (prioritized_step office.old arch.now source.now version.now build_priority) result }
 {
-    if lacks_arch(office, arch) {
-        return Err(Refusal::UnknownArch);
-    }
-    let current = find_source(alloc, office, arch, source, version)?;
+    let current = find_known(alloc, office, arch, source, version)?;
     if is_spent(office) {
         return Err(Refusal::Spent);
     }

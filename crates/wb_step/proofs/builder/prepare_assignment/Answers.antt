@@ -28,13 +28,13 @@ returns-clause-value c =
     let moved : c.in_ok-after.after ≡ record_after_move (to.Take c.args.builder.now (c.args.office.now.handed + 1)) c.args.current.now =
     c.in_ok-after.ensures.value
     ∙ ap (λ (k : ℕ). record_after_move (to.Take c.args.builder.now k) c.args.current.now) (c.next_take-take_number.ensures.value (or_parts _ _ room).1) in
-    c.in_ok-made.ensures.value ∙ ap (λ (after : Record). ((c.args.arch.now, c.args.source.now), after)) moved
+    c.in_ok-make_assigned.ensures.value ∙ ap (λ (after : Record). ((c.args.arch.now, c.args.source.now), after)) moved
 
 pub returns-clause-reply : goal.returns-clause-reply
 returns-clause-reply c =
     let room : (nat_le count_limit c.args.office.now.accepted || nat_le count_limit c.args.office.now.handed) ≡ false =
     sym c.is_assignment_spent.ensures.value ∙ c.if-is_assignment_spent.false in
-    c.in_ok-assignment.ensures.value
+    c.in_ok-make_assigned.ensures.reply
     ∙ ap (λ (k : ℕ). assignment_of ((c.args.arch.now, c.args.source.now), c.args.current.now) k) (c.next_take-take_number.ensures.value (or_parts _ _ room).1)
 
 pub returns-clause-ok : goal.returns-clause-ok
