@@ -74,7 +74,8 @@ carries-memory (Err returned) none known =
 
 -- there is no memory for a change, and `?` gives that back
 pub carries-failed : {old new : Machine} {command : Command} (result : Result Reply Refusal)
-    → IsErrAnd result (λ returned. returned ≡ Memory) → new ≡ old → MayWantMemory command → Carries old new command result
+    → IsErrAnd result (λ returned. returned ≡ Memory) → new ≡ old → MayWantMemory command
+    → Carries old new command result
 carries-failed (Ok reply) none unchanged known = absurd none
 carries-failed (Err returned) none unchanged known =
     record { reply = tt; refused = λ differs. absurd (differs none); memory = λ _. known; unchanged = unchanged }

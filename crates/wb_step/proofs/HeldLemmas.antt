@@ -90,12 +90,15 @@ waits-BadRelations machine take_number relations refusal is =
     step-text machine (Waits take_number relations) refusal (ap (λ first. option_or first None) is)
 
 -- relations that are read
-pub waits-is : (machine : Machine) (take_number : ℕ) (relations : List ℕ) (groups : List (List Alternative)) → reading_of relations ≡ Ok groups
-    → step machine (Waits take_number relations) ≡ taken_step machine take_number (λ entry. to.Waits groups (arch_words machine entry.0.0))
+pub waits-is : (machine : Machine) (take_number : ℕ) (relations : List ℕ) (groups : List (List Alternative))
+    → reading_of relations ≡ Ok groups
+    → step machine (Waits take_number relations)
+    ≡ taken_step machine take_number (λ entry. to.Waits groups (arch_words machine entry.0.0))
 unfolding waits_move
 waits-is machine take_number relations groups reads =
     step-Waits machine take_number relations groups reads
-    ∙ (λ i. taken_step machine take_number (λ entry. to.Waits (result_unwrap_or (reads i) []) (arch_words machine entry.0.0)))
+    ∙ (λ i. taken_step machine take_number (λ entry.
+    to.Waits (result_unwrap_or (reads i) []) (arch_words machine entry.0.0)))
 
 pub taken_step-NotHeld : (machine : Machine) (take_number : ℕ) (moves : Entry → Move) → taken_as machine take_number ≡ None
     → taken_step machine take_number moves ≡ (Err NotHeld, machine)

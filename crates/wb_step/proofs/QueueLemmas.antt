@@ -159,7 +159,8 @@ head-heads machine arch = found (head_of machine arch) refl where
       (waits.1, (waits.2, ap (λ a. finite.get machine.records (a, entry.0.1)) (sym waits.1) ∙ waits.0))
 
 -- the same of what is found to be the head
-pub found-heads : (machine : Machine) (arch : List ℕ) (found : Option Entry) → found ≡ head_of machine arch → IfSome found (Heads machine arch)
+pub found-heads : (machine : Machine) (arch : List ℕ) (found : Option Entry) → found ≡ head_of machine arch
+    → IfSome found (Heads machine arch)
 found-heads machine arch found is =
     let P : Option Entry → Type 0 = λ head. IfSome head (Heads machine arch) in
     subst P (sym is) (head-heads machine arch)

@@ -1,4 +1,4 @@
-use Rattle.std.proofs.Common.{◌∙◌, sym}
+use Rattle.std.proofs.Common.{◌∙◌}
 use Rattle.std.proofs.lemmas.Result.{IfOk-weaker}
 use Rattle.wb_step.specs.Outcomes.{assignment_step}
 use Rattle.wb_step.proofs.CarriesLemmas.{reaches-returned, reaches-kept}

@@ -10,9 +10,11 @@ returns-then-lacks_arch-clause-refused c = λ _ done.
 
 pub returns-clause-known : goal.returns-clause-known
 returns-clause-known c =
-    IfOk-weaker c.find_source.result _ _ (λ _ _. sym c.lacks_arch.ensures.value ∙ c.if-lacks_arch.false) c.find_source.ensures.ok
+    IfOk-weaker c.find_source.result _ _
+    (λ _ _. sym c.lacks_arch.ensures.value ∙ c.if-lacks_arch.false) c.find_source.ensures.ok
 
 pub returns-clause-refused : goal.returns-clause-refused
 returns-clause-refused c = IfErr-weaker c.find_source.result _ _ (λ _ is differs done.
     sought-found c.args.office.now c.args.arch.now c.args.source.now c.args.version.now done _ _
-    (known-arch c.args.office.now c.args.arch.now (sym c.lacks_arch.ensures.value ∙ c.if-lacks_arch.false)) (is differs)) c.find_source.ensures.refused
+    (known-arch c.args.office.now c.args.arch.now (sym c.lacks_arch.ensures.value ∙ c.if-lacks_arch.false))
+    (is differs)) c.find_source.ensures.refused
