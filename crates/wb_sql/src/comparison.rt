@@ -183,7 +183,7 @@ fn are_no_terms(terms: &Terms) -> bool
 }
 
 /// Whether a name is this text.
-fn is_name(name: &Bytes, text: &str) -> bool
+pub(crate) fn is_name(name: &Bytes, text: &str) -> bool
     ensures value { IsTrue result ↔ (name.now ≡ text.now) }
 {
     name.as_slice() == text.as_bytes()

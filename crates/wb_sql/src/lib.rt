@@ -9,6 +9,7 @@ mod comparison;
 mod create;
 mod definitions;
 mod files;
+mod format;
 mod id_check;
 mod making;
 mod reading;
@@ -17,6 +18,7 @@ pub mod statements;
 mod writing;
 
 pub use files::{close, open, surrender};
+pub use format::has_format;
 pub use making::{make_tables, prepare};
 pub use reading::read;
 pub use recognition::{has_office_tables, lacks_office};

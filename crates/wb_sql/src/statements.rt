@@ -3,6 +3,7 @@
 ghost use Rattle.std.specs.Prelude.{[]};
 ghost use Rattle.wb_sql.specs.Tables.{office, arch, builder, source_record, scratch_source, scratch_binary};
 ghost use Rattle.wb_sql.specs.Among.{AsksAmong, InsertsAmong, UpsertsRecords, UpdatesAmong, DeletesAmong};
+ghost use Rattle.wb_sql.specs.Format.{AsksFormat};
 ghost use Rattle.wb_sql.specs.OfficeStatements.{has_record_key, record_sets, record_of_key, queue_of, head_of};
 ghost use Rattle.wb_sql.specs.OfficeStatements.{record_of_take, held_by, records_of_arch, all_records};
 ghost use Rattle.wb_sql.specs.OfficeStatements.{arch_row, arch_of_name, all_archs, office_sets, office_counts};
@@ -139,6 +140,14 @@ pub fn office_counts() -> &'static str
     ensures { AsksAmong office result.now office_counts 0 }
 {
     "SELECT format, handed, accepted FROM office"
+}
+
+/// The format of the office, in each row of a table `office` that has such a column, whatever else the database has, as
+/// [`crate::has_format`] says.
+pub fn office_format() -> &'static str
+    ensures { AsksFormat result.now }
+{
+    "SELECT format FROM office"
 }
 
 /// The place of one source package of a merge, if there is one.
