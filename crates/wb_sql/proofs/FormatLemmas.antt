@@ -7,7 +7,8 @@ use Rattle.sqlite.specs.Table.{Table}
 use Rattle.sqlite_schema.specs.declared.schema.Column.{Column}
 use Rattle.sqlite_schema.specs.declared.command.Command.{Command}
 use Rattle.sqlite_schema.specs.declared.command.Command.TheVariants as does
-use Rattle.sqlite_schema.specs.Names.{column_named, table_named, place_of, is_key}
+use Rattle.sqlite_schema.specs.Names.{column_named, table_named, place_of, is_key, same_name}
+use Rattle.sqlite_catalog.proofs.StepLemmas.{no_table}
 use Rattle.sqlite_typing.specs.Types.{accepts_after, row_classes, class_in, is_count}
 use Rattle.sqlite_draft.specs.Query.{query_of as drafted}
 use Rattle.sqlite_resolve.specs.Compile.{first, compiled, read}
@@ -15,10 +16,12 @@ use Rattle.sqlite_resolve.specs.Terms.{number as shown_number}
 use Rattle.sqlite_ast.specs.declared.Select.{Select}
 use Rattle.sqlite_ast.specs.declared.Statement.TheVariants as written
 use Rattle.wb_sql.specs.Queries.{query_of}
-use Rattle.wb_sql.specs.Among.{HasTable}
+use Rattle.wb_sql.specs.Among.{HasOffice, HasTable, LacksOffice, table_in}
 use Rattle.wb_sql.specs.OfficeStatements.{no_limit}
-use Rattle.wb_sql.specs.Format.{HasFormat, AsksFormat, formats_in}
+use Rattle.wb_sql.specs.Format.{HasFormatColumn, AsksFormat, format_place, formats_in}
 use Rattle.wb_sql.specs.Recognition.{IsFound}
+use Rattle.wb_sql.specs.Tables.{number, office}
+use Rattle.wb_sql.proofs.FreeLemmas.{office_free}
 use Rattle.wb_sql.proofs.AmongLemmas.{means_is}
 use Rattle.wb_sql.proofs.SelectForm.{parsed, select, shown, source}
 use Rattle.wb_sql.proofs.ShownLemmas.{outputs_after}
@@ -43,7 +46,7 @@ class_at table column place listed = by_key (is_key table.key place)
         let is : slice_get (map class_in table.columns) place ≡ Some (class_in column) = slice_get-map class_in table.columns place ∙ ap (option_map class_in) listed in
         rw next (ap is_some is)
 
-module _ {schema : Schema} (has : HasFormat schema) where
+module _ {schema : Schema} (has : HasFormatColumn schema) where
   abbrev column_is : List (ℕ × Column)
   column_is = (has.format.place, has.format.column) ∷ []
 
@@ -91,3 +94,43 @@ asks_format sql start stop tail ends first_is schema has =
 pub found_has : (schema : Schema) (table : Table) (name : List ℕ) → HasTable schema table → table.name ≡ name → IsFound schema name table
 found_has schema table name h is =
     record { at = h.at; named = subst (λ n. table_named schema n ≡ Some h.at) is h.named; listed = h.listed; in_tree = h.in_tree; stored = h.stored }
+
+-- ---- the one table and the one column
+
+some_is : {A : Type 0} (x y : A) → Some x ≡ Some y → x ≡ y
+some_is x y e = cc
+
+-- the format stands in one table, at one place
+pub same_format : (schema : Schema) (a b : HasFormatColumn schema) → (a.table ≡ b.table) × (format_place a ≡ format_place b)
+unfolding found_has
+same_format schema a b =
+    let one = (found_has schema a.table (codes "office") a.has a.spelled).named in
+    let other = (found_has schema b.table (codes "office") b.has b.spelled).named in
+    let at : a.has.at ≡ b.has.at = some_is _ _ (sym one ∙ other) in
+    let table : a.table ≡ b.table = some_is _ _ (sym a.has.listed ∙ (ap (slice_get schema.tables) at ∙ b.has.listed)) in
+    let named : column_named b.table (codes "format") ≡ Some a.format.place = subst (λ t. column_named t (codes "format") ≡ Some a.format.place) table a.format.named in
+    let place : a.format.place ≡ b.format.place = some_is _ _ (sym named ∙ b.format.named) in
+    (table, subst (λ t. place_of t a.format.place ≡ place_of b.table b.format.place) (sym table) (ap (place_of b.table) place))
+
+-- a schema with the office's tables has it
+pub format_of_office : (schema : Schema) → HasOffice schema → HasFormatColumn schema
+unfolding same_name
+format_of_office schema has = record {
+  table = table_in schema office;
+  has = has.office_is;
+  spelled = refl;
+  format = record { place = 1; column = number (codes "format"); named = refl; listed = refl; spelled = refl };
+}
+
+-- there it is at the third place of a row, after the rowid and the id
+pub format_in_office : (schema : Schema) (has : HasOffice schema) (h : HasFormatColumn schema) → (h.table ≡ table_in schema office) × (format_place h ≡ 2)
+unfolding format_of_office
+format_in_office schema has h = same_format schema h (format_of_office schema has)
+
+-- a schema that lacks the office has no table of that name
+pub lacks_format : (schema : Schema) → LacksOffice schema → ¬ HasFormatColumn schema
+unfolding same_name
+lacks_format schema lacks h =
+    let none = no_table schema (codes "office") (office_free schema lacks (codes "office") refl) in
+    let some = (found_has schema h.table (codes "office") h.has h.spelled).named in
+    cc

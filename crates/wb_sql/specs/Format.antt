@@ -1,4 +1,4 @@
--- The format of an office, which is read from its own table, whatever else the database has (this project's own).
+-- The format of an office, which is read from its own table, whatever else the database has.
 use Rattle.std.specs.Prelude.{◌≡◌, ℕ, List, [], ◌∷◌, codes, Some, slice_get}
 use Rattle.sqlite.specs.Schema.{Schema}
 use Rattle.sqlite.specs.Table.{Table}
@@ -17,21 +17,21 @@ pub record HasColumn (table : Table) (name : List ℕ) : Type 0 where
   pub spelled : column.name ≡ name
 
 -- the schema has a table `office` with a column `format`, whatever else it has
-pub record HasFormat (schema : Schema) : Type 0 where
+pub record HasFormatColumn (schema : Schema) : Type 0 where
   pub table : Table
   pub has : HasTable schema table
   pub spelled : table.name ≡ codes "office"
   pub format : HasColumn table (codes "format")
 
 -- where a row of that table has its format
-abbrev pub format_place : {schema : Schema} → HasFormat schema → ℕ
+abbrev pub format_place : {schema : Schema} → HasFormatColumn schema → ℕ
 format_place has = place_of has.table has.format.place
 
 -- the format in each row of that table
-abbrev pub formats_in : {schema : Schema} → HasFormat schema → TableQuery
+abbrev pub formats_in : {schema : Schema} → HasFormatColumn schema → TableQuery
 formats_in has =
     record { tree = has.table.tree; filter = []; project = cell (format_place has) ∷ []; order = []; collations = []; limit = no_limit; offset = none_skipped }
 
 -- over each schema that has such a table, the text, which has no parameter, asks for the format in each of its rows
 abbrev pub AsksFormat : List ℕ → Type 0
-AsksFormat sql = (schema : Schema) (has : HasFormat schema) → Asks schema sql (formats_in has) 0
+AsksFormat sql = (schema : Schema) (has : HasFormatColumn schema) → Asks schema sql (formats_in has) 0

@@ -1,6 +1,6 @@
 //! Whether the format of an office can be read, whatever else a database has.
 ghost use Rattle.std.specs.Prelude.{◌↔◌, IsTrue};
-ghost use Rattle.wb_sql.specs.Format.{HasColumn, HasFormat};
+ghost use Rattle.wb_sql.specs.Format.{HasColumn, HasFormatColumn};
 
 use crate::beside::find_table;
 use crate::comparison::is_name;
@@ -10,8 +10,8 @@ use sqlite_schema::schema::{Schema, Table};
 /// read from it by [`crate::statements::office_format`]. What other columns and tables there are does not matter, nor
 /// what the rows are. The answer is false where the table is not alone in its tree, as it is in no sound database. The
 /// schema of a connection is `Connection::schema` (this project's own).
-pub fn has_format(schema: &Schema) -> bool
-    ensures value { IsTrue result ↔ HasFormat schema.now }
+pub fn has_format_column(schema: &Schema) -> bool
+    ensures value { IsTrue result ↔ HasFormatColumn schema.now }
 {
     match find_table(schema, "office") {
         Some(table) => is_name(&table.name, "office") && has_column(table, "format"),

@@ -18,7 +18,7 @@ pub mod statements;
 mod writing;
 
 pub use files::{close, open, surrender};
-pub use format::has_format;
+pub use format::has_format_column;
 pub use making::{make_tables, prepare};
 pub use reading::read;
 pub use recognition::{has_office_tables, lacks_office};

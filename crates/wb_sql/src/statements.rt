@@ -143,7 +143,7 @@ pub fn office_counts() -> &'static str
 }
 
 /// The format of the office, in each row of a table `office` that has such a column, whatever else the database has, as
-/// [`crate::has_format`] says.
+/// [`crate::has_format_column`] says.
 pub fn office_format() -> &'static str
     ensures { AsksFormat result.now }
 {
