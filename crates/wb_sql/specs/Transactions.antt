@@ -7,8 +7,8 @@ use Rattle.sqlite.specs.declared.error.ErrorCode.TheVariants.{OutOfMemory}
 use Rattle.sqlite.specs.Tree.{Trees}
 use Rattle.sqlite.specs.Held.{Held, state}
 use Rattle.sqlite.specs.State.{State, IsUnchanged, IsRolledBack, Shows, Executes}
-use Rattle.wb_sql.specs.declared.writing.CommitError.{CommitError}
-use Rattle.wb_sql.specs.declared.writing.CommitError.TheVariants.{Memory, InDoubt}
+use Rattle.wb_sql.specs.declared.transaction.CommitError.{CommitError}
+use Rattle.wb_sql.specs.declared.transaction.CommitError.TheVariants.{Memory, InDoubt}
 
 -- nothing was written, or all that the transaction wrote is taken back
 abbrev pub IsKeptOrUndone : State → State → Type 0

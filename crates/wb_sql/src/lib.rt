@@ -15,11 +15,12 @@ mod making;
 mod reading;
 mod recognition;
 pub mod statements;
-mod writing;
+mod transaction;
 
+pub use changes::{delete, insert, replace, update, upsert};
 pub use files::{close, open, surrender};
 pub use format::has_format_column;
 pub use making::{make_tables, prepare};
 pub use reading::read;
 pub use recognition::{has_office_tables, lacks_office};
-pub use writing::{CommitError, Writing, begin, is_usable};
+pub use transaction::{CommitError, begin, commit, execute, is_usable, roll_back};

@@ -2,7 +2,6 @@ ghost use Rattle.std.specs.Prelude.{◌≡◌};
 ghost use Rattle.sqlite.specs.Values.{bound};
 ghost use Rattle.wb_sql.specs.Calls.{RunsQuery};
 
-use crate::writing::Writing;
 use sqlite::types::ValueRef;
 use sqlite::{Alter, Connection, Error, Row};
 
@@ -16,15 +15,4 @@ pub fn read<S: Alter>(
     ensures runs { RunsQuery S.Store sql.now (bound params.now) conn.old conn.new result }
 {
     conn.query_all(sql, params)
-}
-
-impl<S: Alter> Writing<'_, S> {
-    /// Runs one query in the transaction, whose writes it sees, and answers all its rows in the query's order. It fails
-    /// as `read` does.
-    pub fn read(&mut self, sql: &str, params: &[ValueRef<'_>]) -> Result<Vec<Row>, Error>
-        ensures same_reference { self.new.conn.ghost_name ≡ self.old.conn.ghost_name }
-        ensures runs { RunsQuery S.Store sql.now (bound params.now) self.old.conn.now self.new.conn.now result }
-    {
-        read(self.conn, sql, params)
-    }
 }

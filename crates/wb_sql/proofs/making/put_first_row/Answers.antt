@@ -1,5 +1,7 @@
 use Rattle.wb_sql.proofs.FirstRowLemmas.{first_row_makes}
 use Rattle.wb_sql.proofs.making.put_first_row.Goals as goal
 
-pub returns-clause-makes : goal.returns-clause-makes
-returns-clause-makes g c = λ base lacks numbered. first_row_makes lacks numbered c.replace.ensures.runs c.replace.ensures.ok
+pub returns : goal.returns
+returns g c = record {
+  makes = λ base lacks numbered. first_row_makes lacks numbered c.replace.ensures.runs c.replace.ensures.ok;
+}

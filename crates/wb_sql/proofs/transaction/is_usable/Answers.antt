@@ -2,7 +2,7 @@ use Rattle.std.proofs.Common.{rules, []}
 use Rattle.sqlite.specs.Held.{state}
 use Rattle.sqlite.proofs.StateLemmas.{survives_weaker}
 use Rattle.wb_sql.proofs.EndingLemmas.{kept_or_undone, stays_usable, empty_commits_nothing}
-use Rattle.wb_sql.proofs.writing.is_usable.Goals as goal
+use Rattle.wb_sql.proofs.transaction.is_usable.Goals as goal
 
 pub returns-clause-open : goal.returns-clause-open
 returns-clause-open g c clean = search (rules, stays_usable)

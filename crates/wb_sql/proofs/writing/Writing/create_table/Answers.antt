@@ -1,8 +1,0 @@
-use Rattle.sqlite.specs.Held.{state}
-use Rattle.wb_sql.proofs.CallLemmas.{on_ok}
-use Rattle.wb_sql.proofs.DefinitionLemmas.{creates_table}
-use Rattle.wb_sql.proofs.writing.Writing.create_table.Goals as goal
-
-pub returns-clause-ok : goal.returns-clause-ok
-returns-clause-ok g c clean =
-    on_ok c.run.result (creates_table c.args.sql.now (state g.S.Store c.args.self.now.conn.now) (state g.S.Store c.run.new.self.conn.now)) (c.run.ensures.runs.ok clean)
