@@ -1,23 +1,39 @@
 -- An office over two files: closed and opened again, it stands for the state that it had.
-use Rattle.std.proofs.Common.{◌≡◌, Result, Ok, Err, IfOk, sym, ap, subst, ◌∙◌}
+use Rattle.std.proofs.Common.{◌≡◌, ◌⊎◌, Bool, inl, inr, Result, Ok, Err, IfOk, IfErr, refl, sym, ap, subst, ◌∙◌}
+use Rattle.std.proofs.Math.Logic.{∥∥₁_map}
 use Rattle.sqlite_disk.specs.declared.Disk.{Ghosts}
 use Rattle.sqlite_disk.specs.declared.Files.{Files}
 use Rattle.sqlite_wal.specs.Reads.{AreClean}
+use Rattle.sqlite_wal.proofs.LogLemmas.{SeenMayStay}
 use Rattle.sqlite_store.specs.declared.store.FileStore.{FileStore}
+use Rattle.sqlite_store.specs.Laws.{stays_at}
 use Rattle.sqlite_trees.specs.Objects.{catalog_tree}
 use Rattle.sqlite_catalog.specs.Listing.{Lists}
 use Rattle.sqlite_catalog.proofs.ReadLemmas.{lists_once}
-use Rattle.sqlite.specs.Schema.{Schema}
 use Rattle.sqlite.specs.Tree.{Trees}
+use Rattle.sqlite.specs.Closing.{IsCopied}
 use Rattle.sqlite.specs.Effect.{Database}
 use Rattle.sqlite.specs.Held.{Held}
-use Rattle.sqlite.specs.Files.{file_state, IsOpened}
-use Rattle.sqlite.specs.State.{HasCleanDisk}
+use Rattle.sqlite.specs.Files.{file_state, over_files, Finds, HoldsDatabase, IsOpened}
+use Rattle.sqlite.specs.State.{HasCleanDisk, State}
+use Rattle.sqlite.proofs.ListingLemmas.{empty_is_sound}
 use Rattle.wb_sql.specs.Transactions.{LeavesAlone}
-use Rattle.wb_sql.specs.Settled.{AreSettled}
-use Rattle.wb_states.specs.Machine.{Machine}
+use Rattle.wb_sql.proofs.SettledLemmas.{settled_by_close, found_left, found_new}
+use Rattle.wb_sql.specs.Settled.{AreSettled, LeaveOnly}
+use Rattle.wb_sql.specs.Among.{HasOffice, LacksOffice}
+use Rattle.wb_sql.proofs.GrowthLemmas.{empty_lacks}
+use Rattle.wb_states.specs.declared.store_fault.StoreFault.{StoreFault}
+use Rattle.wb_states.specs.Machine.{IsConsistent, Machine, empty_office}
+use Rattle.wb_states.proofs.ConsistencyLemmas.{IsConsistent-empty_office}
+use Rattle.wb_store.specs.Checks.{HasGoodRows}
+use Rattle.wb_store.specs.Settled.{AreSettledAt, StandsForTrees, IsSettled, IsBackAt, LeavesEither}
+use Rattle.wb_store.proofs.OpeningSoundLemmas.{good_rows_consistent}
+use Rattle.wb_store.specs.Files.{AreFoundAt, AreNew, FailsToOpen, IsOver, IsRefusedOver, LeaveOffice}
+use Rattle.wb_store.specs.Opening.{IsRefusedFrom}
+use Rattle.wb_store.specs.Preparing.{AreBlank, HoldOffice, IsBlank, IsFoundAt}
+use Rattle.wb_store.proofs.NumberedLemmas.{empty_schema}
+use Rattle.sqlite.specs.Schema.{Schema}
 use Rattle.wb_store.specs.Stands.{StandsFor}
-use Rattle.wb_store.specs.Settled.{StandsForTrees, IsSettled, AreSettledAt}
 use Rattle.wb_store.proofs.SettledLemmas.{office_trees}
 
 module _ {D : Type 0} (g : Ghosts D) where
@@ -63,3 +79,120 @@ module _ {D : Type 0} (g : Ghosts D) {E : Type 0} where
       → AreSettledAt g files machine → IfOk r (λ c. HasCleanDisk (file_state c) → IsSettled machine (file_state c))
   opens_settled files (Ok c) opened found alone held = λ clean. found_settled g c files held (opened clean) (found clean) (alone clean)
   opens_settled files (Err e) opened found alone held = tt
+
+-- ---- an office is opened over files, and closed
+
+module _ {D : Type 0} (g : Ghosts D) (c : Held (FileStore D g)) (opened : IsOpened c) (alone : LeavesAlone (file_state c) (file_state c).committed.trees) where
+  -- a database that lacks the office's tables
+  holds_blank : AreBlank (file_state c).committed.trees → IsBlank (file_state c)
+  holds_blank blank =
+      let there : (file_state c).now.trees ≡ (file_state c).committed.trees = ap (λ (d : Database). d.trees) opened.0.clean in
+      let sound = (opened.1 opened.0.is_open).0 in
+      let same : (file_state c).now.schema ≡ blank.schema =
+      lists_once ((file_state c).committed.trees catalog_tree) (file_state c).now.schema blank.schema (subst (λ (trees : Trees). Lists (trees catalog_tree) (file_state c).now.schema) there sound.lists) blank.sound.lists in
+      record {
+        is_open = opened.0.is_open;
+        idle = opened.0.autocommit;
+        committed = opened.0.clean;
+        lacks = subst LacksOffice (sym same) blank.lacks;
+        sound = sound;
+        alone = λ other may. alone other may ∙ sym there;
+      }
+
+  -- the office that the database holds
+  pub holds_office : {machine : Machine} → HoldOffice machine (file_state c).committed.trees → IsFoundAt machine (file_state c)
+  holds_office (inl stands) = inl (holds_settled g c stands opened alone)
+  holds_office (inr blank) = inr (blank.0, holds_blank blank.1)
+
+  -- what files hold is found
+  pub found_over : (files : Files D) → ((db : Trees) → AreSettled g files db → (file_state c).committed.trees ≡ db) → {machine : Machine} → AreFoundAt g files machine → IsFoundAt machine (file_state c)
+  found_over files found {machine = machine} (db, holds, are) = holds_office (subst (HoldOffice machine) (sym (found db are)) holds)
+
+  -- an empty office is found in files in which no database was made
+  pub found_in_new : (files : Files D) → Finds files c → AreNew g files → IsFoundAt empty_office (file_state c)
+  found_in_new files finds new = inr (refl, holds_blank (record { schema = empty_schema; sound = empty_is_sound (file_state c).committed.trees (found_new c files finds new).1; lacks = empty_lacks }))
+
+  -- one of the offices is found that a crash leaves of the files
+  pub found_one : (files : Files D) → SeenMayStay g → Finds files c → (one other : Machine) → LeaveOffice g files one other → ∥ (IsFoundAt one (file_state c) ⊎ IsFoundAt other (file_state c)) ∥₁
+  found_one files stays finds one other leave =
+      ∥∥₁_map (found_left c files stays finds (λ db. HoldOffice one db ⊎ HoldOffice other db) leave) (λ either. let r : IsFoundAt one (file_state c) ⊎ IsFoundAt other (file_state c) = elim either [
+        | inl first ↦ inl (holds_office {machine = one} first)
+        | inr second ↦ inr (holds_office {machine = other} second)
+      ] in r)
+
+-- an opened connection is over its files
+pub is_over : {D : Type 0} (g : Ghosts D) (c : Held (FileStore D g)) (files : Files D) → (HasCleanDisk (file_state c) → IsOpened c)
+    → (HasCleanDisk (file_state c) → (db : Trees) → AreSettled g files db → (file_state c).committed.trees ≡ db)
+    → (HasCleanDisk (file_state c) → LeavesAlone (file_state c) (file_state c).committed.trees) → IsOver g files c
+is_over g c files opened found alone clean = (opened clean, λ machine. found_over g c (opened clean) (alone clean) files (found clean))
+
+-- files that are closed hold the state at which their office stood
+pub closed_at : {D : Type 0} {g : Ghosts D} (c : Held (FileStore D g)) (files : Files D)
+    → (AreClean g files.log files.db → IsCopied c files)
+    → AreClean g files.log files.db → (machine : Machine) → IsBackAt machine (file_state c) → AreSettledAt g files machine
+closed_at {g = g} c files copied clean machine back =
+    let is = copied clean in
+    files_settled g c files (back.settled is.was_open) (settled_by_close c files is)
+
+-- files that are closed after a commit in doubt hold the state before it or the state after it
+pub closed_at_one : {D : Type 0} {g : Ghosts D} (c : Held (FileStore D g)) (files : Files D) → SeenMayStay g
+    → (AreClean g files.log files.db → IsCopied c files)
+    → AreClean g files.log files.db → (before after : Machine) → LeavesEither before after (file_state c) → AreSettledAt g files before ⊎ AreSettledAt g files after
+closed_at_one c files stays copied clean before after left =
+    let is = copied clean in
+    let db = (file_state c).committed.trees in
+    elim (left db (stays_at c.store stays is.was_open)) [
+      | inl stands ↦ inl (db, stands, settled_by_close c files is)
+      | inr stands ↦ inr (db, stands, settled_by_close c files is)
+    ]
+
+-- the state of an office that an opening found is consistent, if the rows of its tables are good
+pub found_consistent : {machine : Machine} (s : State) → IsFoundAt machine s → (HasOffice s.now.schema → HasGoodRows s.now) → IsConsistent machine
+found_consistent {machine = machine} s (inl settled) good = good_rows_consistent machine s.now settled.holds.stands (good settled.holds.stands.has)
+found_consistent s (inr blank) good = subst IsConsistent (sym blank.0) IsConsistent-empty_office
+
+-- an office that was adopted over files stands at the state that they hold
+pub stands_over : {X E : Type 0} {WasClean : Type 0} {Found Held : Machine → Type 0} (IsCleanAt : X → Type 0) (Stands : Machine → X → Type 0) (r : Result X E)
+    → (WasClean → (machine : Machine) → Held machine → Found machine) → IfOk r (λ x. IsCleanAt x → WasClean)
+    → IfOk r (λ x. IsCleanAt x → (machine : Machine) → Found machine → Stands machine x)
+    → IfOk r (λ x. IsCleanAt x → (machine : Machine) → Held machine → Stands machine x)
+stands_over IsCleanAt Stands (Ok x) over was found = λ clean machine held. found clean machine (over (was clean) machine held)
+stands_over IsCleanAt Stands (Err e) over was found = tt
+
+-- an office that was adopted over files stands at one of the states that a crash leaves of them
+pub stands_over_one : {X E : Type 0} {WasClean : Type 0} {Found : Machine → Type 0} {Leave : Machine → Machine → Type 0} (IsCleanAt : X → Type 0) (Stands : Machine → X → Type 0) (r : Result X E)
+    → (WasClean → (one other : Machine) → Leave one other → ∥ (Found one ⊎ Found other) ∥₁) → IfOk r (λ x. IsCleanAt x → WasClean)
+    → IfOk r (λ x. IsCleanAt x → (machine : Machine) → Found machine → Stands machine x)
+    → IfOk r (λ x. IsCleanAt x → (one other : Machine) → Leave one other → ∥ (Stands one x ⊎ Stands other x) ∥₁)
+stands_over_one IsCleanAt Stands (Ok x) over was found = λ clean one other leave.
+    ∥∥₁_map (over (was clean) one other leave) (λ either. let r : Stands one x ⊎ Stands other x = elim either [
+      | inl first ↦ inl (found clean one first)
+      | inr second ↦ inr (found clean other second)
+    ] in r)
+stands_over_one IsCleanAt Stands (Err e) over was found = tt
+
+-- an office that was adopted over new files stands at the empty office
+pub stands_over_new : {X E : Type 0} {WasClean IsNew : Type 0} (Found : Machine → Type 0) (IsCleanAt : X → Type 0) (Stands : Machine → X → Type 0) (r : Result X E)
+    → (WasClean → IsNew → Found empty_office) → IfOk r (λ x. IsCleanAt x → WasClean)
+    → IfOk r (λ x. IsCleanAt x → (machine : Machine) → Found machine → Stands machine x)
+    → IfOk r (λ x. IsCleanAt x → IsNew → Stands empty_office x)
+stands_over_new Found IsCleanAt Stands (Ok x) over was found = λ clean new. found clean empty_office (over (was clean) new)
+stands_over_new Found IsCleanAt Stands (Err e) over was found = tt
+
+-- files are clean of which an office was opened whose disk is clean
+pub clean_over : {X E : Type 0} {WasClean AreClean : Type 0} (IsCleanAt : X → Type 0) (r : Result X E) → (WasClean → AreClean) → IfOk r (λ x. IsCleanAt x → WasClean)
+    → IfOk r (λ x. IsCleanAt x → AreClean)
+clean_over IsCleanAt (Ok x) over was = λ clean. over (was clean)
+clean_over IsCleanAt (Err e) over was = tt
+
+-- an office that was refused over files that were opened
+pub refused_over : {D X : Type 0} (g : Ghosts D) (c : Held (FileStore D g)) (files : Files D) (r : Result X StoreFault) → IsOver g files c
+    → IfErr r (IsRefusedFrom over_files c) → IfErr r (λ fault. FailsToOpen g files fault ⊎ IsRefusedOver g files fault)
+refused_over g c files (Ok x) over refused = tt
+refused_over g c files (Err fault) over refused = inr (record { conn = c; opened = over; refused = refused })
+
+-- files of which a crash leaves only what is allowed leave only what is allowed by a wider account
+pub leave_wider : {D : Type 0} (g : Ghosts D) (files : Files D) {Allowed Wider : Trees → Type 0} → ((db : Trees) → Allowed db → Wider db)
+    → LeaveOnly g files Allowed → LeaveOnly g files Wider
+leave_wider g files {Wider = Wider} wider leave image may = ∥∥₁_map (leave image may) (λ found.
+    let r : (db : Trees) × Wider db × HoldsDatabase image db = (found.0, wider found.0 found.1, found.2) in r)

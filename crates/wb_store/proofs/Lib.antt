@@ -3,10 +3,12 @@ pub mod BuilderLemmas
 pub mod ChangeLemmas
 pub mod ChangeRowLemmas
 pub mod CheckLemmas
+pub mod CountLemmas
 pub mod EqualLemmas
 pub mod FileLemmas
 pub mod FindsLemmas
 pub mod FormLemmas
+pub mod FormatLemmas
 pub mod FoundLemmas
 pub mod HoldLemmas
 pub mod LookupLemmas
@@ -24,6 +26,7 @@ pub mod OrderLemmas
 pub mod OthersLemmas
 pub mod PreparingLemmas
 pub mod ReadLemmas
+pub mod RefusalLemmas
 pub mod RenewalLemmas
 pub mod ScratchLemmas
 pub mod SettledLemmas

@@ -4,36 +4,29 @@ use Rattle.std.specs.Bool.{⊤}
 use Rattle.std.specs.FinMap as finite
 use Rattle.std.proofs.lemmas.Bool.{both_ways}
 use Rattle.sqlite_trees.specs.declared.store.Store.{Ghosts}
-use Rattle.sqlite.specs.declared.error.Error.{Error}
 use Rattle.sqlite.specs.Effect.{Database}
 use Rattle.sqlite.specs.Held.{Held, state}
 use Rattle.sqlite.specs.Order.{Row}
-use Rattle.sqlite.specs.Schema.{Schema}
 use Rattle.sqlite.specs.State.{State, HasCleanDisk, Survives}
 use Rattle.sqlite.proofs.StateLemmas.{survives_then}
 use Rattle.wb_sql.specs.Transactions.{IsKeptOrUndone}
-use Rattle.wb_sql.specs.Among.{HasOffice, LacksOffice, rows_in}
-use Rattle.wb_sql.proofs.GrowthLemmas.{lacks_none}
+use Rattle.wb_sql.specs.Among.{HasOffice, rows_in}
 use Rattle.wb_states.specs.declared.arch.OsCpu.{OsCpu}
 use Rattle.wb_states.specs.declared.counts.Counts.{Counts}
 use Rattle.wb_states.specs.declared.store_fault.StoreFault.{StoreFault}
-use Rattle.wb_states.specs.declared.store_fault.StoreFault.TheVariants.{Damaged, NotOffice}
-use Rattle.wb_states.specs.declared.store_fault.Table.TheVariants.{Builder, Office}
-use Rattle.wb_states.specs.Machine.{Key, Machine, empty_office}
-use Rattle.wb_states.proofs.ConsistencyLemmas.{IsConsistent-empty_office}
+use Rattle.wb_states.specs.declared.store_fault.StoreFault.TheVariants.{Damaged}
+use Rattle.wb_states.specs.declared.store_fault.Table.TheVariants.{Builder}
+use Rattle.wb_states.specs.Machine.{Key, Machine}
 use Rattle.wb_rows.specs.Cells.{builder_cells}
-use Rattle.wb_store.specs.Faults.{fault_of}
 use Rattle.wb_store.specs.Checks.{AreBadRecords, AreBadRows, AreKept, FailsToTest, HasGoodRecords, HoldsBuilders, HoldsRecords, IsFormedBuilder, PassesWith, ShowsGood, Tests}
 use Rattle.deb_text.specs.Lists.{is_nonempty}
 use Rattle.wb_store.specs.Scratch.{TestsForRows, has_rows}
-use Rattle.wb_store.specs.Settled.{IsSettled}
 use Rattle.wb_store.specs.Stands.{StandsFor, builder_pairs}
 use Rattle.wb_store.specs.Queries as ask
 use Rattle.wb_store.specs.Queries.{OfficeQuery, table_asked, table_of}
-use Rattle.wb_store.proofs.SettledLemmas.{office_stands, settled_back}
+use Rattle.wb_store.proofs.SettledLemmas.{office_stands}
 use Rattle.wb_store.specs.Finds.{StaysAs}
-use Rattle.wb_store.specs.Opening.{AreCountsOf, Checks, ChecksScratch, ChecksScratchOf, ChecksWith, FailsOnOffice, FindsOffice, HasGoodRowsWith, HasNoScratchRows, ShowsBuilders}
-use Rattle.wb_store.specs.Preparing.{LeavesFound, MakesEmptyOffice}
+use Rattle.wb_store.specs.Opening.{AreCountsOf, Checks, ChecksScratch, ChecksScratchOf, ChecksWith, FailsOnOffice, HasGoodRowsWith, HasNoScratchRows, ShowsBuilders}
 use Rattle.wb_store.proofs.FindsLemmas.{stays-schema, stays-stands, stays_then, stays-now}
 use Rattle.wb_store.proofs.StaysLemmas.{back_by, no_more, stays_settled_as, undone_after, was_clean}
 
@@ -255,6 +248,7 @@ module _ {S : Type 0} {g : Ghosts S} {old new : Held S} where
         (h.told clean machine (office_stands (state g old).now settled.holds), stays_settled_as g old new (h.same clean schema) (no_more g old new h.survives schema clean) settled);
     fails = λ clean machine consistent settled. tt;
     refuses = λ clean office. tt;
+    kept = λ clean office. tt;
     survives = h.survives;
   }
   checked (Err fault) h = record {
@@ -265,128 +259,6 @@ module _ {S : Type 0} {g : Ghosts S} {old new : Held S} where
         let schema = settled.holds.stands.has in
         (back_by g old new (h.kept clean schema) (no_more g old new h.survives schema clean) settled, h.fails clean machine consistent (office_stands (state g old).now settled.holds) tt);
     refuses = h.err;
+    kept = h.kept;
     survives = h.survives;
-  }
-
--- ---- an office is found, or made
-
-settled_leaves : {machine : Machine} (s : State) → IsSettled machine s → LeavesFound machine s
-settled_leaves s settled db may = inl ((settled_back s settled).left db may)
-
-no_office : {schema : Schema} {P : Type 0} → LacksOffice schema → HasOffice schema → P
-no_office {schema = schema} lacks office = absurd (lacks_none schema lacks office)
-
-module _ {S : Type 0} {g : Ghosts S} {old new : Held S} where
-  -- a database with the office's tables is tested as it is
-  pub found_office : (r : Result Counts StoreFault) → HasOffice old.schema → Checks g old new r → FindsOffice g old new r
-  found_office (Ok counts) office h = record {
-    was_clean = h.was_clean;
-    found = λ clean machine consistent at. elim at [
-      | inl settled ↦ h.passes clean machine consistent settled
-      | inr blank ↦ no_office blank.1.lacks office
-    ];
-    left = λ clean machine consistent at. elim at [
-      | inl settled ↦ settled_leaves (state g new) (h.passes clean machine consistent settled).1
-      | inr blank ↦ no_office blank.1.lacks office
-    ];
-    fails = λ clean machine consistent at. tt;
-    good = h.good;
-    refuses = λ clean same. tt;
-    known = inr office;
-    other = λ tables others. absurd (others office);
-  }
-  found_office (Err fault) office h = record {
-    was_clean = h.was_clean;
-    found = λ clean machine consistent at. tt;
-    left = λ clean machine consistent at. elim at [
-      | inl settled ↦ λ db may. inl ((h.fails clean machine consistent settled).0.left db may)
-      | inr blank ↦ no_office blank.1.lacks office
-    ];
-    fails = λ clean machine consistent at. elim at [
-      | inl settled ↦ inr (old, inl refl, (h.fails clean machine consistent settled).1)
-      | inr blank ↦ no_office blank.1.lacks office
-    ];
-    good = λ clean same. tt;
-    refuses = h.refuses;
-    known = tt;
-    other = λ tables others. absurd (others office);
-  }
-
-  -- a database that neither has the office's tables nor lacks them is refused
-  pub other_refused : ¬ LacksOffice old.schema → ¬ HasOffice old.schema → new ≡ old → FindsOffice g old new (Err NotOffice)
-  other_refused tables others same = record {
-    was_clean = λ clean. subst (λ h. HasCleanDisk (state g h)) same clean;
-    found = λ clean machine consistent at. tt;
-    left = λ clean machine consistent at. elim at [
-      | inl settled ↦ absurd (others settled.holds.stands.has)
-      | inr blank ↦ absurd (tables blank.1.lacks)
-    ];
-    fails = λ clean machine consistent at. elim at [
-      | inl settled ↦ absurd (others settled.holds.stands.has)
-      | inr blank ↦ absurd (tables blank.1.lacks)
-    ];
-    good = λ clean office. tt;
-    refuses = λ clean office. absurd (others office);
-    known = tt;
-    other = λ _ _. (refl, same);
-  }
-
-module _ {S : Type 0} {g : Ghosts S} {old new : Held S} (none : LacksOffice old.schema) where
-  -- an empty office is made, and then tested
-  pub made_and_tested : {A : Type 0} {x : A} {mid : Held S} (r : Result Counts StoreFault) → MakesEmptyOffice g old mid (Ok x) → Checks g mid new r → FindsOffice g old new r
-  made_and_tested {mid = mid} (Ok counts) makes h = record {
-    was_clean = λ clean. makes.was_clean (h.was_clean clean);
-    found = λ clean machine consistent at. elim at [
-      | inl settled ↦ no_office none settled.holds.stands.has
-      | inr blank ↦ subst (λ m. AreCountsOf m counts × IsSettled m (state g new)) (sym blank.0)
-          (h.passes clean empty_office IsConsistent-empty_office (makes.made (h.was_clean clean) blank.1).0)
-    ];
-    left = λ clean machine consistent at. elim at [
-      | inl settled ↦ no_office none settled.holds.stands.has
-      | inr blank ↦ subst (λ m. LeavesFound m (state g new)) (sym blank.0)
-          (settled_leaves (state g new) (h.passes clean empty_office IsConsistent-empty_office (makes.made (h.was_clean clean) blank.1).0).1)
-    ];
-    fails = λ clean machine consistent at. tt;
-    good = λ clean office. no_office none office;
-    refuses = λ clean office. tt;
-    known = inl none;
-    other = λ tables others. absurd (tables none);
-  }
-  made_and_tested {mid = mid} (Err fault) makes h = record {
-    was_clean = λ clean. makes.was_clean (h.was_clean clean);
-    found = λ clean machine consistent at. tt;
-    left = λ clean machine consistent at. elim at [
-      | inl settled ↦ no_office none settled.holds.stands.has
-      | inr blank ↦ subst (λ m. LeavesFound m (state g new)) (sym blank.0)
-          (λ db may. inl ((h.fails clean empty_office IsConsistent-empty_office (makes.made (h.was_clean clean) blank.1).0).0.left db may))
-    ];
-    fails = λ clean machine consistent at. elim at [
-      | inl settled ↦ no_office none settled.holds.stands.has
-      | inr blank ↦
-          let settled = (makes.made (h.was_clean clean) blank.1).0 in
-          inr (mid, inr (blank.1, settled, makes.limit), (h.fails clean empty_office IsConsistent-empty_office settled).1)
-    ];
-    good = λ clean office. tt;
-    refuses = λ clean office. no_office none office;
-    known = tt;
-    other = λ tables others. absurd (tables none);
-  }
-
-  -- none could be made
-  pub none_made : {A : Type 0} {e : Error} {fault : StoreFault} → fault ≡ fault_of e Office → MakesEmptyOffice {A = A} g old new (Err e) → FindsOffice g old new (Err fault)
-  none_made {e = e} is makes = record {
-    was_clean = makes.was_clean;
-    found = λ clean machine consistent at. tt;
-    left = λ clean machine consistent at. elim at [
-      | inl settled ↦ no_office none settled.holds.stands.has
-      | inr blank ↦ subst (λ m. LeavesFound m (state g new)) (sym blank.0) (makes.left clean blank.1)
-    ];
-    fails = λ clean machine consistent at. elim at [
-      | inl settled ↦ no_office none settled.holds.stands.has
-      | inr blank ↦ inl (blank.1, (e, makes.err clean blank.1, is))
-    ];
-    good = λ clean office. tt;
-    refuses = λ clean office. no_office none office;
-    known = tt;
-    other = λ tables others. absurd (tables none);
   }

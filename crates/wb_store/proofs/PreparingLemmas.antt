@@ -1,5 +1,5 @@
 -- How an empty office is made in a database that lacks its tables, in one transaction.
-use Rattle.std.proofs.Common.{◌≡◌, inl, inr, true, List, [], ◌∷◌, Result, Ok, Err, IfErr, OnOk, ◌||◌, false, length, map, Ordering, refl, sym, ap, subst, ◌∙◌, arith, IsTrue}
+use Rattle.std.proofs.Common.{◌≡◌, inl, inr, true, ℕ, List, [], ◌∷◌, Result, Ok, Err, OnErr, OnOk, ◌||◌, false, length, map, Ordering, refl, sym, ap, subst, ◌∙◌, arith, IsTrue}
 use Rattle.sqlite_trees.specs.declared.store.Store.{Ghosts}
 use Rattle.sqlite.specs.declared.error.Error.{Error}
 use Rattle.sqlite.specs.Order.{Row}
@@ -8,12 +8,12 @@ use Rattle.sqlite.specs.Schema.{Schema}
 use Rattle.sqlite.specs.Tree.{Trees}
 use Rattle.sqlite.specs.Effect.{Database}
 use Rattle.sqlite.specs.Held.{Held, state}
-use Rattle.sqlite.specs.State.{State, HasCleanDisk, IsLive, Survives}
-use Rattle.wb_sql.specs.declared.writing.CommitError.{CommitError}
-use Rattle.wb_sql.specs.Transactions.{Commits, LeavesAlone, FailsToCommit, cause_of}
+use Rattle.sqlite.specs.State.{State, Executes, HasCleanDisk, IsLive, IsRolledBack, Survives}
+use Rattle.wb_sql.specs.Transactions.{Commits, IsTakenBack, LeavesAlone, FailsToCommit, rollback_text}
 use Rattle.wb_sql.specs.Among.{HasOffice, LacksOffice, IsNumbered, rows_in}
 use Rattle.wb_sql.specs.Making.{HasEmptyTables, MakesOffice, Makes, FailsAt}
 use Rattle.wb_sql.specs.Tables.{arch, builder, source_record}
+use Rattle.wb_sql.proofs.EndingLemmas.{rolls_back, fails_to_roll_back}
 use Rattle.wb_sql.proofs.GrowthLemmas.{office_made, empty_lacks}
 use Rattle.wb_states.specs.Machine.{Key, empty_office}
 use Rattle.std.specs.List.{list_any}
@@ -29,7 +29,7 @@ use Rattle.wb_rows.specs.Cells.{arch_cells, builder_cells, record_cells}
 use Rattle.wb_store.specs.Stands.{HoldsRows, StandsFor, arch_rows, builder_rows, record_rows}
 use Rattle.wb_store.specs.Settled.{StandsForTrees, IsOffice}
 use Rattle.wb_store.proofs.SettledLemmas.{office_of, office_trees}
-use Rattle.wb_store.specs.Preparing.{AreBlank, IsBlank, IsMadeFrom, LeavesFound, FailsToMake, MakesEmptyOffice}
+use Rattle.wb_store.specs.Preparing.{AreBlank, HasRoom, IsBlank, IsMadeFrom, LeavesFound, LeavesOrMakes, MakesEmptyOffice}
 use Rattle.wb_store.proofs.NumberedLemmas.{empty_schema, empty_numbered, numbered_of}
 
 -- ---- an empty office has no rows
@@ -77,6 +77,17 @@ MakesAnywhere g old new r = (base : Schema) → LacksOffice base → IsNumbered 
 was_clean : {P : Trees → Type 0} (old new : State) → Survives old new P → HasCleanDisk new → HasCleanDisk old
 was_clean old new survives clean = omega (arith, survives.clean, clean)
 
+-- a connection whose database lacks the office's tables has room for them
+pub room_of : (s : State) → IsBlank s → HasRoom s
+room_of s blank = record { is_open = blank.is_open; lacks = blank.lacks; sound = blank.sound }
+
+-- what a crash leaves of a database that lacked the office's tables is found to be an empty office
+found_of : (old new : State) → IsBlank old → LeavesOrMakes old new → LeavesFound empty_office new
+found_of old new blank leaves db may = elim (leaves db may) [
+  | inl was ↦ inr (refl, subst AreBlank (sym (blank.alone db was)) (record { schema = old.now.schema; sound = blank.sound; lacks = blank.lacks }))
+  | inr made ↦ inl made.1
+]
+
 module _ {S : Type 0} (g : Ghosts S) (old begun written : Held S) {A : Type 0} (r : Result A Error)
     (begins : begun ≡ record old { in_transaction = true }) (makes : MakesAnywhere g begun written r) where
   -- what is true of the call whatever the schema
@@ -84,110 +95,133 @@ module _ {S : Type 0} (g : Ghosts S) (old begun written : Held S) {A : Type 0} (
   anywhere = makes empty_schema empty_lacks empty_numbered
 
   -- what it makes of the schema that lacks the office
-  makes_there : IsBlank (state g old) → Makes g old.schema [] (MakesOffice old.schema) begun written r
-  makes_there blank = makes old.schema blank.lacks (numbered_of old.schema (state g old).now.trees blank.sound)
+  makes_there : HasRoom (state g old) → Makes g old.schema [] (MakesOffice old.schema) begun written r
+  makes_there room = makes old.schema room.lacks (numbered_of old.schema (state g old).now.trees room.sound)
 
   -- none of the office's tables was there when the transaction began
-  empty_then : IsBlank (state g old) → HasEmptyTables old.schema [] (state g begun)
-  empty_then blank = subst (λ h. HasEmptyTables old.schema [] (state g h)) (sym begins) (record { schema_is = refl; empty = tt })
+  empty_then : HasEmptyTables old.schema [] (state g begun)
+  empty_then = subst (λ h. HasEmptyTables old.schema [] (state g h)) (sym begins) (record { schema_is = refl; empty = tt })
 
   -- before the end of the transaction a crash leaves none of them
-  left_blank : HasCleanDisk (state g written) → IsBlank (state g old) → (db : Trees) → (state g written).may_leave db → AreBlank db
-  left_blank clean blank db may = elim ((makes_there blank).survives.crash clean db may) [
-    | inl was ↦ subst AreBlank (sym (blank.alone db (subst (λ h. (state g h).may_leave db) begins was))) (record { schema = old.schema; sound = blank.sound; lacks = blank.lacks })
-    | inr other ↦ absurd (other (empty_then blank))
+  no_more_then : HasCleanDisk (state g written) → HasRoom (state g old) → (db : Trees) → (state g written).may_leave db → (state g old).may_leave db
+  no_more_then clean room db may = elim ((makes_there room).survives.crash clean db may) [
+    | inl was ↦ subst (λ h. (state g h).may_leave db) begins was
+    | inr other ↦ absurd (other empty_then)
   ]
 
--- a commit as its caller tells of it
-abbrev pub told : {A : Type 0} → Result A CommitError → Result A Error
-told (Ok x) = Ok x
-told (Err e) = Err (cause_of e)
+  -- a clean disk was clean before it
+  clean_then : HasCleanDisk (state g written) → HasCleanDisk (state g old)
+  clean_then clean = subst (λ h. HasCleanDisk (state g h)) begins (was_clean (state g begun) (state g written) anywhere.survives clean)
+
+  -- the limit of steps stays
+  limit_then : (state g written).step_limit ≡ (state g old).step_limit
+  limit_then = anywhere.survives.limit ∙ ap (λ h. (state g h).step_limit) begins
+
+-- a transaction that is taken back is over
+over_of : (old new : State) → IsTakenBack old new → new.in_transaction ≡ false
+over_of old new (inl undone) = undone.autocommit
+over_of old new (inr over) = over.1.0.mode ∙ over.0
+
+-- whatever ROLLBACK answers, the transaction is taken back, or was over before
+pub taken_of : {A : Type 0} (old new : State) (r : Result A Error) → OnOk r (IsRolledBack old new) → OnErr r (IsTakenBack old new) → IsTakenBack old new
+taken_of old new (Ok x) ok err = inl ok
+taken_of old new (Err e) ok err = err
 
 module _ {S : Type 0} (g : Ghosts S) (old begun written new : Held S) (begins : begun ≡ record old { in_transaction = true }) where
   -- what failed is taken back
-  pub not_made : {A : Type 0} (e : Error) → MakesAnywhere {A = A} g begun written (Err e) → Survives (state g written) (state g new) (λ _. ⊥) → MakesEmptyOffice {A = A} g old new (Err e)
-  not_made e makes survives =
-      let any = anywhere g old begun written (Err e) begins makes in
+  pub not_made : {A B : Type 0} (e : Error) → MakesAnywhere {A = A} g begun written (Err e) → (r : Result B Error)
+      → (HasCleanDisk (state g new) → OnOk r (IsRolledBack (state g written) (state g new)))
+      → (HasCleanDisk (state g new) → OnErr r (IsTakenBack (state g written) (state g new)))
+      → Survives (state g written) (state g new) (λ _. ⊥) → MakesEmptyOffice {A = A} g old new (Err e)
+  not_made e makes r ok err survives =
       let before : HasCleanDisk (state g new) → HasCleanDisk (state g written) = λ clean. was_clean (state g written) (state g new) survives clean in
+      let leaves : HasCleanDisk (state g new) → HasRoom (state g old) → LeavesOrMakes (state g old) (state g new) = λ clean room db may. elim (survives.crash clean db may) [
+        | inl was ↦ inl (no_more_then g old begun written (Err e) begins makes (before clean) room db was)
+        | inr none ↦ absurd none
+      ] in
       record {
-        was_clean = λ clean. subst (λ h. HasCleanDisk (state g h)) begins (was_clean (state g begun) (state g written) any.survives (before clean));
-        limit = survives.limit ∙ any.survives.limit ∙ ap (λ h. (state g h).step_limit) begins;
-        made = λ clean blank. tt;
-        left = λ clean blank db may. elim (survives.crash clean db may) [
-          | inl was ↦ inr (refl, left_blank g old begun written (Err e) begins makes (before clean) blank db was)
-          | inr none ↦ absurd none
-        ];
+        was_clean = λ clean. clean_then g old begun written (Err e) begins makes (before clean);
+        limit = survives.limit ∙ limit_then g old begun written (Err e) begins makes;
+        idle = λ clean. over_of (state g written) (state g new) (taken_of (state g written) (state g new) r (ok clean) (err clean));
+        made = λ clean room. tt;
+        crash = leaves;
+        left = λ clean blank. found_of (state g old) (state g new) blank (leaves clean (room_of (state g old) blank));
         err = λ clean blank. (
           written,
           inl (subst (λ h. FailsAt g h written e) begins
-              ((makes_there g old begun written (Err e) begins makes blank).err (before clean) (subst (λ h. IsTrue h.in_transaction) (sym begins) refl)
-              (empty_then g old begun written (Err e) begins makes blank))),
+              ((makes_there g old begun written (Err e) begins makes (room_of (state g old) blank)).err (before clean) (subst (λ h. IsTrue h.in_transaction) (sym begins) refl)
+              (empty_then g old begun written (Err e) begins makes))),
         );
       }
 
-  -- what is committed is settled, and what is not leaves no table of the office or all of it
-  made_office : {A B : Type 0} {x : A} (r : Result B CommitError) → MakesAnywhere g begun written (Ok x)
-      → (HasCleanDisk (state g new) → OnOk r (Commits (state g written) (state g new)))
-      → (HasCleanDisk (state g new) → OnOk r (LeavesAlone (state g new) (state g written).now.trees))
-      → IsLive (state g written) → Survives (state g written) (state g new) (λ db. db ≡ (state g written).now.trees)
-      → HasCleanDisk (state g new) → IsBlank (state g old) → OnOk r (IsMadeFrom (state g old) (state g new)) × LeavesFound empty_office (state g new)
-  made_office {x = x} r makes commits alone live survives clean blank =
-      let before = was_clean (state g written) (state g new) survives clean in
-      let numbered = numbered_of old.schema (state g old).now.trees blank.sound in
-      let made = (makes_there g old begun written (Ok x) begins makes blank).made before (empty_then g old begun written (Ok x) begins makes blank) in
-      let stands = stands_empty old.schema blank.lacks numbered (state g begun) (state g written) made in
-      let is_office : IsOffice empty_office (state g written).now = office_of (state g written).now stands (live made.shown.is_open).0 in
-      let kept : KeepsRows old.schema.tables (state g old).now.trees (state g written).now.trees = subst (λ h. KeepsRows old.schema.tables (state g h).now.trees (state g written).now.trees) begins made.kept in (
-        settled r (commits clean) (alone clean) is_office kept,
-        λ db may. elim (survives.crash clean db may) [
-          | inl was ↦ inr (refl, left_blank g old begun written (Ok x) begins makes before blank db was)
-          | inr kept ↦ inl (subst (StandsForTrees empty_office) (sym kept) (office_trees (state g written).now is_office))
-        ],
-      )
-    where
-      settled : {A : Type 0} (r : Result A CommitError) → OnOk r (Commits (state g written) (state g new)) → OnOk r (LeavesAlone (state g new) (state g written).now.trees) → IsOffice empty_office (state g written).now
-          → KeepsRows old.schema.tables (state g old).now.trees (state g written).now.trees → OnOk r (IsMadeFrom (state g old) (state g new))
-      settled (Err e) made alone is_office kept = tt
-      settled (Ok x) made alone is_office kept = (
-        record {
-          is_open = made.shown.is_open;
-          idle = made.shown.mode;
-          committed = made.shown.now_is ∙ sym made.shown.committed_is;
-          holds = subst (IsOffice empty_office) (sym made.shown.now_is) is_office;
-          alone = λ db may. alone db may ∙ ap (λ (d : Database). d.trees) (sym made.shown.now_is);
-        },
-        subst (λ (d : Database). KeepsRows old.schema.tables (state g old).now.trees d.trees) (sym made.shown.now_is) kept,
-      )
+-- what a commit makes of the tables that were made
+module _ {S : Type 0} (g : Ghosts S) (old begun written at : Held S) (begins : begun ≡ record old { in_transaction = true }) {A : Type 0} {x : A} (makes : MakesAnywhere g begun written (Ok x))
+    (live : IsLive (state g written)) (survives : Survives (state g written) (state g at) (λ db. db ≡ (state g written).now.trees)) where
+  before_it : HasCleanDisk (state g at) → HasCleanDisk (state g written)
+  before_it clean = was_clean (state g written) (state g at) survives clean
 
-  -- the whole, as the call answers it
-  pub made_by : {A B : Type 0} {x : A} (r : Result B CommitError) → MakesAnywhere g begun written (Ok x)
-      → (HasCleanDisk (state g new) → OnOk r (Commits (state g written) (state g new)))
-      → (HasCleanDisk (state g new) → OnOk r (LeavesAlone (state g new) (state g written).now.trees))
-      → (HasCleanDisk (state g new) → IfErr r (λ e. FailsToCommit g written (cause_of e)))
-      → IsLive (state g written) → Survives (state g written) (state g new) (λ db. db ≡ (state g written).now.trees)
-      → MakesEmptyOffice g old new (told r)
-  made_by {x = x} r makes commits alone cause live survives = record {
-    was_clean = λ clean.
-        subst (λ h. HasCleanDisk (state g h)) begins
-        (was_clean (state g begun) (state g written) (anywhere g old begun written (Ok x) begins makes).survives (was_clean (state g written) (state g new) survives clean));
-    made = λ clean blank. ok_mapped (IsMadeFrom (state g old) (state g new)) r (made_office r makes commits alone live survives clean blank).0;
-    left = λ clean blank. (made_office r makes commits alone live survives clean blank).1;
-    limit = survives.limit ∙ (anywhere g old begun written (Ok x) begins makes).survives.limit ∙ ap (λ h. (state g h).step_limit) begins;
-    err = λ clean blank. err_mapped r
-        (subst (λ h. MakesOffice old.schema (state g h) (state g written)) begins
-        ((makes_there g old begun written (Ok x) begins makes blank).made (was_clean (state g written) (state g new) survives clean) (empty_then g old begun written (Ok x) begins makes blank)))
-        (cause clean);
+  office_written : HasCleanDisk (state g at) → HasRoom (state g old) → MakesOffice old.schema (state g begun) (state g written)
+  office_written clean room = (makes_there g old begun written (Ok x) begins makes room).made (before_it clean) (empty_then g old begun written (Ok x) begins makes)
+
+  is_office : HasCleanDisk (state g at) → HasRoom (state g old) → IsOffice empty_office (state g written).now
+  is_office clean room =
+      let made = office_written clean room in
+      let numbered = numbered_of old.schema (state g old).now.trees room.sound in
+      office_of (state g written).now (stands_empty old.schema room.lacks numbered (state g begun) (state g written) made) (live made.shown.is_open).0
+
+  -- a crash leaves none of them or all
+  leaves_then : HasCleanDisk (state g at) → HasRoom (state g old) → LeavesOrMakes (state g old) (state g at)
+  leaves_then clean room db may = elim (survives.crash clean db may) [
+    | inl was ↦ inl (no_more_then g old begun written (Ok x) begins makes (before_it clean) room db was)
+    | inr kept ↦ inr (room.lacks, subst (StandsForTrees empty_office) (sym kept) (office_trees (state g written).now (is_office clean room)))
+  ]
+
+  -- a commit that succeeds settles them
+  pub made_by : {B : Type 0} {y : B} → (HasCleanDisk (state g at) → Commits (state g written) (state g at)) → (HasCleanDisk (state g at) → LeavesAlone (state g at) (state g written).now.trees)
+      → MakesEmptyOffice g old at (Ok y)
+  made_by commits alone = record {
+    was_clean = λ clean. clean_then g old begun written (Ok x) begins makes (before_it clean);
+    limit = survives.limit ∙ limit_then g old begun written (Ok x) begins makes;
+    idle = λ clean. (commits clean).shown.mode;
+    made = λ clean room. settled clean room;
+    crash = leaves_then;
+    left = λ clean blank. found_of (state g old) (state g at) blank (leaves_then clean (room_of (state g old) blank));
+    err = λ clean blank. tt;
   }
     where
-      ok_mapped : {B : Type 0} (P : Type 0) (r : Result B CommitError) → OnOk r P → OnOk (told r) P
-      ok_mapped P (Ok x) p = p
-      ok_mapped P (Err e) p = tt
+      settled : HasCleanDisk (state g at) → HasRoom (state g old) → IsMadeFrom (state g old) (state g at)
+      settled clean room =
+          let made = commits clean in
+          let written_is = office_written clean room in (
+            record {
+              is_open = made.shown.is_open;
+              idle = made.shown.mode;
+              committed = made.shown.now_is ∙ sym made.shown.committed_is;
+              holds = subst (IsOffice empty_office) (sym made.shown.now_is) (is_office clean room);
+              alone = λ db may. alone clean db may ∙ ap (λ (d : Database). d.trees) (sym made.shown.now_is);
+            },
+            subst (λ (d : Database). KeepsRows old.schema.tables (state g old).now.trees d.trees) (sym made.shown.now_is)
+                (subst (λ h. KeepsRows old.schema.tables (state g h).now.trees (state g written).now.trees) begins written_is.kept),
+          )
 
-      err_mapped : {B : Type 0} (r : Result B CommitError) → MakesOffice old.schema (state g (record old { in_transaction = true })) (state g written)
-          → IfErr r (λ e. FailsToCommit g written (cause_of e)) → IfErr (told r) (FailsToMake g old)
-      err_mapped (Ok x) made none = tt
-      err_mapped (Err e) made failed = (written, inr (made, failed))
-
--- the same, said of the connection where it is given back
-pub given_back : {S A : Type 0} {g : Ghosts S} {old new at : Held S} {r : Result A Error} → new ≡ at → MakesEmptyOffice g old at r → MakesEmptyOffice g old new r
-given_back {g = g} {old = old} {r = r} same = subst (λ h. MakesEmptyOffice g old h r) (sym same)
+  -- one that fails is taken back
+  pub made_not : {B : Type 0} (new : Held S) (e : Error) → (HasCleanDisk (state g at) → FailsToCommit g written e)
+      → (HasCleanDisk (state g new) → IsTakenBack (state g at) (state g new)) → Survives (state g at) (state g new) (λ _. ⊥) → MakesEmptyOffice {A = B} g old new (Err e)
+  made_not new e cause back later =
+      let then : HasCleanDisk (state g new) → HasCleanDisk (state g at) = λ clean. was_clean (state g at) (state g new) later clean in
+      let leaves : HasCleanDisk (state g new) → HasRoom (state g old) → LeavesOrMakes (state g old) (state g new) = λ clean room db may. elim (later.crash clean db may) [
+        | inl was ↦ leaves_then (then clean) room db was
+        | inr none ↦ absurd none
+      ] in
+      record {
+        was_clean = λ clean. clean_then g old begun written (Ok x) begins makes (before_it (then clean));
+        limit = later.limit ∙ survives.limit ∙ limit_then g old begun written (Ok x) begins makes;
+        idle = λ clean. over_of (state g at) (state g new) (back clean);
+        made = λ clean room. tt;
+        crash = leaves;
+        left = λ clean blank. found_of (state g old) (state g new) blank (leaves clean (room_of (state g old) blank));
+        err = λ clean blank. (
+          written,
+          inr (subst (λ h. MakesOffice old.schema (state g h) (state g written)) begins (office_written (then clean) (room_of (state g old) blank)), cause (then clean)),
+        );
+      }

@@ -1,19 +1,23 @@
 -- How the calls on an office take it through a transaction: begun, changed, looked up in, ended.
-use Rattle.std.proofs.Common.{◌≡◌, ◌⊎◌, inl, inr, true, Result, Ok, Err, OnOk, OnErr, IfErr, IsTrue, refl, sym, ap, subst, ◌∙◌}
+use Rattle.std.proofs.Common.{◌≡◌, ◌⊎◌, inl, inr, true, false, [], if◌then◌else◌, Result, Ok, Err, OnOk, OnErr, IfErr, IsTrue, refl, sym, ap, subst, ◌∙◌}
 use Rattle.std.proofs.lemmas.Bool.{both_ways}
 use Rattle.sqlite_trees.specs.declared.store.Store.{Ghosts}
 use Rattle.sqlite.specs.declared.error.Error.{Error}
 use Rattle.sqlite.specs.Tree.{Trees}
 use Rattle.sqlite.specs.Effect.{Database, IsDatabase}
 use Rattle.sqlite.specs.Held.{Held, state}
-use Rattle.sqlite.specs.State.{State, HasCleanDisk, IsLive, IsUnchanged, IsRolledBack, Survives}
-use Rattle.wb_sql.specs.declared.writing.CommitError.{CommitError}
-use Rattle.wb_sql.specs.declared.writing.CommitError.TheVariants.{Memory}
-use Rattle.wb_sql.specs.Transactions.{IsKeptOrUndone, IsTakenBack, Commits, LeavesAlone, LeavesNoMore}
+use Rattle.sqlite.specs.State.{State, HasCleanDisk, IsLive, IsUnchanged, IsRolledBack, Executes, Survives}
+use Rattle.wb_sql.specs.declared.transaction.CommitError.{CommitError}
+use Rattle.wb_sql.specs.declared.transaction.CommitError.TheVariants as commit
+use Rattle.wb_sql.specs.Transactions.{cause_of, rollback_text, FailsToCommit, IsKeptOrUndone, IsTakenBack, Commits, LeavesAlone, LeavesNoMore}
 use Rattle.wb_sql.proofs.CallLemmas.{on_ok}
 use Rattle.wb_sql.specs.Among.{HasOffice}
 use Rattle.wb_states.specs.declared.store_fault.StoreFault.{StoreFault}
+use Rattle.wb_states.specs.declared.store_fault.StoreFault.TheVariants as fault
+use Rattle.wb_states.specs.declared.store_fault.Table.TheVariants.{Office}
 use Rattle.wb_states.specs.Machine.{Machine}
+use Rattle.wb_store.specs.Ending.{IsEndedFrom, IsFaultOfCommit, IsFaultOfRollBack, committed, doubt_of, fault_of_commit, is_over, rolled_back}
+use Rattle.wb_store.specs.Faults.{fault_of}
 use Rattle.wb_store.specs.Stands.{StandsFor}
 use Rattle.wb_store.specs.Calls.{Becomes, Changes, FailsToWrite, LooksUp, FailsToLookUp}
 use Rattle.wb_store.specs.Settled.{StandsForTrees, IsOffice, IsSettled, IsUnderWay, LeavesOnly, IsBackAt, SettlesBy, TakesBack}
@@ -140,18 +144,65 @@ fewer_of old new survives never clean db may = elim (survives.crash clean db may
 
 -- ---- a transaction ends
 
+-- a commit in doubt is not answered out of memory
+doubt_is_told : (told : StoreFault) → doubt_of told ≡ fault.Memory → ⊥
+doubt_is_told fault.Memory is = absurd (cc)
+doubt_is_told fault.Device is = absurd (cc)
+doubt_is_told fault.NotOffice is = absurd (cc)
+doubt_is_told fault.NewerSchema is = absurd (cc)
+doubt_is_told (fault.Damaged table row) is = absurd (cc)
+
+committed_ok : {A : Type 0} (P : Type 0) (r : Result A CommitError) → OnOk r P → OnOk (committed r) P
+committed_ok P (Ok x) h = h
+committed_ok P (Err e) h = tt
+
+pub committed_err : {A : Type 0} (P : Type 0) (r : Result A CommitError) → OnErr r P → OnErr (committed r) P
+committed_err P (Ok x) h = tt
+committed_err P (Err e) h = h
+
+-- out of memory is what the commit answered, if it is not in doubt
+memory_told : {A : Type 0} (r : Result A CommitError) → committed r ≡ Err fault.Memory → r ≡ Err commit.Memory
+memory_told (Ok x) is = absurd (cc)
+memory_told (Err commit.Memory) is = refl
+memory_told (Err (commit.InDoubt e)) is = absurd (doubt_is_told (fault_of e Office) (cc))
+
+-- why a commit was not made, as the fault of the store
+pub commit_fault : {S A : Type 0} (g : Ghosts S) (at : Held S) (r : Result A CommitError) → IfErr r (λ e. FailsToCommit g at (cause_of e)) → IfErr (committed r) (IsFaultOfCommit g at)
+commit_fault g at (Ok x) failed = tt
+commit_fault g at (Err e) failed = (e, failed, refl)
+
+-- ROLLBACK took the transaction back, or found it over
+pub roll_back_ends : (at new : State) (r : Result (Unit {0}) Error) → OnOk r (IsRolledBack at new) → IfErr r (λ e. Executes rollback_text [] at new (Err e)) → OnOk (rolled_back r) (IsEndedFrom at new)
+roll_back_ends at new (Ok x) undone failed = inl undone
+roll_back_ends at new (Err e) undone failed =
+    (elim (is_over e) as (λ over. is_over e ≡ over → OnOk (if over then Ok tt else Err (fault_of e Office)) (IsEndedFrom at new)) [
+      | true ↦ λ is. inr (e, failed, is)
+      | false ↦ λ is. tt
+    ]) refl
+
+-- why ROLLBACK took nothing back, as the fault of the store
+pub roll_back_fault : (at new : State) (r : Result (Unit {0}) Error) → IfErr r (λ e. Executes rollback_text [] at new (Err e)) → IfErr (rolled_back r) (IsFaultOfRollBack at new)
+roll_back_fault at new (Ok x) failed = tt
+roll_back_fault at new (Err e) failed =
+    (elim (is_over e) as (λ over. is_over e ≡ over → IfErr (if over then Ok tt else Err (fault_of e Office)) (IsFaultOfRollBack at new)) [
+      | true ↦ λ is. tt
+      | false ↦ λ is. (e, failed, is, refl)
+    ]) refl
+
 module _ {S A : Type 0} (g : Ghosts S) (old new : Held S) where
   -- the clauses of a commit on a database, said of an office
   pub settles : (r : Result A CommitError)
       → (HasCleanDisk (state g new) → OnOk r (Commits (state g old) (state g new)))
       → (HasCleanDisk (state g new) → OnOk r (LeavesAlone (state g new) (state g old).now.trees))
-      → (HasCleanDisk (state g new) → r ≡ Err Memory → LeavesNoMore (state g old) (state g new))
+      → (HasCleanDisk (state g new) → r ≡ Err commit.Memory → LeavesNoMore (state g old) (state g new))
       → (HasCleanDisk (state g new) → OnErr r (IsKeptOrUndone (state g old) (state g new)))
-      → IsLive (state g old) → Survives (state g old) (state g new) (λ db. db ≡ (state g old).now.trees) → SettlesBy g old new r
+      → IsLive (state g old) → Survives (state g old) (state g new) (λ db. db ≡ (state g old).now.trees) → SettlesBy g old new (committed r)
   settles r ok alone memory err live survives = record {
-    ok = λ clean before now h. settled_by r (ok clean) (alone clean) before now h;
-    shows = λ clean before now h. on_ok {P = Commits (state g old) (state g new)} r (λ made. made.shown.now_is) (ok clean);
-    memory = λ clean before now h is. stays_or_goes_back (state g old) (state g new) (subst (λ x. OnErr x (IsKeptOrUndone (state g old) (state g new))) is (err clean)) (memory clean is) h;
+    ok = λ clean before now h. committed_ok _ r (settled_by r (ok clean) (alone clean) before now h);
+    shows = λ clean before now h. committed_ok _ r (on_ok {P = Commits (state g old) (state g new)} r (λ made. made.shown.now_is) (ok clean));
+    memory = λ clean before now h is.
+        let lacked = memory_told r is in
+        stays_or_goes_back (state g old) (state g new) (subst (λ x. OnErr x (IsKeptOrUndone (state g old) (state g new))) lacked (err clean)) (memory clean lacked) h;
     crash = λ clean before now h db may. elim (survives.crash clean db may) [
       | inl was ↦ inl (only_of (state g old) (state g old).committed h.alone h.began db was)
       | inr made ↦ inr (subst (StandsForTrees now) (sym made) (office_trees (state g old).now (office_of (state g old).now h.stands (live h.is_open).0)))

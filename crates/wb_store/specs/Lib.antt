@@ -1,9 +1,12 @@
 pub mod Calls
 pub mod Checks
+pub mod Ending
 pub mod Faults
 pub mod Files
 pub mod Finds
+pub mod Formats
 pub mod Lookups
+pub mod Opened
 pub mod Opening
 pub mod Others
 pub mod Preparing

@@ -1,5 +1,5 @@
 -- What an opening tests of the tables of an office, in one call, and how it finds an office or makes one.
-use Rattle.std.specs.Prelude.{◌≡◌, ◌⊎◌, ⊤, IsTrue, List, ℕ, [], Result, Err, IfOk, IfErr, OnOk, OnErr}
+use Rattle.std.specs.Prelude.{◌≡◌, ◌⊎◌, ⊤, false, IsTrue, List, ℕ, [], Result, Err, IfOk, IfErr, IsErrAnd, OnOk, OnErr}
 use Rattle.sqlite_trees.specs.declared.store.Store.{Ghosts}
 use Rattle.sqlite.specs.declared.error.Error.{Error}
 use Rattle.sqlite.specs.Effect.{Database}
@@ -7,16 +7,18 @@ use Rattle.sqlite.specs.Held.{Held, state}
 use Rattle.sqlite.specs.State.{State, HasCleanDisk, IsUnchanged, Survives}
 use Rattle.wb_sql.specs.Transactions.{IsKeptOrUndone}
 use Rattle.wb_sql.specs.Among.{HasOffice, LacksOffice, rows_in}
+use Rattle.wb_sql.specs.Format.{HasFormatColumn}
 use Rattle.wb_sql.specs.Tables.{scratch_binary, scratch_source}
 use Rattle.wb_states.specs.declared.arch.OsCpu.{OsCpu}
 use Rattle.wb_states.specs.declared.counts.Counts.{Counts}
 use Rattle.wb_states.specs.declared.store_fault.StoreFault.{StoreFault}
-use Rattle.wb_states.specs.declared.store_fault.StoreFault.TheVariants.{Damaged, Memory, NotOffice}
+use Rattle.wb_states.specs.declared.store_fault.StoreFault.TheVariants.{Damaged, Memory, NewerSchema, NotOffice}
 use Rattle.wb_states.specs.declared.store_fault.Table.TheVariants.{Office, Arch, Builder}
 use Rattle.wb_states.specs.Machine.{Key, Machine, IsConsistent, empty_office}
 use Rattle.wb_rows.specs.Cells.{arch_cells, builder_cells}
 use Rattle.wb_store.specs.Calls.{FailsToRead}
 use Rattle.wb_store.specs.Faults.{fault_of}
+use Rattle.wb_store.specs.Formats.{FailsToReadFormat, IsNewer, IsNoOffice, IsOtherFault}
 use Rattle.wb_store.specs.Checks.{AreBadCounts, AreBadRecords, AreBadRows, FailsToTest, HasGoodRows, HoldsArchs, HoldsBuilders, HoldsCounts, IsFormedArch, IsFormedBuilder, ShowsGood}
 use Rattle.wb_store.specs.Queries as ask
 use Rattle.wb_store.specs.Queries.{OfficeQuery, table_asked, table_of}
@@ -24,7 +26,7 @@ use Rattle.wb_store.specs.Scratch.{has_rows}
 use Rattle.wb_store.specs.Settled.{IsBackAt, IsSettled}
 use Rattle.wb_store.specs.Stands.{StandsFor}
 use Rattle.wb_store.specs.Finds.{StaysAs}
-use Rattle.wb_store.specs.Preparing.{FailsToMake, IsBlank, IsFoundAt, LeavesFound}
+use Rattle.wb_store.specs.Preparing.{FailsToMake, IsBlank, IsFoundAt, LeavesFound, LeavesOrMakes}
 
 -- these counts are those of the state
 abbrev pub AreCountsOf : Machine → Counts → Type 0
@@ -138,6 +140,7 @@ pub record Checks {S : Type 0} (g : Ghosts S) (old new : Held S) (result : Resul
   pub fails : HasCleanDisk (state g new) → (machine : Machine) → IsConsistent machine → IsSettled machine (state g old)
       → IfErr result (λ fault. IsBackAt machine (state g new) × LacksMemoryOrQuery g old new fault)
   pub refuses : HasCleanDisk (state g new) → HasOffice old.schema → IfErr result (ComesLater g FailsOnOffice old new)
+  pub kept : HasCleanDisk (state g new) → HasOffice old.schema → OnErr result (IsKeptOrUndone (state g old) (state g new))
   pub survives : Survives (state g old) (state g new) (λ _. ¬ HasOffice old.schema)
 
 -- no office is made in a database that lacks it: a statement or the commit failed, which is the fault of the office's table
@@ -152,10 +155,26 @@ IsMadeAt g old at = IsBlank (state g old) × IsSettled empty_office (state g at)
 abbrev pub LacksAfter : {S : Type 0} → Ghosts S → Held S → Held S → StoreFault → Type 0
 LacksAfter {S} g old new fault = (at : Held S) × ((old ≡ at) ⊎ IsMadeAt g old at) × LacksMemoryOrQuery g at new fault
 
+-- why a database is refused that shows a format above 2: that a newer program wrote it, and nothing is changed; or the query for the format failed, or
+-- that for the row of an office with the tables of format 2
+abbrev pub IsNewerFault : State → State → StoreFault → Type 0
+IsNewerFault old new fault =
+    ((fault ≡ NewerSchema) × IsUnchanged old new) ⊎ (FailsToReadFormat old new fault ⊎ FailsToRead ask.Office old new fault)
+
+-- how a search for an office refuses: whatever its tables are, a database that shows a format above 2 is called newer; of an open connection no other
+-- is, and one is called no office only if it is none; one that neither has the office's tables nor lacks them is refused by its format, and left as it
+-- is if there is none to be read
+pub record NamesFault {S : Type 0} (g : Ghosts S) (old new : Held S) (result : Result Counts StoreFault) : Type 0 where
+  pub newer : HasCleanDisk (state g new) → IsNewer (state g old).now → IsErrAnd result (ComesLater g IsNewerFault old new)
+  pub only_newer : HasCleanDisk (state g new) → IsTrue (state g old).is_open → result ≡ Err NewerSchema → IsNewer (state g old).now
+  pub no_office : HasCleanDisk (state g new) → IsTrue (state g old).is_open → result ≡ Err NotOffice → IsNoOffice (state g old).now
+  pub other : HasCleanDisk (state g new) → ¬ LacksOffice old.schema → ¬ HasOffice old.schema → IsErrAnd result (IsOtherFault g old new)
+  pub unread : ¬ LacksOffice old.schema → ¬ HasOffice old.schema → ¬ HasFormatColumn old.schema → (result ≡ Err NotOffice) × (new ≡ old)
+
 -- an office is found, or made in a database that lacks it, each perhaps beside tables of others: if that succeeds, it is settled at its state, with its
 -- counts; whatever it answers, a crash leaves that state; it fails only if it could not be made, or if memory ran out or a query failed; an office
--- that is found has good rows, or is refused by one of its tests; and a database that neither has the office's tables nor lacks them is never taken for
--- an office, and is left as it is
+-- that is found has good rows, or is refused by one of its tests; and whatever it answers over an open connection, a crash leaves what it could leave
+-- before, or an empty office of a database that lacked one, no transaction is under way, and the limit of steps stays
 pub record FindsOffice {S : Type 0} (g : Ghosts S) (old new : Held S) (result : Result Counts StoreFault) : Type 0 where
   pub was_clean : HasCleanDisk (state g new) → HasCleanDisk (state g old)
   pub found : HasCleanDisk (state g new) → (machine : Machine) → IsConsistent machine → IsFoundAt machine (state g old)
@@ -167,7 +186,10 @@ pub record FindsOffice {S : Type 0} (g : Ghosts S) (old new : Held S) (result : 
       → IfOk result (λ counts. HasGoodRowsWith (state g old).now counts × HasNoScratchRows (state g old).now × StaysAs g old new)
   pub refuses : HasCleanDisk (state g new) → HasOffice old.schema → IfErr result (ComesLater g FailsOnOffice old new)
   pub known : IfOk result (λ counts. LacksOffice old.schema ⊎ HasOffice old.schema)
-  pub other : ¬ LacksOffice old.schema → ¬ HasOffice old.schema → (result ≡ Err NotOffice) × (new ≡ old)
+  pub names : NamesFault g old new result
+  pub crash : HasCleanDisk (state g new) → IsTrue (state g old).is_open → LeavesOrMakes (state g old) (state g new)
+  pub idle : HasCleanDisk (state g new) → IsTrue (state g old).is_open → (state g new).in_transaction ≡ false
+  pub limit : new.step_limit ≡ old.step_limit
 
 -- an opening was refused, and its connection given up, in the state in which the search for the office left it
 abbrev pub IsRefusedFrom : {S : Type 0} → Ghosts S → Held S → StoreFault → Type 0

@@ -24,6 +24,12 @@ pub record IsBlank (s : State) : Type 0 where
   pub sound : IsSound s.now.schema s.now.trees
   pub alone : LeavesAlone s s.now.trees
 
+-- an open connection to a sound database that lacks the office's tables
+pub record HasRoom (s : State) : Type 0 where
+  pub is_open : IsTrue s.is_open
+  pub lacks : LacksOffice s.now.schema
+  pub sound : IsSound s.now.schema s.now.trees
+
 -- the trees, as their catalogue lists them, lack the office's tables
 pub record AreBlank (trees : Trees) : Type 0 where
   pub schema : Schema
@@ -42,6 +48,10 @@ IsFoundAt machine s = IsSettled machine s ⊎ ((machine ≡ empty_office) × IsB
 abbrev pub LeavesFound : Machine → State → Type 0
 LeavesFound machine s = (db : Trees) → s.may_leave db → HoldOffice machine db
 
+-- a crash leaves what it could leave before, or, of a database that lacked the office's tables, that of an empty office
+abbrev pub LeavesOrMakes : State → State → Type 0
+LeavesOrMakes old new = (db : Trees) → new.may_leave db → old.may_leave db ⊎ (LacksOffice old.now.schema × StandsForTrees empty_office db)
+
 -- why an office is not made in the transaction that began: a statement of the making failed, or, after all of them, the commit
 abbrev pub FailsToMake : {S : Type 0} → Ghosts S → Held S → Error → Type 0
 FailsToMake {S} g old e = (at : Held S) × (FailsAt g (begun old) at e ⊎ (MakesOffice old.schema (state g (begun old)) (state g at) × FailsToCommit g at e))
@@ -50,10 +60,13 @@ FailsToMake {S} g old e = (at : Held S) × (FailsAt g (begun old) at e ⊎ (Make
 abbrev pub IsMadeFrom : State → State → Type 0
 IsMadeFrom old new = IsSettled empty_office new × KeepsRows old.now.schema.tables old.now.trees new.now.trees
 
--- an empty office is made in a database that lacks its tables, whole or not at all, also after a crash; the limit of steps stays
+-- an empty office is made in a database that lacks its tables, whole or not at all, also after a crash; no transaction is under way then; the limit of
+-- steps stays
 pub record MakesEmptyOffice {S A : Type 0} (g : Ghosts S) (old new : Held S) (result : Result A Error) : Type 0 where
   pub was_clean : HasCleanDisk (state g new) → HasCleanDisk (state g old)
   pub limit : (state g new).step_limit ≡ (state g old).step_limit
-  pub made : HasCleanDisk (state g new) → IsBlank (state g old) → OnOk result (IsMadeFrom (state g old) (state g new))
+  pub idle : HasCleanDisk (state g new) → (state g new).in_transaction ≡ false
+  pub made : HasCleanDisk (state g new) → HasRoom (state g old) → OnOk result (IsMadeFrom (state g old) (state g new))
+  pub crash : HasCleanDisk (state g new) → HasRoom (state g old) → LeavesOrMakes (state g old) (state g new)
   pub left : HasCleanDisk (state g new) → IsBlank (state g old) → LeavesFound empty_office (state g new)
   pub err : HasCleanDisk (state g new) → IsBlank (state g old) → IfErr result (FailsToMake g old)

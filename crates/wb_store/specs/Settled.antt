@@ -9,10 +9,10 @@ use Rattle.sqlite.specs.Tree.{Trees}
 use Rattle.sqlite.specs.Effect.{Database}
 use Rattle.sqlite.specs.Held.{Held, state}
 use Rattle.sqlite.specs.State.{State, HasCleanDisk}
-use Rattle.wb_sql.specs.declared.writing.CommitError.{CommitError}
-use Rattle.wb_sql.specs.declared.writing.CommitError.TheVariants.{Memory}
 use Rattle.wb_sql.specs.Transactions.{LeavesAlone}
 use Rattle.wb_sql.specs.Settled.{AreSettled}
+use Rattle.wb_states.specs.declared.store_fault.StoreFault.{StoreFault}
+use Rattle.wb_states.specs.declared.store_fault.StoreFault.TheVariants.{Memory}
 use Rattle.wb_states.specs.Machine.{Machine}
 use Rattle.wb_store.specs.Stands.{StandsFor}
 
@@ -59,7 +59,7 @@ pub record IsBackAt (before : Machine) (s : State) : Type 0 where
 
 -- a commit settles what the transaction sees, and the connection shows the same after it; if memory runs out, nothing is committed, and the
 -- transaction stays or is taken back; and whatever it answers, a crash leaves the state before it or the state that it saw
-pub record SettlesBy {S A : Type 0} (g : Ghosts S) (old new : Held S) (result : Result A CommitError) : Type 0 where
+pub record SettlesBy {S A : Type 0} (g : Ghosts S) (old new : Held S) (result : Result A StoreFault) : Type 0 where
   pub ok : HasCleanDisk (state g new) → (before now : Machine) → IsUnderWay before now (state g old) → OnOk result (IsSettled now (state g new))
   pub shows : HasCleanDisk (state g new) → (before now : Machine) → IsUnderWay before now (state g old) → OnOk result ((state g new).now ≡ (state g old).now)
   pub memory : HasCleanDisk (state g new) → (before now : Machine) → IsUnderWay before now (state g old) → result ≡ Err Memory

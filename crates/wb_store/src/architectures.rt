@@ -16,11 +16,7 @@ use wb_sql::statements;
 use wb_states::{OsCpu, StoreFault, Table};
 
 /// The architectures of the office with their words, by name.
-/// The faults are those of the query on the table of the architectures, `Memory` if memory runs out for the answer, and
-/// `Damaged` with row 0 if a row is not that of an architecture. The database stays as it is; only a failed query may
-/// take a transaction back.
-/// Source: this project's own.
-pub fn archs<S: Alter>(conn: &mut Connection<S>) -> Result<Vec<(Text, OsCpu)>, StoreFault>
+pub(crate) fn archs<S: Alter>(conn: &mut Connection<S>) -> Result<Vec<(Text, OsCpu)>, StoreFault>
     ensures looks_up { LooksUp S.Store ask.Archs (λ machine archs.
         archs.items ≡ map.entries machine.archs) conn.old conn.new result }
 {
@@ -28,11 +24,10 @@ pub fn archs<S: Alter>(conn: &mut Connection<S>) -> Result<Vec<(Text, OsCpu)>, S
 }
 
 /// The words of the architecture, or none if it was never added.
-/// The faults are those of the query on the table of the architectures, `Memory` if memory runs out for the answer, and
-/// `Damaged` with row 0 if a row is not that of an architecture. The database stays as it is; only a failed query may
-/// take a transaction back.
-/// Source: this project's own.
-pub fn arch<S: Alter>(conn: &mut Connection<S>, name: &Text) -> Result<Option<OsCpu>, StoreFault>
+pub(crate) fn arch<S: Alter>(
+    conn: &mut Connection<S>,
+    name: &Text,
+) -> Result<Option<OsCpu>, StoreFault>
     ensures looks_up { LooksUp S.Store (ask.ArchNamed name.now) (λ machine found.
         found ≡ map.get machine.archs name.now) conn.old conn.new result }
 {

@@ -17,9 +17,8 @@ use wb_rows::builder_of;
 use wb_sql::statements;
 use wb_states::{StoreFault, Table};
 
-/// Whether the builder was added for the architecture. The faults are those of the query on the table of the builders.
-/// The database stays as it is, but for a transaction that a failure of the query takes back (this project's own).
-pub fn has_builder<S: Alter>(
+/// Whether the builder was added for the architecture.
+pub(crate) fn has_builder<S: Alter>(
     conn: &mut Connection<S>,
     builder: &Text,
     arch: &Text,
@@ -36,10 +35,11 @@ pub fn has_builder<S: Alter>(
     Ok(!pairs.is_empty())
 }
 
-/// The architectures for which the builder was added, by name. The faults are those of the query on the table of the
-/// builders, `Memory`, and `Damaged` with row 0 if a row is no builder. The database stays as it is, but for a
-/// transaction that a failure of the query takes back (this project's own).
-pub fn archs_of<S: Alter>(conn: &mut Connection<S>, builder: &Text) -> Result<Vec<Text>, StoreFault>
+/// The architectures for which the builder was added, by name.
+pub(crate) fn archs_of<S: Alter>(
+    conn: &mut Connection<S>,
+    builder: &Text,
+) -> Result<Vec<Text>, StoreFault>
     ensures looks_up { LooksUp S.Store (ask.PairsOf builder.now) (λ machine archs. IsConsistent machine
         → archs.items ≡ archs_of machine builder.now) conn.old conn.new result }
 {

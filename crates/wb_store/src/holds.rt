@@ -12,11 +12,7 @@ use wb_sql::statements;
 use wb_states::{KeyedRecord, StoreFault};
 
 /// The records that the builder holds, of all architectures, by take number: none if it was never added.
-/// The faults are those of the query on the table of the records, `Memory` if memory runs out for the answer, and
-/// `Damaged` with row 0 if a row is not that of a record. The database stays as it is; only a failed query may take a
-/// transaction back.
-/// Source: this project's own.
-pub fn held_by<S: Alter>(
+pub(crate) fn held_by<S: Alter>(
     conn: &mut Connection<S>,
     builder: &Text,
 ) -> Result<Vec<KeyedRecord>, StoreFault>

@@ -2,6 +2,7 @@
 ghost use Rattle.std.specs.Prelude.{◌≡◌, false};
 ghost use Rattle.wb_store.specs.Opening.{Checks, ChecksRows, ChecksScratch, FindsOffice};
 
+use crate::checks::other_fault;
 use crate::preparing::make_office;
 use crate::{
     check_archs, check_builders, check_counts, check_records, fault_of, has_scratch_binaries,
@@ -13,11 +14,12 @@ use wb_states::{Counts, StoreFault, Table};
 
 /// The two counts of the office that the database holds, or of an empty one, whose tables are made first if the
 /// database lacks them, as [`lacks_office`] says. Tables of others may stand beside them, as [`has_office_tables`] says.
-/// [`Office::adopt`](crate::Office::adopt) is this call, with the connection it was given. The faults are `NotOffice` if
-/// the database neither has the office's tables nor lacks them, and is then left as it is, and those of [`check`], and
-/// before them those of the table of the office if the tables cannot be made. An office that was there stays as it is,
-/// but for a transaction that a failure of a query takes back; a crash of a database that lacks the tables leaves that,
-/// or the empty office (this project's own).
+/// [`Office::adopt`](crate::Office::adopt) is this call, with the connection it was given. The faults of a database that
+/// neither has the office's tables nor lacks them are those of [`other_fault`]: `NewerSchema` if its table `office` shows
+/// a format above 2, and else `NotOffice`. The others are those of [`check`], and before them those of the table of the
+/// office if the tables cannot be made. What was there stays as it is, but for a transaction that a failure of a query
+/// takes back; a crash of a database that lacks the tables leaves that, or the empty office. No transaction is under way
+/// after any answer (this project's own).
 pub fn find_office<S: Alter>(conn: &mut Connection<S>) -> Result<Counts, StoreFault>
     requires idle { conn.old.in_transaction ≡ false }
     ensures finds { FindsOffice S.Store conn.old conn.new result }
@@ -26,7 +28,7 @@ pub fn find_office<S: Alter>(conn: &mut Connection<S>) -> Result<Counts, StoreFa
         return check(conn);
     }
     if !lacks_office(conn.schema()) {
-        return Err(StoreFault::NotOffice);
+        return Err(other_fault(conn));
     }
     match make_office(conn) {
         Ok(()) => check(conn),

@@ -15,11 +15,7 @@ use wb_states::{KeyedRecord, State, StoreFault};
 
 /// The head of the architecture's queue, which is built next, or none if no source package of the architecture waits
 /// for a builder (wanna-build's states page).
-/// The faults are those of the query on the table of the records, `Memory` if memory runs out for the answer, and
-/// `Damaged` with row 0 if a row is not that of a record. The database stays as it is; only a failed query may take a
-/// transaction back.
-/// Source: this project's own.
-pub fn head<S: Alter>(
+pub(crate) fn head<S: Alter>(
     conn: &mut Connection<S>,
     arch: &Text,
 ) -> Result<Option<KeyedRecord>, StoreFault>
@@ -33,11 +29,7 @@ pub fn head<S: Alter>(
 
 /// The architecture's queue: its records that wait for a builder, in the order in which they are built (wanna-build's
 /// states page).
-/// The faults are those of the query on the table of the records, `Memory` if memory runs out for the answer, and
-/// `Damaged` with row 0 if a row is not that of a record. The database stays as it is; only a failed query may take a
-/// transaction back.
-/// Source: this project's own.
-pub fn queue_of<S: Alter>(
+pub(crate) fn queue_of<S: Alter>(
     conn: &mut Connection<S>,
     arch: &Text,
 ) -> Result<Vec<KeyedRecord>, StoreFault>

@@ -14,7 +14,7 @@ use wb_sql::statements;
 use wb_states::{COUNT_LIMIT, Counts, StoreFault, Table};
 
 /// The format of the tables that this program writes and reads.
-const FORMAT: u64 = 2;
+pub(crate) const FORMAT: u64 = 2;
 
 /// The two counts of the office, if its table has one row, of this program's format 2, and each count is at most
 /// [`COUNT_LIMIT`]. The faults are `NotOffice` if there is no row, or more than one, or the format is below 2,
@@ -87,7 +87,7 @@ fn count_at(row: &Row, at: usize) -> Option<u64>
 }
 
 /// The number from 0 in a column, if it has one. Columns are counted from 0.
-fn number_at(row: &Row, at: usize) -> Option<u64>
+pub(crate) fn number_at(row: &Row, at: usize) -> Option<u64>
     requires { at < length row.now }
     ensures value { IfSome result (λ n. column row.now at ≡ number n) }
     ensures none { IfNone result ((n : ℕ) → column row.now at ≢ number n) }

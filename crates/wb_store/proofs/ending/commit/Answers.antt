@@ -1,6 +1,23 @@
-use Rattle.wb_store.proofs.SettledLemmas.{settles}
+use Rattle.std.proofs.Common.{sym, subst, IfErr, OnErr}
+use Rattle.sqlite.specs.Held.{state}
+use Rattle.wb_sql.specs.Transactions.{IsKeptOrUndone}
+use Rattle.wb_store.specs.Ending.{IsFaultOfCommit}
+use Rattle.wb_store.specs.Settled.{SettlesBy}
+use Rattle.wb_store.proofs.SettledLemmas.{commit_fault, committed_err, settles}
 use Rattle.wb_store.proofs.ending.commit.Goals as goal
 
 pub returns-clause-settles : goal.returns-clause-settles
 returns-clause-settles g c =
-    settles _ _ _ c.commit.result c.commit.ensures.ok c.commit.ensures.alone c.commit.ensures.memory c.commit.ensures.err c.commit.ensures.sound c.commit.ensures.crash
+    let e = c.commit-answered.ensures in
+    subst (SettlesBy g.S.Store c.args.conn.now c.commit-answered.new.conn) (sym c.committed.ensures.value)
+    (settles g.S.Store c.args.conn.now c.commit-answered.new.conn c.commit-answered.result e.ok e.alone e.memory e.err e.sound e.crash)
+
+pub returns-clause-err : goal.returns-clause-err
+returns-clause-err g c clean =
+    subst (λ r. OnErr r (IsKeptOrUndone (state g.S.Store c.args.conn.now) (state g.S.Store c.commit-answered.new.conn))) (sym c.committed.ensures.value)
+    (committed_err _ c.commit-answered.result (c.commit-answered.ensures.err clean))
+
+pub returns-clause-cause : goal.returns-clause-cause
+returns-clause-cause g c clean =
+    subst (λ r. IfErr r (IsFaultOfCommit g.S.Store c.args.conn.now)) (sym c.committed.ensures.value)
+    (commit_fault g.S.Store c.args.conn.now c.commit-answered.result (c.commit-answered.ensures.cause clean))

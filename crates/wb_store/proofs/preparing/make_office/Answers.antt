@@ -1,39 +1,35 @@
-use Rattle.std.proofs.Common.{rules, Err, subst, ◌∙◌, ap}
-use Rattle.wb_store.specs.Preparing.{MakesEmptyOffice}
-use Rattle.wb_store.proofs.PreparingLemmas.{MakesAnywhere, not_made, made_by, told, given_back}
+use Rattle.std.proofs.Common.{subst, sym}
+use Rattle.sqlite.specs.Held.{state}
+use Rattle.wb_sql.specs.Transactions.{FailsToCommit}
+use Rattle.wb_store.proofs.PreparingLemmas.{MakesAnywhere, made_by, made_not, not_made, taken_of}
 use Rattle.wb_store.proofs.preparing.make_office.Goals as goal
 
 pub returns-in-Err : goal.returns-in-Err
 returns-in-Err g c =
-    let makes = subst (MakesAnywhere g.S.Store c.begin-writing.result.conn.now c.prepare.new.writing.conn.now) c.in-Err.is c.prepare.ensures.makes in
+    let makes = subst (MakesAnywhere g.S.Store c.begin.new.conn c.prepare.new.conn) c.in-Err.is c.prepare.ensures.makes in
+    let back = c.roll_back.ensures in
     record {
-      makes = given_back (search rules)
-          (not_made g.S.Store c.args.conn.now c.begin-writing.result.conn.now c.prepare.new.writing.conn.now c.roll_back.new.self.0 c.begin-writing.ensures.begun c.in-Err.error makes c.roll_back.ensures.survives);
+      makes = not_made g.S.Store c.args.conn.now c.begin.new.conn c.prepare.new.conn c.roll_back.new.conn c.begin.ensures.begun c.in-Err.error makes c.roll_back.result
+          back.ok back.err back.survives;
     }
 
 pub returns-in-Ok : goal.returns-in-Ok
 returns-in-Ok g c =
-    let makes = subst (MakesAnywhere g.S.Store c.begin-writing.result.conn.now c.prepare.new.writing.conn.now) c.in_default.is c.prepare.ensures.makes in
-    let e = c.commit.ensures in
+    let makes = subst (MakesAnywhere g.S.Store c.begin.new.conn c.prepare.new.conn) c.in_default.is c.prepare.ensures.makes in
     record {
-      makes = given_back (search rules) (subst (λ r. MakesEmptyOffice g.S.Store c.args.conn.now c.commit.new.self.0 (told r)) c.in-Ok.is
-          (made_by g.S.Store c.args.conn.now c.begin-writing.result.conn.now c.prepare.new.writing.conn.now c.commit.new.self.0 c.begin-writing.ensures.begun c.commit.result makes e.ok e.alone e.cause e.sound e.crash));
+      makes = made_by g.S.Store c.args.conn.now c.begin.new.conn c.prepare.new.conn c.commit.new.conn c.begin.ensures.begun makes c.commit.ensures.sound
+          c.commit.ensures.crash c.in-Ok.ensures.ok c.in-Ok.ensures.alone;
     }
 
-pub returns-in-Err-Memory : goal.returns-in-Err-Memory
-returns-in-Err-Memory g c =
-    let makes = subst (MakesAnywhere g.S.Store c.begin-writing.result.conn.now c.prepare.new.writing.conn.now) c.in_default.is c.prepare.ensures.makes in
-    let e = c.commit.ensures in
+pub returns-in-Err-commit : goal.returns-in-Err-commit
+returns-in-Err-commit g c =
+    let written = c.prepare.new.conn in
+    let at = c.commit.new.conn in
+    let makes = subst (MakesAnywhere g.S.Store c.begin.new.conn written) c.in_default.is c.prepare.ensures.makes in
+    let back = c.roll_back-in-Err-commit.ensures in
     record {
-      makes = given_back (search rules) (subst (λ r. MakesEmptyOffice g.S.Store c.args.conn.now c.commit.new.self.0 (told r)) (c.in-Err-Memory.is ∙ ap Err c.in-Err-Memory.field-0-is)
-          (made_by g.S.Store c.args.conn.now c.begin-writing.result.conn.now c.prepare.new.writing.conn.now c.commit.new.self.0 c.begin-writing.ensures.begun c.commit.result makes e.ok e.alone e.cause e.sound e.crash));
-    }
-
-pub returns-in-Err-InDoubt : goal.returns-in-Err-InDoubt
-returns-in-Err-InDoubt g c =
-    let makes = subst (MakesAnywhere g.S.Store c.begin-writing.result.conn.now c.prepare.new.writing.conn.now) c.in_default.is c.prepare.ensures.makes in
-    let e = c.commit.ensures in
-    record {
-      makes = given_back (search rules) (subst (λ r. MakesEmptyOffice g.S.Store c.args.conn.now c.commit.new.self.0 (told r)) (c.in-Err-InDoubt.is ∙ ap Err c.in-Err-InDoubt.field-0-is)
-          (made_by g.S.Store c.args.conn.now c.begin-writing.result.conn.now c.prepare.new.writing.conn.now c.commit.new.self.0 c.begin-writing.ensures.begun c.commit.result makes e.ok e.alone e.cause e.sound e.crash));
+      makes = made_not g.S.Store c.args.conn.now c.begin.new.conn written at c.begin.ensures.begun makes c.commit.ensures.sound c.commit.ensures.crash
+          c.roll_back-in-Err-commit.new.conn c.cause_of.result
+          (λ clean. subst (FailsToCommit g.S.Store written) (sym c.cause_of.ensures.value) (c.in-Err-commit.ensures.cause clean))
+          (λ clean. taken_of (state g.S.Store at) (state g.S.Store c.roll_back-in-Err-commit.new.conn) c.roll_back-in-Err-commit.result (back.ok clean) (back.err clean)) back.survives;
     }

@@ -4,7 +4,7 @@ use Rattle.wb_store.specs.Queries as ask
 use Rattle.wb_store.proofs.FoundLemmas.{arch_found, text_bound}
 use Rattle.wb_store.proofs.LookupLemmas.{arch_readable}
 use Rattle.wb_store.proofs.ReadLemmas.{asks_of, looks_up_all}
-use Rattle.wb_store.proofs.lookups.all_of.Goals as goal
+use Rattle.wb_store.proofs.records.all_of.Goals as goal
 
 pub returns : goal.returns
 returns g c =

@@ -5,7 +5,7 @@ use Rattle.wb_store.specs.Lookups.{HaveCounts}
 use Rattle.wb_store.specs.Queries as ask
 use Rattle.wb_store.proofs.FoundLemmas.{counts_found}
 use Rattle.wb_store.proofs.ReadLemmas.{asks_of, handed_on, looks_up_nothing, looks_up_rows}
-use Rattle.wb_store.proofs.lookups.counts.Goals as goal
+use Rattle.wb_store.proofs.records.office_row.Goals as goal
 
 pub returns-in_err-rows : goal.returns-in_err-rows
 returns-in_err-rows g c = record { looks_up = looks_up_nothing (asks_of ask.Office c.office_counts.ensures refl) c.in_err-rows.ensures.reads (handed_on c.from_residual.result c.from_residual.ensures.1) }

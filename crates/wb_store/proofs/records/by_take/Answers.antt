@@ -6,7 +6,7 @@ use Rattle.wb_store.specs.Queries as ask
 use Rattle.wb_store.proofs.FoundLemmas.{taken_found, number_bound}
 use Rattle.wb_store.proofs.LookupLemmas.{take_readable}
 use Rattle.wb_store.proofs.ReadLemmas.{asks_of, handed_on, fails_to_look_up, looks_up}
-use Rattle.wb_store.proofs.lookups.by_take.Goals as goal
+use Rattle.wb_store.proofs.records.by_take.Goals as goal
 
 pub returns-in_err-rows : goal.returns-in_err-rows
 returns-in_err-rows g c = record {

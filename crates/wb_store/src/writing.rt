@@ -1,0 +1,150 @@
+//! A transaction of the office: its changes and its two ends.
+//!
+//! Each change speaks of a store that stands for a state of the office, and makes it stand for the state after the change.
+//! Its fault is that of its statement, with its table: `Damaged` with row 0 also if the transaction is over. After a fault
+//! the transaction is rolled back (this project's own).
+
+ghost use Rattle.std.specs.Prelude.{◌≡◌, ◌≤◌, ⊤, false, None, IfErr, IfSome, IsSome, OnErr, OnOk};
+ghost use Rattle.std.specs.FinMap as map;
+ghost use Rattle.std.specs.FinSet as set;
+ghost use Rattle.sqlite.specs.Held.{state};
+ghost use Rattle.sqlite.specs.State.{HasCleanDisk, Survives};
+ghost use Rattle.wb_sql.specs.Transactions.{IsKeptOrUndone};
+ghost use Rattle.wb_states.specs.Limits.{count_limit};
+ghost use Rattle.wb_store.specs.Calls.{Changes};
+ghost use Rattle.wb_store.specs.Ending.{IsEndedFrom, IsFaultOfCommit, IsFaultOfRollBack};
+ghost use Rattle.wb_store.specs.Settled.{SettlesBy, TakesBack};
+ghost use Rattle.wb_store.specs.Writes as write;
+
+use crate::store::Store;
+use crate::{changes, ending};
+use deb_text::Text;
+use sqlite::Alter;
+use wb_states::{Counts, OsCpu, Record, StoreFault};
+
+/// A transaction under way. It is ended by [`commit`](Writing::commit) or [`roll_back`](Writing::roll_back), and cannot be
+/// let go without one of the two. A failure of the store or of memory ends it too, and takes back what it wrote; after that
+/// its changes are refused (this project's own).
+pub struct Writing<'store, S: Alter + Drop> {
+    pub(crate) store: &'store mut Store<S>,
+}
+
+impl<S: Alter + Drop> Writing<'_, S> {
+    /// Sets both counts of the office, each at most [`wb_states::COUNT_LIMIT`]; all else stays.
+    pub fn set_counts(&mut self, counts: Counts) -> Result<(), StoreFault>
+        requires fits { (counts.handed ≤ count_limit) × (counts.accepted ≤ count_limit) }
+        ensures same_reference { self.new.store.ghost_name ≡ self.old.store.ghost_name }
+        ensures changes { Changes S.Store (write.SetsCounts counts.handed counts.accepted) (λ _. ⊤)
+            (λ machine. record machine { handed = counts.handed; accepted = counts.accepted })
+            self.old.store.now self.new.store.now result }
+    {
+        let store = &mut *self.store;
+        changes::set_counts(&mut store.conn, counts)
+    }
+
+    /// Adds an architecture, which is not there yet, with its words; all else stays. A name that is there is a fault too.
+    pub fn add_arch(&mut self, name: &Text, words: &OsCpu) -> Result<(), StoreFault>
+        ensures same_reference { self.new.store.ghost_name ≡ self.old.store.ghost_name }
+        ensures changes { Changes S.Store (write.AddsArch (name.now, words.now)) (λ machine. map.get machine.archs name.now ≡ None)
+            (λ machine. record machine { archs = map.insert machine.archs name.now words.now })
+            self.old.store.now self.new.store.now result }
+    {
+        let store = &mut *self.store;
+        changes::add_arch(&mut store.conn, name, words)
+    }
+
+    /// Adds a builder for an architecture, for which it was not added yet; all else stays. A pair that is there is a fault
+    /// too.
+    pub fn add_builder(&mut self, builder: &Text, arch: &Text) -> Result<(), StoreFault>
+        ensures same_reference { self.new.store.ghost_name ≡ self.old.store.ghost_name }
+        ensures changes { Changes S.Store (write.AddsBuilder (builder.now, arch.now))
+            (λ machine. set.contains machine.builders (builder.now, arch.now) ≡ false)
+            (λ machine. record machine { builders = set.insert machine.builders (builder.now, arch.now) })
+            self.old.store.now self.new.store.now result }
+    {
+        let store = &mut *self.store;
+        changes::add_builder(&mut store.conn, builder, arch)
+    }
+
+    /// Takes out the record of the source package `source` on the architecture `arch`, if there is one; all else stays.
+    pub fn remove(&mut self, arch: &Text, source: &Text) -> Result<(), StoreFault>
+        ensures same_reference { self.new.store.ghost_name ≡ self.old.store.ghost_name }
+        ensures changes { Changes S.Store (write.RemovesRecord (arch.now, source.now)) (λ _. ⊤)
+            (λ machine. record machine { records = map.remove machine.records (arch.now, source.now) })
+            self.old.store.now self.new.store.now result }
+    {
+        let store = &mut *self.store;
+        changes::remove(&mut store.conn, arch, source)
+    }
+
+    /// Gives the source package `source` on the architecture `arch` the record `current`, in place of the one that it had,
+    /// if any; all else stays. The take number, if there is one, is at most [`wb_states::COUNT_LIMIT`]. An architecture
+    /// that is not there is a fault too.
+    pub fn put(&mut self, arch: &Text, source: &Text, current: &Record) -> Result<(), StoreFault>
+        requires given { IfSome current.now.take (λ take_number. take_number ≤ count_limit) }
+        ensures same_reference { self.new.store.ghost_name ≡ self.old.store.ghost_name }
+        ensures changes { Changes S.Store (write.PutsRecord ((arch.now, source.now), current.now)) (λ _. ⊤)
+            (λ machine. record machine {
+              records = map.insert machine.records (arch.now, source.now) current.now;
+            })
+            self.old.store.now self.new.store.now result }
+    {
+        let store = &mut *self.store;
+        changes::put(&mut store.conn, arch, source, current)
+    }
+
+    /// Gives the source package `source` on the architecture `arch` the record `current` in place of the one that it has;
+    /// all else stays. It is quicker than [`put`](Writing::put). The take number, if there is one, is at most
+    /// [`wb_states::COUNT_LIMIT`]. If there is no such record, nothing is promised.
+    pub fn replace(
+        &mut self,
+        arch: &Text,
+        source: &Text,
+        current: &Record,
+    ) -> Result<(), StoreFault>
+        requires given { IfSome current.now.take (λ take_number. take_number ≤ count_limit) }
+        ensures same_reference { self.new.store.ghost_name ≡ self.old.store.ghost_name }
+        ensures changes { Changes S.Store (write.ReplacesRecord ((arch.now, source.now), current.now))
+            (λ machine. IsSome (map.get machine.records (arch.now, source.now)))
+            (λ machine. record machine {
+              records = map.insert machine.records (arch.now, source.now) current.now;
+            })
+            self.old.store.now self.new.store.now result }
+    {
+        let store = &mut *self.store;
+        changes::replace(&mut store.conn, arch, source, current)
+    }
+
+    /// Ends the transaction, and makes its state permanent. The fault is `Memory` if memory ran out before anything was
+    /// committed: a crash then leaves the state from which the transaction began, and [`Store::roll_back`] takes back what
+    /// may still be under way. It is `Device`, or `Damaged` with row 0 of the table of the office, if the store failed or the
+    /// transaction was over: a crash then leaves either state, whole (this project's own).
+    pub fn commit(self) -> Result<(), StoreFault>
+        ensures settles { SettlesBy S.Store self.entry.store.now self.exit.0.now result }
+        ensures err { HasCleanDisk (state S.Store self.exit.0.now)
+            → OnErr result (IsKeptOrUndone (state S.Store self.entry.store.now) (state S.Store self.exit.0.now)) }
+        ensures cause { HasCleanDisk (state S.Store self.exit.0.now)
+            → IfErr result (IsFaultOfCommit S.Store self.entry.store.now) }
+        ensures survives { Survives (state S.Store self.entry.store.now) (state S.Store self.exit.0.now)
+            (λ db. db ≡ (state S.Store self.entry.store.now).now.trees) }
+    {
+        let Writing { store } = self;
+        ending::commit(&mut store.conn)
+    }
+
+    /// Ends the transaction, and takes back what it wrote, so that the state from which it began stands again; a transaction
+    /// that was taken back before is over, and this is no fault. The faults are `Memory`, `Device`, and `Damaged` with row 0
+    /// of the table of the office, if the store failed; a crash then leaves the state from which the transaction began (this
+    /// project's own).
+    pub fn roll_back(self) -> Result<(), StoreFault>
+        ensures taken_back { TakesBack S.Store self.entry.store.now self.exit.0.now }
+        ensures ok { HasCleanDisk (state S.Store self.exit.0.now)
+            → OnOk result (IsEndedFrom (state S.Store self.entry.store.now) (state S.Store self.exit.0.now)) }
+        ensures cause { HasCleanDisk (state S.Store self.exit.0.now)
+            → IfErr result (IsFaultOfRollBack (state S.Store self.entry.store.now) (state S.Store self.exit.0.now)) }
+        ensures survives { Survives (state S.Store self.entry.store.now) (state S.Store self.exit.0.now) (λ _. ⊥) }
+    {
+        let Writing { store } = self;
+        ending::roll_back(&mut store.conn)
+    }
+}
