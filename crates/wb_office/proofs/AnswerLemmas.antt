@@ -1,12 +1,12 @@
 -- How a command is carried out over tables: what it names is read, it is carried out in that part, and what it changed is kept.
-use Rattle.std.proofs.Common.{◌≡◌, inl, inr, true, false, Option, Some, None, Result, Ok, Err, IfErr, refl, sym, ap, subst, ◌∙◌}
+use Rattle.std.proofs.Common.{◌≡◌, ℕ, List, inl, inr, true, false, Option, Some, None, Result, Ok, Err, IfErr, refl, sym, ap, subst, ◌∙◌}
 use Rattle.std.proofs.lemmas.Bool.{both_ways}
 use Rattle.sqlite_trees.specs.declared.store.Store.{Ghosts}
 use Rattle.sqlite.specs.Held.{Held, state}
 use Rattle.sqlite.specs.State.{HasCleanDisk}
 use Rattle.wb_sql.proofs.CallLemmas.{on_ok}
 use Rattle.wb_states.specs.declared.command.Command.{Command}
-use Rattle.wb_states.specs.declared.command.Command.TheVariants as of
+use Rattle.wb_states.specs.declared.command.Merge.{Merge}
 use Rattle.wb_states.specs.declared.counts.Counts.{Counts}
 use Rattle.wb_states.specs.declared.refusal.Refusal.{Refusal}
 use Rattle.wb_states.specs.declared.reply.Reply.{Reply}
@@ -19,7 +19,7 @@ use Rattle.wb_step.specs.Carries.{Carries}
 use Rattle.wb_step.specs.Checks.{first_refusal}
 use Rattle.wb_step.specs.Locality.{LooksAlike}
 use Rattle.wb_step.specs.Named.{part_named}
-use Rattle.wb_step.specs.Step.{Outcome, assignment_reply, outcome, reply_to, step}
+use Rattle.wb_step.specs.Step.{Outcome, assignment_reply, outcome, reply_by, reply_to, step}
 use Rattle.wb_step.specs.Targets.{again_of, target_of}
 use Rattle.wb_step.specs.Utf8.{HasUtf8Texts}
 use Rattle.wb_step.proofs.LocalityLemmas.{same_answer}
@@ -51,7 +51,7 @@ use Rattle.wb_office.proofs.StepOfLemmas.{same_counts}
 
 module _ {S : Type 0} (g : Ghosts S) (old new : Held S) where
   -- what stays as it was keeps the tables of others
-  stays_others : StaysAs g old new → KeepsOthers (state g old).now (state g new).now
+  pub stays_others : StaysAs g old new → KeepsOthers (state g old).now (state g new).now
   stays_others stays = others_equal (state g old).now (state g new).now (stays-now g old new stays)
 
   -- look-ups that succeed leave the connection settled, with the answer of its state
@@ -94,23 +94,12 @@ assigned_is_new machine (Some entry) = refl
 
 -- the reply to an accepted command is no repetition
 reply_is_new : (machine : Machine) (command : Command) → is_again (reply_to machine command) ≡ false
-reply_is_new machine (of.AddArch fields) = refl
-reply_is_new machine (of.AddBuilder fields) = refl
-reply_is_new machine (of.Enter fields) = refl
-reply_is_new machine (of.Merge fields) = refl
-reply_is_new machine (of.Built fields) = refl
-reply_is_new machine (of.Uploaded fields) = refl
-reply_is_new machine (of.Waits fields) = refl
-reply_is_new machine (of.PutBack fields) = refl
-reply_is_new machine (of.Attempted fields) = refl
-reply_is_new machine (of.GiveBack fields) = refl
-reply_is_new machine (of.DepWait fields) = refl
-reply_is_new machine (of.Fail fields) = refl
-reply_is_new machine (of.NotForUs fields) = refl
-reply_is_new machine (of.Rebuild fields) = refl
-reply_is_new machine (of.BuildPriority fields) = refl
-reply_is_new machine (of.Next fields) = assigned_is_new machine (target_of machine (of.Next fields))
-reply_is_new machine (of.Take fields) = assigned_is_new machine (target_of machine (of.Take fields))
+reply_is_new machine command = by_arguments (arguments_of command).merge (arguments_of command).builder
+  where
+    by_arguments : (merge : Option Merge) (builder : Option (List ℕ)) → is_again (reply_by machine command merge builder) ≡ false
+    by_arguments (Some merge) builder = refl
+    by_arguments None (Some builder) = assigned_is_new machine (target_of machine command)
+    by_arguments None None = refl
 
 -- a command that is answered with an assignment again leaves the office as it was
 pub told_again : (machine : Machine) (command : Command) (reply : Reply) → (step machine command).0 ≡ Ok reply → is_again reply ≡ true → (step machine command).1 ≡ machine
@@ -166,6 +155,7 @@ module _ {S : Type 0} (g : Ghosts S) (command : Command) (old new : Held S) (par
   pub refused_in : (refusal : Refusal) → old ≡ new → Carries part after command (Err refusal) → Answers g (IsNamed command part key) command old new (Err (Refused refusal))
   refused_in refusal same carries = record {
     was_clean = λ clean. subst (λ h. HasCleanDisk (state g h)) (sym same) clean;
+    limit = ap (λ (h : Held S). h.step_limit) (sym same);
     ok = λ clean machine consistent settled named. tt;
     err = λ clean machine consistent settled named. (
       λ of_machine. sym (part_answers command machine part consistent single named.0) ∙ ap (λ (o : Outcome). o.0) (carries.refused of_machine),
@@ -181,6 +171,7 @@ module _ {S : Type 0} (g : Ghosts S) (command : Command) (old new : Held S) (par
       → Answers g (IsNamed command part key) command old new (Ok (record { reply = reply; counts = counts }))
   repeated_in reply counts counted same carries utf8 told = record {
     was_clean = λ clean. subst (λ h. HasCleanDisk (state g h)) (sym same) clean;
+    limit = ap (λ (h : Held S). h.step_limit) (sym same);
     ok = λ clean machine consistent settled named.
         let answers = sym (part_answers command machine part consistent single named.0) ∙ ap (λ (o : Outcome). o.0) carries.reply in (
           answers,
@@ -198,6 +189,7 @@ module _ {S : Type 0} (g : Ghosts S) (command : Command) (old new : Held S) (par
       → KeepsStep {A = A} g command key after old new (Ok x) → Answers g (IsNamed command part key) command old new (Ok (record { reply = reply; counts = counts }))
   kept_in reply counts counted carries utf8 fresh keeps = record {
     was_clean = keeps.was_clean;
+    limit = keeps.limit;
     ok = λ clean machine consistent settled named.
         let steps = step_of_whole command machine part consistent single named.0 named.1 reply fresh carries.reply in (
           sym (part_answers command machine part consistent single named.0) ∙ ap (λ (o : Outcome). o.0) carries.reply,
@@ -216,6 +208,7 @@ module _ {S : Type 0} (g : Ghosts S) (command : Command) (old new : Held S) (par
       → Answers g (IsNamed command part key) command old new (Err failure)
   not_kept_in reply failure carries fresh keeps = record {
     was_clean = keeps.was_clean;
+    limit = keeps.limit;
     ok = λ clean machine consistent settled named. tt;
     err = λ clean machine consistent settled named.
         left_by machine failure (keeps.err clean machine settled (step_of_whole command machine part consistent single named.0 named.1 reply fresh carries.reply));
@@ -247,6 +240,7 @@ module _ {S : Type 0} (g : Ghosts S) (command : Command) (old mid new : Held S) 
       → ((machine : Machine) → First machine → Answer machine x → Given machine) → Answers g Given command mid new r → Answers g First command old new r
   answered_in {Answer = Answer} {Given = Given} {x = x} r finds gives answers = record {
     was_clean = λ clean. was_clean (state g old) (state g mid) finds.survives (answers.was_clean clean);
+    limit = answers.limit ∙ finds.survives.limit;
     ok = λ clean machine consistent settled first.
         let at = found g old mid finds (answers.was_clean clean) consistent settled in
         answers.ok clean machine consistent at.0 (gives machine first at.1);
@@ -270,6 +264,7 @@ module _ {S : Type 0} (g : Ghosts S) (command : Command) (old mid new : Held S) 
   pub unread : {A : Type 0} {Answer : Machine → A → Type 0} {Given : Machine → Type 0} {e : StoreFault} → Finds {A = A} g Answer old new (Err e) → Answers g Given command old new (Err (Unread e))
   unread finds = record {
     was_clean = was_clean (state g old) (state g new) finds.survives;
+    limit = finds.survives.limit;
     ok = λ clean machine consistent settled given. tt;
     err = λ clean machine consistent settled given. not_found g old new finds clean settled;
     others = λ clean machine consistent settled given. tt;
@@ -289,6 +284,7 @@ module _ {S : Type 0} (g : Ghosts S) (command : Command) (was_known mid_known : 
       → Responds g command was_known old known new (Ok answered.reply)
   responded answered known finds learns gives answers knows = record {
     was_clean = λ clean. was_clean (state g old) (state g mid) finds.survives (answers.was_clean clean);
+    limit = answers.limit ∙ finds.survives.limit;
     ok = λ clean machine consistent settled was.
         let at = found g old mid finds (answers.was_clean clean) consistent settled in
         let done = answers.ok clean machine consistent at.0 (gives machine at.1 was) in
@@ -308,6 +304,7 @@ module _ {S : Type 0} (g : Ghosts S) (command : Command) (was_known mid_known : 
       → Answers g Given command mid new (Err failure) → Responds g command was_known old mid_known new (Err failure)
   not_responded failure finds learns gives answers = record {
     was_clean = λ clean. was_clean (state g old) (state g mid) finds.survives (answers.was_clean clean);
+    limit = answers.limit ∙ finds.survives.limit;
     ok = λ clean machine consistent settled was. tt;
     err = λ clean machine consistent settled was.
         let at = found g old mid finds (answers.was_clean clean) consistent settled in (
@@ -325,6 +322,7 @@ pub archs_unread : {S A : Type 0} (g : Ghosts S) (command : Command) (was_known 
     → Finds {A = A} g Answer old new (Err e) → known ≡ was_known → Responds g command was_known old known new (Err (Unread e))
 archs_unread g command was_known known old new finds same = record {
   was_clean = was_clean (state g old) (state g new) finds.survives;
+  limit = finds.survives.limit;
   ok = λ clean machine consistent settled was. tt;
   err = λ clean machine consistent settled was. (not_found g old new finds clean settled, subst (Knows machine) (sym same) was);
   others = λ clean machine consistent settled was. tt;
@@ -337,6 +335,7 @@ pub not_committed : {S A B : Type 0} {g : Ghosts S} {command : Command} {key : O
     → KeepsStep {A = B} g command key after old new (Err (Uncommitted e))
 not_committed {g = g} {key = key} {after = after} {old = old} {new = new} carries = record {
   was_clean = was_clean (state g old) (state g new) carries.survives;
+  limit = carries.survives.limit;
   ok = λ clean machine settled steps. tt;
   err = λ clean machine settled steps. (carries.err clean machine settled steps, inl (old, key, after, inl refl, steps, carries.cause clean machine settled steps));
   others = λ clean machine settled steps. tt;

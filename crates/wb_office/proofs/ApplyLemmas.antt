@@ -28,10 +28,15 @@ use Rattle.wb_office.specs.declared.answer.Failure.{Failure}
 use Rattle.wb_office.specs.declared.answer.Failure.TheVariants.{Refused, Unread, Uncommitted}
 use Rattle.wb_office.specs.declared.carry.CarryError.TheVariants.{TakenBack, RollBackFailed, InDoubt}
 use Rattle.wb_office.specs.declared.known.Known.{Known}
-use Rattle.wb_office.specs.Answers.{IsOfStep, Responds}
+use Rattle.wb_office.specs.Answers.{IsLeft, IsOfStep, Responds}
+use Rattle.wb_office.specs.Failed.{HasFailed}
 use Rattle.wb_office.specs.Standing.{Knows, StandsAt, LeavesOne}
-use Rattle.wb_office.specs.Applies.{refusal_for, refusal_of, doubt_for, CannotBeUsed, IsRefusedIn, Applies, Ends, EndsWith, StandsAfter}
+use Rattle.wb_office.specs.Applies.{refusal_for, refusal_of, CannotBeUsed, IsRefusedIn, Applies, Ends, EndsWith}
 use Rattle.wb_store.proofs.StaysLemmas.{was_clean}
+
+-- two refusals that are answered alike are the same
+pub same_err : {X : Type 0} {a b : Refusal} → ◌≡◌ {A = Result X Refusal} (Err a) (Err b) → a ≡ b
+same_err is = cc
 
 -- ---- the connection after a probe
 
@@ -48,11 +53,13 @@ module _ {S : Type 0} (g : Ghosts S) (old new : Held S) where
       → (HasCleanDisk (state g new) → usable ≡ false → CannotBeUsed g old new) → Survives (state g old) (state g new) (λ _. ⊥) → EndsWith g fault.Memory old new Memory (not usable)
   ends_of_memory usable still unchanged shut survives = record {
     was_clean = was_clean (state g old) (state g new) survives;
+    limit = survives.limit;
     told = refl;
     back = λ clean machine back. probed (unchanged clean) (less survives clean) back;
     is_open = λ clean not_closed. (still clean (is_usable usable not_closed)).0.is_open;
     ends = λ of_store. cc;
     closes = λ clean _ closed. shut clean (is_unusable usable closed);
+    same = λ other. absurd (other refl);
   }
     where
       is_usable : (b : Bool) → not b ≡ false → IsTrue b
@@ -67,11 +74,13 @@ module _ {S : Type 0} (g : Ghosts S) (old new : Held S) where
 pub ends_of_fault : {S : Type 0} (g : Ghosts S) (held : Held S) (f : StoreFault) → refusal_for f ≡ Store f → EndsWith g f held held (Store f) true
 ends_of_fault g held f told = record {
   was_clean = λ clean. clean;
+  limit = refl;
   told = sym told;
   back = λ clean machine back. back;
   is_open = λ clean not_closed. cc;
   ends = λ of_store. refl;
   closes = λ clean is _. absurd (store_is_no_memory is);
+  same = λ other. refl;
 }
   where
     store_is_no_memory : {f : StoreFault} → Store f ≢ Memory
@@ -88,13 +97,6 @@ refusals_for fault.NotOffice = inr (refl, λ is. cc)
 refusals_for fault.NewerSchema = inr (refl, λ is. cc)
 refusals_for (fault.Damaged table row) = inr (refl, λ is. cc)
 refusals_for fault.Device = inr (refl, λ is. cc)
-
-doubts_for : (f : StoreFault) → (g : StoreFault) × (doubt_for f ≡ Store g)
-doubts_for fault.Memory = (fault.Device, refl)
-doubts_for fault.NotOffice = (fault.NotOffice, refl)
-doubts_for fault.NewerSchema = (fault.NewerSchema, refl)
-doubts_for (fault.Damaged table row) = (fault.Damaged table row, refl)
-doubts_for fault.Device = (fault.Device, refl)
 
 -- a refusal for a fault is no refusal of the state
 pub of_fault : (f : StoreFault) → refusal_for f ≢ Memory → is_of_store (refusal_for f) ≡ true
@@ -117,7 +119,7 @@ not_closed_by (Refused refusal) of_step is = both_ways (is_of_store refusal) of_
 not_closed_by (Unread f) of_step is = not_closed_for f is
 not_closed_by (Uncommitted (TakenBack f)) of_step is = not_closed_for f is
 not_closed_by (Uncommitted (RollBackFailed f)) of_step is = not_closed_for f is
-not_closed_by (Uncommitted (InDoubt f)) of_step is = no_store_closed (sym (doubts_for f).1 ∙ is)
+not_closed_by (Uncommitted (InDoubt f)) of_step is = no_store_closed is
   where
     no_store_closed : {d : StoreFault} → Store d ≢ Closed
     no_store_closed is = cc
@@ -136,10 +138,9 @@ module _ {S : Type 0} (g : Ghosts S) (machine : Machine) (command : Command) whe
   }
 
   -- a commit in doubt closes the office
-  refused_in_doubt : (new : Held S) (f : StoreFault) (refusal : Refusal) → refusal ≡ doubt_for f → LeavesEither machine (step machine command).1 (state g new) → IsRefusedIn g machine command true new refusal
-  refused_in_doubt new f refusal told left =
-      let d = doubts_for f in
-      let is : refusal ≡ Store d.0 = told ∙ d.1 in
+  refused_in_doubt : (new : Held S) (f : StoreFault) (refusal : Refusal) → refusal ≡ Store f
+      → LeavesEither machine (step machine command).1 (state g new) → IsRefusedIn g machine command true new refusal
+  refused_in_doubt new f refusal is left =
       record {
         machines = λ other no_store. absurd (both_ways (is_of_store refusal) no_store (ap is_of_store is));
         back = λ no_store. absurd (both_ways (is_of_store refusal) no_store (ap is_of_store is));
@@ -156,6 +157,7 @@ module _ {S : Type 0} (g : Ghosts S) (machine : Machine) (command : Command) whe
 pub ends_refused : {S : Type 0} (g : Ghosts S) (held : Held S) (refusal : Refusal) (is_closed : Bool) → is_closed ≡ is_of_store refusal → Ends g (Refused refusal) held held refusal is_closed
 ends_refused g held refusal is_closed closes = record {
   was_clean = λ clean. clean;
+  limit = refl;
   refused = λ clean machine command before left. record {
     machines = λ other no_store. (left.0 other, closes ∙ no_store);
     back = λ no_store. settled_back (state g held) left.1.1;
@@ -168,6 +170,8 @@ ends_refused g held refusal is_closed closes = record {
   ends = λ of_store. closes ∙ of_store;
   opens = λ no_store _. closes ∙ no_store;
   closes = λ clean is closed. absurd (both_ways is_closed (closes ∙ ap is_of_store is) closed);
+  must = λ failed. absurd (cc (failed.1));
+  same = λ other. refl;
 }
 
 module _ {S : Type 0} (g : Ghosts S) (old new : Held S) (refusal : Refusal) (is_closed : Bool) where
@@ -175,51 +179,61 @@ module _ {S : Type 0} (g : Ghosts S) (old new : Held S) (refusal : Refusal) (is_
   pub ends_unread : (e : StoreFault) → EndsWith g e old new refusal is_closed → Ends g (Unread e) old new refusal is_closed
   ends_unread e h = record {
     was_clean = h.was_clean;
+    limit = h.limit;
     refused = λ clean machine command before left. refused_back g machine command new e refusal is_closed h.told (h.back clean machine left.1) (h.is_open clean) h.ends;
     told = h.told;
     ends = h.ends;
     opens = λ no_store other. absurd (none_opens e h.told no_store other);
     closes = λ clean is closed. inl (h.closes clean is closed);
+    must = λ failed. absurd (cc (failed.1));
+    same = h.same;
   }
 
   -- a transaction was taken back
   pub ends_taken_back : (e : StoreFault) → EndsWith g e old new refusal is_closed → Ends g (Uncommitted (TakenBack e)) old new refusal is_closed
   ends_taken_back e h = record {
     was_clean = h.was_clean;
+    limit = h.limit;
     refused = λ clean machine command before left. refused_back g machine command new e refusal is_closed h.told (h.back clean machine left.0) (h.is_open clean) h.ends;
     told = h.told;
     ends = h.ends;
     opens = λ no_store other. absurd (none_opens e h.told no_store other);
     closes = λ clean is closed. inl (h.closes clean is closed);
+    must = λ failed. absurd (cc (failed.1));
+    same = h.same;
   }
 
 -- a transaction could not be taken back
 pub ends_not_taken_back : {S : Type 0} (g : Ghosts S) (held : Held S) (e : StoreFault) (refusal : Refusal) → refusal ≡ refusal_for e → Ends g (Uncommitted (RollBackFailed e)) held held refusal true
 ends_not_taken_back g held e refusal told = record {
   was_clean = λ clean. clean;
+  limit = refl;
   refused = λ clean machine command before left. refused_back g machine command held e refusal true told left.0 (λ not_closed. cc) (λ of_store. refl);
   told = told;
   ends = λ of_store. refl;
   opens = λ no_store other. absurd (none_opens e told no_store other);
   closes = λ clean is closed. inr (e, refl);
+  must = λ failed. refl;
+  same = λ other. refl;
 }
 
 -- a commit is in doubt
-pub ends_in_doubt : {S : Type 0} (g : Ghosts S) (held : Held S) (e : StoreFault) (refusal : Refusal) → refusal ≡ doubt_for e → Ends g (Uncommitted (InDoubt e)) held held refusal true
+pub ends_in_doubt : {S : Type 0} (g : Ghosts S) (held : Held S) (e : StoreFault) (refusal : Refusal) → refusal ≡ Store e
+    → Ends g (Uncommitted (InDoubt e)) held held refusal true
 ends_in_doubt g held e refusal told = record {
   was_clean = λ clean. clean;
+  limit = refl;
   refused = λ clean machine command before left. refused_in_doubt g machine command held e refusal told left.0;
   told = told;
   ends = λ of_store. refl;
-  opens = λ no_store other. absurd (both_ways (is_of_store refusal) no_store (ap is_of_store (told ∙ (doubts_for e).1)));
-  closes = λ clean is closed. absurd (doubt_is_no_memory e (doubts_for e) (sym told ∙ is));
+  opens = λ no_store other. absurd (both_ways (is_of_store refusal) no_store (ap is_of_store told));
+  closes = λ clean is closed. absurd (no_memory (sym told ∙ is));
+  must = λ failed. refl;
+  same = λ other. refl;
 }
   where
-    doubt_is_no_memory : (f : StoreFault) → (h : StoreFault) × (doubt_for f ≡ Store h) → doubt_for f ≢ Memory
-    doubt_is_no_memory f (h, same) is = no_memory (sym same ∙ is)
-      where
-        no_memory : Store h ≢ Memory
-        no_memory is = cc
+    no_memory : Store e ≢ Memory
+    no_memory is = cc
 
 -- ---- a command
 
@@ -232,15 +246,16 @@ pub texts_refused : {S : Type 0} (g : Ghosts S) (command : Command) (was_closed 
     → ChecksTexts {X = Unit {0}} command (Err refusal) → (r : Result Reply Refusal) → r ≡ Err refusal → Applies g command was_closed known held was_closed known held r
 texts_refused {S} g command was_closed known held opened refusal checks r given = subst (Applies g command was_closed known held was_closed known held) (sym given) (record {
   was_clean = λ clean. clean;
+  limit = refl;
   shut = λ closed. absurd (both_ways was_closed opened closed);
   stands = λ _. record {
     ok = tt;
-    never = λ is. both_ways (is_of_store refusal) of_state (ap is_of_store (same_err refusal Closed is));
+    never = λ is. both_ways (is_of_store refusal) of_state (ap is_of_store (same_err is));
     ends = λ of_store. absurd (both_ways (is_of_store refusal) of_state of_store);
-    opens = λ _ _. opened;
+    opens = λ _ _ closed. both_ways was_closed opened closed;
   };
   texts = λ _ other is. (either other is, opened, refl, refl);
-  memory = λ is. checks.memory (same_err refusal Memory is);
+  memory = λ is. checks.memory (same_err is);
   reply = λ clean machine stands. tt;
   others = λ clean machine stands. tt;
   refused = λ clean machine stands _. (
@@ -260,12 +275,11 @@ texts_refused {S} g command was_closed known held opened refusal checks r given 
     (stepped machine, (checks.memory, settled_at stands opened)),
     refl,
     λ none closed. absurd (both_ways was_closed opened closed),
+    λ failed. absurd (cc (failed.1)),
+    λ other. refl,
   );
 })
   where
-    same_err : (a b : Refusal) → ◌≡◌ {A = Result Reply Refusal} (Err a) (Err b) → a ≡ b
-    same_err a b is = cc
-
     some_is : (a b : Refusal) → ◌≡◌ {A = Option Refusal} (Some a) (Some b) → a ≡ b
     some_is a b is = cc
 
@@ -295,8 +309,9 @@ module _ {S : Type 0} (g : Ghosts S) (command : Command) (was_closed : Bool) (wa
   pub applied : (new : Held S) (known : Known) (reply : Reply) → Responds g command was_known old known new (Ok reply) → Applies g command was_closed was_known old was_closed known new (Ok reply)
   applied new known reply responds = record {
     was_clean = responds.was_clean;
+    limit = responds.limit;
     shut = λ closed. absurd (both_ways was_closed opened closed);
-    stands = λ _. record { ok = opened; never = λ is. cc; ends = tt; opens = tt };
+    stands = λ _. record { ok = λ closed. both_ways was_closed opened closed; never = λ is. cc; ends = tt; opens = tt };
     texts = λ _ other is. absurd (no_texts other is);
     memory = λ is. wants;
     reply = λ clean machine stands.
@@ -320,8 +335,14 @@ module _ {S : Type 0} (g : Ghosts S) (command : Command) (was_closed : Bool) (wa
       → Ends g failure at new refusal is_closed → Applies g command was_closed was_known old is_closed known new (Err refusal)
   not_applied at new is_closed known failure refusal responds ends = record {
     was_clean = λ clean. responds.was_clean (ends.was_clean clean);
+    limit = ends.limit ∙ responds.limit;
     shut = λ closed. absurd (both_ways was_closed opened closed);
-    stands = λ _. record { ok = tt; never = λ is. not_closed_by failure responds.of_step (sym ends.told ∙ same_err refusal Closed is); ends = ends.ends; opens = ends.opens };
+    stands = λ _. record {
+      ok = tt;
+      never = λ is. not_closed_by failure responds.of_step (sym ends.told ∙ same_err is);
+      ends = ends.ends;
+      opens = λ no_store other closed. both_ways is_closed (ends.opens no_store other) closed;
+    };
     texts = λ _ other is. absurd (no_texts other is);
     memory = λ is. wants;
     reply = λ clean machine stands. tt;
@@ -330,13 +351,24 @@ module _ {S : Type 0} (g : Ghosts S) (command : Command) (was_closed : Bool) (wa
         let left = responds.err (ends.was_clean clean) machine stands.consistent (settled_at stands opened) stands.knows in
         (ends.refused clean machine command old left.0, left.1);
     cause = λ clean machine stands _.
-        (failure, at, (responds.err (ends.was_clean clean) machine stands.consistent (settled_at stands opened) stands.knows).0, ends.told, ends.closes clean);
+        (failure, at, (responds.err (ends.was_clean clean) machine stands.consistent (settled_at stands opened) stands.knows).0, ends.told, ends.closes clean, ends.must, ends.same);
   }
-    where
-      same_err : (a b : Refusal) → ◌≡◌ {A = Result Reply Refusal} (Err a) (Err b) → a ≡ b
-      same_err a b is = cc
 
 -- ---- the office that carries out commands
+
+-- an office was closed or was not
+pub open_or_shut : {P : Type 0} (was_closed : Bool) → (was_closed ≡ true → P) → (was_closed ≡ false → P) → P
+open_or_shut {P = P} was_closed shut opened = (elim was_closed as (λ b. was_closed ≡ b → P) [ true ↦ shut | false ↦ opened ]) refl
+
+-- a closed office that was left as it was stands as before
+pub stays_shut : {S : Type 0} (g : Ghosts S) {machine : Machine} {was_closed is_closed : Bool} {was_known known : Known} {old new : Held S}
+    → StandsAt machine was_closed was_known (state g old) → is_closed ≡ true → known ≡ was_known → new ≡ old → StandsAt machine is_closed known (state g new)
+stays_shut {S} g {machine} {is_closed = is_closed} stands closed same held_same = record {
+  consistent = stands.consistent;
+  knows = subst (Knows machine) (sym same) stands.knows;
+  back = subst (λ (held : Held S). IsBackAt machine (state g held)) (sym held_same) stands.back;
+  is_open = λ not_closed. absurd (both_ways is_closed not_closed closed);
+}
 
 at_err : {A E : Type 0} (P : E → Type 0) (r : Result A E) (e : E) → r ≡ Err e → IfErr r P → P e
 at_err P r e is h = subst (λ x. IfErr x P) is h
@@ -347,18 +379,8 @@ if_err (Err e) h = h e refl
 
 module _ {S : Type 0} (g : Ghosts S) (command : Command) (was_closed : Bool) (was_known : Known) (old : Held S) (is_closed : Bool) (known : Known) (new : Held S) (r : Result Reply Refusal)
     (h : Applies g command was_closed was_known old is_closed known new r) (machine : Machine) (clean : HasCleanDisk (state g new)) (stands : StandsAt machine was_closed was_known (state g old)) where
-  open_or_shut : {P : Type 0} → (was_closed ≡ true → P) → (was_closed ≡ false → P) → P
-  open_or_shut {P = P} shut opened = (elim was_closed as (λ b. was_closed ≡ b → P) [ true ↦ shut | false ↦ opened ]) refl
-
-  stays_shut : was_closed ≡ true → StandsAt machine is_closed known (state g new)
-  stays_shut closed =
-      let s = h.shut closed in
-      record {
-        consistent = stands.consistent;
-        knows = subst (Knows machine) (sym s.2) stands.knows;
-        back = subst (λ (held : Held S). IsBackAt machine (state g held)) (sym s.3) stands.back;
-        is_open = λ not_closed. absurd (both_ways is_closed not_closed s.1);
-      }
+  still : was_closed ≡ true → StandsAt machine is_closed known (state g new)
+  still closed = let s = h.shut closed in stays_shut g stands s.1 s.2 s.3
 
   refused_with : (refusal : Refusal) → r ≡ Err refusal → was_closed ≡ false → IsRefusedIn g machine command is_closed new refusal × Knows machine known
   refused_with refusal is opened = at_err (λ refusal. IsRefusedIn g machine command is_closed new refusal × Knows machine known) r refusal is (h.refused clean machine stands opened)
@@ -367,24 +389,28 @@ module _ {S : Type 0} (g : Ghosts S) (command : Command) (was_closed : Bool) (wa
   stands_on refusal left back = record { consistent = stands.consistent; knows = left.1; back = back; is_open = left.0.is_open }
 
   pub carried_refused : IfErr r (λ refusal. IsOfMachine refusal → is_of_store refusal ≡ false → ((step machine command).0 ≡ Err refusal) × StandsAt machine is_closed known (state g new))
-  carried_refused = if_err r (λ refusal is of_machine no_store. open_or_shut
-      (λ closed. absurd (both_ways (is_of_store refusal) no_store (ap is_of_store (same_err refusal Closed (sym is ∙ (h.shut closed).0)))))
+  carried_refused = if_err r (λ refusal is of_machine no_store. open_or_shut was_closed
+      (λ closed. absurd (both_ways (is_of_store refusal) no_store (ap is_of_store (same_err (sym is ∙ (h.shut closed).0)))))
       (λ opened. let left = refused_with refusal is opened in ((left.0.machines of_machine no_store).0, stands_on refusal left (left.0.back no_store))))
-    where
-      same_err : (a b : Refusal) → ◌≡◌ {A = Result Reply Refusal} (Err a) (Err b) → a ≡ b
-      same_err a b is = cc
 
   pub carried_memory : r ≡ Err Memory → MayWantMemory command × StandsAt machine is_closed known (state g new)
-  carried_memory is = (h.memory is, open_or_shut stays_shut (λ opened. let left = refused_with Memory is opened in stands_on Memory left (left.0.back refl)))
+  carried_memory is = (h.memory is, open_or_shut was_closed still (λ opened. let left = refused_with Memory is opened in stands_on Memory left (left.0.back refl)))
 
   pub carried_closed : r ≡ Err Closed → (is_closed ≡ true) × StandsAt machine is_closed known (state g new)
-  carried_closed is = open_or_shut (λ closed. ((h.shut closed).1, stays_shut closed))
+  carried_closed is = open_or_shut was_closed (λ closed. ((h.shut closed).1, still closed))
       (λ opened. let left = refused_with Closed is opened in (left.0.ends refl, stands_on Closed left (left.0.shut refl)))
 
-  pub carried_store : (f : StoreFault) → r ≡ Err (Store f) → LeavesOne machine (step machine command).1 is_closed (state g new)
-  carried_store f is = open_or_shut
+  -- the store failed with the fault that is told
+  failed_with : (f : StoreFault) → r ≡ Err (Store f) → was_closed ≡ false → HasFailed g f new
+  failed_with f is opened =
+      let why = at_err _ r (Store f) is (h.cause clean machine stands opened) in
+      let same : new ≡ why.1 = why.6 (λ none. cc) in
+      inl (machine, command, old, why.0, subst (λ held. IsLeft g machine command old held why.0) (sym same) why.2, why.3)
+
+  pub carried_store : (f : StoreFault) → r ≡ Err (Store f) → LeavesOne machine (step machine command).1 is_closed (state g new) × HasFailed g f new
+  carried_store f is = open_or_shut was_closed
       (λ closed. absurd (store_is_not_closed (sym is ∙ (h.shut closed).0)))
-      (λ opened. let left = refused_with (Store f) is opened in record { closed = left.0.ends refl; left = left.0.left })
+      (λ opened. let left = refused_with (Store f) is opened in (record { closed = left.0.ends refl; left = left.0.left }, failed_with f is opened))
     where
       store_is_not_closed : {f : StoreFault} → ¬ ◌≡◌ {A = Result Reply Refusal} (Err (Store f)) (Err Closed)
       store_is_not_closed is = cc
@@ -395,16 +421,6 @@ module _ {S : Type 0} (g : Ghosts S) (command : Command) (was_closed : Bool) (wa
 pub is_open : (b : Bool) → ¬ (b ≡ true) → b ≡ false
 is_open true other = absurd (other refl)
 is_open false other = refl
-
--- an office that is not closed stands so after an answer
-pub stands_open : {X : Type 0} {r : Result X Refusal} {is_closed : Bool} → StandsAfter r is_closed → StandsOn (is_closed ≡ true) r
-stands_open {r = Ok x} {is_closed} h = record { ok = λ closed. both_ways is_closed h.ok closed; never = h.never; ends = tt; opens = tt }
-stands_open {r = Err refusal} {is_closed} h = record {
-  ok = tt;
-  never = h.never;
-  ends = h.ends;
-  opens = λ no_store other closed. both_ways is_closed (h.opens no_store other) closed;
-}
 
 -- an office says that it is closed only if it was
 pub told_closed : {X : Type 0} {r : Result X Refusal} (was_closed : Bool) → (was_closed ≡ false → ¬ (r ≡ Err Closed)) → r ≡ Err Closed → was_closed ≡ true

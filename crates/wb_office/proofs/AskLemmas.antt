@@ -21,16 +21,18 @@ use Rattle.wb_states.specs.Machine.{is_unknown_arch, is_unknown_builder}
 use Rattle.wb_states.specs.Refusals.{is_of_store}
 use Rattle.wb_states.specs.Queries.{found_at, item_in, mine_in}
 use Rattle.wb_states.proofs.QueryLemmas.{keyed-entries}
-use Rattle.wb_store.specs.Settled.{IsBackAt}
+use Rattle.wb_step.specs.Offices.{StandsOn}
 use Rattle.wb_store.proofs.SettledLemmas.{settled_back}
 use Rattle.wb_office.specs.declared.known.Known.{Known}
 use Rattle.wb_office.specs.Asks.{Asks, IsAskedAt, IsUnread}
-use Rattle.wb_office.specs.Applies.{EndsWith, StandsAfter}
-use Rattle.wb_store.specs.Finds.{Finds}
+use Rattle.wb_office.specs.Applies.{EndsWith}
+use Rattle.wb_store.specs.Finds.{FailsToFind, Finds}
+use Rattle.wb_office.specs.Failed.{HasFailed}
 use Rattle.wb_office.specs.Standing.{Knows, StandsAt, LeavesOne}
-use Rattle.wb_office.proofs.AnswerLemmas.{found, not_found}
+use Rattle.wb_office.proofs.AnswerLemmas.{found, not_found, stays_others}
+use Rattle.wb_store.proofs.OthersLemmas.{others_equal}
 use Rattle.wb_store.proofs.StaysLemmas.{was_clean}
-use Rattle.wb_office.proofs.ApplyLemmas.{either_of, none_opens, not_closed_for, of_fault, settled_at}
+use Rattle.wb_office.proofs.ApplyLemmas.{either_of, none_opens, not_closed_for, of_fault, open_or_shut, same_err, settled_at, stays_shut}
 
 -- ---- what was looked up
 
@@ -57,6 +59,7 @@ module _ {S : Type 0} {g : Ghosts S} {answer_of : Machine → Result Answer Refu
   pub asked_shut : was_closed ≡ true → Asks g answer_of is_bad was_closed was_known old was_closed was_known old (Err Closed)
   asked_shut closed = record {
     was_clean = λ clean. clean;
+    limit = refl;
     same = refl;
     shut = λ _. (refl, closed, refl);
     stands = λ opened. absurd (both_ways was_closed opened closed);
@@ -69,11 +72,12 @@ module _ {S : Type 0} {g : Ghosts S} {answer_of : Machine → Result Answer Refu
       → Asks g answer_of is_bad was_closed was_known old was_closed was_known old (Err BadName)
   asked_malformed opened bad refuses = record {
     was_clean = λ clean. clean;
+    limit = refl;
     same = refl;
     shut = λ closed. absurd (both_ways was_closed opened closed);
-    stands = λ _. record { ok = tt; never = λ is. cc; ends = λ of_store. cc; opens = λ _ _. opened };
+    stands = λ _. record { ok = tt; never = λ is. cc; ends = λ of_store. cc; opens = λ _ _ closed. both_ways was_closed opened closed };
     named = λ _ _. (refl, opened, refl);
-    asked = λ clean machine stands _. inl (refuses machine, settled_at stands opened, opened);
+    asked = λ clean machine stands _. inl (refuses machine, settled_at stands opened, opened, others_equal (state g old).now (state g old).now refl);
   }
 
   -- the look-ups succeed
@@ -81,25 +85,24 @@ module _ {S : Type 0} {g : Ghosts S} {answer_of : Machine → Result Answer Refu
       → IfErr r (λ refusal. is_of_store refusal ≡ false) → Finds g (λ machine answer. answer ≡ answer_in machine) old new (Ok r) → Asks g answer_of is_bad was_closed was_known old was_closed was_known new r
   asked_found {new = new} r opened is_good same of_state finds = record {
     was_clean = was_clean (state g old) (state g new) finds.survives;
+    limit = finds.survives.limit;
     same = refl;
     shut = λ closed. absurd (both_ways was_closed opened closed);
     stands = λ _. found_stands r of_state;
     named = λ _ bad. absurd (both_ways is_bad is_good bad);
     asked = λ clean machine stands _.
         let at = found g old new finds clean stands.consistent (settled_at stands opened) in
-        inl (same machine ∙ sym at.1, at.0, opened);
+        let kept = stays_others g old new (finds.same clean (settled_at stands opened).holds.stands.has) in
+        inl (same machine ∙ sym at.1, at.0, opened, kept);
   }
     where
-      same_err : (a b : Refusal) → ◌≡◌ {A = Result Answer Refusal} (Err a) (Err b) → a ≡ b
-      same_err a b is = cc
-
-      found_stands : (r : Result Answer Refusal) → IfErr r (λ refusal. is_of_store refusal ≡ false) → StandsAfter r was_closed
-      found_stands (Ok answer) of_state = record { ok = opened; never = λ is. cc; ends = tt; opens = tt }
+      found_stands : (r : Result Answer Refusal) → IfErr r (λ refusal. is_of_store refusal ≡ false) → StandsOn (was_closed ≡ true) r
+      found_stands (Ok answer) of_state = record { ok = λ closed. both_ways was_closed opened closed; never = λ is. cc; ends = tt; opens = tt }
       found_stands (Err refusal) of_state = record {
         ok = tt;
-        never = λ is. both_ways (is_of_store refusal) of_state (ap is_of_store (same_err refusal Closed is));
+        never = λ is. both_ways (is_of_store refusal) of_state (ap is_of_store (same_err is));
         ends = λ of_store. absurd (both_ways (is_of_store refusal) of_state of_store);
-        opens = λ _ _. opened;
+        opens = λ _ _ closed. both_ways was_closed opened closed;
       }
 
   -- a look-up fails
@@ -107,9 +110,10 @@ module _ {S : Type 0} {g : Ghosts S} {answer_of : Machine → Result Answer Refu
       → Finds g Answers old at (Err e) → EndsWith g e at new refusal is_closed → Asks g answer_of is_bad was_closed was_known old is_closed was_known new (Err refusal)
   asked_unread {at = at} {e = e} {refusal = refusal} opened is_good finds ends = record {
     was_clean = λ clean. was_clean (state g old) (state g at) finds.survives (ends.was_clean clean);
+    limit = ends.limit ∙ finds.survives.limit;
     same = refl;
     shut = λ closed. absurd (both_ways was_closed opened closed);
-    stands = λ _. record { ok = tt; never = λ is. not_closed_for e (sym ends.told ∙ same_err refusal Closed is); ends = ends.ends; opens = λ no_store other. absurd (none_opens e ends.told no_store other) };
+    stands = λ _. record { ok = tt; never = λ is. not_closed_for e (sym ends.told ∙ same_err is); ends = ends.ends; opens = λ no_store other _. none_opens e ends.told no_store other };
     named = λ _ bad. absurd (both_ways is_bad is_good bad);
     asked = λ clean machine stands _.
         let failed = not_found g old at finds (ends.was_clean clean) (settled_at stands opened) in
@@ -125,12 +129,10 @@ module _ {S : Type 0} {g : Ghosts S} {answer_of : Machine → Result Answer Refu
             is_open = ends.is_open clean;
             ends = ends.ends;
             closes = ends.closes clean;
+            same = ends.same;
           },
         );
   }
-    where
-      same_err : (a b : Refusal) → ◌≡◌ {A = Result Answer Refusal} (Err a) (Err b) → a ≡ b
-      same_err a b is = cc
 
 -- ---- the office that answers queries
 
@@ -138,23 +140,7 @@ module _ {S : Type 0} {g : Ghosts S} {answer_of : Machine → Result Answer Refu
     {r : Result Answer Refusal} (h : Asks g answer_of is_bad was_closed was_known old is_closed known new r)
     (of_state : (machine : Machine) (refusal : Refusal) → is_of_store refusal ≡ true → ¬ (answer_of machine ≡ Err refusal))
     (machine : Machine) (clean : HasCleanDisk (state g new)) (stands : StandsAt machine was_closed was_known (state g old)) where
-  open_or_shut : {P : Type 0} → (was_closed ≡ true → P) → (was_closed ≡ false → P) → P
-  open_or_shut {P = P} shut opened = (elim was_closed as (λ b. was_closed ≡ b → P) [ true ↦ shut | false ↦ opened ]) refl
-
-  told : {a b : Refusal} → ◌≡◌ {A = Result Answer Refusal} (Err a) (Err b) → a ≡ b
-  told is = cc
-
   -- however it is answered, the office stands as it did
-  stays_shut : was_closed ≡ true → StandsAt machine is_closed known (state g new)
-  stays_shut closed =
-      let s = h.shut closed in
-      record {
-        consistent = stands.consistent;
-        knows = subst (Knows machine) (sym h.same) stands.knows;
-        back = subst (λ (held : Held S). IsBackAt machine (state g held)) (sym s.2) stands.back;
-        is_open = λ not_closed. absurd (both_ways is_closed not_closed s.1);
-      }
-
   stays_open : IsAskedAt g answer_of machine old is_closed new r → was_closed ≡ false → StandsAt machine is_closed known (state g new)
   stays_open (inl answered) opened = record {
     consistent = stands.consistent;
@@ -170,7 +156,7 @@ module _ {S : Type 0} {g : Ghosts S} {answer_of : Machine → Result Answer Refu
   }
 
   stays : StandsAt machine is_closed known (state g new)
-  stays = open_or_shut stays_shut (λ opened. stays_open (h.asked clean machine stands opened) opened)
+  stays = open_or_shut was_closed (λ closed. let s = h.shut closed in stays_shut g stands s.1 h.same s.2) (λ opened. stays_open (h.asked clean machine stands opened) opened)
 
   -- a refusal for an error of a look-up is no refusal of the state
   unread_is : {refusal : Refusal} → IsUnread g machine old new is_closed refusal → refusal ≢ Memory → is_of_store refusal ≡ true
@@ -178,7 +164,7 @@ module _ {S : Type 0} {g : Ghosts S} {answer_of : Machine → Result Answer Refu
 
   -- what is answered, but that it is closed or out of memory, is answered of the state
   is_answer : (result : Result Answer Refusal) → r ≡ result → IfErr result (λ refusal. (refusal ≢ Memory) × (is_of_store refusal ≡ false)) → answer_of machine ≡ result
-  is_answer result is plain = open_or_shut
+  is_answer result is plain = open_or_shut was_closed
       (λ closed. absurd (shut_plain (subst (λ x. IfErr x (λ refusal. (refusal ≢ Memory) × (is_of_store refusal ≡ false))) (sym is ∙ (h.shut closed).0) plain)))
       (λ opened. at_answer (h.asked clean machine stands opened))
     where
@@ -219,7 +205,7 @@ module _ {S : Type 0} {g : Ghosts S} {answer_of : Machine → Result Answer Refu
       bad_is_not_memory same = cc
 
       formed : is_bad ≡ false
-      formed = open_or_shut (λ closed. absurd (closed_is_not_memory (sym (h.shut closed).0 ∙ is)))
+      formed = open_or_shut was_closed (λ closed. absurd (closed_is_not_memory (sym (h.shut closed).0 ∙ is)))
           (λ opened. (elim is_bad as (λ b. is_bad ≡ b → b ≡ false) [
             | true ↦ λ bad. absurd (bad_is_not_memory (sym (h.named opened bad).0 ∙ is))
             | false ↦ λ good. refl
@@ -227,21 +213,30 @@ module _ {S : Type 0} {g : Ghosts S} {answer_of : Machine → Result Answer Refu
 
   -- it says that it is closed only if it was
   asked_when_shut : r ≡ Err Closed → was_closed ≡ true
-  asked_when_shut is = open_or_shut (λ closed. closed) (λ opened. absurd ((h.stands opened).never is))
+  asked_when_shut is = open_or_shut was_closed (λ closed. closed) (λ opened. absurd ((h.stands opened).never is))
 
   pub asked_closed : r ≡ Err Closed → (is_closed ≡ true) × StandsAt machine is_closed known (state g new)
   asked_closed is = ((h.shut (asked_when_shut is)).1, stays)
 
   -- after a fault of the store it is closed, and nothing was changed
-  pub asked_store : (f : StoreFault) → r ≡ Err (Store f) → LeavesOne machine machine is_closed (state g new)
-  asked_store f is = record {
-    closed = open_or_shut (λ closed. absurd (store_is_not_closed (sym is ∙ (h.shut closed).0))) (λ opened. closes (h.asked clean machine stands opened));
-    left = either_of machine (state g new) stays.back;
-  }
+  pub asked_store : (f : StoreFault) → r ≡ Err (Store f) → LeavesOne machine machine is_closed (state g new) × HasFailed g f new
+  asked_store f is = open_or_shut was_closed (λ closed. absurd (store_is_not_closed (sym is ∙ (h.shut closed).0))) (λ opened.
+      (record { closed = closes (h.asked clean machine stands opened); left = either_of machine (state g new) stays.back }, failed (h.asked clean machine stands opened)))
     where
       store_is_not_closed : ¬ ◌≡◌ {A = Result Answer Refusal} (Err (Store f)) (Err Closed)
       store_is_not_closed same = cc
 
+      no_memory : ¬ (Store f ≡ Memory)
+      no_memory none = cc
+
+      -- the store failed with the fault that is told
+      failed : IsAskedAt g answer_of machine old is_closed new r → HasFailed g f new
+      failed (inl answered) = absurd (of_state machine (Store f) refl (answered.0 ∙ is))
+      failed (inr (refusal, fails, unread)) =
+          let told : refusal ≡ Store f = same_err (sym fails ∙ is) in
+          let same : new ≡ unread.at = unread.same (λ none. no_memory (sym told ∙ none)) in
+          inr (old, unread.fault, subst (λ held. FailsToFind g old held unread.fault) (sym same) unread.failed, sym told ∙ unread.told)
+
       closes : IsAskedAt g answer_of machine old is_closed new r → is_closed ≡ true
       closes (inl answered) = absurd (of_state machine (Store f) refl (answered.0 ∙ is))
-      closes (inr (refusal, failed, unread)) = unread.ends (ap is_of_store (told (sym failed ∙ is)))
+      closes (inr (refusal, failed, unread)) = unread.ends (ap is_of_store (same_err (sym failed ∙ is)))

@@ -1,44 +1,35 @@
 -- How the transaction of an accepted command, begun, written and ended, carries it out.
-use Rattle.std.proofs.Common.{◌≡◌, ◌⊎◌, inl, inr, refl, sym, subst, arith, true, false, if◌then◌else◌, [], Result, Ok, Err, OnOk, IfErr, Option}
+use Rattle.std.proofs.Common.{◌≡◌, ◌⊎◌, inl, inr, refl, sym, subst, arith, Result, Ok, Err, OnOk, IfErr, Option}
 use Rattle.sqlite_trees.specs.declared.store.Store.{Ghosts}
-use Rattle.sqlite.specs.declared.error.Error.{Error}
 use Rattle.sqlite.specs.Tree.{Trees}
 use Rattle.sqlite.specs.Held.{Held, state}
-use Rattle.sqlite.specs.State.{State, HasCleanDisk, IsRolledBack, Executes, CommitsBy, Survives}
+use Rattle.sqlite.specs.State.{State, HasCleanDisk, Survives}
 use Rattle.sqlite.proofs.Callers.{survives_begin}
 use Rattle.sqlite.proofs.StateLemmas.{survives_then, survives_weaker}
-use Rattle.wb_sql.specs.declared.writing.CommitError.{CommitError}
-use Rattle.wb_sql.specs.declared.writing.CommitError.TheVariants as commit
-use Rattle.wb_sql.specs.Transactions.{rollback_text, cause_of, FailsToCommit, LeavesNoMore}
-use Rattle.wb_sql.proofs.EndingLemmas.{rollback_commits_nothing}
+use Rattle.wb_sql.specs.Transactions.{LeavesNoMore}
 use Rattle.wb_states.specs.declared.command.Command.{Command}
 use Rattle.wb_states.specs.declared.store_fault.StoreFault.{StoreFault}
 use Rattle.wb_states.specs.declared.store_fault.StoreFault.TheVariants.{Memory}
-use Rattle.wb_states.specs.declared.store_fault.Table.TheVariants.{Office}
 use Rattle.wb_states.specs.Machine.{Machine, Key}
 use Rattle.wb_step.specs.Step.{step}
 use Rattle.wb_store.specs.Stands.{StandsFor}
 use Rattle.wb_store.specs.Calls.{Becomes}
-use Rattle.wb_store.specs.Faults.{fault_of}
+use Rattle.wb_store.specs.Ending.{IsEndedFrom, IsFaultOfCommit, IsFaultOfRollBack}
 use Rattle.wb_store.specs.Settled.{IsSettled, IsUnderWay, IsBackAt, SettlesBy, TakesBack}
 use Rattle.wb_store.proofs.OthersLemmas.{others_still}
 use Rattle.wb_store.proofs.SettledLemmas.{begins, office_stands}
 use Rattle.wb_office.specs.declared.carry.CarryError.{CarryError}
 use Rattle.wb_office.specs.declared.carry.CarryError.TheVariants.{TakenBack, RollBackFailed, InDoubt}
 use Rattle.wb_office.specs.Changed.{IsStepOf, IsLeftOrBack, ChangesBy}
-use Rattle.wb_office.specs.Carried.{is_over, failure_of, LeavesAs, FailsAtChange, FailsAtCommit, EndsFor, HoldsStep, CarriesOut}
+use Rattle.wb_office.specs.Carried.{failure_of, LeavesAs, FailsAtChange, FailsAtCommit, EndsFor, HoldsStep, CarriesOut}
 use Rattle.wb_store.specs.Settled.{begun}
 use Rattle.wb_office.proofs.WriteLemmas.{reached_way}
 
--- ROLLBACK commits nothing
-pub commits_nothing : {S : Type 0} (g : Ghosts S) (old new : Held S) → Survives (state g old) (state g new) (CommitsBy rollback_text [] (state g old)) → Survives (state g old) (state g new) (λ _. ⊥)
-commits_nothing g old new survives =
-    survives_weaker (state g old) (state g new) (CommitsBy rollback_text [] (state g old)) (λ _. ⊥) (λ clean db made. rollback_commits_nothing [] (state g old) db made) survives
-
 -- whatever ROLLBACK answers, the failure leaves what was committed before
-pub leaves_back : {A : Type 0} {before : Machine} (now : Machine) (s : State) (e : StoreFault) (ended : Result A Error) → IsBackAt before s → LeavesAs before now s (failure_of e ended)
+pub leaves_back : {A : Type 0} {before : Machine} (now : Machine) (s : State) (e : StoreFault) (ended : Result A StoreFault)
+    → IsBackAt before s → LeavesAs before now s (failure_of e ended)
 leaves_back now s e (Ok x) back = back
-leaves_back {before = before} now s e (Err why) back = elim (is_over why) as (λ over. LeavesAs before now s (if over then TakenBack e else RollBackFailed e)) [ true ↦ back | false ↦ back ]
+leaves_back now s e (Err why) back = back
 
 module _ {S : Type 0} (g : Ghosts S) (command : Command) (key : Option Key) (after : Machine) (old : Held S) where
   abbrev Settled : Machine → Type 0
@@ -57,22 +48,19 @@ module _ {S : Type 0} (g : Ghosts S) (command : Command) (key : Option Key) (aft
 
   -- ---- the end of a transaction that is not committed
 
-  ends_for : {A : Type 0} (whole : Machine) (at new : Held S) (e : StoreFault) (ended : Result A Error) → WhyNot whole e → OnOk ended (IsRolledBack (state g at) (state g new))
-      → IfErr ended (λ why. Executes rollback_text [] (state g at) (state g new) (Err why)) → EndsFor g command key after whole old new (failure_of e ended)
-  ends_for whole at new e (Ok x) why rolled failed = (why, (at, inl rolled))
-  ends_for whole at new e (Err told) why rolled failed =
-      (elim (is_over told) as (λ over. is_over told ≡ over → EndsFor g command key after whole old new (if over then TakenBack e else RollBackFailed e)) [
-        | true ↦ λ is. (why, (at, inr (told, (failed, is))))
-        | false ↦ λ is. (why, (at, (told, (failed, is))))
-      ]) refl
+  ends_for : {A : Type 0} (whole : Machine) (at new : Held S) (e : StoreFault) (ended : Result A StoreFault) → WhyNot whole e
+      → OnOk ended (IsEndedFrom (state g at) (state g new)) → IfErr ended (IsFaultOfRollBack (state g at) (state g new))
+      → EndsFor g command key after whole old new (failure_of e ended)
+  ends_for whole at new e (Ok x) why rolled failed = (why, (at, rolled))
+  ends_for whole at new e (Err told) why rolled failed = (why, (at, (told, failed)))
 
   -- a transaction that failed is taken back
-  pub carries_not : {A B : Type 0} (at new : Held S) (e : StoreFault) (ended : Result A Error) (r : CarryError) → r ≡ failure_of e ended
+  pub carries_not : {A B : Type 0} (at new : Held S) (e : StoreFault) (ended : Result A StoreFault) (r : CarryError) → r ≡ failure_of e ended
       → (HasCleanDisk (state g at) → (whole : Machine) → Settled whole → IsStepOf whole command key after → WhyNot whole e)
       → (HasCleanDisk (state g at) → (whole : Machine) → Settled whole → IsStepOf whole command key after → IsLeftOrBack g whole at)
       → Survives (state g (begun old)) (state g at) (HoldsStep g command key after old)
-      → TakesBack g at new → (HasCleanDisk (state g new) → OnOk ended (IsRolledBack (state g at) (state g new)))
-      → (HasCleanDisk (state g new) → IfErr ended (λ why. Executes rollback_text [] (state g at) (state g new) (Err why)))
+      → TakesBack g at new → (HasCleanDisk (state g new) → OnOk ended (IsEndedFrom (state g at) (state g new)))
+      → (HasCleanDisk (state g new) → IfErr ended (IsFaultOfRollBack (state g at) (state g new)))
       → Survives (state g at) (state g new) (λ _. ⊥) → CarriesOut {A = B} g command key after old new (Err r)
   carries_not at new e ended r is why way one back rolled failed two =
       let before : HasCleanDisk (state g new) → HasCleanDisk (state g at) = λ clean. omega (arith, two.clean, clean) in
@@ -104,8 +92,8 @@ module _ {S : Type 0} (g : Ghosts S) (command : Command) (key : Option Key) (aft
 
   -- ---- the change is written, and then the commit is tried
 
-  module _ {A B : Type 0} {x : B} (mid at : Held S) (change : ChangesBy {A = B} g command key after (begun old) mid (Ok x)) (r : Result A CommitError) (settles : SettlesBy g mid at r)
-      (cause : HasCleanDisk (state g at) → IfErr r (λ e. FailsToCommit g mid (cause_of e)))
+  module _ {A B : Type 0} {x : B} (mid at : Held S) (change : ChangesBy {A = B} g command key after (begun old) mid (Ok x)) (r : Result A StoreFault) (settles : SettlesBy g mid at r)
+      (cause : HasCleanDisk (state g at) → IfErr r (IsFaultOfCommit g mid))
       (survives : Survives (state g mid) (state g at) (λ db. db ≡ (state g mid).now.trees)) where
     before : HasCleanDisk (state g at) → HasCleanDisk (state g mid)
     before clean = omega (arith, survives.clean, clean)
@@ -133,8 +121,8 @@ module _ {S : Type 0} (g : Ghosts S) (command : Command) (key : Option Key) (aft
         (λ clean db is. holds_step (before clean) db is) change.survives survives
 
     -- the commit failed with this error
-    failed_at : {whole : Machine} (e : CommitError) → r ≡ Err e → HasCleanDisk (state g at) → Settled whole → IsStepOf whole command key after → FailsAtCommit g (step whole command).1 old (fault_of (cause_of e) Office)
-    failed_at e is clean settled made = (mid, (written (before clean) settled made, (cause_of e, subst (λ r. IfErr r (λ e. FailsToCommit g mid (cause_of e))) is (cause clean), refl)))
+    failed_at : {whole : Machine} (e : StoreFault) → r ≡ Err e → HasCleanDisk (state g at) → Settled whole → IsStepOf whole command key after → FailsAtCommit g (step whole command).1 old e
+    failed_at e is clean settled made = (mid, (written (before clean) settled made, subst (λ r. IfErr r (IsFaultOfCommit g mid)) is (cause clean)))
 
     -- the commit was made
     pub carries_it : {C : Type 0} {y : A} {z : C} → r ≡ Ok y → CarriesOut {A = C} g command key after old at (Ok z)
@@ -149,19 +137,19 @@ module _ {S : Type 0} (g : Ghosts S) (command : Command) (key : Option Key) (aft
     }
 
     -- the commit is in doubt
-    pub carries_in_doubt : {C : Type 0} (e : Error) → r ≡ Err (commit.InDoubt e) → CarriesOut {A = C} g command key after old at (Err (InDoubt (fault_of e Office)))
+    pub carries_in_doubt : {C : Type 0} (e : StoreFault) → r ≡ Err e → CarriesOut {A = C} g command key after old at (Err (InDoubt e))
     carries_in_doubt e is = record {
       ok = λ clean whole settled made. tt;
       err = λ clean whole settled made. settles.crash clean whole (step whole command).1 (under_way (before clean) settled made);
-      cause = λ clean whole settled made. failed_at (commit.InDoubt e) is clean settled made;
+      cause = λ clean whole settled made. failed_at e is clean settled made;
       others = λ clean whole settled made. tt;
       survives = survives_begin g old (state g at) _ commit_survives;
     }
 
     -- memory ran out for the commit
-    module _ (is : r ≡ Err commit.Memory) where
+    module _ (is : r ≡ Err Memory) where
       pub memory_why : HasCleanDisk (state g at) → (whole : Machine) → Settled whole → IsStepOf whole command key after → WhyNot whole Memory
-      memory_why clean whole settled made = inr (failed_at commit.Memory is clean settled made)
+      memory_why clean whole settled made = inr (failed_at Memory is clean settled made)
 
       pub memory_way : HasCleanDisk (state g at) → (whole : Machine) → Settled whole → IsStepOf whole command key after → IsLeftOrBack g whole at
       memory_way clean whole settled made = elim (settles.memory clean whole (step whole command).1 (under_way (before clean) settled made) is) [

@@ -49,22 +49,8 @@ single_leaves command machine single same = by_answer (first_refusal machine com
 -- a command that adds no architecture leaves them
 archs_stay : (command : Command) (machine : Machine) → ((fields : AddArch) → command ≢ of.AddArch fields) → (step machine command).1.archs ≡ machine.archs
 archs_stay (of.AddArch fields) machine other = absurd (other fields refl)
-archs_stay (of.AddBuilder fields) machine other = single_leaves (of.AddBuilder fields) machine refl refl
-archs_stay (of.Enter fields) machine other = single_leaves (of.Enter fields) machine refl refl
-archs_stay (of.Next fields) machine other = single_leaves (of.Next fields) machine refl refl
-archs_stay (of.Take fields) machine other = single_leaves (of.Take fields) machine refl refl
-archs_stay (of.Built fields) machine other = single_leaves (of.Built fields) machine refl refl
-archs_stay (of.Uploaded fields) machine other = single_leaves (of.Uploaded fields) machine refl refl
-archs_stay (of.Waits fields) machine other = single_leaves (of.Waits fields) machine refl refl
-archs_stay (of.PutBack fields) machine other = single_leaves (of.PutBack fields) machine refl refl
-archs_stay (of.Attempted fields) machine other = single_leaves (of.Attempted fields) machine refl refl
-archs_stay (of.GiveBack fields) machine other = single_leaves (of.GiveBack fields) machine refl refl
-archs_stay (of.DepWait fields) machine other = single_leaves (of.DepWait fields) machine refl refl
-archs_stay (of.Fail fields) machine other = single_leaves (of.Fail fields) machine refl refl
-archs_stay (of.NotForUs fields) machine other = single_leaves (of.NotForUs fields) machine refl refl
-archs_stay (of.Rebuild fields) machine other = single_leaves (of.Rebuild fields) machine refl refl
-archs_stay (of.BuildPriority fields) machine other = single_leaves (of.BuildPriority fields) machine refl refl
 archs_stay (of.Merge fields) machine other = (merge_joined machine fields.sources fields.parts).archs
+archs_stay command machine other = single_leaves command machine refl refl
 
 -- what is known is known after such a command, with the counts then
 pub knows_after : (command : Command) (machine : Machine) (known : Known) (counts : Counts) → ((fields : AddArch) → command ≢ of.AddArch fields) → Knows machine known

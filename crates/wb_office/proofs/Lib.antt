@@ -2,7 +2,6 @@ pub mod AnswerLemmas
 pub mod ApplyLemmas
 pub mod AskLemmas
 pub mod CarryLemmas
-pub mod FileLemmas
 pub mod KnownLemmas
 pub mod LifeLemmas
 pub mod MergeAnswerLemmas
@@ -12,6 +11,7 @@ pub mod MergeRecordLemmas
 pub mod MergeWriteLemmas
 pub mod SessionLemmas
 pub mod SoughtLemmas
+pub mod StandingLemmas
 pub mod StepOfLemmas
 pub mod TurnLemmas
 pub mod WriteLemmas

@@ -40,6 +40,7 @@ module _ {S : Type 0} (g : Ghosts S) (sources : List ℕ) (parts : List Part) (o
   pub refused_merge : (refusal : Refusal) → old ≡ new → Carries part after (Merge sources parts) (Err refusal) → Answers g (AreParts parts before part) (Merge sources parts) old new (Err (Refused refusal))
   refused_merge refusal same carries = record {
     was_clean = λ clean. subst (λ h. HasCleanDisk (state g h)) (sym same) clean;
+    limit = ap (λ (h : Held S). h.step_limit) (sym same);
     ok = λ clean machine consistent settled are. tt;
     err = λ clean machine consistent settled are. (
       λ of_machine. sym (answers_alike machine are) ∙ ap (λ (o : Outcome). o.0) (carries.refused of_machine),
@@ -55,6 +56,7 @@ module _ {S : Type 0} (g : Ghosts S) (sources : List ℕ) (parts : List Part) (o
       → KeepsMerge {A = A} g sources parts before after old new (Ok x) → Answers g (AreParts parts before part) (Merge sources parts) old new (Ok (record { reply = reply; counts = counts }))
   kept_merge reply counts counted carries utf8 keeps = record {
     was_clean = keeps.was_clean;
+    limit = keeps.limit;
     ok = λ clean machine consistent settled are.
         let merges = merged_in machine reply are carries.reply in (
           sym (answers_alike machine are) ∙ ap (λ (o : Outcome). o.0) carries.reply,
@@ -72,6 +74,7 @@ module _ {S : Type 0} (g : Ghosts S) (sources : List ℕ) (parts : List Part) (o
       → Answers g (AreParts parts before part) (Merge sources parts) old new (Err failure)
   not_kept_merge reply failure carries keeps = record {
     was_clean = keeps.was_clean;
+    limit = keeps.limit;
     ok = λ clean machine consistent settled are. tt;
     err = λ clean machine consistent settled are. left_by machine failure (keeps.err clean machine settled (merged_in machine reply are carries.reply));
     others = λ clean machine consistent settled are. tt;
@@ -89,6 +92,7 @@ pub merge_not_committed : {S A B : Type 0} {g : Ghosts S} {sources : List ℕ} {
     → KeepsMerge {A = B} g sources parts before after old new (Err (Uncommitted e))
 merge_not_committed {g = g} {sources = sources} {parts = parts} {before = before} {after = after} {old = old} {new = new} carries = record {
   was_clean = was_clean (state g old) (state g new) carries.survives;
+  limit = carries.survives.limit;
   ok = λ clean machine settled is. tt;
   err = λ clean machine settled is. (carries.err clean machine settled is, inr (old, sources, parts, before, after, inl refl, refl, is, carries.cause clean machine settled is));
   others = λ clean machine settled is. tt;

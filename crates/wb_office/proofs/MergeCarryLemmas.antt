@@ -1,32 +1,28 @@
 -- How the transaction of a merge, begun, written and ended, carries it out.
-use Rattle.std.proofs.Common.{◌≡◌, inl, inr, refl, sym, subst, arith, true, false, if◌then◌else◌, [], Result, Ok, Err, OnOk, IfErr, ℕ, List}
+use Rattle.std.proofs.Common.{◌≡◌, inl, inr, refl, sym, subst, arith, Result, Ok, Err, OnOk, IfErr, ℕ, List}
 use Rattle.sqlite_trees.specs.declared.store.Store.{Ghosts}
-use Rattle.sqlite.specs.declared.error.Error.{Error}
 use Rattle.sqlite.specs.Tree.{Trees}
 use Rattle.sqlite.specs.Held.{Held, state}
-use Rattle.sqlite.specs.State.{HasCleanDisk, IsRolledBack, Executes, Survives}
+use Rattle.sqlite.specs.State.{HasCleanDisk, Survives}
 use Rattle.sqlite.proofs.Callers.{survives_begin}
 use Rattle.sqlite.proofs.StateLemmas.{survives_then, survives_weaker}
-use Rattle.wb_sql.specs.declared.writing.CommitError.{CommitError}
-use Rattle.wb_sql.specs.declared.writing.CommitError.TheVariants as commit
-use Rattle.wb_sql.specs.Transactions.{rollback_text, cause_of, FailsToCommit, LeavesNoMore}
+use Rattle.wb_sql.specs.Transactions.{LeavesNoMore}
 use Rattle.wb_states.specs.declared.command.Part.{Part}
 use Rattle.wb_states.specs.Forms.{Merge}
 use Rattle.wb_states.specs.declared.store_fault.StoreFault.{StoreFault}
 use Rattle.wb_states.specs.declared.store_fault.StoreFault.TheVariants.{Memory}
-use Rattle.wb_states.specs.declared.store_fault.Table.TheVariants.{Office}
 use Rattle.wb_states.specs.Machine.{Machine}
 use Rattle.wb_step.specs.Step.{step}
 use Rattle.wb_store.specs.Stands.{StandsFor}
 use Rattle.wb_store.specs.Calls.{Becomes}
-use Rattle.wb_store.specs.Faults.{fault_of}
+use Rattle.wb_store.specs.Ending.{IsEndedFrom, IsFaultOfCommit, IsFaultOfRollBack}
 use Rattle.wb_store.specs.Settled.{IsSettled, IsUnderWay, SettlesBy, TakesBack}
 use Rattle.wb_store.proofs.OthersLemmas.{others_still}
 use Rattle.wb_store.proofs.SettledLemmas.{begins, office_stands}
 use Rattle.wb_office.specs.declared.carry.CarryError.{CarryError}
 use Rattle.wb_office.specs.declared.carry.CarryError.TheVariants.{TakenBack, RollBackFailed, InDoubt}
 use Rattle.wb_office.specs.Changed.{IsLeftOrBack}
-use Rattle.wb_office.specs.Carried.{is_over, failure_of, LeavesAs, FailsAtCommit}
+use Rattle.wb_office.specs.Carried.{failure_of, LeavesAs, FailsAtCommit}
 use Rattle.wb_store.specs.Settled.{begun}
 use Rattle.wb_office.specs.MergeCarried.{CarriesMerge, FailsToMerge, HoldsMerge, MergeEndsFor}
 use Rattle.wb_office.specs.MergeWritten.{IsMergeIn, WritesMerge}
@@ -50,22 +46,19 @@ module _ {S : Type 0} (g : Ghosts S) (sources : List ℕ) (parts : List Part) (b
 
   -- ---- the end of a transaction that is not committed
 
-  ends_for : {A : Type 0} (whole : Machine) (at new : Held S) (e : StoreFault) (ended : Result A Error) → WhyNot whole e → OnOk ended (IsRolledBack (state g at) (state g new))
-      → IfErr ended (λ why. Executes rollback_text [] (state g at) (state g new) (Err why)) → MergeEndsFor g before after (step whole (Merge sources parts)).1 old new (failure_of e ended)
-  ends_for whole at new e (Ok x) why rolled failed = (why, (at, inl rolled))
-  ends_for whole at new e (Err told) why rolled failed =
-      (elim (is_over told) as (λ over. is_over told ≡ over → MergeEndsFor g before after (step whole (Merge sources parts)).1 old new (if over then TakenBack e else RollBackFailed e)) [
-        | true ↦ λ is. (why, (at, inr (told, (failed, is))))
-        | false ↦ λ is. (why, (at, (told, (failed, is))))
-      ]) refl
+  ends_for : {A : Type 0} (whole : Machine) (at new : Held S) (e : StoreFault) (ended : Result A StoreFault) → WhyNot whole e
+      → OnOk ended (IsEndedFrom (state g at) (state g new)) → IfErr ended (IsFaultOfRollBack (state g at) (state g new))
+      → MergeEndsFor g before after (step whole (Merge sources parts)).1 old new (failure_of e ended)
+  ends_for whole at new e (Ok x) why rolled failed = (why, (at, rolled))
+  ends_for whole at new e (Err told) why rolled failed = (why, (at, (told, failed)))
 
   -- a transaction that failed is taken back
-  pub merges_not : {A B : Type 0} (at new : Held S) (e : StoreFault) (ended : Result A Error) (r : CarryError) → r ≡ failure_of e ended
+  pub merges_not : {A B : Type 0} (at new : Held S) (e : StoreFault) (ended : Result A StoreFault) (r : CarryError) → r ≡ failure_of e ended
       → (HasCleanDisk (state g at) → (whole : Machine) → Settled whole → IsMergeIn whole sources parts before after → WhyNot whole e)
       → (HasCleanDisk (state g at) → (whole : Machine) → Settled whole → IsMergeIn whole sources parts before after → IsLeftOrBack g whole at)
       → Survives (state g (begun old)) (state g at) (HoldsMerge g sources parts before after old)
-      → TakesBack g at new → (HasCleanDisk (state g new) → OnOk ended (IsRolledBack (state g at) (state g new)))
-      → (HasCleanDisk (state g new) → IfErr ended (λ why. Executes rollback_text [] (state g at) (state g new) (Err why)))
+      → TakesBack g at new → (HasCleanDisk (state g new) → OnOk ended (IsEndedFrom (state g at) (state g new)))
+      → (HasCleanDisk (state g new) → IfErr ended (IsFaultOfRollBack (state g at) (state g new)))
       → Survives (state g at) (state g new) (λ _. ⊥) → CarriesMerge {A = B} g sources parts before after old new (Err r)
   merges_not at new e ended r is why way one back rolled failed two =
       let cleaner : HasCleanDisk (state g new) → HasCleanDisk (state g at) = λ clean. omega (arith, two.clean, clean) in
@@ -97,8 +90,8 @@ module _ {S : Type 0} (g : Ghosts S) (sources : List ℕ) (parts : List Part) (b
 
   -- ---- the change is written, and then the commit is tried
 
-  module _ {A B : Type 0} {x : B} (mid at : Held S) (change : WritesMerge {A = B} g parts before after (begun old) mid (Ok x)) (r : Result A CommitError) (settles : SettlesBy g mid at r)
-      (cause : HasCleanDisk (state g at) → IfErr r (λ e. FailsToCommit g mid (cause_of e)))
+  module _ {A B : Type 0} {x : B} (mid at : Held S) (change : WritesMerge {A = B} g parts before after (begun old) mid (Ok x)) (r : Result A StoreFault) (settles : SettlesBy g mid at r)
+      (cause : HasCleanDisk (state g at) → IfErr r (IsFaultOfCommit g mid))
       (survives : Survives (state g mid) (state g at) (λ db. db ≡ (state g mid).now.trees)) where
     cleaner : HasCleanDisk (state g at) → HasCleanDisk (state g mid)
     cleaner clean = omega (arith, survives.clean, clean)
@@ -126,8 +119,8 @@ module _ {S : Type 0} (g : Ghosts S) (sources : List ℕ) (parts : List Part) (b
         (λ clean db is. holds_step (cleaner clean) db is) change.survives survives
 
     -- the commit failed with this error
-    failed_at : {whole : Machine} (e : CommitError) → r ≡ Err e → HasCleanDisk (state g at) → Settled whole → IsMergeIn whole sources parts before after → FailsAtCommit g (step whole (Merge sources parts)).1 old (fault_of (cause_of e) Office)
-    failed_at e is clean settled made = (mid, (written (cleaner clean) settled made, (cause_of e, subst (λ r. IfErr r (λ e. FailsToCommit g mid (cause_of e))) is (cause clean), refl)))
+    failed_at : {whole : Machine} (e : StoreFault) → r ≡ Err e → HasCleanDisk (state g at) → Settled whole → IsMergeIn whole sources parts before after → FailsAtCommit g (step whole (Merge sources parts)).1 old e
+    failed_at e is clean settled made = (mid, (written (cleaner clean) settled made, subst (λ r. IfErr r (IsFaultOfCommit g mid)) is (cause clean)))
 
     -- the commit was made
     pub merges_it : {C : Type 0} {y : A} {z : C} → r ≡ Ok y → CarriesMerge {A = C} g sources parts before after old at (Ok z)
@@ -143,19 +136,19 @@ module _ {S : Type 0} (g : Ghosts S) (sources : List ℕ) (parts : List Part) (b
     }
 
     -- the commit is in doubt
-    pub merges_in_doubt : {C : Type 0} (e : Error) → r ≡ Err (commit.InDoubt e) → CarriesMerge {A = C} g sources parts before after old at (Err (InDoubt (fault_of e Office)))
+    pub merges_in_doubt : {C : Type 0} (e : StoreFault) → r ≡ Err e → CarriesMerge {A = C} g sources parts before after old at (Err (InDoubt e))
     merges_in_doubt e is = record {
       ok = λ clean whole settled made. tt;
       err = λ clean whole settled made. settles.crash clean whole (step whole (Merge sources parts)).1 (under_way (cleaner clean) settled made);
-      cause = λ clean whole settled made. failed_at (commit.InDoubt e) is clean settled made;
+      cause = λ clean whole settled made. failed_at e is clean settled made;
       others = λ clean whole settled made. tt;
       survives = survives_begin g old (state g at) _ commit_survives;
     }
 
     -- memory ran out for the commit
-    module _ (is : r ≡ Err commit.Memory) where
+    module _ (is : r ≡ Err Memory) where
       pub memory_why : HasCleanDisk (state g at) → (whole : Machine) → Settled whole → IsMergeIn whole sources parts before after → WhyNot whole Memory
-      memory_why clean whole settled made = inr (failed_at commit.Memory is clean settled made)
+      memory_why clean whole settled made = inr (failed_at Memory is clean settled made)
 
       pub memory_way : HasCleanDisk (state g at) → (whole : Machine) → Settled whole → IsMergeIn whole sources parts before after → IsLeftOrBack g whole at
       memory_way clean whole settled made = elim (settles.memory clean whole (step whole (Merge sources parts)).1 (under_way (cleaner clean) settled made) is) [

@@ -16,7 +16,7 @@ use Rattle.wb_step.specs.Step.{step}
 use Rattle.wb_store.specs.Settled.{StandsForTrees}
 use Rattle.wb_store.specs.Files.{AreNew, LeaveOffice}
 use Rattle.wb_store.specs.Preparing.{HoldOffice}
-use Rattle.wb_office.proofs.FileLemmas.{leave_wider}
+use Rattle.wb_store.proofs.FileLemmas.{leave_wider}
 use Rattle.wb_office.specs.Lives.{Outcome, EndsLife, IsLedThrough, LeavesStanding, AllLeaveStanding}
 use Rattle.wb_office.specs.Files.{FindsAfter, HoldOne, IsFaultOfLives, IsFaultOfOpening, IsFoundAfter, IsLeftByLife, LeavesLife}
 

@@ -6,14 +6,15 @@ use Rattle.deb_text.specs.Text.{pair_cmp}
 use Rattle.deb_text.proofs.KeyLemmas.{text_cmp_total, text_cmp-same}
 use Rattle.wb_states.specs.declared.command.Command.{Command}
 use Rattle.wb_states.specs.declared.arch.OsCpu.{OsCpu}
+use Rattle.wb_states.specs.declared.subject.Names.{Names}
 use Rattle.wb_states.specs.Holds.{held_of}
 use Rattle.wb_states.specs.Machine.{Machine, Key, empty_office}
 use Rattle.wb_states.specs.Queue.{Entry}
-use Rattle.wb_step.specs.Named.{entries_named, held_again, holder_pairs, listed, part_named}
-use Rattle.wb_step.specs.Targets.{record_named}
+use Rattle.wb_states.specs.Subject.{subject_named, subject_of}
+use Rattle.wb_step.specs.Named.{entries_named, held_again, holder_pairs, listed, others_named as others_of, part_named}
+use Rattle.wb_step.specs.Targets.{record_named, first_named as first_of}
 use Rattle.wb_office.specs.declared.named.found.Found.{Found}
-use Rattle.wb_office.specs.declared.named.names.Names.{Names}
-use Rattle.wb_office.specs.Sought.{HasFound, entries_found, first_named, office_of, others_named}
+use Rattle.wb_office.specs.Sought.{HasFound, entries_found, office_of}
 use Rattle.wb_office.specs.Sought.{with_archs, with_entries, with_entry, with_holder, with_pairs}
 
 -- ---- the last one is added first, and then those before it
@@ -113,10 +114,10 @@ archs_kept machine =
 
 -- the office that has what was found is the part that the command names
 pub part_found : (machine : Machine) (command : Command) (names : Names) (found : Found) → HasFound machine command names found
-    → listed (first_named machine names) ++ others_named machine names ≡ entries_named machine command → office_of found ≡ part_named machine command
+    → subject_named names ≡ subject_of command → office_of found ≡ part_named machine command
 unfolding office_of part_named
 part_found machine command names found h named =
-    let entries : entries_found found ≡ entries_named machine command = (λ i. listed (h.first i) ++ h.others i) ∙ named in
+    let entries : entries_found found ≡ entries_named machine command = (λ i. listed (h.first i) ++ h.others i) ∙ (λ i. listed (first_of machine (named i)) ++ others_of machine (named i)) in
     λ i. record {
       records = map.from_entries (entries i);
       archs = (ap map.from_entries h.archs ∙ archs_kept machine) i;

@@ -20,15 +20,16 @@ use Rattle.wb_states.specs.declared.reply.Reply.{Reply}
 use Rattle.wb_states.specs.Holds.{take_of}
 use Rattle.wb_states.specs.Machine.{Machine, Key, arch_words}
 use Rattle.wb_states.specs.Queue.{Entry}
-use Rattle.wb_step.specs.Checks.{first_refusal, is_there_already, source_named}
+use Rattle.wb_states.specs.Subject.{Subject, Nothing, Source, Taken, Head, subject_of}
+use Rattle.wb_step.specs.Checks.{first_refusal, is_there_already, source_in, source_named}
 use Rattle.wb_step.specs.Locality.{moved, entry_put, with_entry, archs_after, builders_after, handed_after, changed}
 use Rattle.wb_step.specs.Step.{Outcome, assignment_of, outcome, step}
-use Rattle.wb_step.specs.Targets.{again_of, record_named, transition_of, move_of_command, target_of}
+use Rattle.wb_step.specs.Targets.{again_of, first_named, record_named, transition_of, move_of_command, target_of}
 use Rattle.wb_step.proofs.LocalityLemmas.{same_answer, same_entry, steps_change}
 use Rattle.wb_step.proofs.PassLemmas.{passes}
 use Rattle.wb_step.proofs.TransitionLemmas.{target_of-stands}
 use Rattle.wb_office.specs.Changed.{IsFresh, IsStepOf, IsThere, before_counts, found_at}
-use Rattle.wb_office.specs.Keys.{key_of, key_put}
+use Rattle.wb_office.specs.Keys.{key_at, key_of, key_put}
 
 -- ---- which record a command puts
 
@@ -85,26 +86,21 @@ unkeyed key put (Some current) is = cc
 no_key : {Q : Type 0} (key : Key) → None ≡ Some key → Q
 no_key key is = cc
 
+-- what is found by what is named has the key of what is put
+found_key : (machine : Machine) (subject : Subject) (key : Key) → key_of (first_named machine subject) ≡ Some key → key_at subject (first_named machine subject) ≡ Some key
+found_key machine Nothing key is = is
+found_key machine (Source arch source) key is = named_key machine arch source key is
+found_key machine (Taken take_number) key is = is
+found_key machine (Head next) key is = is
+
 -- the record that a command puts has the key of the command
 pub put_key : (command : Command) (machine : Machine) (entry : Entry) → entry_put machine command ≡ Some entry → key_put machine command ≡ Some entry.0
 put_key (of.AddArch fields) machine entry is = cc
 put_key (of.AddBuilder fields) machine entry is = cc
 put_key (of.Enter fields) machine entry is = ap key_of is
-put_key (of.Next fields) machine entry is = target_key machine (of.Next fields) entry is
-put_key (of.Take fields) machine entry is = named_key machine fields.arch fields.source entry.0 (target_key machine (of.Take fields) entry is)
-put_key (of.Built fields) machine entry is = target_key machine (of.Built fields) entry is
-put_key (of.Uploaded fields) machine entry is = target_key machine (of.Uploaded fields) entry is
-put_key (of.Waits fields) machine entry is = target_key machine (of.Waits fields) entry is
-put_key (of.PutBack fields) machine entry is = target_key machine (of.PutBack fields) entry is
-put_key (of.Attempted fields) machine entry is = target_key machine (of.Attempted fields) entry is
-put_key (of.GiveBack fields) machine entry is = named_key machine fields.arch fields.source entry.0 (target_key machine (of.GiveBack fields) entry is)
-put_key (of.DepWait fields) machine entry is = named_key machine fields.arch fields.source entry.0 (target_key machine (of.DepWait fields) entry is)
-put_key (of.Fail fields) machine entry is = named_key machine fields.arch fields.source entry.0 (target_key machine (of.Fail fields) entry is)
-put_key (of.NotForUs fields) machine entry is = named_key machine fields.arch fields.source entry.0 (target_key machine (of.NotForUs fields) entry is)
-put_key (of.Rebuild fields) machine entry is = named_key machine fields.arch fields.source entry.0 (target_key machine (of.Rebuild fields) entry is)
 put_key (of.BuildPriority fields) machine entry is =
     keyed (fields.arch, fields.source) (λ (current : Record). record current { build_priority = fields.value }) (map.get machine.records (fields.arch, fields.source)) entry is
-put_key (of.Merge fields) machine entry is = cc
+put_key command machine entry is = found_key machine (subject_of command) entry.0 (target_key machine command entry is)
 
 -- what a command moves has a record
 target_there : (machine : Machine) (command : Command) (key : Key) → key_of (target_of machine command) ≡ Some key → IsSome (map.get machine.records key)
@@ -137,21 +133,9 @@ pub put_there : (command : Command) → ((fields : Enter) → command ≢ of.Ent
 put_there (of.AddArch fields) no_enter machine entry is = cc
 put_there (of.AddBuilder fields) no_enter machine entry is = cc
 put_there (of.Enter fields) no_enter machine entry is = absurd (no_enter fields refl)
-put_there (of.Next fields) no_enter machine entry is = moved_there machine (of.Next fields) entry is
-put_there (of.Take fields) no_enter machine entry is = moved_there machine (of.Take fields) entry is
-put_there (of.Built fields) no_enter machine entry is = moved_there machine (of.Built fields) entry is
-put_there (of.Uploaded fields) no_enter machine entry is = moved_there machine (of.Uploaded fields) entry is
-put_there (of.Waits fields) no_enter machine entry is = moved_there machine (of.Waits fields) entry is
-put_there (of.PutBack fields) no_enter machine entry is = moved_there machine (of.PutBack fields) entry is
-put_there (of.Attempted fields) no_enter machine entry is = moved_there machine (of.Attempted fields) entry is
-put_there (of.GiveBack fields) no_enter machine entry is = moved_there machine (of.GiveBack fields) entry is
-put_there (of.DepWait fields) no_enter machine entry is = moved_there machine (of.DepWait fields) entry is
-put_there (of.Fail fields) no_enter machine entry is = moved_there machine (of.Fail fields) entry is
-put_there (of.NotForUs fields) no_enter machine entry is = moved_there machine (of.NotForUs fields) entry is
-put_there (of.Rebuild fields) no_enter machine entry is = moved_there machine (of.Rebuild fields) entry is
 put_there (of.BuildPriority fields) no_enter machine entry is =
     keyed_there machine (fields.arch, fields.source) (λ (current : Record). record current { build_priority = fields.value }) entry is
-put_there (of.Merge fields) no_enter machine entry is = cc
+put_there command no_enter machine entry is = moved_there machine command entry is
 
 -- a source package that is named has no record where none was found
 no_record : (machine : Machine) (arch source : List ℕ) (key : Key) → Some (arch, source) ≡ Some key → record_named machine arch source ≡ None → map.get machine.records key ≡ None
@@ -159,34 +143,25 @@ unfolding record_named
 no_record machine arch source key is none =
     ap (option_and_then (map.get machine.records)) (sym is) ∙ unkeyed (arch, source) (λ current. current) (map.get machine.records (arch, source)) none
 
+-- where nothing is found, a key is put only of a source package that is named, and it has no record
+not_found : (machine : Machine) (subject : Subject) (key : Key) → first_named machine subject ≡ None → key_at subject (first_named machine subject) ≡ Some key
+    → (source_in subject None ≡ Some key) × (map.get machine.records key ≡ None)
+not_found machine Nothing key none is = no_key key is
+not_found machine (Source arch source) key none is = (is, no_record machine arch source key is none)
+not_found machine (Taken take_number) key none is = no_key key (sym (ap key_of none) ∙ is)
+not_found machine (Head next) key none is = no_key key (sym (ap key_of none) ∙ is)
+
 -- if a command with a key puts no record, it names a source package that has none
 pub nothing_put : (command : Command) (machine : Machine) (key : Key) → entry_put machine command ≡ None → key_put machine command ≡ Some key
     → (source_named command ≡ Some key) × (map.get machine.records key ≡ None)
 nothing_put (of.AddArch fields) machine key none is = no_key key is
 nothing_put (of.AddBuilder fields) machine key none is = no_key key is
 nothing_put (of.Enter fields) machine key none is = absurd (something none)
-nothing_put (of.Next fields) machine key none is = no_key key (sym (ap key_of (no_target machine (of.Next fields) (λ words. something) none)) ∙ is)
-nothing_put (of.Take fields) machine key none is =
-    (is, no_record machine fields.arch fields.source key is (no_target machine (of.Take fields) (λ words. something) none))
-nothing_put (of.Built fields) machine key none is = no_key key (sym (ap key_of (no_target machine (of.Built fields) (λ words. something) none)) ∙ is)
-nothing_put (of.Uploaded fields) machine key none is = no_key key (sym (ap key_of (no_target machine (of.Uploaded fields) (λ words. something) none)) ∙ is)
-nothing_put (of.Waits fields) machine key none is = no_key key (sym (ap key_of (no_target machine (of.Waits fields) (λ words. something) none)) ∙ is)
-nothing_put (of.PutBack fields) machine key none is = no_key key (sym (ap key_of (no_target machine (of.PutBack fields) (λ words. something) none)) ∙ is)
-nothing_put (of.Attempted fields) machine key none is = no_key key (sym (ap key_of (no_target machine (of.Attempted fields) (λ words. something) none)) ∙ is)
-nothing_put (of.GiveBack fields) machine key none is =
-    (is, no_record machine fields.arch fields.source key is (no_target machine (of.GiveBack fields) (λ words. something) none))
-nothing_put (of.DepWait fields) machine key none is =
-    (is, no_record machine fields.arch fields.source key is (no_target machine (of.DepWait fields) (λ words. something) none))
-nothing_put (of.Fail fields) machine key none is =
-    (is, no_record machine fields.arch fields.source key is (no_target machine (of.Fail fields) (λ words. something) none))
-nothing_put (of.NotForUs fields) machine key none is =
-    (is, no_record machine fields.arch fields.source key is (no_target machine (of.NotForUs fields) (λ words. something) none))
-nothing_put (of.Rebuild fields) machine key none is =
-    (is, no_record machine fields.arch fields.source key is (no_target machine (of.Rebuild fields) (λ words. something) none))
 nothing_put (of.BuildPriority fields) machine key none is =
     let found = unkeyed (fields.arch, fields.source) (λ (current : Record). record current { build_priority = fields.value }) (map.get machine.records (fields.arch, fields.source)) none in
     (is, ap (option_and_then (map.get machine.records)) (sym is) ∙ found)
 nothing_put (of.Merge fields) machine key none is = no_key key is
+nothing_put command machine key none is = not_found machine (subject_of command) key (no_target machine command (λ words. something) none) is
 
 -- what is put at a key is found there
 inserted : (records : map.FinMap pair_cmp Record) (key : Key) (current : Record) → map.get (map.insert records key current) key ≡ Some current
@@ -291,21 +266,7 @@ module _ (machine : Machine) where
       → (archs_after command machine.archs ≡ machine.archs) × (builders_after command machine.builders ≡ machine.builders)
   adds_neither (of.AddArch fields) no_arch no_builder = absurd (no_arch fields refl)
   adds_neither (of.AddBuilder fields) no_arch no_builder = absurd (no_builder fields refl)
-  adds_neither (of.Enter fields) no_arch no_builder = (refl, refl)
-  adds_neither (of.Next fields) no_arch no_builder = (refl, refl)
-  adds_neither (of.Take fields) no_arch no_builder = (refl, refl)
-  adds_neither (of.Built fields) no_arch no_builder = (refl, refl)
-  adds_neither (of.Uploaded fields) no_arch no_builder = (refl, refl)
-  adds_neither (of.Waits fields) no_arch no_builder = (refl, refl)
-  adds_neither (of.PutBack fields) no_arch no_builder = (refl, refl)
-  adds_neither (of.Attempted fields) no_arch no_builder = (refl, refl)
-  adds_neither (of.GiveBack fields) no_arch no_builder = (refl, refl)
-  adds_neither (of.DepWait fields) no_arch no_builder = (refl, refl)
-  adds_neither (of.Fail fields) no_arch no_builder = (refl, refl)
-  adds_neither (of.NotForUs fields) no_arch no_builder = (refl, refl)
-  adds_neither (of.Rebuild fields) no_arch no_builder = (refl, refl)
-  adds_neither (of.BuildPriority fields) no_arch no_builder = (refl, refl)
-  adds_neither (of.Merge fields) no_arch no_builder = (refl, refl)
+  adds_neither _ no_arch no_builder = (refl, refl)
 
 -- any other command puts the record that the part has at its key
 pub puts : {whole after : Machine} {key : Option Key} (command : Command) → ((fields : AddArch) → command ≢ of.AddArch fields) → ((fields : AddBuilder) → command ≢ of.AddBuilder fields)

@@ -86,6 +86,7 @@ IsOfStep (Uncommitted failure) = ⊤
 -- what a step in a part of the office changed, written to the tables of the whole office; if it succeeds, the tables of others keep their rows
 pub record KeepsStep {S A : Type 0} (g : Ghosts S) (command : Command) (key : Option Key) (after : Machine) (old new : Held S) (result : Result A Failure) : Type 0 where
   pub was_clean : HasCleanDisk (state g new) → HasCleanDisk (state g old)
+  pub limit : new.step_limit ≡ old.step_limit
   pub ok : HasCleanDisk (state g new) → (machine : Machine) → IsSettled machine (state g old) → IsStepOf machine command key after
       → OnOk result (IsSettled (step machine command).1 (state g new))
   pub err : HasCleanDisk (state g new) → (machine : Machine) → IsSettled machine (state g old) → IsStepOf machine command key after
@@ -102,6 +103,7 @@ AreParts parts before part machine = (before ≡ part_for_merge machine parts) �
 -- others keep their rows
 pub record KeepsMerge {S A : Type 0} (g : Ghosts S) (sources : List ℕ) (parts : List Part) (before after : Machine) (old new : Held S) (result : Result A Failure) : Type 0 where
   pub was_clean : HasCleanDisk (state g new) → HasCleanDisk (state g old)
+  pub limit : new.step_limit ≡ old.step_limit
   pub ok : HasCleanDisk (state g new) → (machine : Machine) → IsSettled machine (state g old) → IsMergeIn machine sources parts before after
       → OnOk result (IsSettled (step machine (Merge sources parts)).1 (state g new))
   pub err : HasCleanDisk (state g new) → (machine : Machine) → IsSettled machine (state g old) → IsMergeIn machine sources parts before after
@@ -114,6 +116,7 @@ pub record KeepsMerge {S A : Type 0} (g : Ghosts S) (sources : List ℕ) (parts 
 -- settled at its state, with these counts, and the tables of others keep their rows; or a failure leaves the office as above
 pub record Answers {S : Type 0} (g : Ghosts S) (Given : Machine → Type 0) (command : Command) (old new : Held S) (result : Result Answered Failure) : Type 0 where
   pub was_clean : HasCleanDisk (state g new) → HasCleanDisk (state g old)
+  pub limit : new.step_limit ≡ old.step_limit
   pub ok : HasCleanDisk (state g new) → (machine : Machine) → IsConsistent machine → IsSettled machine (state g old) → Given machine
       → IfOk result (λ answered. ((step machine command).0 ≡ Ok answered.reply) × IsSettled (step machine command).1 (state g new)
       × AreCountsOf (step machine command).1 answered.counts)
@@ -130,6 +133,7 @@ pub record Answers {S : Type 0} (g : Ghosts S) (Given : Machine → Type 0) (com
 pub record Responds {S : Type 0} (g : Ghosts S) (command : Command) (was_known : Known) (old : Held S) (known : Known) (new : Held S)
     (result : Result Reply Failure) : Type 0 where
   pub was_clean : HasCleanDisk (state g new) → HasCleanDisk (state g old)
+  pub limit : new.step_limit ≡ old.step_limit
   pub ok : HasCleanDisk (state g new) → (machine : Machine) → IsConsistent machine → IsSettled machine (state g old) → Knows machine was_known
       → IfOk result (λ reply. ((step machine command).0 ≡ Ok reply) × IsSettled (step machine command).1 (state g new) × Knows (step machine command).1 known)
   pub err : HasCleanDisk (state g new) → (machine : Machine) → IsConsistent machine → IsSettled machine (state g old) → Knows machine was_known

@@ -13,6 +13,7 @@ use Rattle.wb_states.specs.declared.store_fault.StoreFault.TheVariants as fault
 use Rattle.wb_states.specs.Machine.{Machine}
 use Rattle.wb_states.specs.Refusals.{is_of_store}
 use Rattle.wb_step.specs.Checks.{MayWantMemory, text_refusal}
+use Rattle.wb_step.specs.Offices.{StandsOn}
 use Rattle.wb_step.specs.Step.{step}
 use Rattle.wb_store.specs.Others.{KeepsOthers}
 use Rattle.wb_store.specs.Settled.{IsBackAt, LeavesEither}
@@ -28,26 +29,13 @@ abbrev pub refusal_for : StoreFault → Refusal
 refusal_for fault.Memory = Memory
 refusal_for fault = Store fault
 
--- the refusal for a commit in doubt: out of memory counts as a failure of the device
-abbrev pub doubt_for : StoreFault → Refusal
-doubt_for fault.Memory = Store fault.Device
-doubt_for fault = Store fault
-
 -- what is answered to a command that is not carried out
 abbrev pub refusal_of : Failure → Refusal
 refusal_of (Refused refusal) = refusal
 refusal_of (Unread fault) = refusal_for fault
 refusal_of (Uncommitted (TakenBack fault)) = refusal_for fault
 refusal_of (Uncommitted (RollBackFailed fault)) = refusal_for fault
-refusal_of (Uncommitted (InDoubt fault)) = doubt_for fault
-
--- how an office that was open stands after an answer, whatever its disk does: it never says that it is closed; after a fault of its store it is
--- closed, and after each other answer, but out of memory, it is open
-pub record StandsAfter {X : Type 0} (result : Result X Refusal) (is_closed : Bool) : Type 0 where
-  pub ok : OnOk result (is_closed ≡ false)
-  pub never : ¬ (result ≡ Err Closed)
-  pub ends : IfErr result (λ refusal. is_of_store refusal ≡ true → is_closed ≡ true)
-  pub opens : IfErr result (λ refusal. is_of_store refusal ≡ false → refusal ≢ Memory → is_closed ≡ false)
+refusal_of (Uncommitted (InDoubt fault)) = Store fault
 
 -- a command that was not carried out is refused, and the office stands as before, or is closed
 pub record IsRefusedIn {S : Type 0} (g : Ghosts S) (machine : Machine) (command : Command) (is_closed : Bool) (new : Held S) (refusal : Refusal) : Type 0 where
@@ -62,19 +50,26 @@ pub record IsRefusedIn {S : Type 0} (g : Ghosts S) (machine : Machine) (command 
 abbrev pub CannotBeUsed : {S : Type 0} → Ghosts S → Held S → Held S → Type 0
 CannotBeUsed g old new = FailsToRun [] (state g old) (state g new)
 
+-- the transaction could not be taken back
+abbrev pub IsNotTakenBack : Failure → Type 0
+IsNotTakenBack failure = (fault : StoreFault) × (failure ≡ Uncommitted (RollBackFailed fault))
+
 -- why an office is closed that is out of memory: its connection cannot be used on, or the transaction could not be taken back
 abbrev pub MustClose : {S : Type 0} → Ghosts S → Failure → Held S → Held S → Type 0
-MustClose g failure old new = CannotBeUsed g old new ⊎ ((fault : StoreFault) × (failure ≡ Uncommitted (RollBackFailed fault)))
+MustClose g failure old new = CannotBeUsed g old new ⊎ IsNotTakenBack failure
 
 -- what is answered after a failure, and whether the office is closed then
 pub record Ends {S : Type 0} (g : Ghosts S) (failure : Failure) (old new : Held S) (refusal : Refusal) (is_closed : Bool) : Type 0 where
   pub was_clean : HasCleanDisk (state g new) → HasCleanDisk (state g old)
+  pub limit : new.step_limit ≡ old.step_limit
   pub refused : HasCleanDisk (state g new) → (machine : Machine) (command : Command) (before : Held S) → IsLeft g machine command before old failure
       → IsRefusedIn g machine command is_closed new refusal
   pub told : refusal ≡ refusal_of failure
   pub ends : is_of_store refusal ≡ true → is_closed ≡ true
   pub opens : is_of_store refusal ≡ false → refusal ≢ Memory → is_closed ≡ false
   pub closes : HasCleanDisk (state g new) → refusal ≡ Memory → is_closed ≡ true → MustClose g failure old new
+  pub must : IsNotTakenBack failure → is_closed ≡ true
+  pub same : refusal ≢ Memory → new ≡ old
 
 -- an office over tables carries out a command: the reply is that of the step, the office stands at the state after it, and the tables of others
 -- keep their rows; a refusal of the state changes nothing; out of memory, it stands as before, and is closed only if its connection cannot be used
@@ -83,8 +78,9 @@ pub record Ends {S : Type 0} (g : Ghosts S) (failure : Failure) (old new : Held 
 pub record Applies {S : Type 0} (g : Ghosts S) (command : Command) (was_closed : Bool) (was_known : Known) (old : Held S) (is_closed : Bool) (known : Known) (new : Held S)
     (result : Result Reply Refusal) : Type 0 where
   pub was_clean : HasCleanDisk (state g new) → HasCleanDisk (state g old)
+  pub limit : new.step_limit ≡ old.step_limit
   pub shut : was_closed ≡ true → (result ≡ Err Closed) × (is_closed ≡ true) × (known ≡ was_known) × (new ≡ old)
-  pub stands : was_closed ≡ false → StandsAfter result is_closed
+  pub stands : was_closed ≡ false → StandsOn (is_closed ≡ true) result
   pub texts : was_closed ≡ false → (refusal : Refusal) → text_refusal command ≡ Some refusal
       → ((result ≡ Err refusal) ⊎ (result ≡ Err Memory)) × (is_closed ≡ false) × (known ≡ was_known) × (new ≡ old)
   pub memory : result ≡ Err Memory → MayWantMemory command
@@ -96,14 +92,17 @@ pub record Applies {S : Type 0} (g : Ghosts S) (command : Command) (was_closed :
       → IfErr result (λ refusal. IsRefusedIn g machine command is_closed new refusal × Knows machine known)
   pub cause : HasCleanDisk (state g new) → (machine : Machine) → StandsAt machine was_closed was_known (state g old) → was_closed ≡ false
       → IfErr result (λ refusal. (failure : Failure) × (at : Held S) × IsLeft g machine command old at failure × (refusal ≡ refusal_of failure)
-      × (refusal ≡ Memory → is_closed ≡ true → MustClose g failure at new))
+      × (refusal ≡ Memory → is_closed ≡ true → MustClose g failure at new) × (IsNotTakenBack failure → is_closed ≡ true)
+      × (refusal ≢ Memory → new ≡ at))
 
 -- what is answered after this fault of a call that changed nothing, and whether the office is closed then: out of memory, it is closed only if its
 -- connection cannot be used on, and otherwise the connection is open
 pub record EndsWith {S : Type 0} (g : Ghosts S) (fault : StoreFault) (old new : Held S) (refusal : Refusal) (is_closed : Bool) : Type 0 where
   pub was_clean : HasCleanDisk (state g new) → HasCleanDisk (state g old)
+  pub limit : new.step_limit ≡ old.step_limit
   pub told : refusal ≡ refusal_for fault
   pub back : HasCleanDisk (state g new) → (machine : Machine) → IsBackAt machine (state g old) → IsBackAt machine (state g new)
   pub is_open : HasCleanDisk (state g new) → is_closed ≡ false → IsTrue (state g new).is_open
   pub ends : is_of_store refusal ≡ true → is_closed ≡ true
   pub closes : HasCleanDisk (state g new) → refusal ≡ Memory → is_closed ≡ true → CannotBeUsed g old new
+  pub same : refusal ≢ Memory → new ≡ old

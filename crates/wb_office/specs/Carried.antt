@@ -1,21 +1,16 @@
 -- The transaction of an accepted command: how it ends, and why it was not committed.
-use Rattle.std.specs.Prelude.{◌≡◌, ◌⊎◌, Bool, true, false, if◌then◌else◌, [], Option, Result, Ok, Err, IfErr, OnOk}
+use Rattle.std.specs.Prelude.{◌⊎◌, Option, Result, Ok, Err, IfErr, OnOk}
 use Rattle.sqlite_trees.specs.declared.store.Store.{Ghosts}
-use Rattle.sqlite.specs.declared.error.Error.{Error}
-use Rattle.sqlite.specs.declared.error.Error.TheVariants.{SqliteFailure}
-use Rattle.sqlite.specs.declared.error.ErrorCode.TheVariants.{TransactionState}
 use Rattle.sqlite.specs.Tree.{Trees}
 use Rattle.sqlite.specs.Held.{Held, state}
-use Rattle.sqlite.specs.State.{State, HasCleanDisk, IsRolledBack, Executes, Survives}
-use Rattle.wb_sql.specs.Transactions.{rollback_text, FailsToCommit}
+use Rattle.sqlite.specs.State.{State, HasCleanDisk, Survives}
 use Rattle.wb_states.specs.declared.command.Command.{Command}
 use Rattle.wb_states.specs.declared.store_fault.StoreFault.{StoreFault}
-use Rattle.wb_states.specs.declared.store_fault.Table.TheVariants.{Office}
 use Rattle.wb_states.specs.Machine.{Machine, Key}
 use Rattle.wb_step.specs.Step.{step}
 use Rattle.wb_store.specs.Stands.{StandsFor}
 use Rattle.wb_store.specs.Calls.{Becomes}
-use Rattle.wb_store.specs.Faults.{fault_of}
+use Rattle.wb_store.specs.Ending.{IsEndedFrom, IsFaultOfCommit, IsFaultOfRollBack}
 use Rattle.wb_store.specs.Others.{KeepsOthers}
 use Rattle.wb_store.specs.Settled.{IsSettled, IsBackAt, LeavesEither, begun}
 use Rattle.wb_office.specs.declared.carry.CarryError.{CarryError}
@@ -24,15 +19,10 @@ use Rattle.wb_office.specs.Changed.{IsStepOf, FailsToChange}
 
 -- ---- how a transaction ended that was not committed
 
--- the error says that no transaction is under way
-abbrev pub is_over : Error → Bool
-is_over (SqliteFailure TransactionState) = true
-is_over _ = false
-
--- the failure of a transaction with this fault, by the answer to ROLLBACK: it is taken back if that succeeded or found it over
-abbrev pub failure_of : {A : Type 0} → StoreFault → Result A Error → CarryError
+-- the failure of a transaction with this fault, by the answer to the call that was to take it back
+abbrev pub failure_of : {A : Type 0} → StoreFault → Result A StoreFault → CarryError
 failure_of fault (Ok x) = TakenBack fault
-failure_of fault (Err why) = if is_over why then TakenBack fault else RollBackFailed fault
+failure_of fault (Err why) = RollBackFailed fault
 
 -- what was committed before stands, unless the commit is in doubt: then that or the state after the command
 abbrev pub LeavesAs : Machine → Machine → State → CarryError → Type 0
@@ -42,17 +32,11 @@ LeavesAs before now s (InDoubt fault) = LeavesEither before now s
 
 -- ROLLBACK took the transaction back, or found it over
 abbrev pub IsEnded : {S : Type 0} → Ghosts S → Held S → Type 0
-IsEnded {S} g new =
-    (at : Held S) × (IsRolledBack (state g at) (state g new)
-    ⊎ ((why : Error) × (Executes rollback_text [] (state g at) (state g new) (Err why) × (is_over why ≡ true))))
+IsEnded {S} g new = (at : Held S) × IsEndedFrom (state g at) (state g new)
 
 -- ROLLBACK failed, for another reason than that the transaction was over
 abbrev pub FailsToRollBack : {S : Type 0} → Ghosts S → Held S → Type 0
-FailsToRollBack {S} g new = (at : Held S) × ((why : Error) × (Executes rollback_text [] (state g at) (state g new) (Err why) × (is_over why ≡ false)))
-
--- the commit failed with an error, of which this is the fault, that of the table of the office, since COMMIT names none
-abbrev pub IsFaultOfCommit : {S : Type 0} → Ghosts S → Held S → StoreFault → Type 0
-IsFaultOfCommit g at fault = (e : Error) × FailsToCommit g at e × (fault ≡ fault_of e Office)
+FailsToRollBack {S} g new = (at : Held S) × ((why : StoreFault) × IsFaultOfRollBack (state g at) (state g new) why)
 
 -- the whole change was written, and then the commit failed with this fault
 abbrev pub FailsAtCommit : {S : Type 0} → Ghosts S → Machine → Held S → StoreFault → Type 0

@@ -3,6 +3,7 @@ pub mod Applies
 pub mod Asks
 pub mod Carried
 pub mod Changed
+pub mod Failed
 pub mod Files
 pub mod Keys
 pub mod Lives

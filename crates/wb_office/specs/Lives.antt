@@ -4,6 +4,7 @@ use Rattle.wb_states.specs.declared.command.Command.{Command}
 use Rattle.wb_states.specs.declared.reply.Reply.{Reply}
 use Rattle.wb_states.specs.declared.refusal.Refusal.{Refusal}
 use Rattle.wb_states.specs.declared.refusal.Refusal.TheVariants.{Closed, Memory, Store}
+use Rattle.wb_states.specs.declared.store_fault.StoreFault.{StoreFault}
 use Rattle.wb_states.specs.Machine.{Machine}
 use Rattle.wb_states.specs.Refusals.{is_of_store}
 use Rattle.wb_step.specs.Replay.{replay}
@@ -50,6 +51,10 @@ AllLeaveStanding machine (commands ∷ lives) (outcomes ∷ all) standing =
     × AllLeaveStanding (replay machine first) lives all later
 
 -- ---- an office that carries out commands
+
+-- the office is closed, since its store failed with some fault, and a crash leaves one of these two states
+abbrev pub leaves_for_some : {X : Type 0} → (X → Machine → Machine → StoreFault → Type 0) → X → Machine → Machine → Type 0
+leaves_for_some leaves office before after = (fault : StoreFault) × leaves office before after fault
 
 -- an office that stood at this state stands at the one after the commands that a life left standing; or it is closed, and a crash leaves the one or the
 -- other of two such states

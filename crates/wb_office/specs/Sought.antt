@@ -6,37 +6,28 @@ use Rattle.std.specs.FinSet as set
 use Rattle.deb_text.specs.Text.{pair_cmp}
 use Rattle.wb_states.specs.declared.arch.OsCpu.{OsCpu}
 use Rattle.wb_states.specs.declared.command.Command.{Command}
-use Rattle.wb_states.specs.Holds.{taken_as}
+use Rattle.wb_states.specs.declared.subject.Names.{Names}
 use Rattle.wb_states.specs.Machine.{Machine, Key}
-use Rattle.wb_states.specs.Queue.{Entry, head_of}
+use Rattle.wb_states.specs.Queue.{Entry}
 use Rattle.wb_states.specs.Lookups.{entry_of}
-use Rattle.wb_step.specs.Named.{held_again, holder_pairs, listed, pairs_named}
-use Rattle.wb_step.specs.Targets.{record_named}
+use Rattle.wb_states.specs.Subject.{subject_named}
+use Rattle.wb_step.specs.Named as beside
+use Rattle.wb_step.specs.Named.{holder_pairs, listed, pairs_named}
+use Rattle.wb_step.specs.Targets as subject
 use Rattle.wb_office.specs.declared.named.found.Found.{Found}
-use Rattle.wb_office.specs.declared.named.names.Names.{Names}
-use Rattle.wb_office.specs.declared.named.names.Names.TheVariants as names
-use Rattle.wb_office.specs.Keys.{key_of}
+use Rattle.wb_office.specs.Keys.{key_at}
 
 -- the record that is named by its source package, by its take number, or as the head of a queue
 abbrev pub first_named : Machine → Names → Option Entry
-first_named machine names.Nothing = None
-first_named machine (names.Source arch source) = record_named machine arch.now source.now
-first_named machine (names.Taken take_number) = taken_as machine take_number
-first_named machine (names.Next next) = head_of machine next.now.arch
+first_named machine names = subject.first_named machine (subject_named names)
 
 -- the other records that are named: what a builder that asks again holds
 abbrev pub others_named : Machine → Names → List Entry
-others_named machine names.Nothing = []
-others_named machine (names.Source arch source) = []
-others_named machine (names.Taken take_number) = []
-others_named machine (names.Next next) = held_again machine next.now.builder next.now.after
+others_named machine names = beside.others_named machine (subject_named names)
 
 -- the key of the record that is put: it is named, or that of the record which is found
 abbrev pub key_named : Names → Option Entry → Option Key
-key_named names.Nothing first = None
-key_named (names.Source arch source) first = Some (arch.now, source.now)
-key_named (names.Taken take_number) first = key_of first
-key_named (names.Next next) first = key_of first
+key_named names first = key_at (subject_named names) first
 
 -- what was found is what a command names of this state, if the records that it names are these
 pub record HasFound (machine : Machine) (command : Command) (names : Names) (found : Found) : Type 0 where

@@ -9,11 +9,11 @@ use crate::known::{Known, find_archs, learn};
 use crate::merging::answer_merge;
 use crate::named::{Named, named_part};
 use deb_text::Text;
-use sqlite::{Alter, Connection};
+use sqlite::Alter;
 use std::alloc::Global;
 use wb_states::{Command, Counts, OsCpu, Refusal, Reply, StoreFault, Table};
-use wb_step::{Store, carry_out};
-use wb_store::unfit;
+use wb_step::{OfficePart, carry_out};
+use wb_store::{Store, unfit};
 
 /// Why a command is not carried out.
 #[derive(Drop)]
@@ -36,19 +36,19 @@ pub(crate) struct Answered {
 }
 
 /// Carries out a command by what is known of the tables, and takes over what is known then.
-pub(crate) fn answer<S: Alter>(
+pub(crate) fn answer<S: Alter + Drop>(
     alloc: Global,
-    conn: &mut Connection<S>,
+    store: &mut Store<S>,
     known: &mut Known,
     command: &Command,
 ) -> Result<Reply, Failure>
-    ensures responds { Responds S.Store command.now known.old conn.old known.new conn.new result }
+    ensures responds { Responds S.Store command.now known.old store.old known.new store.new result }
 {
-    let archs = match find_archs(alloc, conn, known) {
+    let archs = match find_archs(alloc, store, known) {
         Ok(archs) => archs,
         Err(fault) => return Err(Failure::Unread(fault)),
     };
-    match answer_of(alloc, conn, known.counts, archs, command) {
+    match answer_of(alloc, store, known.counts, archs, command) {
         Ok(Answered { reply, counts }) => {
             learn(known, command, counts);
             Ok(reply)
@@ -58,70 +58,60 @@ pub(crate) fn answer<S: Alter>(
 }
 
 /// Carries out a command in an office that has these counts and architectures.
-fn answer_of<S: Alter>(
+fn answer_of<S: Alter + Drop>(
     alloc: Global,
-    conn: &mut Connection<S>,
+    store: &mut Store<S>,
     counts: Counts,
     archs: Vec<(Text, OsCpu)>,
     command: &Command,
 ) -> Result<Answered, Failure>
-    ensures answers { Answers S.Store (AreOf counts archs.items) command.now conn.old conn.new result }
+    ensures answers { Answers S.Store (AreOf counts archs.items) command.now store.old store.new result }
 {
     match command {
-        Command::Merge(merge) => answer_merge(alloc, conn, counts, &archs, command, merge),
-        _ => answer_one(alloc, conn, counts, archs, command),
+        Command::Merge(merge) => answer_merge(alloc, store, counts, &archs, command, merge),
+        _ => answer_one(alloc, store, counts, archs, command),
     }
 }
 
 /// Carries out a command that is no merge.
-fn answer_one<S: Alter>(
+fn answer_one<S: Alter + Drop>(
     alloc: Global,
-    conn: &mut Connection<S>,
+    store: &mut Store<S>,
     counts: Counts,
     archs: Vec<(Text, OsCpu)>,
     command: &Command,
 ) -> Result<Answered, Failure>
     requires single { (arguments_of command.now).merge ≡ None }
-    ensures answers { Answers S.Store (AreOf counts archs.items) command.now conn.old conn.new result }
+    ensures answers { Answers S.Store (AreOf counts archs.items) command.now store.old store.new result }
 {
-    match named_part(alloc, conn, counts, archs, command) {
-        Ok(named) => answer_in(alloc, conn, command, named),
+    match named_part(alloc, store, counts, archs, command) {
+        Ok(named) => answer_in(alloc, store, command, named),
         Err(fault) => Err(Failure::Unread(fault)),
     }
 }
 
 /// Carries out a command in the part of the office that it names, and keeps what it changed.
-fn answer_in<S: Alter>(
+fn answer_in<S: Alter + Drop>(
     alloc: Global,
-    conn: &mut Connection<S>,
+    store: &mut Store<S>,
     command: &Command,
     named: Named,
 ) -> Result<Answered, Failure>
     requires single { (arguments_of command.now).merge ≡ None }
-    ensures answers { Answers S.Store (IsNamed command.now named.part named.key) command.now conn.old conn.new result }
+    ensures answers { Answers S.Store (IsNamed command.now named.part named.key) command.now store.old store.new result }
 {
     let Named { mut part, key } = named;
     let reply = match carry_out(alloc, &mut part, command) {
         Ok(reply) => reply,
         Err(refusal) => return Err(Failure::Refused(refusal)),
     };
-    let counts = counts_in(&part);
+    let counts = part.counts();
     if is_again(&reply) {
         return Ok(Answered { reply, counts });
     }
-    match keep(conn, command, &key, &part) {
+    match keep(store, command, &key, &part) {
         Ok(()) => Ok(Answered { reply, counts }),
         Err(failure) => Err(failure),
-    }
-}
-
-/// The two counts of a part of the office, which are those of the whole one.
-pub(crate) fn counts_in(part: &Store) -> Counts
-    ensures value { result ≡ record { handed = part.now.handed; accepted = part.now.accepted } }
-{
-    match part.office_row() {
-        Ok(counts) => counts,
-        Err(_) => unreachable!(),
     }
 }
 
@@ -133,18 +123,18 @@ fn is_again(reply: &Reply) -> bool
 }
 
 /// Writes what a command changed in a part of the office to the tables.
-fn keep<S: Alter>(
-    conn: &mut Connection<S>,
+fn keep<S: Alter + Drop>(
+    store: &mut Store<S>,
     command: &Command,
     key: &Option<(Text, Text)>,
-    after: &Store,
+    after: &OfficePart,
 ) -> Result<(), Failure>
-    ensures keeps { KeepsStep S.Store command.now key.now after.now conn.old conn.new result }
+    ensures keeps { KeepsStep S.Store command.now key.now after.now store.old store.new result }
 {
-    if !conn.is_autocommit() {
+    if !store.is_idle() {
         return Err(Failure::Unread(unfit(Table::Office)));
     }
-    match carry(conn, command, key, after) {
+    match carry(store, command, key, after) {
         Ok(()) => Ok(()),
         Err(failure) => Err(Failure::Uncommitted(failure)),
     }

@@ -14,39 +14,38 @@ ghost use Rattle.wb_office.specs.Changed.{HasFittingCounts, HasFittingTake, HasF
 
 use deb_text::Text;
 use sqlite::Alter;
-use wb_sql::Writing;
 use wb_states::{COUNT_LIMIT, Command, Counts, OsCpu, Record, StoreFault, Table, command};
-use wb_step::Store;
-use wb_store::unfit;
+use wb_step::OfficePart;
+use wb_store::{Writing, unfit};
 
 /// Writes the change of an accepted command, and the counts after it, in a transaction that is under way. `after` is
 /// the part of the office in which the command was carried out, and `key` is that of the record that it put. The fault
 /// is that of the statement that failed; or, before any, `Memory`, or `Damaged` with row 0 of the office or of the
 /// records if a count or a take number of the part is above [`COUNT_LIMIT`]. The caller then takes the transaction back
 /// (this project's own).
-pub(crate) fn write_change<S: Alter>(
+pub(crate) fn write_change<S: Alter + Drop>(
     writing: &mut Writing<'_, S>,
     command: &Command,
     key: &Option<(Text, Text)>,
-    after: &Store,
+    after: &OfficePart,
 ) -> Result<(), StoreFault>
-    ensures same_reference { writing.new.conn.ghost_name ≡ writing.old.conn.ghost_name }
+    ensures same_reference { writing.new.store.ghost_name ≡ writing.old.store.ghost_name }
     ensures changes { ChangesBy S.Store command.now key.now after.now
-        writing.old.conn.now writing.new.conn.now result }
+        writing.old.store.now writing.new.store.now result }
 {
     let counts = counts_of(after)?;
     write_subject(writing, command, key, after)?;
-    wb_store::set_counts(writing, counts)
+    writing.set_counts(counts)
 }
 
 /// The counts of the part of the office, which are those of the whole one, if they fit.
-pub(crate) fn counts_of(after: &Store) -> Result<Counts, StoreFault>
+pub(crate) fn counts_of(after: &OfficePart) -> Result<Counts, StoreFault>
     ensures value { IfOk result (λ counts.
         (counts.handed ≡ after.now.handed) × (counts.accepted ≡ after.now.accepted)) }
     ensures fits { OnOk result (HasFittingCounts after.now) }
     ensures err { IfErr result (IsUnfit Office (HasFittingCounts after.now)) }
 {
-    let counts = after.office_row()?;
+    let counts = after.counts();
     if counts.handed > COUNT_LIMIT || counts.accepted > COUNT_LIMIT {
         return Err(unfit(Table::Office));
     }
@@ -54,22 +53,20 @@ pub(crate) fn counts_of(after: &Store) -> Result<Counts, StoreFault>
 }
 
 /// Writes what the command added or put, but not the counts.
-fn write_subject<S: Alter>(
+fn write_subject<S: Alter + Drop>(
     writing: &mut Writing<'_, S>,
     command: &Command,
     key: &Option<(Text, Text)>,
-    after: &Store,
+    after: &OfficePart,
 ) -> Result<(), StoreFault>
-    ensures same_reference { writing.new.conn.ghost_name ≡ writing.old.conn.ghost_name }
+    ensures same_reference { writing.new.store.ghost_name ≡ writing.old.store.ghost_name }
     ensures writes { Writes S.Store (IsWriteOf command.now key.now after.now) (LacksFittingNumbers after.now key.now)
         (λ whole. IsStepOf whole command.now key.now after.now) (before_counts command.now)
-        writing.old.conn.now writing.new.conn.now result }
+        writing.old.store.now writing.new.store.now result }
 {
     match command {
         Command::AddArch(command) => write_arch(writing, command),
-        Command::AddBuilder(command) => {
-            wb_store::add_builder(writing, &command.name, &command.arch)
-        }
+        Command::AddBuilder(command) => { writing.add_builder(&command.name, &command.arch) }
         _ => match key {
             Some((arch, source)) => {
                 let is_new = matches!(command, Command::Enter(_));
@@ -81,11 +78,11 @@ fn write_subject<S: Alter>(
 }
 
 /// Adds the architecture of a command.
-fn write_arch<S: Alter>(
+fn write_arch<S: Alter + Drop>(
     writing: &mut Writing<'_, S>,
     command: &command::AddArch,
 ) -> Result<(), StoreFault>
-    ensures same_reference { writing.new.conn.ghost_name ≡ writing.old.conn.ghost_name }
+    ensures same_reference { writing.new.store.ghost_name ≡ writing.old.store.ghost_name }
     ensures writes { Writes S.Store
         (λ it. it ≡ write.AddsArch (command.now.name, record { os = command.now.os; cpu = command.now.cpu }))
         (λ fault. fault ≡ Memory)
@@ -94,25 +91,25 @@ fn write_arch<S: Alter>(
           archs = map.insert machine.archs command.now.name
               (record { os = command.now.os; cpu = command.now.cpu });
         })
-        writing.old.conn.now writing.new.conn.now result }
+        writing.old.store.now writing.new.store.now result }
 {
     let words = OsCpu {
         os: command.os.clone()?,
         cpu: command.cpu.clone()?,
     };
-    wb_store::add_arch(writing, &command.name, &words)
+    writing.add_arch(&command.name, &words)
 }
 
 /// Writes the record that the part of the office has at the key, if there is one: as a new one, or in place of the one
 /// that is there, which is quicker.
-fn write_record<S: Alter>(
+fn write_record<S: Alter + Drop>(
     writing: &mut Writing<'_, S>,
     arch: &Text,
     source: &Text,
-    after: &Store,
+    after: &OfficePart,
     is_new: bool,
 ) -> Result<(), StoreFault>
-    ensures same_reference { writing.new.conn.ghost_name ≡ writing.old.conn.ghost_name }
+    ensures same_reference { writing.new.store.ghost_name ≡ writing.old.store.ghost_name }
     ensures writes { Writes S.Store
         (IsWriteOfRecord is_new (found_at after.now (Some (arch.now, source.now))))
         (IsUnfit SourceRecord (HasFittingTakeAt after.now (Some (arch.now, source.now))))
@@ -120,18 +117,18 @@ fn write_record<S: Alter>(
         (λ machine. record machine {
           records = with_entry (found_at after.now (Some (arch.now, source.now))) machine.records;
         })
-        writing.old.conn.now writing.new.conn.now result }
+        writing.old.store.now writing.new.store.now result }
 {
     let Some(current) = after.get(arch, source)? else {
         return Ok(());
     };
-    if !fits(&current) {
+    if !fits(current) {
         return Err(unfit(Table::SourceRecord));
     }
     if is_new {
-        wb_store::put(writing, arch, source, &current)
+        writing.put(arch, source, current)
     } else {
-        wb_store::replace(writing, arch, source, &current)
+        writing.replace(arch, source, current)
     }
 }
 

@@ -1,6 +1,6 @@
 //! Commands that are carried out one after another.
 ghost use Rattle.std.specs.Prelude.{◌≡◌, ◌++◌, OnOk};
-ghost use Rattle.wb_office.specs.Lives.{IsLedThrough, is_last};
+ghost use Rattle.wb_office.specs.Lives.{IsLedThrough, is_last, leaves_for_some};
 
 use deb_text::Items;
 use std::alloc::AllocError;
@@ -14,7 +14,10 @@ pub type Outcome = Result<Reply, Refusal>;
 fn is_last(outcome: &Outcome) -> bool
     ensures value { result ≡ is_last outcome.now }
 {
-    matches!(outcome, Err(Refusal::Closed | Refusal::Store { .. }))
+    match outcome {
+        Ok(_) => false,
+        Err(refusal) => refusal.is_of_store(),
+    }
 }
 
 /// Has the office carry out the commands, one after another, up to the first whose answer is that the store failed or
@@ -25,7 +28,7 @@ pub(crate) fn carry_out_all<O: CarryOut>(
     commands: &[Command],
     outcomes: &mut Items<Outcome>,
 ) -> Result<(), AllocError>
-    ensures leads { OnOk result (IsLedThrough O.is_clean O.stands_at O.leaves commands.now outcomes.old outcomes.new office.old office.new) }
+    ensures leads { OnOk result (IsLedThrough O.is_clean O.stands_at (leaves_for_some O.leaves) commands.now outcomes.old outcomes.new office.old office.new) }
 {
     for command in commands {
         let outcome = office.carry_out(command);

@@ -8,9 +8,10 @@ ghost use Rattle.wb_store.specs.Opening.{AreCountsOf};
 ghost use Rattle.wb_office.specs.Standing.{Knows};
 
 use deb_text::Text;
-use sqlite::{Alter, Connection};
+use sqlite::Alter;
 use std::alloc::{AllocError, Global};
 use wb_states::{Command, Counts, OsCpu, StoreFault};
+use wb_store::Store;
 
 /// What an office knows of its tables.
 #[derive(Drop)]
@@ -37,20 +38,20 @@ pub(crate) fn copied(
 
 /// All architectures of the office, by name. They are read if they are not known, and are known then. The faults are
 /// those of the look-up, and `Memory`.
-pub(crate) fn find_archs<S: Alter>(
+pub(crate) fn find_archs<S: Alter + Drop>(
     alloc: Global,
-    conn: &mut Connection<S>,
+    store: &mut Store<S>,
     known: &mut Known,
 ) -> Result<Vec<(Text, OsCpu)>, StoreFault>
     ensures finds { Finds S.Store (λ machine archs. Knows machine known.old
-        → (archs.items ≡ map.entries machine.archs) × Knows machine known.new) conn.old conn.new result }
+        → (archs.items ≡ map.entries machine.archs) × Knows machine known.new) store.old store.new result }
     ensures counts { known.new.counts ≡ known.old.counts }
     ensures err { IfErr result (λ _. known.new ≡ known.old) }
 {
     if let Some(archs) = &known.archs {
         return Ok(copied(alloc, archs)?);
     }
-    let found = wb_store::archs(conn)?;
+    let found = store.archs()?;
     let archs = copied(alloc, &found)?;
     known.archs = Some(found);
     Ok(archs)

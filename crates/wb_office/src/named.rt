@@ -14,18 +14,19 @@ mod part;
 use deb_text::Text;
 pub(crate) use found::Found;
 use found::find;
-use names::{Names, key_of, names_of};
+use names::{Names, key_of};
 pub(crate) use part::part_of;
-use sqlite::{Alter, Connection};
+use sqlite::Alter;
 use std::alloc::Global;
 use wb_states::{Command, Counts, OsCpu, StoreFault};
-use wb_step::Store;
+use wb_step::OfficePart;
+use wb_store::Store;
 
 /// What a command names of an office: as much of it as decides the answer.
 #[derive(Drop)]
 pub(crate) struct Named {
     /// The office that has what the command names, and nothing else.
-    pub(crate) part: Store,
+    pub(crate) part: OfficePart,
     /// The key of the record that the command puts if it is accepted.
     pub(crate) key: Option<(Text, Text)>,
 }
@@ -48,17 +49,17 @@ fn named_of(alloc: Global, names: &Names<'_>, found: Found) -> Result<Named, Sto
 /// for a merge that is nothing. The faults are those of the look-ups, and `Memory` if memory runs out. The database
 /// stays as it is; only a failed query may take a transaction back.
 /// Source: this project's own.
-pub(crate) fn named_part<S: Alter>(
+pub(crate) fn named_part<S: Alter + Drop>(
     alloc: Global,
-    conn: &mut Connection<S>,
+    store: &mut Store<S>,
     counts: Counts,
     archs: Vec<(Text, OsCpu)>,
     command: &Command,
 ) -> Result<Named, StoreFault>
     ensures finds { Finds S.Store (λ machine named. AreOf counts archs.items machine
-        → IsNamed command.now named.part named.key machine) conn.old conn.new result }
+        → IsNamed command.now named.part named.key machine) store.old store.new result }
 {
-    let names = names_of(command);
-    let found = find(alloc, conn, counts, archs, command, &names)?;
+    let names = command.names();
+    let found = find(alloc, store, counts, archs, command, &names)?;
     named_of(alloc, &names, found)
 }

@@ -1,5 +1,5 @@
 //! The office over tables: each command is one transaction.
-ghost use Rattle.std.specs.Prelude.{◌≡◌, ◌⊎◌, false, true, Err, IfOk, IfErr, IsTrue};
+ghost use Rattle.std.specs.Prelude.{◌≡◌, ◌⊎◌, false, true, None, Err, IfOk, IfErr, IsTrue};
 ghost use Rattle.sqlite.specs.Files.{file_state};
 ghost use Rattle.sqlite.specs.Held.{state};
 ghost use Rattle.sqlite.specs.State.{HasCleanDisk};
@@ -9,15 +9,18 @@ ghost use Rattle.wb_states.specs.declared.store_fault.StoreFault.TheVariants.{No
 ghost use Rattle.wb_sql.specs.Settled.{LeaveOnly};
 ghost use Rattle.wb_store.specs.Settled.{AreSettledAt, StandsForTrees};
 ghost use Rattle.wb_sql.specs.Among.{HasOffice, LacksOffice};
+ghost use Rattle.wb_sql.specs.Format.{HasFormatColumn};
 ghost use Rattle.wb_store.specs.Checks.{HasGoodRows};
+ghost use Rattle.wb_store.specs.Formats.{IsNewer};
 ghost use Rattle.wb_store.specs.Opening.{HasNoScratchRows, IsRefusedFrom};
 ghost use Rattle.wb_store.specs.Files.{AreFoundAt, AreNew, FailsToOpen, IsFaultOfClosing, IsRefusedOver};
 ghost use Rattle.wb_store.specs.Files.{LeaveOffice};
 ghost use Rattle.wb_store.specs.Preparing.{IsFoundAt};
 ghost use Rattle.wb_office.specs.declared.answer.Failure.TheVariants.{Uncommitted};
 ghost use Rattle.wb_states.specs.Queries.{answer_of, has_malformed_name};
-ghost use Rattle.wb_office.specs.Applies.{Applies, Ends, EndsWith, doubt_for, refusal_for};
+ghost use Rattle.wb_office.specs.Applies.{Applies, Ends, EndsWith, refusal_for};
 ghost use Rattle.wb_office.specs.Asks.{Asks};
+ghost use Rattle.wb_office.specs.Failed.{HasFailed};
 ghost use Rattle.wb_office.specs.Standing.{LeavesOne, StandsAt, StandsAtOne};
 
 use crate::answer::{Failure, answer};
@@ -27,16 +30,15 @@ use crate::query::find_answer;
 use sqlite::{Alter, Connection, FileStore, Files, Options};
 use sqlite_disk::Disk;
 use std::alloc::Global;
-use wb_sql::is_usable;
-use wb_states::{Answer, Command, Query, Refusal, Reply, StoreFault, Table};
+use wb_states::{Answer, Command, Query, Refusal, Reply, StoreFault};
 use wb_step::{CarryOut, check_texts};
-use wb_store::{fault_of, find_office, opening_fault};
+use wb_store::Store;
 
 /// The office, with its state in the tables of a database.
 #[derive(Drop)]
 pub struct Office<S: Alter + Drop> {
     alloc: Global,
-    conn: Connection<S>,
+    store: Store<S>,
     known: Known,
     is_closed: bool,
 }
@@ -45,31 +47,35 @@ impl<S: Alter + Drop> Office<S> {
     /// Opens the office whose tables the connection has, which is in no transaction; a database that lacks them becomes
     /// that of an empty office. Tables of others may stand beside the office's, as
     /// [`has_office_tables`](wb_sql::has_office_tables) and [`lacks_office`](wb_sql::lacks_office) say. Each row of
-    /// the office's tables is tested. The faults are `NotOffice` if the database has something of the office's names, but
-    /// not its tables, or a table that refers to them, and is then left as it is, or the row of the office is missing or
-    /// of an older format, `NewerSchema` if that format is newer than this program's, `Damaged` with
-    /// the table and the first row, counted from 1, that breaks the rules of an office, or with row 0 if a statement on
-    /// the table was refused, `Memory`, and `Device` if the disk failed or is full. After a fault a crash leaves the office
-    /// as it was found, or the tables of an empty one (this project's own).
+    /// the office's tables is tested. The faults are `NewerSchema` if the table `office` has one row, with a format that is
+    /// newer than this program's, whatever its other tables are; `NotOffice` if the database has something of the office's
+    /// names, but not its tables, or a table that refers to them, and is then left as it is, or the row of the office is
+    /// missing or of an older format; `Damaged` with the table and the first row, counted from 1, that breaks the rules of
+    /// an office, or with row 0 if a statement on the table was refused, `Memory`, and `Device` if the disk failed or is
+    /// full. After a fault a crash leaves the office as it was found, or the tables of an empty one, and no transaction is
+    /// under way. A limit of steps of the connection stays (this project's own).
     pub fn adopt(alloc: Global, conn: Connection<S>) -> Result<Office<S>, StoreFault>
         requires idle { conn.in_transaction ≡ false }
         ensures opened { IfOk result (λ office. office.is_closed ≡ false) }
-        ensures found { IfOk result (λ office. HasCleanDisk (state S.Store office.conn)
+        ensures found { IfOk result (λ office. HasCleanDisk (state S.Store office.store)
             → (machine : Machine) → IsFoundAt machine (state S.Store conn)
-            → StandsAt machine office.is_closed office.known (state S.Store office.conn)) }
-        ensures good { IfOk result (λ office. HasCleanDisk (state S.Store office.conn)
+            → StandsAt machine office.is_closed office.known (state S.Store office.store)) }
+        ensures good { IfOk result (λ office. HasCleanDisk (state S.Store office.store)
             → HasOffice conn.schema
             → HasGoodRows (state S.Store conn).now × HasNoScratchRows (state S.Store conn).now) }
         ensures known { IfOk result (λ _. LacksOffice conn.schema ⊎ HasOffice conn.schema) }
-        ensures other { ¬ LacksOffice conn.schema → ¬ HasOffice conn.schema → result ≡ Err NotOffice }
-        ensures clean { IfOk result (λ office. HasCleanDisk (state S.Store office.conn) → HasCleanDisk (state S.Store conn)) }
+        ensures newer { IfOk result (λ office. HasCleanDisk (state S.Store office.store)
+            → ¬ IsNewer (state S.Store conn).now) }
+        ensures other { ¬ LacksOffice conn.schema → ¬ HasOffice conn.schema
+            → ¬ HasFormatColumn conn.schema → result ≡ Err NotOffice }
+        ensures limit { IfOk result (λ office. office.store.step_limit ≡ conn.step_limit) }
+        ensures clean { IfOk result (λ office. HasCleanDisk (state S.Store office.store) → HasCleanDisk (state S.Store conn)) }
         ensures refused { IfErr result (IsRefusedFrom S.Store conn) }
     {
-        let mut conn = conn;
-        match find_office(&mut conn) {
-            Ok(counts) => Ok(Office {
+        match Store::adopt(conn) {
+            Ok((store, counts)) => Ok(Office {
                 alloc,
-                conn,
+                store,
                 known: Known {
                     counts,
                     archs: None,
@@ -97,17 +103,17 @@ impl<S: Alter + Drop> Office<S> {
     /// leaves the command whole or not at all. A closed office, and no other, answers `Closed` to each command (this
     /// project's own).
     pub fn apply(&mut self, command: &Command) -> Result<Reply, Refusal>
-        ensures applies { Applies S.Store command.now self.old.is_closed self.old.known self.old.conn
-            self.new.is_closed self.new.known self.new.conn result }
+        ensures applies { Applies S.Store command.now self.old.is_closed self.old.known self.old.store
+            self.new.is_closed self.new.known self.new.store result }
     {
         if self.is_closed {
             return Err(Refusal::Closed);
         }
         check_texts(self.alloc, command)?;
-        match answer(self.alloc, &mut self.conn, &mut self.known, command) {
+        match answer(self.alloc, &mut self.store, &mut self.known, command) {
             Ok(reply) => Ok(reply),
             Err(failure) => {
-                let (refusal, is_closed) = end(&mut self.conn, failure);
+                let (refusal, is_closed) = end(&mut self.store, failure);
                 self.is_closed = is_closed;
                 Err(refusal)
             }
@@ -122,8 +128,8 @@ impl<S: Alter + Drop> Office<S> {
     /// used on. After `Store` it is closed. The office is as it was after each answer (this project's own).
     pub fn ask(&mut self, query: &Query) -> Result<Answer, Refusal>
         ensures asks { Asks S.Store (λ machine. answer_of machine query.now)
-            (has_malformed_name query.now) self.old.is_closed self.old.known self.old.conn
-            self.new.is_closed self.new.known self.new.conn result }
+            (has_malformed_name query.now) self.old.is_closed self.old.known self.old.store
+            self.new.is_closed self.new.known self.new.store result }
     {
         if self.is_closed {
             return Err(Refusal::Closed);
@@ -131,10 +137,10 @@ impl<S: Alter + Drop> Office<S> {
         if query.has_malformed_name() {
             return Err(Refusal::BadName);
         }
-        match find_answer(&mut self.conn, query) {
+        match find_answer(&mut self.store, query) {
             Ok(answer) => answer,
             Err(fault) => {
-                let (refusal, is_closed) = end_with(&mut self.conn, fault);
+                let (refusal, is_closed) = end_with(&mut self.store, fault);
                 self.is_closed = is_closed;
                 Err(refusal)
             }
@@ -144,7 +150,7 @@ impl<S: Alter + Drop> Office<S> {
 
 impl<D: Disk + Drop> Office<FileStore<D>> {
     /// Opens the office that two files hold, a database and its log; a database that lacks the office's tables becomes
-    /// that of an empty office. Each row is tested. The faults are those of [`opening_fault`] if the files cannot be
+    /// that of an empty office. Each row is tested. The faults are those of [`Store::open`] if the files cannot be
     /// opened as a database, and those of [`adopt`](Office::adopt) (this project's own).
     pub fn open(
         alloc: Global,
@@ -154,22 +160,29 @@ impl<D: Disk + Drop> Office<FileStore<D>> {
         requires log { IsTrue (D.Disk.is_usable files.log) }
         requires db { IsTrue (D.Disk.is_usable files.db) }
         ensures opened { IfOk result (λ office. office.is_closed ≡ false) }
-        ensures found { IfOk result (λ office. HasCleanDisk (file_state office.conn)
+        ensures found { IfOk result (λ office. HasCleanDisk (file_state office.store)
             → (machine : Machine) → AreFoundAt D.Disk files machine
-            → StandsAt machine office.is_closed office.known (file_state office.conn)) }
-        ensures left { IfOk result (λ office. HasCleanDisk (file_state office.conn)
+            → StandsAt machine office.is_closed office.known (file_state office.store)) }
+        ensures left { IfOk result (λ office. HasCleanDisk (file_state office.store)
             → (one other : Machine) → LeaveOffice D.Disk files one other
-            → StandsAtOne one other office.is_closed office.known (file_state office.conn)) }
-        ensures new { IfOk result (λ office. HasCleanDisk (file_state office.conn) → AreNew D.Disk files
-            → StandsAt empty_office office.is_closed office.known (file_state office.conn)) }
-        ensures clean { IfOk result (λ office. HasCleanDisk (file_state office.conn)
+            → StandsAtOne one other office.is_closed office.known (file_state office.store)) }
+        ensures new { IfOk result (λ office. HasCleanDisk (file_state office.store) → AreNew D.Disk files
+            → StandsAt empty_office office.is_closed office.known (file_state office.store)) }
+        ensures clean { IfOk result (λ office. HasCleanDisk (file_state office.store)
             → AreClean D.Disk files.log files.db) }
+        ensures unlimited { IfOk result (λ office. office.store.step_limit ≡ None) }
         ensures refused { IfErr result (λ fault. FailsToOpen D.Disk files fault ⊎ IsRefusedOver D.Disk files fault) }
     {
-        match wb_sql::open(alloc, files, options) {
-            Ok(conn) => Office::adopt(alloc, conn),
-            Err((error, _)) => Err(opening_fault(error)),
-        }
+        let (store, counts) = Store::open(alloc, files, options)?;
+        Ok(Office {
+            alloc,
+            store,
+            known: Known {
+                counts,
+                archs: None,
+            },
+            is_closed: false,
+        })
     }
 
     /// Closes the office, and gives back its files: they hold its state, also after a crash. The fault is `Memory`, or
@@ -177,50 +190,42 @@ impl<D: Disk + Drop> Office<FileStore<D>> {
     /// before (this project's own).
     pub fn close(self) -> Result<Files<D>, StoreFault>
         ensures settled { IfOk result (λ files. AreClean D.Disk files.log files.db → (machine : Machine)
-            → StandsAt machine self.is_closed self.known (file_state self.conn)
+            → StandsAt machine self.is_closed self.known (file_state self.store)
             → AreSettledAt D.Disk files machine) }
         ensures either { IfOk result (λ files. AreClean D.Disk files.log files.db → (before after : Machine)
-            → LeavesOne before after self.is_closed (file_state self.conn)
+            → LeavesOne before after self.is_closed (file_state self.store)
             → AreSettledAt D.Disk files before ⊎ AreSettledAt D.Disk files after) }
         ensures usable { IfOk result (λ files. IsTrue (D.Disk.is_usable files.log) × IsTrue (D.Disk.is_usable files.db)) }
-        ensures err { IfErr result (IsFaultOfClosing self.conn) }
+        ensures err { IfErr result (IsFaultOfClosing self.store) }
     {
-        let Office {
-            alloc: _,
-            conn,
-            known: _,
-            is_closed: _,
-        } = self;
-        match conn.close_files() {
-            Ok(files) => Ok(files),
-            Err((error, _)) => Err(fault_of(error, Table::Office)),
-        }
+        self.store.close()
     }
 
     /// Gives the office up, as after a fault, and hands out its files. A crash leaves of them what it could leave of the
     /// office: its state, or, after a commit in doubt, the state before or after it (this project's own).
     pub fn surrender(self) -> Files<D>
-        ensures left { AreClean D.Disk result.log result.db → LeaveOnly D.Disk result (file_state self.conn).may_leave }
-        ensures clean { AreClean D.Disk result.log result.db → HasCleanDisk (file_state self.conn) }
+        ensures left { AreClean D.Disk result.log result.db → LeaveOnly D.Disk result (file_state self.store).may_leave }
+        ensures clean { AreClean D.Disk result.log result.db → HasCleanDisk (file_state self.store) }
         ensures stands { AreClean D.Disk result.log result.db → (machine : Machine)
-            → StandsAt machine self.is_closed self.known (file_state self.conn)
+            → StandsAt machine self.is_closed self.known (file_state self.store)
             → LeaveOnly D.Disk result (StandsForTrees machine) }
         ensures either { AreClean D.Disk result.log result.db → (before after : Machine)
-            → LeavesOne before after self.is_closed (file_state self.conn)
+            → LeavesOne before after self.is_closed (file_state self.store)
             → LeaveOnly D.Disk result (λ db. StandsForTrees before db ⊎ StandsForTrees after db) }
     {
-        wb_sql::surrender(self.conn)
+        self.store.surrender()
     }
 }
 
 impl<S: Alter + Drop> CarryOut for Office<S> {
-    ghost is_clean = { λ office. HasCleanDisk (state S.Store office.conn) };
+    ghost is_clean = { λ office. HasCleanDisk (state S.Store office.store) };
 
-    ghost stands_at = { λ office machine. StandsAt machine office.is_closed office.known (state S.Store office.conn) };
+    ghost stands_at = { λ office machine. StandsAt machine office.is_closed office.known (state S.Store office.store) };
 
     ghost is_closed = { λ office. office.is_closed ≡ true };
 
-    ghost leaves = { λ office before after. LeavesOne before after office.is_closed (state S.Store office.conn) };
+    ghost leaves = { λ office before after fault. LeavesOne before after office.is_closed (state S.Store office.store)
+        × HasFailed S.Store fault office.store };
 
     fn accepted_count(&self) -> u64 {
         self.known.counts.accepted
@@ -238,37 +243,37 @@ impl<S: Alter + Drop> CarryOut for Office<S> {
 }
 
 /// What is answered after a failure, and whether the office is closed then.
-fn end<S: Alter>(conn: &mut Connection<S>, failure: Failure) -> (Refusal, bool)
-    ensures ends { Ends S.Store failure conn.old conn.new result.0 result.1 }
+fn end<S: Alter + Drop>(store: &mut Store<S>, failure: Failure) -> (Refusal, bool)
+    ensures ends { Ends S.Store failure store.old store.new result.0 result.1 }
 {
     match failure {
         Failure::Refused(refusal) => {
             let is_closed = refusal.is_of_store();
             (refusal, is_closed)
         }
-        Failure::Unread(fault) => end_with(conn, fault),
-        Failure::Uncommitted(failure) => end_uncommitted(conn, failure),
+        Failure::Unread(fault) => end_with(store, fault),
+        Failure::Uncommitted(failure) => end_uncommitted(store, failure),
     }
 }
 
 /// The same after a transaction that was not committed.
-fn end_uncommitted<S: Alter>(conn: &mut Connection<S>, failure: CarryError) -> (Refusal, bool)
-    ensures ends { Ends S.Store (Uncommitted failure) conn.old conn.new result.0 result.1 }
+fn end_uncommitted<S: Alter + Drop>(store: &mut Store<S>, failure: CarryError) -> (Refusal, bool)
+    ensures ends { Ends S.Store (Uncommitted failure) store.old store.new result.0 result.1 }
 {
     match failure {
-        CarryError::TakenBack(fault) => end_with(conn, fault),
+        CarryError::TakenBack(fault) => end_with(store, fault),
         CarryError::RollBackFailed(fault) => (refusal_for(fault), true),
-        CarryError::InDoubt(fault) => (doubt_for(fault), true),
+        CarryError::InDoubt(fault) => (Refusal::Store { fault }, true),
     }
 }
 
 /// What is answered after this fault of a call that changed nothing: out of memory, the office goes on if its
 /// connection can still be used, and otherwise it is closed.
-fn end_with<S: Alter>(conn: &mut Connection<S>, fault: StoreFault) -> (Refusal, bool)
-    ensures ends { EndsWith S.Store fault conn.old conn.new result.0 result.1 }
+fn end_with<S: Alter + Drop>(store: &mut Store<S>, fault: StoreFault) -> (Refusal, bool)
+    ensures ends { EndsWith S.Store fault store.old store.new result.0 result.1 }
 {
     match fault {
-        StoreFault::Memory => (Refusal::Memory, !is_usable(conn)),
+        StoreFault::Memory => (Refusal::Memory, !store.is_usable()),
         fault => (Refusal::Store { fault }, true),
     }
 }
@@ -279,18 +284,6 @@ fn refusal_for(fault: StoreFault) -> Refusal
 {
     match fault {
         StoreFault::Memory => Refusal::Memory,
-        fault => Refusal::Store { fault },
-    }
-}
-
-/// The refusal for a commit in doubt.
-fn doubt_for(fault: StoreFault) -> Refusal
-    ensures value { result ≡ doubt_for fault }
-{
-    match fault {
-        StoreFault::Memory => Refusal::Store {
-            fault: StoreFault::Device,
-        },
         fault => Refusal::Store { fault },
     }
 }

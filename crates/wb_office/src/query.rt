@@ -6,42 +6,43 @@ ghost use Rattle.wb_states.specs.Queries.{answer_in, found_at, item_in, mine_in}
 ghost use Rattle.wb_store.specs.Finds.{Finds};
 
 use deb_text::{Items, Text};
-use sqlite::{Alter, Connection};
+use sqlite::Alter;
 use std::alloc::AllocError;
 use wb_states::{Answer, KeyedRecord, Query, Record, Refusal, StoreFault};
+use wb_store::Store;
 
 /// What the office answers to a query of which each name has its form. The faults are those of the look-ups, and `Memory`.
 /// The database stays as it is; only a failed look-up may take a transaction back.
-pub(crate) fn find_answer<S: Alter>(
-    conn: &mut Connection<S>,
+pub(crate) fn find_answer<S: Alter + Drop>(
+    store: &mut Store<S>,
     query: &Query,
 ) -> Result<Result<Answer, Refusal>, StoreFault>
     ensures finds { Finds S.Store (λ machine answer. answer ≡ answer_in machine query.now)
-        conn.old conn.new result }
+        store.old store.new result }
     ensures kind { IfOk result (λ answer. IfErr answer (λ refusal. is_of_store refusal ≡ false)) }
 {
     match query {
-        Query::Item { arch, source } => find_item(conn, arch, source),
-        Query::Mine { builder } => find_mine(conn, builder),
+        Query::Item { arch, source } => find_item(store, arch, source),
+        Query::Mine { builder } => find_mine(store, builder),
     }
 }
 
 /// The same for the record of the source package on the architecture.
-fn find_item<S: Alter>(
-    conn: &mut Connection<S>,
+fn find_item<S: Alter + Drop>(
+    store: &mut Store<S>,
     arch: &Text,
     source: &Text,
 ) -> Result<Result<Answer, Refusal>, StoreFault>
     ensures finds { Finds S.Store (λ machine answer. answer ≡ item_in machine arch.now source.now)
-        conn.old conn.new result }
+        store.old store.new result }
     ensures kind { IfOk result (λ answer. IfErr answer (λ refusal. is_of_store refusal ≡ false)) }
 {
-    let words = wb_store::arch(conn, arch)?;
+    let words = store.arch(arch)?;
     let is_unknown = words.is_none();
     if is_unknown {
         return Ok(Err(Refusal::UnknownArch));
     }
-    let found = wb_store::get(conn, arch, source)?;
+    let found = store.get(arch, source)?;
     Ok(item_found(arch, source, found)?)
 }
 
@@ -65,30 +66,20 @@ fn item_found(
 }
 
 /// The same for what the builder holds.
-fn find_mine<S: Alter>(
-    conn: &mut Connection<S>,
+fn find_mine<S: Alter + Drop>(
+    store: &mut Store<S>,
     builder: &Text,
 ) -> Result<Result<Answer, Refusal>, StoreFault>
     ensures finds { Finds S.Store (λ machine answer. answer ≡ mine_in machine builder.now)
-        conn.old conn.new result }
+        store.old store.new result }
     ensures kind { IfOk result (λ answer. IfErr answer (λ refusal. is_of_store refusal ≡ false)) }
 {
-    let archs = wb_store::archs_of(conn, builder)?;
-    let is_unknown = is_of_none(archs.as_slice());
+    let archs = store.archs_of(builder)?;
+    let is_unknown = archs.is_empty();
     if is_unknown {
         return Ok(Err(Refusal::UnknownBuilder));
     }
-    let records = Items::from(wb_store::held_by(conn, builder)?);
+    let records = Items::from(store.held_by(builder)?);
     let builder = builder.clone()?;
     Ok(Ok(Answer::Mine { builder, records }))
-}
-
-/// Whether a builder that builds for these architectures builds for none.
-fn is_of_none(archs: &[Text]) -> bool
-    ensures value { result ≡ not (is_nonempty archs.now) }
-{
-    match archs {
-        [] => true,
-        [_, ..] => false,
-    }
 }

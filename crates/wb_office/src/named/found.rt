@@ -12,10 +12,10 @@ ghost use Rattle.wb_office.specs.Sought.{HasFound, first_named, others_named};
 
 use crate::named::names::Names;
 use deb_text::Text;
-use sqlite::{Alter, Connection};
+use sqlite::Alter;
 use std::alloc::{AllocError, Global};
 use wb_states::{Command, Counts, KeyedRecord, OsCpu, Record, StoreFault, command};
-use wb_store::{archs_of, by_take, get, has_builder, head, held_by};
+use wb_store::Store;
 
 /// What a command names of an office, as it is known or was found in the tables.
 #[derive(Drop)]
@@ -53,47 +53,47 @@ fn keyed(
 
 /// The record of the source package on the architecture, with its key, or none if it has no record there. The faults
 /// are those of the look-up, and `Memory`.
-fn find_source<S: Alter>(
-    conn: &mut Connection<S>,
+fn find_source<S: Alter + Drop>(
+    store: &mut Store<S>,
     arch: &Text,
     source: &Text,
 ) -> Result<Option<KeyedRecord>, StoreFault>
     ensures finds { Finds S.Store (λ machine row. option_map entry_of row
-        ≡ record_named machine arch.now source.now) conn.old conn.new result }
+        ≡ record_named machine arch.now source.now) store.old store.new result }
 {
-    let found = get(conn, arch, source)?;
+    let found = store.get(arch, source)?;
     Ok(keyed(arch, source, found)?)
 }
 
 /// The first record that is named, or none if there is no such record. The faults are those of the look-up, and
 /// `Memory`.
-fn find_first<S: Alter>(
-    conn: &mut Connection<S>,
+fn find_first<S: Alter + Drop>(
+    store: &mut Store<S>,
     names: &Names<'_>,
 ) -> Result<Option<KeyedRecord>, StoreFault>
     ensures finds { Finds S.Store (λ machine row. option_map entry_of row
-        ≡ first_named machine names.now) conn.old conn.new result }
+        ≡ first_named machine names.now) store.old store.new result }
 {
     match *names {
         Names::Nothing => Ok(None),
-        Names::Source(arch, source) => find_source(conn, arch, source),
-        Names::Taken(take_number) => by_take(conn, take_number),
-        Names::Next(next) => head(conn, &next.arch),
+        Names::Source(arch, source) => find_source(store, arch, source),
+        Names::Taken(take_number) => store.by_take(take_number),
+        Names::Next(next) => store.head(&next.arch),
     }
 }
 
 /// The other records that are named, by take number: what a builder that asks again holds. The faults are those of the
 /// look-up.
-fn find_others<S: Alter>(
+fn find_others<S: Alter + Drop>(
     alloc: Global,
-    conn: &mut Connection<S>,
+    store: &mut Store<S>,
     names: &Names<'_>,
 ) -> Result<Vec<KeyedRecord>, StoreFault>
     ensures finds { Finds S.Store (λ machine rows. each entry_of rows.items
-        ≡ others_named machine names.now) conn.old conn.new result }
+        ≡ others_named machine names.now) store.old store.new result }
 {
     match *names {
-        Names::Next(next) if next.after.is_some() => held_by(conn, &next.builder),
+        Names::Next(next) if next.after.is_some() => store.held_by(&next.builder),
         _ => Ok(Vec::new(alloc)),
     }
 }
@@ -115,15 +115,15 @@ fn pairs_with(
 }
 
 /// The builder with each architecture for which it was added. The faults are those of the look-up, and `Memory`.
-fn find_pairs_of<S: Alter>(
+fn find_pairs_of<S: Alter + Drop>(
     alloc: Global,
-    conn: &mut Connection<S>,
+    store: &mut Store<S>,
     builder: &Text,
 ) -> Result<Vec<(Text, Text)>, StoreFault>
     ensures finds { Finds S.Store (λ machine pairs. pairs.items
-        ≡ each (λ arch. (builder.now, arch)) (archs_of machine builder.now)) conn.old conn.new result }
+        ≡ each (λ arch. (builder.now, arch)) (archs_of machine builder.now)) store.old store.new result }
 {
-    let archs = archs_of(conn, builder)?;
+    let archs = store.archs_of(builder)?;
     Ok(pairs_with(alloc, builder, archs)?)
 }
 
@@ -145,33 +145,33 @@ fn pair_if(
 
 /// The pair of the builder and the architecture, if it was added. The faults are those of the look-up, and
 /// `Memory`.
-fn find_pair<S: Alter>(
+fn find_pair<S: Alter + Drop>(
     alloc: Global,
-    conn: &mut Connection<S>,
+    store: &mut Store<S>,
     adds: &command::AddBuilder,
 ) -> Result<Vec<(Text, Text)>, StoreFault>
     ensures finds { Finds S.Store (λ machine pairs. pairs.items
         ≡ cond (set.contains machine.builders (adds.now.name, adds.now.arch))
-        ((adds.now.name, adds.now.arch) ∷ []) []) conn.old conn.new result }
+        ((adds.now.name, adds.now.arch) ∷ []) []) store.old store.new result }
 {
-    let is_there = has_builder(conn, &adds.name, &adds.arch)?;
+    let is_there = store.has_builder(&adds.name, &adds.arch)?;
     Ok(pair_if(alloc, is_there, adds)?)
 }
 
 /// The pairs of a builder and an architecture that the command names. The faults are those of the look-up, and
 /// `Memory`.
-fn find_pairs<S: Alter>(
+fn find_pairs<S: Alter + Drop>(
     alloc: Global,
-    conn: &mut Connection<S>,
+    store: &mut Store<S>,
     command: &Command,
 ) -> Result<Vec<(Text, Text)>, StoreFault>
     ensures finds { Finds S.Store (λ machine pairs. pairs.items
-        ≡ pairs_named machine command.now) conn.old conn.new result }
+        ≡ pairs_named machine command.now) store.old store.new result }
 {
     match command {
-        Command::AddBuilder(adds) => find_pair(alloc, conn, adds),
-        Command::Next(next) => find_pairs_of(alloc, conn, &next.builder),
-        Command::Take(take) => find_pairs_of(alloc, conn, &take.builder),
+        Command::AddBuilder(adds) => find_pair(alloc, store, adds),
+        Command::Next(next) => find_pairs_of(alloc, store, &next.builder),
+        Command::Take(take) => find_pairs_of(alloc, store, &take.builder),
         _ => Ok(Vec::new(alloc)),
     }
 }
@@ -179,20 +179,20 @@ fn find_pairs<S: Alter>(
 /// What a command that names these records names of an office that has these counts and architectures. The faults are
 /// those of the look-ups, and `Memory`. The database stays as it is; only a failed query may take a transaction
 /// back.
-pub(crate) fn find<S: Alter>(
+pub(crate) fn find<S: Alter + Drop>(
     alloc: Global,
-    conn: &mut Connection<S>,
+    store: &mut Store<S>,
     counts: Counts,
     archs: Vec<(Text, OsCpu)>,
     command: &Command,
     names: &Names<'_>,
 ) -> Result<Found, StoreFault>
     ensures finds { Finds S.Store (λ machine found. AreOf counts archs.items machine
-        → HasFound machine command.now names.now found) conn.old conn.new result }
+        → HasFound machine command.now names.now found) store.old store.new result }
 {
-    let first = find_first(conn, names)?;
-    let others = find_others(alloc, conn, names)?;
-    let pairs = find_pairs(alloc, conn, command)?;
+    let first = find_first(store, names)?;
+    let others = find_others(alloc, store, names)?;
+    let pairs = find_pairs(alloc, store, command)?;
     Ok(Found {
         counts,
         archs,

@@ -10,10 +10,10 @@ use crate::named::found::Found;
 use deb_text::Text;
 use std::alloc::Global;
 use wb_states::{KeyedRecord, OsCpu, StoreFault};
-use wb_step::Store;
+use wb_step::OfficePart;
 
 /// Adds the architectures: of two with one name, the first. The only error is `Memory`.
-fn add_archs(store: &mut Store, archs: Vec<(Text, OsCpu)>) -> Result<(), StoreFault>
+fn add_archs(store: &mut OfficePart, archs: Vec<(Text, OsCpu)>) -> Result<(), StoreFault>
     ensures ok { OnOk result (store.new ≡ with_archs store.old archs.items) }
     ensures fault { IfErr result (λ fault. fault ≡ Memory) }
 {
@@ -25,7 +25,7 @@ fn add_archs(store: &mut Store, archs: Vec<(Text, OsCpu)>) -> Result<(), StoreFa
 }
 
 /// Adds that these builders build for these architectures. The only error is `Memory`.
-fn add_pairs(store: &mut Store, pairs: Vec<(Text, Text)>) -> Result<(), StoreFault>
+fn add_pairs(store: &mut OfficePart, pairs: Vec<(Text, Text)>) -> Result<(), StoreFault>
     ensures ok { OnOk result (store.new ≡ with_pairs store.old pairs.items) }
     ensures fault { IfErr result (λ fault. fault ≡ Memory) }
 {
@@ -37,18 +37,19 @@ fn add_pairs(store: &mut Store, pairs: Vec<(Text, Text)>) -> Result<(), StoreFau
 }
 
 /// Adds a record, and its holder for its architecture. The only error is `Memory`.
-fn add_row(store: &mut Store, row: KeyedRecord) -> Result<(), StoreFault>
+fn add_row(store: &mut OfficePart, row: KeyedRecord) -> Result<(), StoreFault>
     ensures ok { OnOk result (store.new ≡ with_entry store.old (entry_of row)) }
     ensures fault { IfErr result (λ fault. fault ≡ Memory) }
 {
     if let Some(holder) = &row.current.holder {
         store.add_builder(holder.clone()?, row.arch.clone()?)?;
     }
-    store.put(row.arch, row.source, row.current)
+    store.put(row.arch, row.source, row.current)?;
+    Ok(())
 }
 
 /// Adds the records and their holders: of two records with one key, the first. The only error is `Memory`.
-fn add_rows(store: &mut Store, rows: Vec<KeyedRecord>) -> Result<(), StoreFault>
+fn add_rows(store: &mut OfficePart, rows: Vec<KeyedRecord>) -> Result<(), StoreFault>
     ensures ok { OnOk result (store.new ≡ with_entries store.old (each entry_of rows.items)) }
     ensures fault { IfErr result (λ fault. fault ≡ Memory) }
 {
@@ -60,7 +61,7 @@ fn add_rows(store: &mut Store, rows: Vec<KeyedRecord>) -> Result<(), StoreFault>
 }
 
 /// Adds a record, if there is one, and its holder. The only error is `Memory`.
-fn add_first(store: &mut Store, first: Option<KeyedRecord>) -> Result<(), StoreFault>
+fn add_first(store: &mut OfficePart, first: Option<KeyedRecord>) -> Result<(), StoreFault>
     ensures ok { OnOk result (store.new ≡ with_entries store.old (listed (option_map entry_of first))) }
     ensures fault { IfErr result (λ fault. fault ≡ Memory) }
 {
@@ -72,12 +73,12 @@ fn add_first(store: &mut Store, first: Option<KeyedRecord>) -> Result<(), StoreF
 
 /// The office that has what was found, and the pairs of the records' holders, and nothing else. The only error is
 /// `Memory`.
-pub(crate) fn part_of(alloc: Global, found: Found) -> Result<Store, StoreFault>
+pub(crate) fn part_of(alloc: Global, found: Found) -> Result<OfficePart, StoreFault>
     ensures value { IfOk result (λ part. part ≡ office_of found) }
     ensures fault { IfErr result (λ fault. fault ≡ Memory) }
 {
-    let mut store = Store::new(alloc);
-    store.set_counts(found.counts)?;
+    let mut store = OfficePart::new(alloc);
+    store.set_counts(found.counts);
     add_archs(&mut store, found.archs)?;
     add_pairs(&mut store, found.pairs)?;
     add_rows(&mut store, found.others)?;

@@ -5,5 +5,5 @@ use Rattle.wb_office.proofs.answer.keep.Goals as goal
 
 pub returns-in-Err : goal.returns-in-Err
 returns-in-Err g c = record {
-  keeps = not_committed (subst (CarriesOut g.S.Store c.args.command.now c.args.key.now c.args.after.now c.args.conn.now c.carry.new.conn) c.in-Err.is c.carry.ensures.carries);
+  keeps = not_committed (subst (CarriesOut g.S.Store c.args.command.now c.args.key.now c.args.after.now c.args.store.now c.carry.new.store) c.in-Err.is c.carry.ensures.carries);
 }

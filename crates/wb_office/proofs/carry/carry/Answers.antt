@@ -2,9 +2,9 @@ use Rattle.std.proofs.Common.{rules, ◌≡◌, ◌∙◌, ap, sym, subst, Ok, E
 use Rattle.wb_states.specs.declared.store_fault.StoreFault.TheVariants as fault
 use Rattle.sqlite.specs.Held.{state}
 use Rattle.sqlite.specs.State.{HasCleanDisk, Survives}
-use Rattle.wb_sql.specs.declared.writing.CommitError.TheVariants.{Memory}
-use Rattle.wb_sql.specs.Transactions.{cause_of, FailsToCommit}
+use Rattle.wb_store.specs.Ending.{IsFaultOfCommit}
 use Rattle.wb_store.specs.Settled.{SettlesBy}
+use Rattle.wb_office.specs.declared.carry.CarryError.TheVariants.{InDoubt}
 use Rattle.wb_office.specs.Changed.{ChangesBy}
 use Rattle.wb_office.specs.Carried.{CarriesOut}
 use Rattle.wb_office.proofs.CarryLemmas.{carries_not, change_why, change_way, change_survives, carries_it, carries_in_doubt, commit_survives, memory_why, memory_way}
@@ -15,10 +15,10 @@ returns-in-Err g c =
     let command = c.args.command.now in
     let key = c.args.key.now in
     let after = c.args.after.now in
-    let old = c.args.conn.now in
-    let mid = c.write_change.new.writing.conn.now in
-    let end = c.roll_back-ended.new.writing.0 in
-    let same : end ≡ c.conn-1.given.0 = search rules in
+    let old = c.args.store.now in
+    let mid = c.write_change.new.writing.store.now in
+    let end = c.roll_back-ended.new.self.0 in
+    let same : end ≡ c.store-1.given.0 = search rules in
     let change = subst (λ start. ChangesBy g.S.Store command key after start mid (Err c.in-Err.fault)) c.begin-writing.ensures.begun c.in-Err.ensures.changes in
     record {
       carries = subst (λ h. CarriesOut g.S.Store command key after old h (Err c.failure.result)) same
@@ -34,30 +34,29 @@ returns-in-Ok g c =
     let command = c.args.command.now in
     let key = c.args.key.now in
     let after = c.args.after.now in
-    let old = c.args.conn.now in
-    let mid = c.write_change.new.writing.conn.now in
-    let end = c.commit.new.writing.0 in
-    let same : end ≡ c.conn-2-1.given.0 = search rules in
+    let old = c.args.store.now in
+    let mid = c.write_change.new.writing.store.now in
+    let end = c.commit.new.self.0 in
+    let same : end ≡ c.store-2-1.given.0 = search rules in
     let change = subst (λ start. ChangesBy g.S.Store command key after start mid (Ok tt)) c.begin-writing.ensures.begun c.in_default.ensures.changes in
     record {
       carries = subst (λ h. CarriesOut g.S.Store command key after old h (Ok tt)) same
           (carries_it g.S.Store command key after old mid end change c.commit.result c.commit.ensures.settles c.commit.ensures.cause c.commit.ensures.survives c.in-Ok.is);
     }
 
-pub returns-in-Err-InDoubt : goal.returns-in-Err-InDoubt
-returns-in-Err-InDoubt g c =
+pub returns-in-Err-commit : goal.returns-in-Err-commit
+returns-in-Err-commit g c =
     let command = c.args.command.now in
     let key = c.args.key.now in
     let after = c.args.after.now in
-    let old = c.args.conn.now in
-    let mid = c.write_change.new.writing.conn.now in
-    let end = c.commit.new.writing.0 in
-    let same : end ≡ c.conn-2-1.given.0 = search rules in
+    let old = c.args.store.now in
+    let mid = c.write_change.new.writing.store.now in
+    let end = c.commit.new.self.0 in
+    let same : end ≡ c.store-2-1.given.0 = search rules in
     let change = subst (λ start. ChangesBy g.S.Store command key after start mid (Ok tt)) c.begin-writing.ensures.begun c.in_default.ensures.changes in
     record {
-      carries = subst (λ h. CarriesOut g.S.Store command key after old h (Err c.in_doubt.result)) same
-          (subst (λ failure. CarriesOut g.S.Store command key after old end (Err failure)) (sym c.in_doubt.ensures.value)
-          (carries_in_doubt g.S.Store command key after old mid end change c.commit.result c.commit.ensures.settles c.commit.ensures.cause c.commit.ensures.survives c.in-Err-InDoubt.error (c.in-Err-InDoubt.is ∙ ap Err c.in-Err-InDoubt.field-0-is)));
+      carries = subst (λ h. CarriesOut g.S.Store command key after old h (Err (InDoubt c.in-Err-commit.fault))) same
+          (carries_in_doubt g.S.Store command key after old mid end change c.commit.result c.commit.ensures.settles c.commit.ensures.cause c.commit.ensures.survives c.in-Err-commit.fault c.in-Err-commit.is);
     }
 
 pub returns-in-Err-Memory : goal.returns-in-Err-Memory
@@ -65,19 +64,19 @@ returns-in-Err-Memory g c =
     let command = c.args.command.now in
     let key = c.args.key.now in
     let after = c.args.after.now in
-    let old = c.args.conn.now in
-    let mid = c.write_change.new.writing.conn.now in
-    let end = c.conn-2-1.given.0 in
-    let same : c.commit.new.writing.0 ≡ end = search rules in
+    let old = c.args.store.now in
+    let mid = c.write_change.new.writing.store.now in
+    let end = c.store-2-1.given.0 in
+    let same : c.commit.new.self.0 ≡ end = search rules in
     let change = subst (λ start. ChangesBy g.S.Store command key after start mid (Ok tt)) c.begin-writing.ensures.begun c.in_default.ensures.changes in
     let settles = subst (λ h. SettlesBy g.S.Store mid h c.commit.result) same c.commit.ensures.settles in
-    let cause = subst (λ h. HasCleanDisk (state g.S.Store h) → IfErr c.commit.result (λ e. FailsToCommit g.S.Store mid (cause_of e))) same c.commit.ensures.cause in
+    let cause = subst (λ h. HasCleanDisk (state g.S.Store h) → IfErr c.commit.result (IsFaultOfCommit g.S.Store mid)) same c.commit.ensures.cause in
     let survives = subst (λ h. Survives (state g.S.Store mid) (state g.S.Store h) (λ db. db ≡ (state g.S.Store mid).now.trees)) same c.commit.ensures.survives in
-    let is : c.commit.result ≡ Err Memory = c.in-Err-Memory.is ∙ ap Err c.in-Err-Memory.field-0-is in
+    let is : c.commit.result ≡ Err fault.Memory = c.in-Err-Memory.is ∙ ap Err c.in-Err-Memory.field-0-is in
     record {
-      carries = carries_not g.S.Store command key after old end c.take_back-ended.new.conn fault.Memory c.take_back-ended.result c.failure-in-Err-Memory.result c.failure-in-Err-Memory.ensures.value
+      carries = carries_not g.S.Store command key after old end c.roll_back-ended-in-Err-Memory.new.self fault.Memory c.roll_back-ended-in-Err-Memory.result c.failure-in-Err-Memory.result c.failure-in-Err-Memory.ensures.value
           (memory_why g.S.Store command key after old mid end change c.commit.result settles cause survives is)
           (memory_way g.S.Store command key after old mid end change c.commit.result settles cause survives is)
           (commit_survives g.S.Store command key after old mid end change c.commit.result settles cause survives)
-          c.take_back-ended.ensures.taken_back c.take_back-ended.ensures.ok c.take_back-ended.ensures.cause c.take_back-ended.ensures.survives;
+          c.roll_back-ended-in-Err-Memory.ensures.taken_back c.roll_back-ended-in-Err-Memory.ensures.ok c.roll_back-ended-in-Err-Memory.ensures.cause c.roll_back-ended-in-Err-Memory.ensures.survives;
     }

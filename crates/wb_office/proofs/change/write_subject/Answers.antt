@@ -10,18 +10,18 @@ use Rattle.wb_office.proofs.change.write_subject.Goals.{in-Enter, in_default-mat
 
 pub returns-in-AddArch-clause-writes : goal.returns-in-AddArch-clause-writes
 returns-in-AddArch-clause-writes g c =
-    subst (λ command. Writes g.S.Store (IsWriteOf command c.args.key.now c.args.after.now) (LacksFittingNumbers c.args.after.now c.args.key.now) (λ whole. IsStepOf whole command c.args.key.now c.args.after.now) (before_counts command) c.args.writing.now.conn.now c.write_arch.new.writing.conn.now c.write_arch.result)
+    subst (λ command. Writes g.S.Store (IsWriteOf command c.args.key.now c.args.after.now) (LacksFittingNumbers c.args.after.now c.args.key.now) (λ whole. IsStepOf whole command c.args.key.now c.args.after.now) (before_counts command) c.args.writing.now.store.now c.write_arch.new.writing.store.now c.write_arch.result)
     (sym c.in-AddArch.is) (writes_same (λ it is. subst (IsWriteOf (of.AddArch c.in-AddArch.command) c.args.key.now c.args.after.now) (sym is) refl) (λ e full. inl (inl full)) (λ whole h. adds_arch c.in-AddArch.command h) c.write_arch.ensures.writes)
 
 pub returns-in-AddBuilder-clause-writes : goal.returns-in-AddBuilder-clause-writes
 returns-in-AddBuilder-clause-writes g c =
-    subst (λ command. Writes g.S.Store (IsWriteOf command c.args.key.now c.args.after.now) (LacksFittingNumbers c.args.after.now c.args.key.now) (λ whole. IsStepOf whole command c.args.key.now c.args.after.now) (before_counts command) c.args.writing.now.conn.now c.add_builder.new.writing.conn.now c.add_builder.result)
+    subst (λ command. Writes g.S.Store (IsWriteOf command c.args.key.now c.args.after.now) (LacksFittingNumbers c.args.after.now c.args.key.now) (λ whole. IsStepOf whole command c.args.key.now c.args.after.now) (before_counts command) c.args.writing.now.store.now c.add_builder.new.self.store.now c.add_builder.result)
     (sym c.in-AddBuilder.is) (writes_same (λ it is. is) (λ e none. absurd none) (λ whole h. adds_builder c.in-AddBuilder.command h)
     (writes_change {Is = IsWriteOf (of.AddBuilder c.in-AddBuilder.command) c.args.key.now c.args.after.now} {Fits = λ _. ⊥} refl c.add_builder.ensures.changes))
 
 pub returns-after-matches-clause-writes : goal.returns-after-matches-clause-writes
 returns-after-matches-clause-writes g c =
-    subst (λ key. Writes g.S.Store (IsWriteOf c.args.command.now key c.args.after.now) (LacksFittingNumbers c.args.after.now key) (λ whole. IsStepOf whole c.args.command.now key c.args.after.now) (before_counts c.args.command.now) c.args.writing.now.conn.now c.write_record.new.writing.conn.now c.write_record.result)
+    subst (λ key. Writes g.S.Store (IsWriteOf c.args.command.now key c.args.after.now) (LacksFittingNumbers c.args.after.now key) (λ whole. IsStepOf whole c.args.command.now key c.args.after.now) (before_counts c.args.command.now) c.args.writing.now.store.now c.write_record.new.writing.store.now c.write_record.result)
     (sym c.in-Some.is) (writes_same (record_written c.args.command.now (Some (c.in-Some.arch, c.in-Some.source)) c.args.after.now c.match-matches.matches entered) (λ e unfit. inr unfit)
     (λ whole h. (there whole h, puts c.args.command.now (λ fields. c.in_default.not-AddArch fields) (λ fields. c.in_default.not-AddBuilder fields) h)) c.write_record.ensures.writes)
   where
@@ -40,5 +40,5 @@ returns-after-matches-clause-writes g c =
 
 pub returns-in-None-clause-writes : goal.returns-in-None-clause-writes
 returns-in-None-clause-writes g c =
-    subst (λ key. Writes g.S.Store (IsWriteOf c.args.command.now key c.args.after.now) (LacksFittingNumbers c.args.after.now key) (λ whole. IsStepOf whole c.args.command.now key c.args.after.now) (before_counts c.args.command.now) c.args.writing.now.conn.now c.args.writing.now.conn.now (Ok tt))
+    subst (λ key. Writes g.S.Store (IsWriteOf c.args.command.now key c.args.after.now) (LacksFittingNumbers c.args.after.now key) (λ whole. IsStepOf whole c.args.command.now key c.args.after.now) (before_counts c.args.command.now) c.args.writing.now.store.now c.args.writing.now.store.now (Ok tt))
     (sym c.in-None.is) (writes_nothing (λ whole h. puts c.args.command.now (λ fields. c.in_default.not-AddArch fields) (λ fields. c.in_default.not-AddBuilder fields) h))

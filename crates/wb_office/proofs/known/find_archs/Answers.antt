@@ -6,7 +6,7 @@ use Rattle.wb_office.proofs.known.find_archs.Goals as goal
 
 pub returns-in_err-copied-clause-finds : goal.returns-in_err-copied-clause-finds
 returns-in_err-copied-clause-finds g c =
-    let nothing : Finds g.S.Store (λ machine (x : Unit {0}). Unit {0}) c.args.conn.now c.args.conn.now (Ok tt) = finds_unasked (λ machine sound. tt) in
+    let nothing : Finds g.S.Store (λ machine (x : Unit {0}). Unit {0}) c.args.store.now c.args.store.now (Ok tt) = finds_unasked (λ machine sound. tt) in
     lacks_memory nothing (handed_on c.from_residual.result c.from_residual.ensures.1)
 
 pub returns-in_err-found-clause-finds : goal.returns-in_err-found-clause-finds

@@ -18,7 +18,7 @@ returns-then-not-fits-clause-changes g c =
 
 pub returns-in_err-put-clause-changes : goal.returns-in_err-put-clause-changes
 returns-in_err-put-clause-changes g c =
-    subst (λ r. ChangesInTurn g.S.Store (PutsOne (each entry_of c.args.rows.now)) (HasTakeOverLimit (each entry_of c.args.rows.now)) (having (each entry_of c.args.rows.now)) c.args.writing.now.conn.now c.put.new.writing.conn.now r)
+    subst (λ r. ChangesInTurn g.S.Store (PutsOne (each entry_of c.args.rows.now)) (HasTakeOverLimit (each entry_of c.args.rows.now)) (having (each entry_of c.args.rows.now)) c.args.writing.now.store.now c.put.new.self.store.now r)
     (sym (handed_on c.from_residual.result c.from_residual.ensures.1))
     (c.loop-row.invariant.rest _ _ (fails_among g.S.Store _ (in_place entry_of c.args.rows.now c.loop-row.row-index c.row-item.result c.loop-row-test.true c.row-item.is) c.in_err-put.ensures.changes))
 
@@ -30,4 +30,4 @@ loop-row-preserved g c = record {
 }
 
 pub returns-clause-changes : goal.returns-clause-changes
-returns-clause-changes g c = c.loop-row.invariant.rest _ _ (put_all g.S.Store c.args.rows.now c.loop-row.row-index c.loop-row.writing.conn.now c.loop-row-test.false)
+returns-clause-changes g c = c.loop-row.invariant.rest _ _ (put_all g.S.Store c.args.rows.now c.loop-row.row-index c.loop-row.writing.store.now c.loop-row-test.false)

@@ -8,7 +8,7 @@ use Rattle.wb_office.proofs.merge.remove_all.Goals as goal
 
 pub returns-in_err-remove-clause-changes : goal.returns-in_err-remove-clause-changes
 returns-in_err-remove-clause-changes g c =
-    subst (λ r. ChangesInTurn g.S.Store (RemovesOne (each entry_of c.args.rows.now)) (λ _. ⊥) (without (each entry_of c.args.rows.now)) c.args.writing.now.conn.now c.remove.new.writing.conn.now r)
+    subst (λ r. ChangesInTurn g.S.Store (RemovesOne (each entry_of c.args.rows.now)) (λ _. ⊥) (without (each entry_of c.args.rows.now)) c.args.writing.now.store.now c.remove.new.self.store.now r)
     (sym (handed_on c.from_residual.result c.from_residual.ensures.1))
     (c.loop-row.invariant.rest _ _ (fails_among g.S.Store _ (entry_of c.row-item.result, in_place entry_of c.args.rows.now c.loop-row.row-index c.row-item.result c.loop-row-test.true c.row-item.is, refl) c.in_err-remove.ensures.changes))
 
@@ -20,4 +20,4 @@ loop-row-preserved g c = record {
 }
 
 pub returns-clause-changes : goal.returns-clause-changes
-returns-clause-changes g c = c.loop-row.invariant.rest _ _ (removed_all g.S.Store c.args.rows.now c.loop-row.row-index c.loop-row.writing.conn.now c.loop-row-test.false)
+returns-clause-changes g c = c.loop-row.invariant.rest _ _ (removed_all g.S.Store c.args.rows.now c.loop-row.row-index c.loop-row.writing.store.now c.loop-row-test.false)

@@ -10,8 +10,8 @@ use Rattle.wb_office.proofs.merge.remove_all.Given as goal
 
 abbrev pub invariant-loop-row : goal.invariant-loop-row
 invariant-loop-row g l = record {
-  same_reference : l.writing.conn.ghost_name ≡ l.fn.writing.conn.ghost_name;
+  same_reference : l.writing.store.ghost_name ≡ l.fn.writing.store.ghost_name;
   rest : (new : Held g.row.S.Denot) (r : Result (Unit {0}) StoreFault)
-      → ChangesInTurn g.S.Store (RemovesOne (each entry_of l.rows)) (λ _. ⊥) (λ machine. record machine { records = without_rows machine.records (each entry_of (drop l.row-index l.rows)) }) l.writing.conn.now new r
-      → ChangesInTurn g.S.Store (RemovesOne (each entry_of l.rows)) (λ _. ⊥) (λ machine. record machine { records = without_rows machine.records (each entry_of l.rows) }) l.fn.writing.conn.now new r;
+      → ChangesInTurn g.S.Store (RemovesOne (each entry_of l.rows)) (λ _. ⊥) (λ machine. record machine { records = without_rows machine.records (each entry_of (drop l.row-index l.rows)) }) l.writing.store.now new r
+      → ChangesInTurn g.S.Store (RemovesOne (each entry_of l.rows)) (λ _. ⊥) (λ machine. record machine { records = without_rows machine.records (each entry_of l.rows) }) l.fn.writing.store.now new r;
 }

@@ -15,7 +15,7 @@ returns-in_err-found g c = record {
 pub returns-in_err-push_all : goal.returns-in_err-push_all
 returns-in_err-push_all g c =
     let full : Result (Unit {0}) StoreFault = Err Memory in
-    let lacks : Finds g.S.Store (λ machine (x : Unit {0}). Unit {0}) c.loop-part.conn c.all_of.new.conn full =
+    let lacks : Finds g.S.Store (λ machine (x : Unit {0}). Unit {0}) c.loop-part.store c.all_of.new.self full =
     lacks_memory (finds_looked_up (Ok _) c.in_ok-found.ensures.looks_up) refl in
     record { finds = then_fails c.loop-part.invariant lacks (handed_on c.from_residual-in_err-push_all.result c.from_residual-in_err-push_all.ensures.1) }
 

@@ -7,4 +7,4 @@ use Rattle.wb_office.proofs.merge_part.find_rows.Given as goal
 
 abbrev pub invariant-loop-part : goal.invariant-loop-part
 invariant-loop-part g l =
-    Finds g.S.Store (λ machine rows. each entry_of rows.items ++ rows_of_parts machine (drop l.part-index l.parts) ≡ rows_of_parts machine l.parts) l.fn.conn l.conn (Ok l.rows)
+    Finds g.S.Store (λ machine rows. each entry_of rows.items ++ rows_of_parts machine (drop l.part-index l.parts) ≡ rows_of_parts machine l.parts) l.fn.store l.store (Ok l.rows)

@@ -5,5 +5,5 @@ use Rattle.wb_office.proofs.merging.keep_merge.Goals as goal
 
 pub returns-in-Err : goal.returns-in-Err
 returns-in-Err g c = record {
-  keeps = merge_not_committed (subst (CarriesMerge g.S.Store c.args.merge.now.sources c.args.merge.now.parts c.args.before.now c.args.after.now c.args.conn.now c.carry_merge.new.conn) c.in-Err.is c.carry_merge.ensures.carries);
+  keeps = merge_not_committed (subst (CarriesMerge g.S.Store c.args.merge.now.sources c.args.merge.now.parts c.args.before.now c.args.after.now c.args.store.now c.carry_merge.new.store) c.in-Err.is c.carry_merge.ensures.carries);
 }

@@ -8,13 +8,13 @@ use Rattle.wb_office.proofs.merging.merge_beside.Goals as goal
 
 pub returns-in-Ok : goal.returns-in-Ok
 returns-in-Ok g c = record {
-  answers = answered_in g.S.Store (of.Merge c.args.merge.now) c.args.conn.now c.part_for_merge.new.conn c.merge_in.new.conn c.merge_in.result
-      (subst (Finds g.S.Store (λ machine part. AreOf c.args.counts c.args.archs.now machine → part ≡ part_for_merge machine c.as_slice.result.now) c.args.conn.now c.part_for_merge.new.conn) c.in-Ok.is c.part_for_merge.ensures.finds)
+  answers = answered_in g.S.Store (of.Merge c.args.merge.now) c.args.store.now c.part_for_merge.new.store c.merge_in.new.store c.merge_in.result
+      (subst (Finds g.S.Store (λ machine part. AreOf c.args.counts c.args.archs.now machine → part ≡ part_for_merge machine c.as_slice.result.now) c.args.store.now c.part_for_merge.new.store) c.in-Ok.is c.part_for_merge.ensures.finds)
       (λ machine first found. (first.1, found first.0 ∙ ap (part_for_merge machine) c.as_slice.ensures)) c.merge_in.ensures.answers;
 }
 
 pub returns-in-Err : goal.returns-in-Err
 returns-in-Err g c = record {
-  answers = unread g.S.Store (of.Merge c.args.merge.now) c.args.conn.now c.part_for_merge.new.conn c.part_for_merge.new.conn
-      (subst (Finds g.S.Store (λ machine part. AreOf c.args.counts c.args.archs.now machine → part ≡ part_for_merge machine c.as_slice.result.now) c.args.conn.now c.part_for_merge.new.conn) c.in-Err.is c.part_for_merge.ensures.finds);
+  answers = unread g.S.Store (of.Merge c.args.merge.now) c.args.store.now c.part_for_merge.new.store c.part_for_merge.new.store
+      (subst (Finds g.S.Store (λ machine part. AreOf c.args.counts c.args.archs.now machine → part ≡ part_for_merge machine c.as_slice.result.now) c.args.store.now c.part_for_merge.new.store) c.in-Err.is c.part_for_merge.ensures.finds);
 }

@@ -6,6 +6,6 @@ use Rattle.wb_office.proofs.office.end_with.Goals as goal
 
 pub returns-in-Memory : goal.returns-in-Memory
 returns-in-Memory g c = record {
-  ends = subst (λ f. EndsWith g.S.Store f c.args.conn.now c.is_usable.new.conn Memory (not c.is_usable.result)) (sym c.in-Memory.is)
-      (ends_of_memory g.S.Store c.args.conn.now c.is_usable.new.conn c.is_usable.result c.is_usable.ensures.open c.is_usable.ensures.unchanged c.is_usable.ensures.shut c.is_usable.ensures.survives);
+  ends = subst (λ f. EndsWith g.S.Store f c.args.store.now c.is_usable.new.self Memory (not c.is_usable.result)) (sym c.in-Memory.is)
+      (ends_of_memory g.S.Store c.args.store.now c.is_usable.new.self c.is_usable.result c.is_usable.ensures.open c.is_usable.ensures.unchanged c.is_usable.ensures.shut c.is_usable.ensures.survives);
 }

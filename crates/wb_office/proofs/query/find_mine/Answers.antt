@@ -2,6 +2,7 @@ use Rattle.std.proofs.Common.{not, sym, ap, ◌∙◌, Ok, Err}
 use Rattle.deb_text.specs.Lists.{is_nonempty}
 use Rattle.wb_store.proofs.ReadLemmas.{handed_on}
 use Rattle.wb_office.proofs.AskLemmas.{mine-is, mine_with}
+use Rattle.wb_store.proofs.ScratchLemmas.{counted-is_nonempty}
 use Rattle.wb_store.proofs.FindsLemmas.{fails_to_find, finds_both, finds_looked_up, finds_then, lacks_memory, then_fails}
 use Rattle.wb_office.proofs.query.find_mine.Goals as goal
 
@@ -20,4 +21,4 @@ pub returns-clause-finds : goal.returns-clause-finds
 returns-clause-finds g c = finds_then (finds_looked_up (Ok _) c.in_ok-archs.ensures.looks_up) (finds_looked_up (Ok _) c.in_ok-held_by.ensures.looks_up)
     (λ machine sound archs held. (λ i. mine_with (c.in_ok-builder.ensures.cases i) (c.from-records.ensures i))
     ∙ mine-is machine c.args.builder.now c.in_ok-held_by.field-0.items
-    (ap (λ a. not (is_nonempty a)) (sym (archs sound) ∙ sym c.as_slice.ensures.value) ∙ sym c.is_of_none-is_unknown.ensures.value ∙ c.if-is_unknown.false) held)
+    (ap not (ap is_nonempty (sym (archs sound)) ∙ sym (ap not c.is_empty-is_unknown.ensures ∙ counted-is_nonempty c.in_ok-archs.archs) ∙ ap not c.if-is_unknown.false)) held)

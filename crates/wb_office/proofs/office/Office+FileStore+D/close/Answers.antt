@@ -1,17 +1,8 @@
-use Rattle.wb_office.proofs.FileLemmas.{closed_at, closed_at_one}
+use Rattle.std.proofs.lemmas.Result.{IfOk-weaker}
 use Rattle.wb_office.proofs.«office».«Office+FileStore+D».close.Goals as goal
 
-pub returns-in-Ok-clause-settled : goal.returns-in-Ok-clause-settled
-returns-in-Ok-clause-settled g c = closed_at c.args.self.conn c.in-Ok.files c.in-Ok.ensures.copied
+pub returns-clause-settled : goal.returns-clause-settled
+returns-clause-settled g c = IfOk-weaker c.close.result _ _ (λ files closed clean machine stands. closed clean machine stands.back) c.close.ensures.settled
 
-pub returns-in-Ok-clause-either : goal.returns-in-Ok-clause-either
-returns-in-Ok-clause-either g c = closed_at_one c.args.self.conn c.in-Ok.files g.met.D.Disk.seen_may_stay c.in-Ok.ensures.copied
-
-pub returns-clause-err : goal.returns-clause-err
-returns-clause-err g c = record {
-  error = c.in-Err.error;
-  last = c.in-Err.field-0-1;
-  is = c.fault_of.ensures.value;
-  closed = c.in-Err.ensures.err.0;
-  cause = c.in-Err.ensures.err.1;
-}
+pub returns-clause-either : goal.returns-clause-either
+returns-clause-either g c = IfOk-weaker c.close.result _ _ (λ files closed clean before after one. closed clean before after one.left) c.close.ensures.either

@@ -1,4 +1,4 @@
-use Rattle.wb_office.proofs.FileLemmas.{leave_wider}
+use Rattle.wb_store.proofs.FileLemmas.{leave_wider}
 use Rattle.wb_office.proofs.«office».«Office+FileStore+D».surrender.Goals as goal
 
 pub returns-clause-stands : goal.returns-clause-stands

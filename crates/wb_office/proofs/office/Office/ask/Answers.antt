@@ -15,7 +15,7 @@ returns-in-Ok g c =
     let good = sym c.has_malformed_name.ensures.value ∙ c.if-has_malformed_name.false in
     record {
       asks = asked_found {answer_in = λ machine. answer_in machine c.args.query.now} c.in-Ok.answer c.if-self.false good (λ machine. answer_of-good machine c.args.query.now good) c.in-Ok.ensures.kind
-          (subst (Finds g.S.Store (λ machine answer. answer ≡ answer_in machine c.args.query.now) c.args.self.now.conn c.find_answer.new.conn) c.in-Ok.is c.find_answer.ensures.finds);
+          (subst (Finds g.S.Store (λ machine answer. answer ≡ answer_in machine c.args.query.now) c.args.self.now.store c.find_answer.new.store) c.in-Ok.is c.find_answer.ensures.finds);
     }
 
 pub returns-in-Err : goal.returns-in-Err
@@ -23,5 +23,5 @@ returns-in-Err g c =
     let good = sym c.has_malformed_name.ensures.value ∙ c.if-has_malformed_name.false in
     record {
       asks = asked_unread c.if-self.false good
-          (subst (Finds g.S.Store (λ machine answer. answer ≡ answer_in machine c.args.query.now) c.args.self.now.conn c.find_answer.new.conn) c.in-Err.is c.find_answer.ensures.finds) c.end_with-refusal.ensures.ends;
+          (subst (Finds g.S.Store (λ machine answer. answer ≡ answer_in machine c.args.query.now) c.args.self.now.store c.find_answer.new.store) c.in-Err.is c.find_answer.ensures.finds) c.end_with-refusal.ensures.ends;
     }

@@ -1,6 +1,6 @@
 use Rattle.wb_states.proofs.QueryLemmas.{answer-has-no-store}
 use Rattle.wb_office.proofs.AskLemmas.{asked_answer, asked_refused, asked_memory, asked_closed, asked_store}
-use Rattle.wb_office.proofs.ApplyLemmas.{is_open, stands_open, told_closed}
+use Rattle.wb_office.proofs.ApplyLemmas.{is_open, told_closed}
 use Rattle.wb_office.proofs.office.OfficeCarryOut.ask.Goals as goal
 
 pub returns-clause-answer : goal.returns-clause-answer
@@ -22,7 +22,7 @@ pub returns-clause-told : goal.returns-clause-told
 returns-clause-told g c = told_closed c.args.self.now.is_closed (λ opened. (c.ask.ensures.asks.stands opened).never)
 
 pub returns-clause-stands : goal.returns-clause-stands
-returns-clause-stands g c = λ opened. stands_open (c.ask.ensures.asks.stands (is_open c.args.self.now.is_closed opened))
+returns-clause-stands g c = λ opened. c.ask.ensures.asks.stands (is_open c.args.self.now.is_closed opened)
 
 pub returns-clause-store : goal.returns-clause-store
 returns-clause-store g c = asked_store c.ask.ensures.asks (λ machine. answer-has-no-store machine c.args.query.now)

@@ -1,0 +1,25 @@
+-- Why an office is closed: its store failed.
+use Rattle.std.specs.Prelude.{◌≡◌, ◌⊎◌}
+use Rattle.sqlite_trees.specs.declared.store.Store.{Ghosts}
+use Rattle.sqlite.specs.Held.{Held}
+use Rattle.wb_states.specs.declared.command.Command.{Command}
+use Rattle.wb_states.specs.declared.refusal.Refusal.TheVariants.{Store}
+use Rattle.wb_states.specs.declared.store_fault.StoreFault.{StoreFault}
+use Rattle.wb_states.specs.Machine.{Machine}
+use Rattle.wb_store.specs.Finds.{FailsToFind}
+use Rattle.wb_office.specs.declared.answer.Failure.{Failure}
+use Rattle.wb_office.specs.Answers.{IsLeft}
+use Rattle.wb_office.specs.Applies.{refusal_for, refusal_of}
+
+-- a command was not carried out, for this fault: a look-up or a write failed with it, or the commit
+abbrev pub FailsToCarryOut : {S : Type 0} → Ghosts S → StoreFault → Held S → Type 0
+FailsToCarryOut {S} g fault new =
+    (machine : Machine) × (command : Command) × (old : Held S) × (failure : Failure) × IsLeft g machine command old new failure × (Store fault ≡ refusal_of failure)
+
+-- a query was not answered, for this fault: a look-up failed with it
+abbrev pub FailsToAnswer : {S : Type 0} → Ghosts S → StoreFault → Held S → Type 0
+FailsToAnswer {S} g fault new = (old : Held S) × (told : StoreFault) × FailsToFind g old new told × (Store fault ≡ refusal_for told)
+
+-- the store of an office failed with this fault, for a command or for a query
+abbrev pub HasFailed : {S : Type 0} → Ghosts S → StoreFault → Held S → Type 0
+HasFailed g fault new = FailsToCarryOut g fault new ⊎ FailsToAnswer g fault new
