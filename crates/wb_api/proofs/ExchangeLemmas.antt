@@ -7,12 +7,15 @@ use Rattle.wb_states.specs.Machine.{Machine}
 use Rattle.wb_states.specs.declared.command.Command.{Command}
 use Rattle.wb_states.specs.declared.refusal.Refusal.{Refusal}
 use Rattle.wb_states.specs.declared.record.Record.{Record}
-use Rattle.wb_states.specs.declared.refusal.Refusal.TheVariants.{BadName, Memory, UnknownArch, UnknownBuilder, UnknownSource}
+use Rattle.wb_states.specs.declared.refusal.Refusal.TheVariants.{BadName, Closed, Memory, Store, UnknownArch, UnknownBuilder, UnknownSource}
 use Rattle.wb_states.specs.declared.reply.Reply.{Reply}
+use Rattle.wb_states.specs.declared.store_fault.StoreFault.{StoreFault}
+use Rattle.wb_states.specs.Refusals.{IsOfMachine, is_of_store}
+use Rattle.wb_step.proofs.OfficeLemmas.{is_of_store-cases, refusal-cases}
 use Rattle.wb_step.proofs.CountedLemmas.{step-unchanged}
 use Rattle.wb_states.specs.Machine.{is_unknown_arch, is_unknown_builder}
 use Rattle.wb_step.specs.Checks.{MayWantMemory}
-use Rattle.wb_step.specs.Offices.{Open}
+use Rattle.wb_step.specs.Offices.{Leads, Open, Shut, Standing, Stands}
 use Rattle.wb_states.specs.Queries.{answer_in, answer_of, found_at, has_malformed_name}
 use Rattle.wb_states.specs.declared.query.Answer.{Answer as Found}
 use Rattle.wb_step.specs.Step.{step}
@@ -23,6 +26,37 @@ use Rattle.wb_states.specs.declared.query.Query.{Query}
 use Rattle.wb_states.specs.declared.query.Query.TheVariants as query
 use Rattle.wb_streams.specs.declared.status.Status.TheVariants as code
 use Rattle.wb_api.specs.Exchange.{IsCommandAnswer, IsQueryAnswer, IsRefusal, Response, command_response, found_response, memory_response, refusal_response, reply_response}
+
+-- ---- where a refusal leads
+
+-- an office that refused is closed, its store failed, or it stands as before
+pub refusal-leads : {X : Type 0} (is_clean is_closed : X → Type 0) (stands_at : X → Machine → Type 0) (leaves : X → Machine → Machine → StoreFault → Type 0) (old new : X)
+    (IsSo : Machine → Machine → Standing → Type 0) (refusal : Refusal) (doubt : StoreFault → Standing)
+    → ((before : Machine) → is_clean new → stands_at old before → refusal ≡ Closed → (is_closed new × stands_at new before) × IsSo before before Shut)
+    → ((before : Machine) → is_clean new → stands_at old before → (fault : StoreFault) → refusal ≡ Store fault
+    → Stands is_closed stands_at leaves new before (doubt fault) × IsSo before before (doubt fault))
+    → ((before : Machine) → is_clean new → stands_at old before → refusal ≡ Memory → stands_at new before × IsSo before before Open)
+    → ((before : Machine) → is_clean new → stands_at old before → IsOfMachine refusal → is_of_store refusal ≡ false
+    → stands_at new before × IsSo before before Open)
+    → Leads is_clean is_closed stands_at leaves old new IsSo
+refusal-leads is_clean is_closed stands_at leaves old new IsSo refusal doubt closed failed memory refused before clean stands =
+    (elim (is_of_store refusal) as (λ b. is_of_store refusal ≡ b
+    → (after : Machine) × (standing : Standing) × Stands is_closed stands_at leaves new after standing × IsSo before after standing) [
+      | true ↦ λ is. elim (is_of_store-cases refusal is) [
+        | inl shut ↦ let s = closed before clean stands shut in (before, Shut, s.0, s.1)
+        | inr out ↦ let s = failed before clean stands out.0 out.1 in (before, doubt out.0, s.0, s.1)
+      ]
+      | false ↦ λ other. elim (refusal-cases refusal) [
+        | inl is ↦ let s = memory before clean stands is in (before, Open, s.0, s.1)
+        | inr of_machine ↦ let s = refused before clean stands of_machine other in (before, Open, s.0, s.1)
+      ]
+    ]) refl
+
+-- a response to a refusal is one to the same refusal
+pub said-as : (machine : Machine) (response : Response) {refusal same : Refusal} → refusal ≡ same → IsRefusal machine refusal response → IsRefusal machine same response
+said-as machine response is = subst (λ refusal. IsRefusal machine refusal response) is
+
+-- ---- what is answered
 
 -- what is answered to a refused command is the refusal
 refused-response : (machine : Machine) (command : Command) (refusal : Refusal) → (step machine command).0 ≡ Err refusal

@@ -28,7 +28,7 @@ use Rattle.wb_states.specs.declared.query.Query.{Query}
 use Rattle.wb_streams.specs.declared.status.Status.{Status}
 use Rattle.wb_streams.specs.declared.status.Status.TheVariants as code
 use Rattle.wb_streams.specs.Streams.{Flags, Stream}
-use Rattle.wb_api.specs.declared.answer.Answer.{Answer}
+use Rattle.wb_api.specs.declared.answer.HttpAnswer.{HttpAnswer}
 use Rattle.wb_api.specs.declared.serve.Served.{Served}
 use Rattle.wb_api.specs.declared.serve.Served.TheVariants as served
 
@@ -39,7 +39,7 @@ pub record Response : Type 0 where
   pub machine : Machine
 
 -- an answer as a response, with the state of the office after it
-abbrev pub response_of_answer : Answer → Machine → Response
+abbrev pub response_of_answer : HttpAnswer → Machine → Response
 response_of_answer answer after = record { status = answer.status; body = cow_str_bytes answer.text; machine = after }
 
 -- ---- what is answered
@@ -106,11 +106,11 @@ abbrev pub IsRefusal : Machine → Refusal → Response → Type 0
 IsRefusal machine refusal response =
     (response ≡ refusal_response machine refusal) ⊎ ((is_plain refusal ≡ false) × (response ≡ memory_response machine))
 
--- what was asked is refused because the office is closed or because the store failed, and the office then stands so
-abbrev pub IsRefusedByStore : Machine → Standing → Response → Standing → Type 0
+-- what was asked is refused because the office is closed or because its store failed with the fault that is told, and the office then stands so
+abbrev pub IsRefusedByStore : Machine → (StoreFault → Standing) → Response → Standing → Type 0
 IsRefusedByStore machine failed response standing =
     (IsRefusal machine Closed response × (standing ≡ Shut))
-    ⊎ ((fault : StoreFault) × IsRefusal machine (Store fault) response × (standing ≡ failed))
+    ⊎ ((fault : StoreFault) × IsRefusal machine (Store fault) response × (standing ≡ failed fault))
 
 -- what may be answered to a command: its reply or its refusal, or that there is no memory for it
 abbrev pub IsCommandAnswer : Machine → Command → Response → Standing → Type 0

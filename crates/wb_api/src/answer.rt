@@ -15,38 +15,38 @@ use wb_streams::{Fault, Status};
 
 /// The status of an answer, and its body.
 #[derive(Drop)]
-pub(crate) struct Answer {
+pub(crate) struct HttpAnswer {
     pub(crate) status: Status,
     pub(crate) text: CowStr<'static>,
 }
 
 /// The answer that memory ran out. It takes no memory.
-pub(crate) fn memory_answer(alloc: Global) -> Answer
+pub(crate) fn memory_answer(alloc: Global) -> HttpAnswer
     ensures value { (machine : Machine) → response_of_answer result machine ≡ memory_response machine }
 {
-    Answer {
+    HttpAnswer {
         status: Status::ServiceUnavailable,
         text: refusal_json(alloc, &Refusal::Memory),
     }
 }
 
 /// The answer to a fault of the request. Takes no memory.
-pub(crate) fn fault_answer(fault: Fault) -> Answer
+pub(crate) fn fault_answer(fault: Fault) -> HttpAnswer
     ensures value { (machine : Machine) → response_of_answer result machine ≡ fault_response machine fault }
 {
-    Answer {
+    HttpAnswer {
         status: fault.status(),
         text: CowStr::Borrowed(fault.json()),
     }
 }
 
 /// The answer to what was refused. It says that memory ran out if there is none for the text of the refusal.
-pub(crate) fn refusal_answer(alloc: Global, refusal: &Refusal) -> Answer
+pub(crate) fn refusal_answer(alloc: Global, refusal: &Refusal) -> HttpAnswer
     ensures value { (machine : Machine)
         → IsRefusal machine refusal.now (response_of_answer result machine) }
 {
     match try_refusal_json(alloc, refusal) {
-        Ok(text) => Answer {
+        Ok(text) => HttpAnswer {
             status: status_of(refusal),
             text,
         },
@@ -60,7 +60,7 @@ pub(crate) fn answer_command<O: CarryOut>(
     alloc: Global,
     office: &mut O,
     command: &Command,
-) -> Option<Answer>
+) -> Option<HttpAnswer>
     ensures clean { O.is_clean office.new → O.is_clean office.old }
     ensures value { IfSome result (λ answer. Leads O.is_clean O.is_closed O.stands_at O.leaves
         office.old office.new (λ before after standing. IsCommandAnswer before
@@ -71,7 +71,7 @@ pub(crate) fn answer_command<O: CarryOut>(
     let accepted = office.accepted_count();
     match office.carry_out(command) {
         Ok(reply) => match reply_json(alloc, command.name(), &reply) {
-            Ok(text) => Some(Answer {
+            Ok(text) => Some(HttpAnswer {
                 status: Status::Ok,
                 text: CowStr::Owned(text),
             }),

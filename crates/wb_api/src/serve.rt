@@ -12,7 +12,7 @@ ghost use Rattle.wb_api.specs.declared.request.Request.TheVariants.{Command as a
 ghost use Rattle.wb_streams.specs.Streams.{Flags};
 ghost use Rattle.wb_api.specs.Exchange.{Exchanges, fails_to_write, is_asked, IsAnswer, is_silent, Receives, Responds, response_of_answer, Sends, TellsOk};
 
-use crate::answer::{Answer, answer_command, fault_answer, memory_answer};
+use crate::answer::{HttpAnswer, answer_command, fault_answer, memory_answer};
 use crate::ask::answer_query;
 use crate::{Received, Request, read_request};
 use std::alloc::Global;
@@ -43,7 +43,11 @@ pub enum Served {
 }
 
 /// The answer of the office to a request. It is `None` if a command was accepted and there is no memory for the reply.
-fn answer_request<O: CarryOut>(alloc: Global, office: &mut O, request: &Request) -> Option<Answer>
+fn answer_request<O: CarryOut>(
+    alloc: Global,
+    office: &mut O,
+    request: &Request,
+) -> Option<HttpAnswer>
     ensures clean { O.is_clean office.new → O.is_clean office.old }
     ensures value { IfSome result (λ answer. Leads O.is_clean O.is_closed O.stands_at O.leaves
         office.old office.new (λ before after standing. IsAnswer before
@@ -59,7 +63,7 @@ fn answer_request<O: CarryOut>(alloc: Global, office: &mut O, request: &Request)
 }
 
 /// Writes the answer.
-fn send<W: Write + Drop>(writer: &mut WatchedWriter<W>, answer: &Answer) -> Served
+fn send<W: Write + Drop>(writer: &mut WatchedWriter<W>, answer: &HttpAnswer) -> Served
     ensures value { (machine : Machine) → Sends (response_of_answer answer.now machine)
         writer.old.bytes writer.new.bytes result }
     ensures spoken { is_silent result ≡ false }

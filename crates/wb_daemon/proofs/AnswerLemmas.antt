@@ -251,7 +251,7 @@ closed-said machine command refusal text e plain =
 -- the refusal of an office whose store failed is said, or that there is no memory for it
 pub store-said : (machine : Machine) (command : Command) (refusal : Refusal) (fault : StoreFault) (text : CowStr Global) → refusal ≡ Store fault
     → (cow_str_bytes text ≡ refusal_text refusal) ⊎ IsMemoryText text
-    → IsRefusedByStore machine command (record { text = with_line_feed (cow_str_bytes text); machine = machine; status = 1 }) (InDoubt command)
+    → IsRefusedByStore machine command (record { text = with_line_feed (cow_str_bytes text); machine = machine; status = 1 }) (InDoubt command fault)
 store-said machine command refusal fault text e (inl same) = inr (fault, inl (said-same (same ∙ ap refusal_text e)), refl)
 store-said machine command refusal fault text e (inr short) = inr (fault, inr (said-same short.1), refl)
 

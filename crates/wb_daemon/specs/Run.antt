@@ -91,11 +91,12 @@ LineInvokes may_read line command = (invocation : Invocation) × (kind_of_line l
 abbrev pub refusal_response : Machine → Refusal → LineResponse
 refusal_response machine refusal = record { text = with_line_feed (refusal_text refusal); machine = machine; status = 1 }
 
--- a command is refused since the office is closed, or since the store failed, which leaves the command in doubt: what is said, and how the office then stands
+-- a command is refused since the office is closed, or since its store failed with the fault that is told, which leaves the command in doubt: what is said,
+-- and how the office then stands
 abbrev pub IsRefusedByStore : Machine → Command → LineResponse → Standing → Type 0
 IsRefusedByStore before command response standing =
     ((response ≡ refusal_response before Closed) × (standing ≡ Shut))
-    ⊎ ((fault : StoreFault) × ((response ≡ refusal_response before (Store fault)) ⊎ (response ≡ memory_response before)) × (standing ≡ InDoubt command))
+    ⊎ ((fault : StoreFault) × ((response ≡ refusal_response before (Store fault)) ⊎ (response ≡ memory_response before)) × (standing ≡ InDoubt command fault))
 
 -- what may be said to a merge of these lists: what is said to the command with what the lists gave, or that one of them is at fault
 abbrev pub IsMergeResponse : MayRead → Machine → List ℕ → List PartNames → LineResponse → Type 0

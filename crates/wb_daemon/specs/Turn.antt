@@ -15,7 +15,7 @@ use Rattle.wb_streams.specs.Streams.{AppendsFront}
 use Rattle.wb_daemon.specs.Lists.{MayRead}
 use Rattle.wb_step.specs.Offices.{Accepts, Standing, Open}
 use Rattle.wb_daemon.specs.Run.{LineResponse, IsLineResponse, IsInvocationResponse, command_response, memory_response, EndsInput, IsRefusedByStore, IsSaidTo, LineInvokes, RunStopsFor}
-use Rattle.wb_daemon.specs.declared.answer.Answer.{Answer}
+use Rattle.wb_daemon.specs.declared.answer.LineAnswer.{LineAnswer}
 use Rattle.wb_daemon.specs.declared.message.Cause.{Cause}
 use Rattle.wb_daemon.specs.declared.message.Cause.TheVariants.{Read, Write, Reply, Store, Lines, Room}
 use Rattle.wb_daemon.specs.declared.run.RunEnd.{RunEnd}
@@ -24,7 +24,7 @@ use Rattle.wb_daemon.specs.declared.run.Turn.{Turn}
 use Rattle.wb_daemon.specs.declared.run.Turn.TheVariants.{More, End, Stop}
 
 -- what is said by an answer after which the office is in this state
-abbrev pub response_of_answer : Answer → Machine → LineResponse
+abbrev pub response_of_answer : LineAnswer → Machine → LineResponse
 response_of_answer answer after = record { text = with_line_feed (cow_str_bytes answer.text); machine = after; status = answer.status }
 
 -- what may be said to a command: that there is no memory for it is possible too

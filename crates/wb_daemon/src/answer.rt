@@ -25,7 +25,7 @@ use wb_words::{Invocation, WordsFault, fault_of, invocation_of};
 /// What is written to a line, without its line feed, the status of the line, and whether the run stops after
 /// it, since the store failed or the office is closed.
 #[derive(Drop)]
-pub(crate) struct Answer {
+pub(crate) struct LineAnswer {
     pub(crate) text: CowStr<'static>,
     pub(crate) status: u8,
     pub(crate) stops: bool,
@@ -50,7 +50,7 @@ fn invocation_of_line(alloc: Global, line: &[u8]) -> Result<Invocation, WordsFau
 
 /// The reply or the refusal of the office to a command, with its status. It is `None` if the command was
 /// accepted and there is no memory for the reply; a reply that repeats an assignment accepts nothing.
-fn answer_to<O: CarryOut>(alloc: Global, office: &mut O, command: &Command) -> Option<Answer>
+fn answer_to<O: CarryOut>(alloc: Global, office: &mut O, command: &Command) -> Option<LineAnswer>
     ensures clean { O.is_clean office.new → O.is_clean office.old }
     ensures status { IfSome result (λ answer. answer.status ≤ 3) }
     ensures value { IfSome result (λ answer. answer.stops ≡ false
@@ -65,7 +65,7 @@ fn answer_to<O: CarryOut>(alloc: Global, office: &mut O, command: &Command) -> O
     let accepted = office.accepted_count();
     match office.carry_out(command) {
         Ok(reply) => match reply_json(alloc, command.name(), &reply) {
-            Ok(text) => Some(Answer {
+            Ok(text) => Some(LineAnswer {
                 text: CowStr::Owned(text),
                 status: ACCEPTED,
                 stops: false,
@@ -74,7 +74,7 @@ fn answer_to<O: CarryOut>(alloc: Global, office: &mut O, command: &Command) -> O
             Err(_) => None,
         },
         Err(Refusal::Memory) => Some(memory_answer(alloc)),
-        Err(refusal) => Some(Answer {
+        Err(refusal) => Some(LineAnswer {
             text: refusal_json(alloc, &refusal),
             status: REFUSED,
             stops: refusal.is_of_store(),
@@ -83,12 +83,12 @@ fn answer_to<O: CarryOut>(alloc: Global, office: &mut O, command: &Command) -> O
 }
 
 /// The answer if memory ran out, which takes none.
-fn memory_answer(alloc: Global) -> Answer
+fn memory_answer(alloc: Global) -> LineAnswer
     ensures value { (machine : Machine) → response_of_answer result machine ≡ memory_response machine }
     ensures status { result.status ≤ 3 }
     ensures stops { result.stops ≡ false }
 {
-    Answer {
+    LineAnswer {
         text: refusal_json(alloc, &Refusal::Memory),
         status: REFUSED,
         stops: false,
@@ -96,12 +96,12 @@ fn memory_answer(alloc: Global) -> Answer
 }
 
 /// The answer if a list cannot be read.
-fn file_answer() -> Answer
+fn file_answer() -> LineAnswer
     ensures value { (machine : Machine) → response_of_answer result machine ≡ file_fault_response machine }
     ensures status { result.status ≤ 3 }
     ensures stops { result.stops ≡ false }
 {
-    Answer {
+    LineAnswer {
         text: CowStr::Borrowed(file_fault_json()),
         status: FILE_FAULT,
         stops: false,
@@ -116,7 +116,7 @@ fn answer_invocation<O: CarryOut, L: Lists>(
     office: &mut O,
     lists: &mut L,
     invocation: &Invocation,
-) -> Option<Answer>
+) -> Option<LineAnswer>
     // what is said
     ensures status { IfSome result (λ answer. answer.status ≤ 3) }
     ensures value { IfSome result (λ answer. answer.stops ≡ false
@@ -152,7 +152,7 @@ pub(crate) fn answer_of<O: CarryOut, L: Lists>(
     office: &mut O,
     lists: &mut L,
     line: &[u8],
-) -> Option<Answer>
+) -> Option<LineAnswer>
     // a line that is read as words
     requires short { is_long line.now ≡ false }
     requires words { is_blank_line line.now ≡ false }
@@ -173,7 +173,7 @@ pub(crate) fn answer_of<O: CarryOut, L: Lists>(
 {
     match invocation_of_line(alloc, line) {
         Ok(invocation) => answer_invocation(alloc, office, lists, &invocation),
-        Err(WordsFault::NoCommand) => Some(Answer {
+        Err(WordsFault::NoCommand) => Some(LineAnswer {
             text: CowStr::Borrowed(line_fault_json()),
             status: LINE_FAULT,
             stops: false,

@@ -9,7 +9,7 @@ ghost use Rattle.wb_streams.specs.Streams.{Flags};
 ghost use Rattle.wb_daemon.specs.Turn.{Answers, HasRunStatus, HasTurnStatus, IsCauseAtLine, StopsAtLine, Ran, Turns};
 ghost use Rattle.wb_daemon.specs.Turn.{cause_of_end, cause_of_turn, fails_to_write};
 
-use crate::answer::{Answer, answer_of, report_fault};
+use crate::answer::{LineAnswer, answer_of, report_fault};
 use crate::lists::Lists;
 use crate::message::{Cause, Message};
 use crate::status::{ACCEPTED, LINE_FAULT, STOPPED};
@@ -75,7 +75,7 @@ fn answer_line<O: CarryOut, W: Write + Drop, L: Lists>(
     let Some(answer) = answer_of(alloc, office, lists, line) else {
         return Err(Cause::Reply);
     };
-    let Answer {
+    let LineAnswer {
         text,
         status,
         stops,

@@ -25,8 +25,8 @@ pub trait CarryOut {
     // The office is closed: it answers `Closed` to each command until it is opened again.
     ghost is_closed: { Self → Type 0 };
 
-    // The office is closed, and a crash leaves one of these two states.
-    ghost leaves: { Self → Machine → Machine → Type 0 };
+    // The office is closed, since its store failed with this fault, and a crash leaves one of these two states.
+    ghost leaves: { Self → Machine → Machine → StoreFault → Type 0 };
 
     /// How many commands were accepted. Takes no memory (this project's own).
     fn accepted_count(&self) -> u64
@@ -58,7 +58,7 @@ pub trait CarryOut {
         ensures closed { (machine : Machine) → is_clean self.new → stands_at self.old machine
             → result ≡ Err Closed → is_closed self.new × stands_at self.new machine }
         ensures store { (machine : Machine) → is_clean self.new → stands_at self.old machine → (fault : StoreFault)
-            → result ≡ Err (Store fault) → leaves self.new machine (step machine command.now).1 };
+            → result ≡ Err (Store fault) → leaves self.new machine (step machine command.now).1 fault };
 
     /// Answers a query, which changes nothing: a record, or what a builder holds by take number.
     ///
@@ -86,7 +86,7 @@ pub trait CarryOut {
         ensures closed { (machine : Machine) → is_clean self.new → stands_at self.old machine
             → result ≡ Err Closed → is_closed self.new × stands_at self.new machine }
         ensures store { (machine : Machine) → is_clean self.new → stands_at self.old machine → (fault : StoreFault)
-            → result ≡ Err (Store fault) → leaves self.new machine machine };
+            → result ≡ Err (Store fault) → leaves self.new machine machine fault };
 
     // A state at which an office stands is consistent.
     ghost consistent: { (office : Self) (machine : Machine) → stands_at office machine → IsConsistent machine };

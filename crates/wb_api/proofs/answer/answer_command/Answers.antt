@@ -1,12 +1,11 @@
 -- A reply that finds no memory is to an accepted command, or repeats an assignment and changed nothing.
-use Rattle.std.proofs.Common.{◌∙◌, ◌≡◌, Err, ap, false, inl, inr, refl, subst, sym, true}
-use Rattle.wb_step.proofs.OfficeLemmas.{is_of_store-cases, refusal-cases, reply-accepted, step-repeats}
-use Rattle.wb_states.specs.Refusals.{is_of_store}
-use Rattle.wb_step.specs.Offices.{InDoubt, Leads, Open, Shut}
+use Rattle.std.proofs.Common.{◌∙◌, Err, ap, inr, inl, refl, subst, sym}
+use Rattle.wb_step.proofs.OfficeLemmas.{reply-accepted, step-repeats}
+use Rattle.wb_step.specs.Offices.{InDoubt, Open}
 use Rattle.wb_step.specs.Step.{step}
 use Rattle.wb_api.specs.Encoding.{reply_text}
-use Rattle.wb_api.specs.Exchange.{IsCommandAnswer, IsRefusal, response_of_answer}
-use Rattle.wb_api.proofs.ExchangeLemmas.{memory-answered, refusal-answered, repeat-answered, reply-answered}
+use Rattle.wb_api.specs.Exchange.{IsCommandAnswer, response_of_answer}
+use Rattle.wb_api.proofs.ExchangeLemmas.{memory-answered, refusal-answered, refusal-leads, repeat-answered, reply-answered, said-as}
 use Rattle.wb_api.proofs.answer.answer_command.Goals as goal
 
 pub returns-in-Ok-reply_json-clause-value : goal.returns-in-Ok-reply_json-clause-value
@@ -44,38 +43,14 @@ returns-in-Ok-clause-memory g c = λ _ before clean stands.
 
 pub returns-clause-value : goal.returns-clause-value
 returns-clause-value g c =
-    (elim (is_of_store c.in-Err.refusal) as (λ b. is_of_store c.in-Err.refusal ≡ b
-    → Leads g.O.CarryOut.is_clean g.O.CarryOut.is_closed g.O.CarryOut.stands_at g.O.CarryOut.leaves c.args.office.now c.carry_out.new.self (λ before after standing.
-    IsCommandAnswer before c.args.command.now (response_of_answer c.refusal_answer.result after) standing)) [
-      | true ↦ λ is before clean stands. elim (is_of_store-cases c.in-Err.refusal is) [
-        | inl closed ↦ (
-          before,
-          Shut,
-          c.in-Err.ensures.closed before clean stands (ap Err closed),
-          inr (inl (subst (λ refusal. IsRefusal before refusal (response_of_answer c.refusal_answer.result before)) closed (c.refusal_answer.ensures.value before), refl)),
-        )
-        | inr failed ↦ (
-          before,
-          InDoubt c.args.command.now,
-          c.in-Err.ensures.store before clean stands failed.0 (ap Err failed.1),
-          inr (inr (failed.0, subst (λ refusal. IsRefusal before refusal (response_of_answer c.refusal_answer.result before)) failed.1 (c.refusal_answer.ensures.value before), refl)),
-        )
-      ]
-      | false ↦ λ other before clean stands. elim (refusal-cases c.in-Err.refusal) [
-        | inl is ↦
-            let wants = c.in-Err.ensures.memory before clean stands (ap Err is) in (
-              before,
-              Open,
-              wants.1,
-              memory-answered before c.args.command.now _ wants.0
-                  (subst (λ refusal. IsRefusal before refusal (response_of_answer c.refusal_answer.result before)) is (c.refusal_answer.ensures.value before)),
-            )
-        | inr machine ↦
-            let refused = c.in-Err.ensures.refused before clean stands machine other in (
-              before,
-              Open,
-              refused.1,
-              refusal-answered before c.args.command.now c.in-Err.refusal _ refused.0 (c.refusal_answer.ensures.value before),
-            )
-      ]
-    ]) refl
+    let said = c.refusal_answer.ensures.value in
+    let response = response_of_answer c.refusal_answer.result in
+    let e = c.in-Err.ensures in
+    refusal-leads g.O.CarryOut.is_clean g.O.CarryOut.is_closed g.O.CarryOut.stands_at g.O.CarryOut.leaves c.args.office.now c.carry_out.new.self
+    (λ before after standing. IsCommandAnswer before c.args.command.now (response after) standing) c.in-Err.refusal (InDoubt c.args.command.now)
+    (λ before clean stands is. (e.closed before clean stands (ap Err is), inr (inl (said-as before (response before) is (said before), refl))))
+    (λ before clean stands fault is. (e.store before clean stands fault (ap Err is), inr (inr (fault, said-as before (response before) is (said before), refl))))
+    (λ before clean stands is. let wants = e.memory before clean stands (ap Err is) in
+    (wants.1, memory-answered before c.args.command.now (response before) wants.0 (said-as before (response before) is (said before))))
+    (λ before clean stands machine other. let refused = e.refused before clean stands machine other in
+    (refused.1, refusal-answered before c.args.command.now c.in-Err.refusal (response before) refused.0 (said before)))

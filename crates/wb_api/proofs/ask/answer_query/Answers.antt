@@ -1,10 +1,8 @@
 -- What was found is answered, or the refusal.
-use Rattle.std.proofs.Common.{◌≡◌, Err, ap, false, inl, inr, refl, subst, true}
-use Rattle.wb_step.proofs.OfficeLemmas.{is_of_store-cases, refusal-cases}
-use Rattle.wb_states.specs.Refusals.{is_of_store}
-use Rattle.wb_step.specs.Offices.{Failed, Leads, Open, Shut}
-use Rattle.wb_api.specs.Exchange.{IsQueryAnswer, IsRefusal, response_of_answer}
-use Rattle.wb_api.proofs.ExchangeLemmas.{found-answered, found-unsaid, query-refused, query-unasked}
+use Rattle.std.proofs.Common.{Err, ap, inl, inr, refl}
+use Rattle.wb_step.specs.Offices.{Failed, Open}
+use Rattle.wb_api.specs.Exchange.{IsQueryAnswer, response_of_answer}
+use Rattle.wb_api.proofs.ExchangeLemmas.{found-answered, found-unsaid, query-refused, query-unasked, refusal-leads, said-as}
 use Rattle.wb_api.proofs.ask.answer_query.Goals as goal
 
 pub returns-in-Ok-query_json-clause-value : goal.returns-in-Ok-query_json-clause-value
@@ -19,34 +17,14 @@ returns-in-Ok-clause-value g c = λ before clean stands.
 
 pub returns-clause-value : goal.returns-clause-value
 returns-clause-value g c =
-    (elim (is_of_store c.in-Err.refusal) as (λ b. is_of_store c.in-Err.refusal ≡ b
-    → Leads g.O.CarryOut.is_clean g.O.CarryOut.is_closed g.O.CarryOut.stands_at g.O.CarryOut.leaves c.args.office.now c.ask.new.self (λ before after standing.
-    IsQueryAnswer before c.args.query.now (response_of_answer c.refusal_answer.result after) standing)) [
-      | true ↦ λ is before clean stands. elim (is_of_store-cases c.in-Err.refusal is) [
-        | inl closed ↦ (
-          before,
-          Shut,
-          c.in-Err.ensures.closed before clean stands (ap Err closed),
-          inr (inl (subst (λ refusal. IsRefusal before refusal (response_of_answer c.refusal_answer.result before)) closed (c.refusal_answer.ensures.value before), refl)),
-        )
-        | inr failed ↦ (
-          before,
-          Failed,
-          c.in-Err.ensures.store before clean stands failed.0 (ap Err failed.1),
-          inr (inr (failed.0, subst (λ refusal. IsRefusal before refusal (response_of_answer c.refusal_answer.result before)) failed.1 (c.refusal_answer.ensures.value before), refl)),
-        )
-      ]
-      | false ↦ λ other before clean stands. elim (refusal-cases c.in-Err.refusal) [
-        | inl is ↦
-            let wants = c.in-Err.ensures.memory before clean stands (ap Err is) in (
-              before,
-              Open,
-              wants.1,
-              query-unasked before c.args.query.now _ wants.0
-                  (subst (λ refusal. IsRefusal before refusal (response_of_answer c.refusal_answer.result before)) is (c.refusal_answer.ensures.value before)),
-            )
-        | inr machine ↦
-            let refused = c.in-Err.ensures.refused before clean stands machine other in
-            (before, Open, refused.1, query-refused before c.args.query.now c.in-Err.refusal _ refused.0 (c.refusal_answer.ensures.value before))
-      ]
-    ]) refl
+    let said = c.refusal_answer.ensures.value in
+    let response = response_of_answer c.refusal_answer.result in
+    let e = c.in-Err.ensures in
+    refusal-leads g.O.CarryOut.is_clean g.O.CarryOut.is_closed g.O.CarryOut.stands_at g.O.CarryOut.leaves c.args.office.now c.ask.new.self
+    (λ before after standing. IsQueryAnswer before c.args.query.now (response after) standing) c.in-Err.refusal Failed
+    (λ before clean stands is. (e.closed before clean stands (ap Err is), inr (inl (said-as before (response before) is (said before), refl))))
+    (λ before clean stands fault is. (e.store before clean stands fault (ap Err is), inr (inr (fault, said-as before (response before) is (said before), refl))))
+    (λ before clean stands is. let wants = e.memory before clean stands (ap Err is) in
+    (wants.1, query-unasked before c.args.query.now (response before) wants.0 (said-as before (response before) is (said before))))
+    (λ before clean stands machine other. let refused = e.refused before clean stands machine other in
+    (refused.1, query-refused before c.args.query.now c.in-Err.refusal (response before) refused.0 (said before)))

@@ -65,7 +65,7 @@ returns-clause-stops g c = λ stops before clean stands. elim (is_of_store-cases
   )
   | inr failed ↦ (
     before,
-    InDoubt c.args.command.now,
+    InDoubt c.args.command.now failed.0,
     c.in-Err.ensures.store before clean stands failed.0 (ap Err failed.1),
     store-said before c.args.command.now c.in-Err.refusal failed.0 _ failed.1 c.refusal_json.ensures.value,
   )
