@@ -2,8 +2,9 @@
 //! bytes. The first three are the Sources list and the Packages lists of amd64 and arm64 that the office begins with, and each other is all
 //! that a client sends on a connection. Up to four numbers may follow the length, each after a blank: how many bytes a read gives and a
 //! write takes at most, how many reads give bytes before one fails, how many writes take bytes before one fails, and 0 if that write takes no
-//! byte in place of an error. Without them all bytes that fit are read and written, and no read or write fails. What failed once works again. For each request a line goes to the output, and after it what is answered: how
-//! the exchange ended, the status or 0 for none, and how many bytes were answered, as in `answered 200 145`. A line `end` ends the requests.
+//! byte in place of an error. Without them all bytes that fit are read and written, and no read or write fails. What failed once works
+//! again. For each request a line goes to the output, and after it what is answered: how the exchange ended, the status or 0 for none, and
+//! how many bytes were answered, as in `answered 200 145`. A line `end` ends the requests.
 
 mod frames;
 mod opening;
@@ -26,24 +27,25 @@ pub(crate) fn answer_all<R: BufRead + Drop, W: Write + Drop>(
     input: &mut R,
     output: &mut W,
 ) -> Result<()> {
-    match frames::next(alloc, input)? {
-        Some(sources) => {
-            let mut office = begun(alloc, input, sources.bytes)?;
-            answer_each(alloc, &mut office, input, output)
-        }
+    match begun(alloc, input)? {
+        Some(mut office) => answer_each(alloc, &mut office, input, output),
         None => Ok(()),
     }
 }
 
-/// The office over this Sources list and the Packages lists that stand next in the input.
-fn begun<R: BufRead + Drop>(
+/// The office over the Sources list and the Packages lists that stand next in the input; none where the input, or its
+/// part, ends before them.
+pub(crate) fn begun<R: BufRead + Drop>(
     alloc: Global,
     input: &mut R,
-    sources: Vec<u8>,
-) -> Result<MemoryOffice> {
+) -> Result<Option<MemoryOffice>> {
+    let Some(sources) = frames::next(alloc, input)? else {
+        return Ok(None);
+    };
     let amd64 = frames::next(alloc, input)?.context("there is no list of amd64")?;
     let arm64 = frames::next(alloc, input)?.context("there is no list of arm64")?;
-    opening::office_of(alloc, sources, amd64.bytes, arm64.bytes)
+    let office = opening::office_of(alloc, sources.bytes, amd64.bytes, arm64.bytes)?;
+    Ok(Some(office))
 }
 
 /// Answers each request of the input. Each answer is written before the next request is read.
