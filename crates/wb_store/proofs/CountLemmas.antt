@@ -4,11 +4,9 @@ use Rattle.std.specs.FinMap as finite
 use Rattle.sqlite_trees.specs.declared.store.Store.{Ghosts}
 use Rattle.sqlite.specs.Held.{Held}
 use Rattle.wb_states.specs.declared.keyed.KeyedRecord.{KeyedRecord}
-use Rattle.wb_states.specs.declared.counts.StateCounts.{StateCounts}
 use Rattle.wb_states.specs.declared.state.State.{State}
-use Rattle.wb_states.specs.declared.state.State.TheVariants.{NeedsBuild, Building, Built, Uploaded, Installed, DepWait, BdUninstallable, Failed, NotForUs, BuildAttempted}
 use Rattle.wb_states.specs.declared.store_fault.StoreFault.{StoreFault}
-use Rattle.wb_states.specs.Lookups.{counts_of, entry_of, is_in, is_of, number_in, rows_of}
+use Rattle.wb_states.specs.Lookups.{entry_of, is_in, is_of, number_in, rows_of}
 use Rattle.wb_states.specs.Machine.{Machine}
 use Rattle.wb_states.specs.Queue.{Entry}
 use Rattle.wb_states.specs.State.{code_of}
@@ -52,22 +50,6 @@ pub numbers : (machine : Machine) (arch : List ℕ) (state : State) (rows : List
 unfolding rows_of number_in
 numbers machine arch state rows is =
     listed state rows ∙ ap (λ entries. length (filter (has_state state) entries)) is ∙ within arch state (finite.entries machine.records)
-
--- such numbers are the counts of the architecture
-pub counted : (machine : Machine) (arch : List ℕ) {made : StateCounts} → made ≡ record {
-  needs_build = number_in machine arch NeedsBuild;
-  building = number_in machine arch Building;
-  built = number_in machine arch Built;
-  uploaded = number_in machine arch Uploaded;
-  installed = number_in machine arch Installed;
-  dep_wait = number_in machine arch DepWait;
-  bd_uninstallable = number_in machine arch BdUninstallable;
-  failed = number_in machine arch Failed;
-  not_for_us = number_in machine arch NotForUs;
-  build_attempted = number_in machine arch BuildAttempted;
-} → made ≡ counts_of machine arch
-unfolding counts_of
-counted machine arch is = is
 
 -- what follows from the answer of a look-up is looked up too
 pub looks_up_as : {S A B : Type 0} {g : Ghosts S} {query : OfficeQuery} {Before : Machine → A → Type 0} {After : Machine → B → Type 0} {old new : Held S} {x : A} (y : B)
