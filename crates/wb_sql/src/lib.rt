@@ -20,7 +20,7 @@ mod transaction;
 pub use changes::{delete, insert, replace, update, upsert};
 pub use files::{close, open, surrender};
 pub use format::has_format_column;
-pub use making::{make_tables, prepare};
+pub use making::{make_empty_office, make_tables};
 pub use reading::read;
 pub use recognition::{has_office_tables, lacks_office};
 pub use transaction::{CommitError, begin, commit, execute, is_usable, roll_back};

@@ -86,7 +86,7 @@ fn put_first_row<S: Alter>(conn: &mut Connection<S>) -> Result<(), Error>
 
 /// Makes the tables of an empty office, with its row, in a database that lacks them, as [`crate::lacks_office`] says. The
 /// tables of others keep their rows. It fails as `execute` does, and the caller then rolls back.
-pub fn prepare<S: Alter>(conn: &mut Connection<S>) -> Result<(), Error>
+pub fn make_empty_office<S: Alter>(conn: &mut Connection<S>) -> Result<(), Error>
     ensures makes { (base : Schema) → LacksOffice base → IsNumbered base
         → Makes S.Store base [] (MakesOffice base) conn.old conn.new result }
 {

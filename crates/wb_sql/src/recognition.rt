@@ -16,7 +16,7 @@ use crate::comparison::{
 use crate::id_check::is_id_check;
 use sqlite_schema::schema::{Kind, Schema, Table};
 
-/// Whether an office can be made in the schema by [`crate::prepare`]: it has no table, index or view of a name that the
+/// Whether an office can be made in the schema by [`crate::make_empty_office`]: it has no table, index or view of a name that the
 /// office's tables or their indexes have, where ASCII letters of either case are the same, and no table that refers to
 /// one of the office's. A schema with a table that counts its rowids (AUTOINCREMENT) must also have the table
 /// `sqlite_sequence`, as SQLite makes it. The schema of a connection is `Connection::schema` (this project's own).
@@ -27,7 +27,7 @@ pub fn lacks_office(schema: &Schema) -> bool
 }
 
 /// Whether the schema has the office's six tables, `office`, `arch`, `builder`, `source_record`, `scratch_source` and
-/// `scratch_binary`, each as [`crate::prepare`] makes it and with the indexes that it makes. In which order and in which
+/// `scratch_binary`, each as [`crate::make_empty_office`] makes it and with the indexes that it makes. In which order and in which
 /// trees they are does not matter, nor what their rows are, and other tables, indexes and views may stand beside them.
 /// The answer is false where another index is on one of them, and where a table of others refers to one of them. The
 /// schema of a connection is `Connection::schema` (this project's own).

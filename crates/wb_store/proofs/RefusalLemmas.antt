@@ -28,7 +28,7 @@ use Rattle.wb_store.specs.Checks.{AreBadRecords, AreBadRows, AreOfFormat, FailsT
 use Rattle.wb_store.specs.Faults.{fault_of}
 use Rattle.wb_store.specs.Finds.{StaysAs}
 use Rattle.wb_store.specs.Formats.{IsNewer, IsOtherFault, ShowsFormat, TellsOther}
-use Rattle.wb_store.specs.Opening.{AreCountsOf, Checks, FailsOnOffice, FailsOnRows, FailsOnScratchOf, FindsOffice, IsNewerFault, LacksMemoryOrQuery, NamesFault, ShowsCounts}
+use Rattle.wb_store.specs.Opening.{AreCountsOf, Checks, FailsOnOffice, FailsOnRows, FailsOnScratchOf, PreparesOffice, IsNewerFault, LacksMemoryOrQuery, NamesFault, ShowsCounts}
 use Rattle.wb_store.specs.Preparing.{HasRoom, LeavesFound, MakesEmptyOffice}
 use Rattle.wb_store.specs.Queries.{OfficeQuery}
 use Rattle.wb_store.specs.Settled.{IsSettled}
@@ -170,7 +170,7 @@ idle_stays g old new idle (inr kept) = kept.0.0.mode ∙ idle
 
 module _ {S : Type 0} {g : Ghosts S} {old new : Held S} where
   -- it is tested as it is
-  pub found_office : (r : Result Counts StoreFault) → (state g old).in_transaction ≡ false → HasOffice old.schema → Checks g old new r → FindsOffice g old new r
+  pub found_office : (r : Result Counts StoreFault) → (state g old).in_transaction ≡ false → HasOffice old.schema → Checks g old new r → PreparesOffice g old new r
   found_office (Ok counts) idle office h = record {
     was_clean = h.was_clean;
     limit = h.survives.limit;
@@ -237,7 +237,7 @@ module _ {S : Type 0} {g : Ghosts S} {old new : Held S} where
 
   -- ---- a database that neither has them nor lacks them
 
-  pub other_refused : (fault : StoreFault) → (state g old).in_transaction ≡ false → ¬ LacksOffice old.schema → ¬ HasOffice old.schema → TellsOther g old new fault → FindsOffice g old new (Err fault)
+  pub other_refused : (fault : StoreFault) → (state g old).in_transaction ≡ false → ¬ LacksOffice old.schema → ¬ HasOffice old.schema → TellsOther g old new fault → PreparesOffice g old new (Err fault)
   other_refused fault idle tables others h = record {
     was_clean = was_clean (state g old) (state g new) h.survives;
     limit = h.survives.limit;
@@ -314,7 +314,7 @@ module _ {S : Type 0} {g : Ghosts S} {old new : Held S} (none : LacksOffice old.
       same_fault is = cc
 
   -- an empty office is made, and then tested
-  pub made_and_tested : {A : Type 0} {x : A} {mid : Held S} (r : Result Counts StoreFault) → MakesEmptyOffice g old mid (Ok x) → Checks g mid new r → FindsOffice g old new r
+  pub made_and_tested : {A : Type 0} {x : A} {mid : Held S} (r : Result Counts StoreFault) → MakesEmptyOffice g old mid (Ok x) → Checks g mid new r → PreparesOffice g old new r
   made_and_tested {mid = mid} (Ok counts) makes h = record {
     was_clean = λ clean. makes.was_clean (h.was_clean clean);
     limit = h.survives.limit ∙ makes.limit;
@@ -375,7 +375,7 @@ module _ {S : Type 0} {g : Ghosts S} {old new : Held S} (none : LacksOffice old.
       settled clean is_open = (makes.made (h.was_clean clean) (room (state g old) none live is_open)).0
 
   -- none could be made
-  pub none_made : {A : Type 0} {e : Error} {fault : StoreFault} → fault ≡ fault_of e Office → MakesEmptyOffice {A = A} g old new (Err e) → FindsOffice g old new (Err fault)
+  pub none_made : {A : Type 0} {e : Error} {fault : StoreFault} → fault ≡ fault_of e Office → MakesEmptyOffice {A = A} g old new (Err e) → PreparesOffice g old new (Err fault)
   none_made {e = e} {fault = fault} is makes = record {
     was_clean = makes.was_clean;
     limit = makes.limit;

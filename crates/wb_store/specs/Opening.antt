@@ -175,7 +175,7 @@ pub record NamesFault {S : Type 0} (g : Ghosts S) (old new : Held S) (result : R
 -- counts; whatever it answers, a crash leaves that state; it fails only if it could not be made, or if memory ran out or a query failed; an office
 -- that is found has good rows, or is refused by one of its tests; and whatever it answers over an open connection, a crash leaves what it could leave
 -- before, or an empty office of a database that lacked one, no transaction is under way, and the limit of steps stays
-pub record FindsOffice {S : Type 0} (g : Ghosts S) (old new : Held S) (result : Result Counts StoreFault) : Type 0 where
+pub record PreparesOffice {S : Type 0} (g : Ghosts S) (old new : Held S) (result : Result Counts StoreFault) : Type 0 where
   pub was_clean : HasCleanDisk (state g new) → HasCleanDisk (state g old)
   pub found : HasCleanDisk (state g new) → (machine : Machine) → IsConsistent machine → IsFoundAt machine (state g old)
       → IfOk result (λ counts. AreCountsOf machine counts × IsSettled machine (state g new))
@@ -193,4 +193,4 @@ pub record FindsOffice {S : Type 0} (g : Ghosts S) (old new : Held S) (result : 
 
 -- an opening was refused, and its connection given up, in the state in which the search for the office left it
 abbrev pub IsRefusedFrom : {S : Type 0} → Ghosts S → Held S → StoreFault → Type 0
-IsRefusedFrom {S} g old fault = (at : Held S) × FindsOffice g old at (Err fault)
+IsRefusedFrom {S} g old fault = (at : Held S) × PreparesOffice g old at (Err fault)

@@ -23,7 +23,6 @@ mod writing;
 
 pub use checks::{check_archs, check_builders, check_counts, check_records};
 pub use fault::{fault_of, opening_fault, unfit};
-pub use opening::find_office;
 pub use scratch::{has_scratch_binaries, has_scratch_sources};
 pub use store::Store;
 pub use writing::Writing;

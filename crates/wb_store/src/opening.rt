@@ -1,40 +1,12 @@
-//! What an opening tests of the tables of an office, in one call; and how an office is found in them, or made.
-ghost use Rattle.std.specs.Prelude.{◌≡◌, false};
-ghost use Rattle.wb_store.specs.Opening.{Checks, ChecksRows, ChecksScratch, FindsOffice};
+//! What an opening tests of the tables of an office, in one call.
+ghost use Rattle.wb_store.specs.Opening.{Checks, ChecksRows, ChecksScratch};
 
-use crate::checks::other_fault;
-use crate::preparing::make_office;
 use crate::{
-    check_archs, check_builders, check_counts, check_records, fault_of, has_scratch_binaries,
+    check_archs, check_builders, check_counts, check_records, has_scratch_binaries,
     has_scratch_sources,
 };
 use sqlite::{Alter, Connection};
-use wb_sql::{has_office_tables, lacks_office};
 use wb_states::{Counts, StoreFault, Table};
-
-/// The two counts of the office that the database holds, or of an empty one, whose tables are made first if the
-/// database lacks them, as [`lacks_office`] says. Tables of others may stand beside them, as [`has_office_tables`] says.
-/// [`Office::adopt`](crate::Office::adopt) is this call, with the connection it was given. The faults of a database that
-/// neither has the office's tables nor lacks them are those of [`other_fault`]: `NewerSchema` if its table `office` shows
-/// a format above 2, and else `NotOffice`. The others are those of [`check`], and before them those of the table of the
-/// office if the tables cannot be made. What was there stays as it is, but for a transaction that a failure of a query
-/// takes back; a crash of a database that lacks the tables leaves that, or the empty office. No transaction is under way
-/// after any answer (this project's own).
-pub fn find_office<S: Alter>(conn: &mut Connection<S>) -> Result<Counts, StoreFault>
-    requires idle { conn.old.in_transaction ≡ false }
-    ensures finds { FindsOffice S.Store conn.old conn.new result }
-{
-    if has_office_tables(conn.schema()) {
-        return check(conn);
-    }
-    if !lacks_office(conn.schema()) {
-        return Err(other_fault(conn));
-    }
-    match make_office(conn) {
-        Ok(()) => check(conn),
-        Err(error) => Err(fault_of(error, Table::Office)),
-    }
-}
 
 /// The two counts of the office, if the rows of its tables are good, those of each table beside those of the others,
 /// and no merge left a row in the scratch tables. The faults are those of `check_counts`, `check_archs`,

@@ -4,7 +4,7 @@ ghost use Rattle.wb_sql.specs.Transactions.{cause_of};
 ghost use Rattle.wb_store.specs.Preparing.{MakesEmptyOffice};
 
 use sqlite::{Alter, Connection, Error, ErrorCode};
-use wb_sql::{CommitError, begin, commit, prepare, roll_back};
+use wb_sql::{CommitError, begin, commit, make_empty_office, roll_back};
 
 /// Makes the tables of an empty office in a database that lacks them, in one transaction; the tables of others keep their
 /// rows. The error is that of the statement or of the commit that failed; the database is then as it was, or, if the
@@ -14,7 +14,7 @@ pub(crate) fn make_office<S: Alter>(conn: &mut Connection<S>) -> Result<(), Erro
     ensures makes { MakesEmptyOffice S.Store conn.old conn.new result }
 {
     begin(conn);
-    if let Err(error) = prepare(conn) {
+    if let Err(error) = make_empty_office(conn) {
         let _ = roll_back(conn);
         return Err(error);
     }

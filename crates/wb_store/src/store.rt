@@ -19,10 +19,9 @@ ghost use Rattle.wb_store.specs.Opening.{HasNoScratchRows, IsRefusedFrom};
 ghost use Rattle.wb_store.specs.Preparing.{IsFoundAt};
 ghost use Rattle.wb_store.specs.Settled.{AreSettledAt, LeavesEither, IsBackAt, TakesBack};
 
-use crate::ending;
 use crate::fault::{fault_of, opening_fault};
-use crate::opening::find_office;
 use crate::writing::Writing;
+use crate::{ending, laws};
 use sqlite::{Alter, Connection, FileStore, Files, Options};
 use sqlite_disk::Disk;
 use std::alloc::Global;
@@ -76,7 +75,7 @@ impl<S: Alter + Drop> Store<S> {
         ensures refused { IfErr result (IsRefusedFrom S.Store conn) }
     {
         let mut conn = conn;
-        match find_office(&mut conn) {
+        match laws::prepare(&mut conn) {
             Ok(counts) => Ok((Store { conn }, counts)),
             Err(fault) => Err(fault),
         }
@@ -186,7 +185,8 @@ impl<D: Disk + Drop> Store<FileStore<D>> {
     }
 }
 
-/// Closes the connection of a store, and gives back its files.
+/// Closes the connection of a store, and gives back its files. It is apart since a connection that comes out of a store and
+/// is dropped with its fault leaves the prover an invariant to show that it cannot name.
 fn close<D: Disk + Drop>(conn: Connection<FileStore<D>>) -> Result<Files<D>, StoreFault>
     ensures settled { IfOk result (λ files. AreClean D.Disk files.log files.db → (machine : Machine)
         → IsBackAt machine (file_state conn) → AreSettledAt D.Disk files machine) }

@@ -8,7 +8,7 @@ use sqlite_disk::Disk;
 use std::alloc::Global;
 use std::io::Write;
 use std::str;
-use wb_store::{find_office, opening_fault};
+use wb_store::{laws, opening_fault};
 
 /// Each table of an office with the statement that reads it.
 const TABLES: [(&str, &str); 6] = [
@@ -39,7 +39,7 @@ pub(crate) fn show<W: Write>(alloc: Global, images: &Images, output: &mut W) -> 
             return Ok(());
         }
     };
-    if let Err(fault) = find_office(&mut conn) {
+    if let Err(fault) = laws::prepare(&mut conn) {
         writeln!(output, "fault {}", fault.name())?;
         return Ok(());
     }

@@ -13,7 +13,7 @@ use std::rt::Files as FileHandle;
 use wb_daemon::run_lines;
 use wb_office::Office;
 use wb_states::{StoreFault, Table};
-use wb_store::{fault_of, find_office, opening_fault};
+use wb_store::{fault_of, laws, opening_fault};
 use wb_streams::{WatchedReader, WatchedWriter};
 
 /// The salt of the log.
@@ -109,7 +109,7 @@ fn open(alloc: Global, files: Files<Stopping>, closes: bool) -> Result<GivenBack
             });
         }
     };
-    let found = find_office(&mut conn);
+    let found = laws::prepare(&mut conn);
     if found.is_err() || !closes {
         return Ok(GivenBack {
             files: wb_sql::surrender(conn),

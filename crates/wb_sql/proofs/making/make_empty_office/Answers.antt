@@ -1,6 +1,6 @@
 use Rattle.wb_sql.proofs.MakingLemmas.{fails, makes_then}
 use Rattle.wb_sql.proofs.FirstRowLemmas.{office_follows}
-use Rattle.wb_sql.proofs.making.prepare.Goals as goal
+use Rattle.wb_sql.proofs.making.make_empty_office.Goals as goal
 
 pub returns-in_err-make_tables : goal.returns-in_err-make_tables
 returns-in_err-make_tables g c = record {
