@@ -5,8 +5,6 @@
 mod lookups;
 mod requests;
 mod stops;
-#[cfg(test)]
-mod tests;
 
 use anyhow::{Result, bail};
 use std::io::{self, BufRead, BufReader, BufWriter};

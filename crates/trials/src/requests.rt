@@ -13,7 +13,7 @@ mod writer;
 
 use anyhow::{Context, Result};
 use frames::Frame;
-pub(crate) use opening::{MemoryOffice, opened};
+pub(crate) use opening::MemoryOffice;
 use reader::CutReader;
 use std::alloc::Global;
 use std::io::{BufRead, Write};

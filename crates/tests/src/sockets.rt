@@ -1,8 +1,9 @@
 //! Exchanges over sockets of this machine, both ends of which the test has: a request is small enough to lie between
 //! them until it is read, and so is an answer.
 
-use crate::requests::{MemoryOffice, opened};
 use deb_text::Text;
+use sqlite::{FileStore, Files, Options};
+use sqlite_disk::Memory;
 use std::alloc::{AllocError, Global};
 use std::io::{self, Read, Write};
 use std::net::{Net, Shutdown, TcpListener, TcpStream};
@@ -10,10 +11,13 @@ use std::process::Abort;
 use std::test::Fail;
 use std::time::Duration;
 use wb_api::{Served, serve_one};
+use wb_office::Office;
 use wb_states::Command;
 use wb_states::command::{AddArch, AddBuilder, Enter};
 use wb_step::CarryOut;
 use wb_streams::{Status, WatchedReader, WatchedWriter};
+
+type MemoryOffice = Office<FileStore<Memory>>;
 
 fn text(alloc: Global, text: &str) -> Result<Text, AllocError> {
     Text::copied(alloc, text)
@@ -39,7 +43,11 @@ fn waiting_office(rt: &impl Abort, alloc: Global) -> Result<MemoryOffice, Fail> 
             section: text(alloc, "devel")?,
         }),
     ];
-    let mut office = opened(alloc)?;
+    let files = Files {
+        log: Memory::new(alloc),
+        db: Memory::new(alloc),
+    };
+    let mut office = Office::open(alloc, files, Options::new(1))?;
     for command in &commands {
         assert!(rt; office.apply(command).is_ok());
     }

@@ -1,3 +1,0 @@
-mod moves;
-mod records;
-mod sockets;
