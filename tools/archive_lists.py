@@ -1,6 +1,6 @@
-"""Sources and Packages lists of an archive, for tools/fetch-lists, tools/prepare-lists, tools/report-from-dose and tools/rebuild-from-ben: paragraphs
-of control data (Debian Policy 5.1) read one after another, names and versions, architecture words as dpkg reads them, and files that are put in place
-only once they are whole.
+"""Sources and Packages lists of an archive, for tools/merge-archive, tools/fetch-lists, tools/prepare-lists, tools/report-from-dose and
+tools/rebuild-from-ben: paragraphs of control data (Debian Policy 5.1) read one after another, names and versions, architecture words as dpkg reads
+them, files that are put in place only once they are whole, other programs, and the options that several scripts have.
 
 The form of control data is the one that `wb` reads, so that what passes here is no fault of a list there; but a list has to end with an empty line,
 which shows that its last paragraph was not cut off.
@@ -9,15 +9,20 @@ import argparse
 import contextlib
 import os
 import re
+import subprocess
 import sys
 import tempfile
-from collections.abc import Callable, Iterator, Mapping
+from collections import Counter
+from collections.abc import Callable, Iterator, Mapping, Sequence
 from dataclasses import dataclass
+from io import BufferedReader
 from pathlib import Path
 from typing import IO
 
 PARAGRAPH_LIMIT = 4194304  # bytes, as of `wb`
 TABLES = Path("/usr/share/dpkg")  # where dpkg keeps its tables of architectures
+COMPRESSED = {b"\x1f\x8b": "gzip", b"\xfd7zXZ\0": "xz", b"\x28\xb5\x2f\xfd": "zstd", b"BZh": "bzip2"}  # by how such a file begins
+CUT = "no empty line ends it, so the list was cut off there; fetch it again"
 
 DONE, REFUSED, WORDS, FAILED = 0, 1, 2, 3
 STATUSES = """Status: 0 if all was done; 1 if what was read is refused, and 2 if the words of the command line are; 3 if a file cannot be
@@ -40,7 +45,11 @@ class Refused(Exception):
 
 
 class ProgramFailed(Exception):
-    """Another program could not be started, or failed: the message names it."""
+    """Another program could not be started, or failed: the message names it. The status is the one with which the script ends."""
+
+    def __init__(self, why: str, status: int = FAILED) -> None:
+        super().__init__(why)
+        self.status = status
 
 
 # ---- names and versions
@@ -148,8 +157,9 @@ class Paragraph:
 
 
 def paragraphs(path: Path) -> Iterator[Paragraph]:
-    """The paragraphs of a list. Refuses the first that is no control data, and a last one that no empty line ends."""
+    """The paragraphs of a list. Refuses the first that is no control data, a last one that no empty line ends, and a list that is compressed."""
     with path.open("rb") as file:
+        check_text(path, file)
         number, line_number, size = 1, 0, 0
         lines: list[bytes] = []
         while line := file.readline(PARAGRAPH_LIMIT + 1):
@@ -163,8 +173,19 @@ def paragraphs(path: Path) -> Iterator[Paragraph]:
                 yield read_paragraph(path, number, line_number - len(lines), lines)
                 number, size, lines = number + 1, 0, []
         if lines:
-            read_paragraph(path, number, line_number - len(lines) + 1, lines)
-            raise Refused(f"{path}: paragraph {number}, the last: no empty line ends it, so the list was cut off there; fetch it again")
+            try:
+                read_paragraph(path, number, line_number - len(lines) + 1, lines)
+            except Refused as why:
+                raise Refused(f"{why}; {CUT}") from None
+            raise Refused(f"{path}: paragraph {number}, the last: {CUT}")
+
+
+def check_text(path: Path, file: BufferedReader) -> None:
+    """Refuses a list that is compressed, as its first bytes show; they are not taken out of the file, which may be a pipe."""
+    start = file.peek(max(map(len, COMPRESSED)))
+    for magic, program in COMPRESSED.items():
+        if start.startswith(magic):
+            raise Refused(f"{path}: it is compressed by {program}; uncompress it, since a list is text")
 
 
 def check_end(path: Path) -> None:
@@ -198,7 +219,7 @@ def read_paragraph(path: Path, number: int, first_line: int, lines: list[bytes])
     try:
         b"".join(lines).decode()
     except UnicodeDecodeError:
-        raise Refused(f"{where}: it is not UTF-8") from None
+        raise Refused(f"{where}: it is not UTF-8; fetch the list again, or convert it") from None
     return Paragraph(where, lines, fields)
 
 
@@ -323,6 +344,19 @@ def write_lines(path: Path | None, lines: list[str]) -> None:
         file.write(data)
 
 
+# ---- other programs
+
+
+def call_program(words: Sequence[str], shown: bool = False, environment: Mapping[str, str] | None = None) -> tuple[int, bytes]:
+    """The status of another program and what it writes on standard output; with `shown` this goes to standard error, for a person."""
+    output = sys.stderr if shown else subprocess.PIPE
+    try:
+        done = subprocess.run(words, env=environment, stdout=output, stdin=subprocess.DEVNULL, check=False)
+    except OSError as why:
+        raise ProgramFailed(f"{words[0]} cannot be started: {why.strerror}") from None
+    return done.returncode, done.stdout or b""
+
+
 # ---- command lines
 
 
@@ -346,6 +380,50 @@ def parser_of(description: str, example: str) -> argparse.ArgumentParser:
     )
 
 
+def add_tables_option(parser: argparse.ArgumentParser) -> None:
+    parser.add_argument("--tables", metavar="FOLDER", type=Path, default=TABLES, help="where dpkg's tables are, else %(default)s")
+
+
+suite_word = a_form(lambda word: re.fullmatch(r"[A-Za-z0-9][A-Za-z0-9._/-]*", word) is not None, "name of a suite")
+component_word = a_form(lambda word: re.fullmatch(r"[A-Za-z0-9][A-Za-z0-9._/-]*", word) is not None, "name of a component")
+mirror_word = a_form(lambda word: re.fullmatch(r"[a-z][a-z0-9+.-]*:[!-~]+", word) is not None, "address of an archive")
+keyring_word = a_form(lambda word: re.fullmatch(r"/[^\s\"']*", word) is not None, "absolute path without blanks")
+
+
+def add_archive_options(parser: argparse.ArgumentParser) -> None:
+    """The options that say what is fetched from which archive."""
+    parser.add_argument("--suite", metavar="SUITE", type=suite_word, action="append", default=[], help="a suite; may be given several times")
+    parser.add_argument(
+        "--component", metavar="NAME", type=component_word, action="append", default=[], help="a component, else main; may be given several times"
+    )
+    parser.add_argument("--arch", metavar="ARCH", type=arch_word, action="append", required=True, help="an architecture; may be given several times")
+    parser.add_argument("--udebs", action="store_true", help="join the lists of udebs too")
+    parser.add_argument("--mirror", metavar="ADDRESS", type=mirror_word, help="the archive; else Debian's mirror of the machine's own apt")
+    parser.add_argument(
+        "--keyring", metavar="FILE", type=keyring_word, help="the keys that sign the archive; else those that the machine's own apt has"
+    )
+    parser.add_argument("--expired", action="store_true", help="take a suite whose Valid-Until is over, as of a snapshot")
+
+
+def check_archive_options(parser: argparse.ArgumentParser, words: argparse.Namespace, fetches: bool = True) -> None:
+    """Refuses a word that is given twice, asks for a suite if the script fetches, and puts in the component if none is given."""
+    if fetches and not words.suite:
+        parser.error("give --suite")
+    words.component = words.component or ["main"]
+    for name in ("suite", "component", "arch"):
+        twice = [word for word, count in Counter(getattr(words, name)).items() if count > 1]
+        if twice:
+            parser.error(f"--{name} {twice[0]} is given twice")
+
+
+def archive_options_of(words: argparse.Namespace) -> list[str]:
+    """The options of an archive once more, for another script that has them."""
+    given = [(f"--{name}", word) for name in ("suite", "component", "arch") for word in getattr(words, name)]
+    given += [(f"--{name}", getattr(words, name)) for name in ("mirror", "keyring") if getattr(words, name)]
+    flags = [f"--{name}" for name in ("udebs", "expired") if getattr(words, name)]
+    return [text for pair in given for text in pair] + flags
+
+
 def say(program: str, text: str) -> None:
     """A message for a person."""
     print(f"{program}: {text}", file=sys.stderr, flush=True)
@@ -363,5 +441,5 @@ def run(program: str, work: Callable[[], None]) -> int:
         return FAILED
     except ProgramFailed as why:
         say(program, str(why))
-        return FAILED
+        return why.status
     return DONE

@@ -48,7 +48,7 @@ GOOD = source("aa deb libs extra arch=any") + "\n"
 MALFORMED = [
     (GOOD + GOOD[:-1], "paragraph 2, the last: no empty line ends it"),
     (GOOD + GOOD[:-2], "paragraph 2, the last: no empty line ends it"),
-    (GOOD + GOOD[: GOOD.index("Files") + 3], "paragraph 2, line 22: it is no field"),
+    (GOOD + GOOD[: GOOD.index("Files") + 3], "paragraph 2, line 22: it is no field, which has a name and a colon; no empty line ends it"),
     (GOOD + GOOD[: GOOD.index("Version")] + "\n", "paragraph 2: it has no Version"),
     (GOOD.replace("\n", "\r\n"), "paragraph 1, line 1: it ends with a carriage return"),
     (GOOD + GOOD.replace("Version:", "Version"), "paragraph 2, line 16: it is no field"),
@@ -62,6 +62,10 @@ MALFORMED = [
     (GOOD + GOOD.replace("libs extra arch=any", "libs"), "paragraph 2: a line of its Package-List"),
     (GOOD + GOOD.replace("libs", "\xe4"), "paragraph 2: a line of its Package-List"),
     (GOOD + "\xfd7zXZ" + "x" * 4194304, "paragraph 2 has more than 4194304 bytes"),
+    (b"\x1f\x8b\x08\0\0", "Sources: it is compressed by gzip; uncompress it"),
+    (b"\xfd7zXZ\0\0", "Sources: it is compressed by xz; uncompress it"),
+    (b"\x28\xb5\x2f\xfd\0", "Sources: it is compressed by zstd; uncompress it"),
+    (b"BZh9\0", "Sources: it is compressed by bzip2; uncompress it"),
     ("", "it has no paragraph"),
     ("\n \n", "it has no paragraph"),
 ]
