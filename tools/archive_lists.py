@@ -374,9 +374,9 @@ def a_form(is_right: Callable[[str], bool], what: str) -> Callable[[str], str]:
 arch_word = a_form(is_arch_name, "name of an architecture (1 to 40 small letters, digits and '-'; not all, any or source)")
 
 
-def parser_of(description: str, example: str) -> argparse.ArgumentParser:
+def parser_of(description: str, example: str, statuses: str = STATUSES) -> argparse.ArgumentParser:
     return argparse.ArgumentParser(
-        description=description, epilog=f"example:\n{example}\n\n{STATUSES}", formatter_class=argparse.RawDescriptionHelpFormatter
+        description=description, epilog=f"example:\n{example}\n\n{statuses}", formatter_class=argparse.RawDescriptionHelpFormatter
     )
 
 

@@ -102,6 +102,69 @@ esac
 PACKAGE = "Package: {}\nVersion: 1\n"
 
 
+# ---- the program
+
+# A stub of wb: it keeps of each source package its version, and whether a Packages list has it, and answers the lines of an operator and requests.
+WB = r"""#!/usr/bin/env python3
+import http.server, json, os, sys
+
+MAGIC = b"SQLite format 3\0"
+store, word = sys.argv[2:4]
+
+
+class Answer(http.server.BaseHTTPRequestHandler):
+    def do_GET(self):
+        self.send_response(200)
+        self.end_headers()
+        self.wfile.write(b"{}")
+
+
+def names_of(path, arch):
+    found = {}
+    for paragraph in open(path, encoding="utf-8", errors="replace").read().split("\n\n"):
+        fields = dict(line.split(": ", 1) for line in paragraph.split("\n") if ": " in line and line[0] != " ")
+        if fields and fields["Architecture"] in ("any", arch):
+            found[fields["Package"]] = fields["Version"]
+    return found
+
+
+def merge(records, sources, part):
+    arch, _, packages = part.partition("=")
+    if arch not in records:
+        return {"code": 5, "refused": "UnknownArch"}
+    old, built = records[arch], names_of(packages, arch)
+    new = {name: [version, built.get(name) == version] for name, version in names_of(sources, arch).items()}
+    records[arch] = new
+    both = old.keys() & new.keys()
+    changed = sum(old[name] != new[name] for name in both)
+    counts = {"added": len(new) - len(both), "changed": changed, "kept": len(both) - changed, "removed": len(old) - len(both)}
+    return {"accepted": 1, "ok": "merge", "parts": [{"arch": arch, **counts}]}
+
+
+def carry_out(records, word, first, *rest):
+    if word == "merge":
+        return merge(records, first, *rest)
+    if word == "add-arch":
+        records[first] = {}
+    if word == "enter":
+        if rest[0] in records[first]:
+            return {"code": 6, "refused": "AlreadyThere"}
+        records[first][rest[0]] = [rest[1], False]
+    return {"accepted": 1, "ok": word}
+
+
+if word == "serve":
+    http.server.HTTPServer(("127.0.0.1", int(sys.argv[5])), Answer).serve_forever()
+data = open(store, "rb").read() if os.path.exists(store) else b""
+records = json.loads(data[len(MAGIC) :] or b"{}")
+answers = [carry_out(records, *line.split()) for line in sys.stdin]
+open(store, "wb").write(MAGIC + json.dumps(records).encode())
+for answer in answers:
+    print(json.dumps(answer))
+sys.exit(any("refused" in answer for answer in answers))
+"""
+
+
 # ---- dose-builddebcheck
 
 # A stub of dose-builddebcheck, which keeps what it was asked.

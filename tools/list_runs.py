@@ -1,9 +1,12 @@
 """Calls of the scripts on lists, with stubs of what these call, for tools/test_lists and tools/test_merge_archive."""
+import importlib.machinery
+import importlib.util
 import os
 import resource
 import subprocess
 import sys
 from pathlib import Path
+from types import ModuleType
 
 from list_cases import TABLES
 from store_runs import expect
@@ -49,3 +52,14 @@ def expect_status(wanted: int, done: tuple[int, str, str], message: str = "") ->
 
 def expect_text(met: str | bytes, wanted: str | bytes, what: str) -> None:
     expect(met == wanted, f"{what} is {met!r} in place of {wanted!r}")
+
+
+def loaded(name: str) -> ModuleType:
+    """A script as a module, for what has to be tried often."""
+    loader = importlib.machinery.SourceFileLoader(name.replace("-", "_"), str(TOOLS / name))
+    spec = importlib.util.spec_from_loader(loader.name, loader)
+    expect(spec is not None, f"{name} is no script")
+    module = importlib.util.module_from_spec(spec)
+    sys.modules[loader.name] = module
+    loader.exec_module(module)
+    return module

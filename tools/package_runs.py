@@ -9,6 +9,7 @@ import shutil
 import socket
 import subprocess
 import sys
+import time
 from pathlib import Path
 
 from store_runs import ROOT, expect
@@ -64,7 +65,7 @@ class Trial:
             f"""#!/bin/bash
 word=${{*: -1}}
 [[ $word != run || ! -e '{self.faults}/kill' || "$2" == *trial* ]] || kill -9 $$
-[[ $word != run || ! -e '{self.faults}/sleep' ]] || {{ echo $$ >'{self.faults}/sleep'; sleep 20; }}
+[[ $word != run || ! -e '{self.faults}/sleep' || "$2" == *trial* ]] || {{ echo $$ >'{self.faults}/sleep'; sleep 20; }}
 [[ $word != run || ! -e '{self.faults}/speak' ]] || echo 'wb: a new office begins in it' >&2
 [[ " $* " != *" serve "* || ! -e '{self.faults}/serve' ]] || exit 3
 exec '{self.wb}' "$@"
@@ -135,3 +136,18 @@ exec '{self.wb}' "$@"
         """The process of the program that serves."""
         said = subprocess.run(["pgrep", "-P", str(self.keeper())], capture_output=True, text=True, check=False).stdout.split()
         return int(said[0]) if said else None
+
+
+def wait_until(holds, why):
+    end = time.monotonic() + WAIT
+    while not holds():
+        expect(time.monotonic() < end, why)
+        time.sleep(0.05)
+
+
+def lives(process):
+    """Whether a process runs; one that ended may still be listed until its parent has asked for its status."""
+    try:
+        return Path(f"/proc/{process}/stat").read_text(encoding="ascii", errors="replace").rpartition(")")[2].split()[0] not in "ZX"
+    except OSError:
+        return False
