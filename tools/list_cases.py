@@ -157,11 +157,15 @@ if word == "serve":
     http.server.HTTPServer(("127.0.0.1", int(sys.argv[5])), Answer).serve_forever()
 data = open(store, "rb").read() if os.path.exists(store) else b""
 records = json.loads(data[len(MAGIC) :] or b"{}")
-answers = [carry_out(records, *line.split()) for line in sys.stdin]
-open(store, "wb").write(MAGIC + json.dumps(records).encode())
-for answer in answers:
-    print(json.dumps(answer))
-sys.exit(any("refused" in answer for answer in answers))
+refused = False
+while True:
+    open(store, "wb").write(MAGIC + json.dumps(records).encode())
+    line = sys.stdin.readline()
+    if not line:
+        sys.exit(refused)
+    answer = carry_out(records, *line.split())
+    refused = refused or "refused" in answer
+    print(json.dumps(answer, separators=(",", ":")), flush=True)
 """
 
 
