@@ -1,5 +1,5 @@
-"""What tools/test_lists is made of: lists, what is wanted of them, stubs of other programs, and what these say. All was written by hand: lists
-after Debian Policy, and answers after what dose-builddebcheck 7.0 and ben 0.10 write.
+"""What tools/test_lists and tools/test_merge_archive are made of: lists, what is wanted of them, stubs of other programs, and what these say. All was
+written by hand: lists after Debian Policy, and answers after what dose-builddebcheck 7.0 and ben 0.10 write.
 """
 
 # ---- dpkg's tables, made small
