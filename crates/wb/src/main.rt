@@ -1,6 +1,7 @@
 //! The program `wb`: the central office of an autobuilder network.
 #![tactic(auto)]
 
+mod connection;
 mod files;
 mod memory;
 mod serve;

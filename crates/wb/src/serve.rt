@@ -1,21 +1,21 @@
 //! The office over HTTP, on a port of this machine.
 
+use crate::connection::TimedStream;
 use crate::say;
 use sqlite::Alter;
-use std::alloc::Global;
 use std::io::{self, Read};
 use std::net::{Ipv4Addr, Shutdown, SocketAddr, TcpListener, TcpStream};
 use std::time::Duration;
-use wb_api::serve_one;
+use wb_api::{Served, serve_one};
 use wb_daemon::{Cause, Message, status};
 use wb_office::Office;
 use wb_streams::{WatchedReader, WatchedWriter};
 
-/// How many seconds one read or write of a connection may take; then it counts as one that failed.
+/// How many seconds a connection has for its request and its answer together; a read or a write after that fails.
 const LIMIT_SECONDS: u64 = 30;
 
-/// How many seconds a client that was answered may take for the next bytes, which nobody reads.
-const CLOSING_SECONDS: u64 = 1;
+/// How many seconds a client that was answered has until it closes its end. What it sends meanwhile nobody reads.
+const CLOSING_SECONDS: u64 = 2;
 
 /// How many reads are made of what a client sends after its answer.
 const CLOSING_READS: usize = 1024;
@@ -32,17 +32,29 @@ pub(crate) fn listen(rt: &HostRuntime, port: u16) -> Option<TcpListener> {
     }
 }
 
-/// Serves this many connections, one after another, and ends early if the office is closed then. A connection that cannot be
-/// accepted counts too.
+/// How many connections in a row may fail to be accepted until the serving ends: the system then gives none, as when all its
+/// files are open, and would be asked again and again.
+const FAILURES: u32 = 100;
+
+/// Serves this many connections, one after another, and ends early if the office is closed then, or if connections cannot be
+/// accepted. Each that cannot is reported on standard error, and counts too.
 pub(crate) fn serve<S: Alter + Drop>(
     rt: &HostRuntime,
     office: &mut Office<S>,
     listener: &TcpListener,
     requests: u32,
 ) -> u8 {
+    let mut failures = 0;
     for _ in 0..requests {
-        if let Ok((stream, _)) = listener.accept() {
-            serve_stream(rt.alloc(), office, &stream);
+        match listener.accept() {
+            Ok((stream, _)) => {
+                failures = 0;
+                report(rt, serve_stream(rt, office, &stream));
+            }
+            Err(error) => {
+                failures += 1;
+                let _ = eprintln!(rt; "wb: a connection was not accepted: {error}");
+            }
         }
         if office.closed() {
             say(
@@ -53,43 +65,55 @@ pub(crate) fn serve<S: Alter + Drop>(
             );
             return status::STOPPED;
         }
+        if failures == FAILURES {
+            let _ = eprintln!(rt; "wb: stopped: {FAILURES} connections in a row were not accepted");
+            return status::STOPPED;
+        }
     }
     status::ACCEPTED
 }
 
-/// Answers the request of one connection, and closes the connection.
-fn serve_stream<S: Alter + Drop>(alloc: Global, office: &mut Office<S>, stream: &TcpStream) {
-    if limit_times(stream).is_err() {
-        return;
-    }
-    let mut reader = WatchedReader::new(stream);
-    let mut writer = WatchedWriter::new(stream);
-    let _ = serve_one(alloc, office, &mut reader, &mut writer);
-    close(stream);
+/// Answers the request of one connection, closes the connection, and says how that ended.
+fn serve_stream<S: Alter + Drop>(
+    rt: &HostRuntime,
+    office: &mut Office<S>,
+    stream: &TcpStream,
+) -> io::Result<Served> {
+    let timed = TimedStream::new(rt, stream, Duration::from_secs(LIMIT_SECONDS))?;
+    let mut reader = WatchedReader::new(timed.same());
+    let mut writer = WatchedWriter::new(timed);
+    let served = serve_one(rt.alloc(), office, &mut reader, &mut writer);
+    let _ = close(rt, stream);
+    Ok(served)
 }
 
-/// Gives each read and each write of the connection its limit of time.
-fn limit_times(stream: &TcpStream) -> io::Result<()> {
-    let limit = Some(Duration::from_secs(LIMIT_SECONDS));
-    stream.set_read_timeout(limit)?;
-    stream.set_write_timeout(limit)
+/// Reports on standard error that a client was not answered, or not to the end.
+fn report(rt: &HostRuntime, ended: io::Result<Served>) {
+    let _ = match ended {
+        Ok(Served::Nothing | Served::Answered { .. }) => Ok(()),
+        Ok(Served::ReadFailed) => {
+            eprintln!(rt; "wb: a request was not read to its end, and nothing was done for it")
+        }
+        Ok(Served::WriteFailed { status }) => {
+            let code = status.code();
+            eprintln!(rt; "wb: an answer of status {code} was not written to its end")
+        }
+        Ok(Served::Mute) => {
+            eprintln!(rt; "wb: a command was accepted, and not answered for want of memory")
+        }
+        Err(error) => eprintln!(rt; "wb: a connection was not served: {error}"),
+    };
 }
 
 /// Closes the connection in stages, so that a client which is still sending gets its answer (RFC 9112, section 9.6).
-fn close(stream: &TcpStream) {
-    if stream.shutdown(Shutdown::Write).is_err()
-        || stream
-            .set_read_timeout(Some(Duration::from_secs(CLOSING_SECONDS)))
-            .is_err()
-    {
-        return;
-    }
-    let mut reader = stream;
+fn close(rt: &HostRuntime, stream: &TcpStream) -> io::Result<()> {
+    stream.shutdown(Shutdown::Write)?;
+    let mut reader = TimedStream::new(rt, stream, Duration::from_secs(CLOSING_SECONDS))?;
     let mut room = [0u8; 16384];
     for _ in 0..CLOSING_READS {
-        match reader.read(&mut room) {
-            Ok(0) | Err(_) => return,
-            Ok(_) => {}
+        if reader.read(&mut room)? == 0 {
+            break;
         }
     }
+    Ok(())
 }
