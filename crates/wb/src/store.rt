@@ -4,7 +4,8 @@ use crate::files::{connect, names_no_file, refuse};
 use crate::{Work, act, said};
 use std::alloc::AllocError;
 use std::fs::{self, File, OpenOptions, TryLockError};
-use std::io::{self, Read};
+use std::io::{self, ErrorKind, Read};
+use std::os::unix::fs::OpenOptionsExt;
 use wb_daemon::status;
 use wb_office::Office;
 use wb_sql::lacks_office;
@@ -30,14 +31,25 @@ enum LockRefusal {
     Fault(StoreFault),
 }
 
-/// Has the office over the records in the file do its work. The file is made if it is not there, with a sum of each page,
-/// unless its log holds commits, which would then be written over. One program at a time has the file: it holds a lock
-/// on the file with this name and `.lock` after it. A new office is reported on standard error: its name may be a slip.
-/// None begins in a database whose pages have no checksums, as another program makes it.
-pub(crate) fn open_for(rt: &HostRuntime, file: &str, work: Work) -> u8 {
-    if names_no_file(file) {
-        return refuse_name(rt, file);
+/// Has the office over the records in the file do its work, or in the file to which a link of this name leads.
+pub(crate) fn open_for(rt: &HostRuntime, name: &str, work: Work) -> u8 {
+    if names_no_file(name) {
+        return refuse_name(rt, name);
     }
+    match is_link(rt, name) {
+        false => open_file(rt, name, work),
+        true => match fs::canonicalize(rt, name) {
+            Ok(file) => open_file(rt, file.as_str(), work),
+            Err(error) => refuse_link(rt, name, error),
+        },
+    }
+}
+
+/// Has the office over the records in the file, which is no link, do its work. The file is made if it is not there, with a
+/// sum of each page, unless its log holds commits, which would then be written over. One program at a time has the file: it
+/// holds a lock on the file with this name and `.lock` after it, which its owner alone may open. A new office is reported on standard error: its name may be a slip.
+/// None begins in a database whose pages have no checksums, as another program makes it.
+fn open_file(rt: &HostRuntime, file: &str, work: Work) -> u8 {
     let _lock = match lock_of(rt, file) {
         Ok(lock) => lock,
         Err(LockRefusal::InUse) => return refuse_held(rt, file),
@@ -116,6 +128,14 @@ fn is_regular(rt: &HostRuntime, name: &str) -> bool {
     }
 }
 
+/// Whether the name is that of a link.
+fn is_link(rt: &HostRuntime, name: &str) -> bool {
+    match fs::symlink_metadata(rt, name) {
+        Ok(found) => found.is_symlink(),
+        Err(_) => false,
+    }
+}
+
 /// The size of a file in bytes, 0 if there is none that can be seen.
 fn size_of(rt: &HostRuntime, name: &str) -> u64 {
     match fs::metadata(rt, name) {
@@ -131,7 +151,7 @@ fn lock_of(rt: &HostRuntime, file: &str) -> Result<File, LockRefusal> {
         return Err(LockRefusal::Fault(refuse(rt, file, fault, fault)));
     };
     let mut how = OpenOptions::new();
-    how.write(true).create(true);
+    how.write(true).create(true).mode(0o600);
     let lock = match how.open(rt, name.as_str()) {
         Ok(lock) => lock,
         Err(error) => return Err(refuse_lock(rt, name.as_str(), error)),
@@ -153,6 +173,16 @@ fn refuse_lock(rt: &HostRuntime, name: &str, error: io::Error) -> LockRefusal {
 fn refuse_name(rt: &HostRuntime, file: &str) -> u8 {
     let reason = "SQLite takes the name for no file";
     said_store(rt, refuse(rt, file, StoreFault::Device, reason).name())
+}
+
+/// Says that the store cannot be opened, since the link of this name leads to no file.
+fn refuse_link(rt: &HostRuntime, name: &str, error: io::Error) -> u8 {
+    let fault = match error.kind() {
+        ErrorKind::OutOfMemory => StoreFault::Memory,
+        _ => StoreFault::Device,
+    };
+    let _ = eprintln!(rt; "wb: {name} cannot be opened: it is a link, and where it leads: {error}");
+    said_store(rt, fault.name())
 }
 
 /// Says that the store cannot be opened, for this fault.
