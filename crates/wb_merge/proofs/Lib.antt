@@ -15,6 +15,8 @@ pub mod ReadCountLemmas
 pub mod RebuildLemmas
 pub mod RecordLemmas
 pub mod RelistedLemmas
+pub mod ReportLemmas
+pub mod ReportLineLemmas
 pub mod RowLemmas
 pub mod SourceLemmas
 pub mod SourceTextLemmas

@@ -6,5 +6,6 @@ pub mod Listing
 pub mod Merge
 pub mod Merged
 pub mod Offers
+pub mod Report
 pub mod Rows
 pub mod Steps

@@ -1,0 +1,109 @@
+-- Reports that say of source packages whether what they need to be built can be installed, and what becomes of their records (in wanna-build's states).
+use Rattle.std.specs.Prelude.{ℕ, ◌+◌, Bool, not, ◌&&◌, nat_le, List, [], ◌∷◌, ◌++◌, length, codes, bytes_eq, Option, Some, None, is_some, Result, if◌then◌else◌}
+use Rattle.std.specs.List.{list_any, fold, before_first, after_first, slice_split}
+use Rattle.std.specs.Option.{option_map, option_map_or}
+use Rattle.std.specs.Ordering.{match_ordering}
+use Rattle.std.specs.FinMap as finite
+use Rattle.deb_text.specs.Lines.{is_line_feed, is_blank, is_blank_line}
+use Rattle.deb_text.specs.Options.{ok_unless}
+use Rattle.deb_text.specs.Text.{text_cmp, is_empty_text}
+use Rattle.deb_control.specs.Lines.{trim}
+use Rattle.deb_version.specs.Order.{version_cmp}
+use Rattle.deb_version.specs.Syntax.{is_version_text}
+use Rattle.deb_relations.specs.Names.{is_package_name}
+use Rattle.wb_states.specs.declared.record.Record.{Record}
+use Rattle.wb_states.specs.declared.state.State.{State}
+use Rattle.wb_states.specs.declared.state.State.TheVariants.{NeedsBuild, BdUninstallable}
+use Rattle.wb_states.specs.Limits.{note_limit}
+use Rattle.wb_states.specs.Moves.{one_of, in_state}
+use Rattle.wb_merge.specs.declared.report.ReportLine.{ReportLine}
+use Rattle.wb_merge.specs.declared.report.ReportFault.{ReportFault}
+use Rattle.wb_merge.specs.declared.report.ReportFault.TheVariants.{BadReport}
+
+-- ---- one line: `SOURCE VERSION installable`, or `SOURCE VERSION uninstallable REASON`
+
+-- the first word of a text that begins with one
+abbrev pub word_of : List ℕ → List ℕ
+word_of text = before_first is_blank text
+
+-- what stands after the first word, without the blanks round it
+abbrev pub after_word : List ℕ → List ℕ
+after_word text = trim (after_first is_blank text)
+
+-- the reason of a line, which `installable` has not and `uninstallable` has, be it empty, of at most 1000 bytes; or nothing if it is neither
+abbrev pub reason_of : List ℕ → List ℕ → Option (Option (List ℕ))
+reason_of word rest =
+    if bytes_eq word (codes "installable") && is_empty_text rest then Some None
+    else (if bytes_eq word (codes "uninstallable") && nat_le (length rest) note_limit then Some (Some rest) else None)
+
+-- a line of this source and version, if they have their forms and the reason can be read (Debian Policy 5.6.1 and 5.6.12)
+abbrev pub line_with : List ℕ → List ℕ → Option (Option (List ℕ)) → Option ReportLine
+line_with source version None = None
+line_with source version (Some reason) =
+    if is_package_name source && is_version_text version
+    then Some (record { source = source; version = version; reason = reason }) else None
+
+-- what a line reads as that begins with its source, if it can be read
+abbrev pub line_of_words : List ℕ → Option ReportLine
+line_of_words text =
+    let version = after_word text in
+    let outcome = after_word version in
+    line_with (word_of text) (word_of version) (reason_of (word_of outcome) (after_word outcome))
+
+-- what a line reads as, if it can be read; the blanks round it and between its words are no part of them
+unfoldable pub line_of : List ℕ → Option ReportLine
+line_of line = line_of_words (trim line)
+
+-- ---- a whole report
+
+-- the lines of a report that can be read, by their sources
+abbrev pub Lines : Type 0
+Lines = finite.FinMap text_cmp ReportLine
+
+-- lines, and one more if it can be read
+unfoldable pub with_line : Lines → List ℕ → Lines
+with_line lines line = option_map_or (λ read. finite.insert lines read.source read) (line_of line) lines
+
+-- the lines that can be read, by their sources
+abbrev pub by_source : List (List ℕ) → Lines
+by_source lines = fold with_line finite.empty lines
+
+-- whether a line is bad after others: it names a source again, or it cannot be read and is not blank
+unfoldable pub is_bad_line : Lines → List ℕ → Bool
+is_bad_line lines line = option_map_or (λ read. finite.contains_key lines read.source) (line_of line) (not (is_blank_line line))
+
+-- the number of the first bad line after others, blank ones counted too, if there is one
+abbrev pub first_bad_line : List (List ℕ) → List (List ℕ) → Option ℕ
+first_bad_line before [] = None
+first_bad_line before (line ∷ later) =
+    if is_bad_line (by_source before) line then Some (length before + 1) else first_bad_line (before ++ line ∷ []) later
+
+-- the lines of a text, which line feeds separate
+unfoldable pub lines_in : List ℕ → List (List ℕ)
+lines_in text = slice_split is_line_feed text
+
+-- what a text reads as, or the number of its first bad line, counted from 1
+unfoldable pub report_of : List ℕ → Result Lines ReportFault
+report_of text = ok_unless (option_map BadReport (first_bad_line [] (lines_in text))) (by_source (lines_in text))
+
+-- whether memory is taken for a report: one of its lines can be read
+unfoldable pub report_takes_memory : List ℕ → Bool
+report_takes_memory text = list_any (λ line. is_some (line_of line)) (lines_in text)
+
+-- ---- the record of the source that a line names
+
+-- the states between which reports move a record
+abbrev pub is_reported : State → Bool
+is_reported = one_of (NeedsBuild ∷ BdUninstallable ∷ [])
+
+-- a record of which it is reported that what it needs cannot be installed, for this reason, or that it can (wanna-build)
+abbrev pub reported : Option (List ℕ) → Record → Record
+reported (Some reason) current =
+    if is_reported current.state then record (in_state BdUninstallable current) { note = reason } else current
+reported None current =
+    if one_of (BdUninstallable ∷ []) current.state then record (in_state NeedsBuild current) { note = [] } else current
+
+-- the record of a line's source after the line, which says nothing of other versions (Debian Policy 5.6.12)
+unfoldable pub record_after_report : ReportLine → Record → Record
+record_after_report line current =
+    match_ordering (version_cmp current.version line.version) current (reported line.reason current) current
