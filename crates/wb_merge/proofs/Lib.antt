@@ -17,6 +17,7 @@ pub mod RecordLemmas
 pub mod RelistedLemmas
 pub mod ReportLemmas
 pub mod ReportLineLemmas
+pub mod ReportMoveLemmas
 pub mod RowLemmas
 pub mod SourceLemmas
 pub mod SourceTextLemmas

@@ -1,4 +1,5 @@
-//! What the archive lists for an architecture, and what a merge makes of the records by it.
+//! What the archive lists for an architecture and what a report says, and what a merge and a report make of
+//! the records by it.
 #![tactic(auto)]
 
 mod fields;
@@ -10,6 +11,7 @@ mod reader;
 mod record;
 mod report;
 mod report_line;
+mod report_moves;
 mod rows;
 mod source;
 mod sources;
@@ -18,4 +20,5 @@ pub use listing::{Built, Listed, Listing};
 pub use merge::{Change, counted};
 pub use record::{after, blank_record};
 pub use report::{ReportFault, ReportLine, ReportLines};
+pub use report_moves::after_report;
 pub use sources::Sources;

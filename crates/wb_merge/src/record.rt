@@ -86,7 +86,8 @@ fn relist(
     Ok(current)
 }
 
-fn copied(current: &Record) -> Result<Record, Refusal>
+/// A copy of the record.
+pub(crate) fn copied(current: &Record) -> Result<Record, Refusal>
     ensures value { IfOk result (λ copy. copy ≡ current.now) }
     ensures refused { IfErr result (λ refusal. refusal ≡ Memory) }
 {

@@ -1,0 +1,68 @@
+//! What a report makes of the record of one source package.
+ghost use Rattle.std.specs.Prelude.{◌≡◌, [], IfOk, IfErr};
+ghost use Rattle.wb_states.specs.declared.refusal.Refusal.TheVariants.{Memory};
+ghost use Rattle.wb_states.specs.declared.state.State.TheVariants.{NeedsBuild, BdUninstallable};
+ghost use Rattle.wb_states.specs.Moves.{in_state};
+ghost use Rattle.wb_merge.specs.Report.{reported, record_after_report};
+
+use crate::ReportLine;
+use crate::record::copied;
+use deb_text::Text;
+use deb_version::compare;
+use std::alloc::Global;
+use wb_states::{Record, Refusal, State};
+
+/// The record in BD-Uninstallable, for this reason.
+fn uninstallable(alloc: Global, mut current: Record, reason: &Text) -> Result<Record, Refusal>
+    ensures value { IfOk result (λ new.
+        new ≡ record (in_state BdUninstallable current) { note = reason.now }) }
+    ensures refused { IfErr result (λ refusal. refusal ≡ Memory) }
+{
+    current.enter_state(alloc, State::BdUninstallable);
+    current.note = reason.clone()?;
+    Ok(current)
+}
+
+/// The record in Needs-Build, without a note.
+fn installable(alloc: Global, mut current: Record) -> Record
+    ensures { result ≡ record (in_state NeedsBuild current) { note = [] } }
+{
+    current.enter_state(alloc, State::NeedsBuild);
+    current.note = Text::new(alloc);
+    current
+}
+
+/// A record of the version that a line names, after the line with this reason.
+fn reported(alloc: Global, current: Record, reason: &Option<Text>) -> Result<Record, Refusal>
+    ensures value { IfOk result (λ new. new ≡ reported reason.now current) }
+    ensures refused { IfErr result (λ refusal. refusal ≡ Memory) }
+{
+    match (reason, current.state) {
+        (Some(reason), State::NeedsBuild | State::BdUninstallable) => {
+            uninstallable(alloc, current, reason)
+        }
+        (None, State::BdUninstallable) => Ok(installable(alloc, current)),
+        _ => Ok(current),
+    }
+}
+
+/// The record of a source package after the line of a report that names the package, on the architecture of the
+/// report. The record that was there is left as it is; the only error is `Memory`.
+///
+/// A line says nothing of a record of another version in the order of versions. Else `uninstallable` brings
+/// Needs-Build to BD-Uninstallable with the reason as its note, and gives a record that is BD-Uninstallable
+/// already this note; `installable` brings BD-Uninstallable to Needs-Build and empties the note. All else stays
+/// as it is: the other fields, and each record in another state.
+/// Source: Debian Policy 5.6.12 for the order of versions; wanna-build's states, and the rest is this project's own.
+#[tactic(auto, unfolding(crate::specs::Report::record_after_report))]
+pub fn after_report(alloc: Global, current: &Record, line: &ReportLine) -> Result<Record, Refusal>
+    ensures value { IfOk result (λ new. new ≡ record_after_report line.now current.now) }
+    ensures refused { IfErr result (λ refusal. refusal ≡ Memory) }
+{
+    let copy = copied(current)?;
+    if compare(&current.version, &line.version).is_eq() {
+        reported(alloc, copy, &line.reason)
+    } else {
+        Ok(copy)
+    }
+}
