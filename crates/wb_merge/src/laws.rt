@@ -1,5 +1,5 @@
 //! Laws of the listing and of the merge, each on a function that does nothing.
-ghost use Rattle.std.specs.Prelude.{◌≡◌, ◌≢◌, ℕ, pos, ◌+◌, ◌≤◌, List, [], ◌∷◌, ◌++◌, length, codes, Option, Some, None, Ok, Err, ◌↔◌, ◌⊎◌, IsTrue, true, false};
+ghost use Rattle.std.specs.Prelude.{◌≡◌, ◌≢◌, ℕ, pos, ◌+◌, ◌≤◌, List, [], ◌∷◌, ◌++◌, length, codes, Option, Some, None, Ok, Err, ◌↔◌, ◌⊎◌, IfSome, IsTrue, true, false};
 ghost use Rattle.std.specs.List.{list_all};
 ghost use Rattle.std.specs.Char.{is_ascii_digit};
 ghost use Rattle.std.specs.declared.cmp.Ordering.TheVariants.{Less, Equal};
@@ -17,15 +17,19 @@ ghost use Rattle.wb_merge.specs.Listing.{IsGreatest, available_of, built_of, ins
 ghost use Rattle.wb_states.specs.declared.record.Record.{Record};
 ghost use Rattle.wb_states.specs.declared.refusal.Refusal.{Refusal};
 ghost use Rattle.wb_states.specs.declared.refusal.ListKind.TheVariants.{Sources, Packages};
-ghost use Rattle.wb_states.specs.declared.state.State.TheVariants.{Building, DepWait, Failed, Installed, NeedsBuild, NotForUs, Uploaded};
-ghost use Rattle.wb_states.specs.Limits.{rebuild_limit};
+ghost use Rattle.wb_states.specs.declared.state.State.TheVariants.{BdUninstallable, Building, DepWait, Failed, Installed, NeedsBuild, NotForUs, Uploaded};
+ghost use Rattle.wb_states.specs.Limits.{note_limit, rebuild_limit};
 ghost use Rattle.wb_states.specs.Moves.{build_text_of};
 ghost use Rattle.deb_relations.specs.Names.{is_package_name};
+ghost use Rattle.wb_states.specs.Record.{FitsState, IsWellFormed};
 ghost use Rattle.wb_states.specs.State.{is_held};
+ghost use Rattle.deb_text.specs.Text.{IsTextWithin};
 ghost use Rattle.wb_merge.specs.Merge.{ends_hold, HasSameHold};
 ghost use Rattle.wb_merge.specs.Examples.{Becomes, BecomesBeside, binary_of, built_at, held_in, listed_at, record_in, source_of, version_listed};
 ghost use Rattle.wb_merge.specs.Merged.{Records, BecomesAt, record_after_at, all_kept, is_same_record, merge_counts, merged, recorded_names};
 ghost use Rattle.wb_merge.specs.Steps.{Key};
+ghost use Rattle.wb_merge.specs.declared.report.ReportLine.{ReportLine};
+ghost use Rattle.wb_merge.specs.Report.{is_reported, record_after_report};
 
 /// A list is read as the rows of its paragraphs, one for each, or refused for the first paragraph
 /// that has a fault, with its number from 1: that of its lines, or else the first of its fields (Debian
@@ -174,6 +178,48 @@ pub fn source_texts_read_back()
         → NamesSource (with_version name version) name (Some version) }
     ensures only { (text : List ℕ) → IsTrue (is_source_text text) → (text ≡ source_name text)
         ⊎ ((version : List ℕ) × (text ≡ with_version (source_name text) version)) }
+{}
+
+/// A line of a report moves a record only between Needs-Build and BD-Uninstallable, and only one of the version that
+/// it names: there `uninstallable` leaves BD-Uninstallable with the reason as the note, and `installable` Needs-Build.
+/// All else stays as it is, so no hold ends (the order of versions is that of Debian Policy 5.6.12).
+pub fn reports_move_between_two_states()
+    // which records a line moves
+    ensures states { (line : ReportLine) (current : Record) → (record_after_report line current ≡ current)
+        ⊎ ((is_reported current.state ≡ true)
+        × (is_reported (record_after_report line current).state ≡ true)) }
+    ensures version { (line : ReportLine) (current : Record)
+        → version_cmp current.version line.version ≢ Equal
+        → record_after_report line current ≡ current }
+    ensures held { (line : ReportLine) (current : Record) → is_held current.state ≡ true
+        → record_after_report line current ≡ current }
+    // what it makes of them
+    ensures uninstallable { (line : ReportLine) (current : Record) (reason : List ℕ)
+        → version_cmp current.version line.version ≡ Equal → is_reported current.state ≡ true
+        → line.reason ≡ Some reason
+        → ((record_after_report line current).state ≡ BdUninstallable)
+        × ((record_after_report line current).note ≡ reason) }
+    ensures installable { (line : ReportLine) (current : Record)
+        → version_cmp current.version line.version ≡ Equal → is_reported current.state ≡ true
+        → line.reason ≡ None → (record_after_report line current).state ≡ NeedsBuild }
+    ensures others { (line : ReportLine) (current : Record) → FitsState current
+        → record_after_report line current ≡ record current {
+            state = (record_after_report line current).state;
+            note = (record_after_report line current).note } }
+{}
+
+/// A line of a report that is read again at once changes nothing.
+pub fn reports_twice_change_nothing()
+    ensures twice { (line : ReportLine) (current : Record)
+        → record_after_report line (record_after_report line current)
+        ≡ record_after_report line current }
+{}
+
+/// A line whose reason is a text of at most 1000 bytes keeps the fields of a record in their forms and limits.
+pub fn reports_keep_records_well_formed()
+    ensures kept { (line : ReportLine) (current : Record)
+        → IfSome line.reason (IsTextWithin note_limit) → IsWellFormed current
+        → IsWellFormed (record_after_report line current) }
 {}
 
 /// Examples of what lists have of a source package: for which architectures it is listed and in which version, and what
