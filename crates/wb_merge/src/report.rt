@@ -73,6 +73,14 @@ impl Model for ReportLines {
     ghost view = { λ report. map.from_entries report.lines.entries };
 }
 
+/// Whether a line names a source package again.
+fn is_repeated(lines: &BTreeMap<Text, ReportLine>, line: &ReportLine) -> bool
+    ensures { result
+        ≡ map.contains_key (map.from_entries {R = text_cmp} lines.now.entries) line.now.source }
+{
+    lines.contains_key(&line.source)
+}
+
 /// Adds a line of this number, if it can be read.
 fn add_line(
     alloc: Global,
@@ -95,7 +103,7 @@ fn add_line(
         }
         return Err(ReportFault::BadReport { line: number });
     };
-    if lines.contains_key(&read.source) {
+    if is_repeated(lines, &read) {
         return Err(ReportFault::BadReport { line: number });
     }
     lines.insert(read.source.clone()?, read)?;

@@ -1,5 +1,7 @@
 //! What a report makes of the record of one source package.
 ghost use Rattle.std.specs.Prelude.{◌≡◌, [], IfOk, IfErr};
+ghost use Rattle.std.specs.Ordering.{is_eq};
+ghost use Rattle.deb_version.specs.Order.{version_cmp};
 ghost use Rattle.wb_states.specs.declared.refusal.Refusal.TheVariants.{Memory};
 ghost use Rattle.wb_states.specs.declared.state.State.TheVariants.{NeedsBuild, BdUninstallable};
 ghost use Rattle.wb_states.specs.Moves.{in_state};
@@ -46,6 +48,13 @@ fn reported(alloc: Global, current: Record, reason: &Option<Text>) -> Result<Rec
     }
 }
 
+/// Whether the line names the version of the record, in the order of versions.
+fn names_version(line: &ReportLine, current: &Record) -> bool
+    ensures { result ≡ is_eq (version_cmp current.now.version line.now.version) }
+{
+    compare(&current.version, &line.version).is_eq()
+}
+
 /// The record of a source package after the line of a report that names the package, on the architecture of the
 /// report. The record that was there is left as it is; the only error is `Memory`.
 ///
@@ -60,7 +69,7 @@ pub fn after_report(alloc: Global, current: &Record, line: &ReportLine) -> Resul
     ensures refused { IfErr result (λ refusal. refusal ≡ Memory) }
 {
     let copy = copied(current)?;
-    if compare(&current.version, &line.version).is_eq() {
+    if names_version(line, current) {
         reported(alloc, copy, &line.reason)
     } else {
         Ok(copy)

@@ -1,9 +1,8 @@
 use Rattle.std.proofs.Common.{◌≡◌, ◌∙◌, not, sym, ap}
-use Rattle.std.specs.Prelude.{is_some}
 use Rattle.std.specs.FinMap as finite
 use Rattle.deb_text.specs.Text.{text_cmp}
 use Rattle.deb_text.proofs.KeyLemmas.{text_cmp_total, text_cmp-same}
-use Rattle.deb_text.proofs.MapLemmas.{one-inserted, get-lookup}
+use Rattle.deb_text.proofs.MapLemmas.{one-inserted}
 use Rattle.wb_merge.specs.Report.{Lines}
 use Rattle.wb_merge.proofs.ReportLemmas.{unread-adds, unread-bad, read-adds, read-bad}
 use Rattle.wb_merge.proofs.report.add_line.Goals as goal
@@ -25,12 +24,11 @@ returns-in_default-clause-bad c = λ _.
     c.in_ok-read.ensures.value c.in_default.is c.as_bytes.result.now c.is_blank_line.result c.as_bytes.ensures.value c.is_blank_line.ensures
     ∙ ap not c.if-is_blank_line.false
 
-pub returns-then-contains_key-clause-bad : goal.returns-then-contains_key-clause-bad
-returns-then-contains_key-clause-bad c = λ _.
+pub returns-then-is_repeated-clause-bad : goal.returns-then-is_repeated-clause-bad
+returns-then-is_repeated-clause-bad c = λ _.
     read-bad (finite.from_entries {R = text_cmp} c.args.lines.now.entries) c.args.line.now c.in_ok-read.field-0 c.in-Some.read
     c.in_ok-read.ensures.value c.in-Some.is
-    ∙ ap is_some (get-lookup text_cmp_total c.args.lines.now.entries c.in-Some.read.source)
-    ∙ sym c.contains_key.ensures ∙ c.if-contains_key.true
+    ∙ sym c.is_repeated.ensures ∙ c.if-is_repeated.true
 
 pub returns-clause-value : goal.returns-clause-value
 returns-clause-value c =
@@ -45,5 +43,4 @@ pub returns-clause-ok : goal.returns-clause-ok
 returns-clause-ok c =
     read-bad (finite.from_entries {R = text_cmp} c.args.lines.now.entries) c.args.line.now c.in_ok-read.field-0 c.in-Some.read
     c.in_ok-read.ensures.value c.in-Some.is
-    ∙ ap is_some (get-lookup text_cmp_total c.args.lines.now.entries c.in-Some.read.source)
-    ∙ sym c.contains_key.ensures ∙ c.if-contains_key.false
+    ∙ sym c.is_repeated.ensures ∙ c.if-is_repeated.false

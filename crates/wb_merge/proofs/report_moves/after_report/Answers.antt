@@ -7,10 +7,10 @@ use Rattle.wb_merge.specs.Report.{reported}
 use Rattle.wb_merge.proofs.ReportMoveLemmas.{at-equal}
 use Rattle.wb_merge.proofs.report_moves.after_report.Goals as goal
 
-pub returns-then-is_eq-clause-value : goal.returns-then-is_eq-clause-value
-returns-then-is_eq-clause-value c =
+pub returns-then-names_version-clause-value : goal.returns-then-names_version-clause-value
+returns-then-names_version-clause-value c =
     let equal : version_cmp c.args.current.now.version c.args.line.now.version ≡ Equal =
-    sym c.compare.ensures ∙ (Equal-is c.compare.result).0 (sym c.is_eq.ensures ∙ c.if-is_eq.true) in
+    (Equal-is (version_cmp c.args.current.now.version c.args.line.now.version)).0 (sym c.names_version.ensures ∙ c.if-names_version.true) in
     subst (λ (made : Record). IfOk c.reported.result (λ new. new ≡ made))
     (ap (reported c.args.line.now.reason) c.in_ok-copy.ensures.value ∙ sym (at-equal c.args.line.now c.args.current.now equal))
     c.reported.ensures.value
