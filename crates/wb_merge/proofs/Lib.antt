@@ -18,6 +18,7 @@ pub mod RelistedLemmas
 pub mod ReportLemmas
 pub mod ReportLineLemmas
 pub mod ReportMoveLemmas
+pub mod ReportReadLemmas
 pub mod RowLemmas
 pub mod SourceLemmas
 pub mod SourceTextLemmas

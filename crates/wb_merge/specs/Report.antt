@@ -1,6 +1,6 @@
 -- Reports that say of source packages whether what they need to be built can be installed, and what becomes of their records (in wanna-build's states).
-use Rattle.std.specs.Prelude.{ℕ, ◌+◌, Bool, not, ◌&&◌, nat_le, List, [], ◌∷◌, ◌++◌, length, codes, bytes_eq, Option, Some, None, is_some, Result, if◌then◌else◌}
-use Rattle.std.specs.List.{list_any, fold, before_first, after_first, slice_split}
+use Rattle.std.specs.Prelude.{◌≡◌, ℕ, ◌+◌, Bool, true, false, not, ◌&&◌, nat_le, List, [], ◌∷◌, ◌++◌, length, codes, bytes_eq, Option, Some, None, is_some, Result, if◌then◌else◌}
+use Rattle.std.specs.List.{list_any, filter_map, fold, before_first, after_first, slice_split}
 use Rattle.std.specs.Option.{option_map, option_map_or}
 use Rattle.std.specs.Ordering.{match_ordering}
 use Rattle.std.specs.FinMap as finite
@@ -85,6 +85,25 @@ lines_in text = slice_split is_line_feed text
 -- what a text reads as, or the number of its first bad line, counted from 1
 unfoldable pub report_of : List ℕ → Result Lines ReportFault
 report_of text = ok_unless (option_map BadReport (first_bad_line [] (lines_in text))) (by_source (lines_in text))
+
+-- the lines of a text that can be read, in their order
+abbrev pub read_lines : List ℕ → List ReportLine
+read_lines text = filter_map line_of (lines_in text)
+
+-- lines of which none is bad after those before it
+abbrev pub AreGoodLines : List (List ℕ) → Type 0
+AreGoodLines lines =
+    (before : List (List ℕ)) (line : List ℕ) (behind : List (List ℕ)) → lines ≡ before ++ line ∷ behind → is_bad_line (by_source before) line ≡ false
+
+-- a number of a line, counted from 1, that is bad after those before it, of which none is
+pub record IsFirstBadLine (lines : List (List ℕ)) (number : ℕ) : Type 0 where
+  pub before : List (List ℕ)
+  pub line : List ℕ
+  pub behind : List (List ℕ)
+  pub stands : lines ≡ before ++ line ∷ behind
+  pub good : AreGoodLines before
+  pub bad : is_bad_line (by_source before) line ≡ true
+  pub counted : number ≡ length before + 1
 
 -- whether memory is taken for a report: one of its lines can be read
 unfoldable pub report_takes_memory : List ℕ → Bool

@@ -29,7 +29,9 @@ ghost use Rattle.wb_merge.specs.Examples.{Becomes, BecomesBeside, binary_of, bui
 ghost use Rattle.wb_merge.specs.Merged.{Records, BecomesAt, record_after_at, all_kept, is_same_record, merge_counts, merged, recorded_names};
 ghost use Rattle.wb_merge.specs.Steps.{Key};
 ghost use Rattle.wb_merge.specs.declared.report.ReportLine.{ReportLine};
-ghost use Rattle.wb_merge.specs.Report.{is_reported, record_after_report};
+ghost use Rattle.wb_merge.specs.declared.report.ReportFault.TheVariants.{BadReport};
+ghost use Rattle.wb_merge.specs.Report.{AreGoodLines, IsFirstBadLine, Lines, by_source, is_reported, lines_in, read_lines, record_after_report, report_of};
+ghost use Rattle.deb_text.specs.Lists.{IsIn};
 
 /// A list is read as the rows of its paragraphs, one for each, or refused for the first paragraph
 /// that has a fault, with its number from 1: that of its lines, or else the first of its fields (Debian
@@ -178,6 +180,23 @@ pub fn source_texts_read_back()
         → NamesSource (with_version name version) name (Some version) }
     ensures only { (text : List ℕ) → IsTrue (is_source_text text) → (text ≡ source_name text)
         ⊎ ((version : List ℕ) × (text ≡ with_version (source_name text) version)) }
+{}
+
+/// A report is read if none of its lines is bad, and else refused with the number of the first that is, counted from
+/// 1, blank lines too. A line is bad if it is not blank and cannot be read, or names a source package again.
+pub fn the_first_bad_line_decides()
+    ensures read { (text : List ℕ) (lines : Lines) → (report_of text ≡ Ok lines)
+        ↔ (AreGoodLines (lines_in text) × (lines ≡ by_source (lines_in text))) }
+    ensures refused { (text : List ℕ) (number : ℕ)
+        → (report_of text ≡ Err (BadReport number)) ↔ IsFirstBadLine (lines_in text) number }
+{}
+
+/// A report that is read has of each source package the line that names it, whatever the order of its lines, and
+/// no other.
+pub fn reports_have_their_lines()
+    ensures found { (text : List ℕ) (lines : Lines) (source : List ℕ) (line : ReportLine)
+        → report_of text ≡ Ok lines → (map.get lines source ≡ Some line)
+        ↔ (IsIn line (read_lines text) × (line.source ≡ source)) }
 {}
 
 /// A line of a report moves a record only between Needs-Build and BD-Uninstallable, and only one of the version that
