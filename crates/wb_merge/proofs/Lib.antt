@@ -15,6 +15,7 @@ pub mod ReadCountLemmas
 pub mod RebuildLemmas
 pub mod RecordLemmas
 pub mod RelistedLemmas
+pub mod ReportFormLemmas
 pub mod ReportLemmas
 pub mod ReportLineLemmas
 pub mod ReportMoveLemmas

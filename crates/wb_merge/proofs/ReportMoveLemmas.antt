@@ -170,7 +170,7 @@ pub others-kept : (line : ReportLine) (current : Record) → FitsState current
 others-kept line current fits =
     let P = λ (new : Record). new ≡ record current { state = new.state; note = new.note } in
     let bare : (state : State) (note : List ℕ) → is_reported current.state ≡ true
-        → record current { state = state; note = note; holder = None; take = None; waits = [] } ≡ record current { state = state; note = note } =
+    → record current { state = state; note = note; holder = None; take = None; waits = [] } ≡ record current { state = state; note = note } =
     λ state note is i. record current {
       state = state;
       note = note;

@@ -1,4 +1,4 @@
--- What lists have of one source package, and what a merge of the architecture amd64 makes of it, for examples.
+-- What lists and reports have of one source package, and what a merge of the architecture amd64 or a line of a report makes of it, for examples.
 use Rattle.std.specs.Prelude.{◌≡◌, ℕ, false, List, [], codes, Option, Some, option_map}
 use Rattle.std.specs.FinMap as map
 use Rattle.deb_relations.specs.declared.arch.ArchWords.{ArchWords}
@@ -12,6 +12,8 @@ use Rattle.wb_merge.specs.Listing.{ArchiveListing, listed_of}
 use Rattle.wb_merge.specs.Merge.{blank_record}
 use Rattle.wb_merge.specs.Merged.{Records, merged}
 use Rattle.wb_merge.specs.Steps.{Key}
+use Rattle.wb_merge.specs.declared.report.ReportLine.{ReportLine}
+use Rattle.wb_merge.specs.Report.{record_after_report}
 
 -- ---- what lists have of it
 
@@ -80,3 +82,14 @@ BecomesBeside other versions name listed built current new = (old : Records) (li
     → versions_of listing.available other ≡ versions
     → map.get listing.listed name ≡ listed → map.get listing.built name ≡ built → map.get old (on_amd64 name) ≡ current
     → map.get (merged old (codes "amd64") listing) (on_amd64 name) ≡ new
+
+-- ---- what a report says of it, and what a report makes of it
+
+-- a line of a report that says of a source package in this version why it cannot be built, or that it can
+abbrev pub reported_of : List ℕ → List ℕ → Option (List ℕ) → ReportLine
+reported_of source version reason = record { source = source; version = version; reason = reason }
+
+-- a line of a report for this version and reason makes the new record of the current one
+abbrev pub BecomesByReport : List ℕ → Option (List ℕ) → Record → Record → Type 0
+BecomesByReport version reason current new =
+    (source : List ℕ) → record_after_report (reported_of source version reason) current ≡ new

@@ -1,12 +1,12 @@
 -- Reports that say of source packages whether what they need to be built can be installed, and what becomes of their records (in wanna-build's states).
-use Rattle.std.specs.Prelude.{◌≡◌, ℕ, ◌+◌, Bool, true, false, not, ◌&&◌, nat_le, List, [], ◌∷◌, ◌++◌, length, codes, bytes_eq, Option, Some, None, is_some, Result, if◌then◌else◌}
+use Rattle.std.specs.Prelude.{◌≡◌, ℕ, ◌+◌, Bool, true, false, not, ◌&&◌, nat_le, List, [], ◌∷◌, ◌++◌, length, codes, bytes_eq, Option, Some, None, is_some, IfSome, IsTrue, Result, if◌then◌else◌}
 use Rattle.std.specs.List.{list_any, filter_map, fold, before_first, after_first, slice_split}
 use Rattle.std.specs.Option.{option_map, option_map_or}
 use Rattle.std.specs.Ordering.{match_ordering}
 use Rattle.std.specs.FinMap as finite
 use Rattle.deb_text.specs.Lines.{is_line_feed, is_blank, is_blank_line}
 use Rattle.deb_text.specs.Options.{ok_unless}
-use Rattle.deb_text.specs.Text.{text_cmp, is_empty_text}
+use Rattle.deb_text.specs.Text.{IsTextWithin, text_cmp, is_empty_text}
 use Rattle.deb_control.specs.Lines.{trim}
 use Rattle.deb_version.specs.Order.{version_cmp}
 use Rattle.deb_version.specs.Syntax.{is_version_text}
@@ -53,6 +53,12 @@ line_of_words text =
 -- what a line reads as, if it can be read; the blanks round it and between its words are no part of them
 unfoldable pub line_of : List ℕ → Option ReportLine
 line_of line = line_of_words (trim line)
+
+-- a line whose source, version and reason have their forms and limits (Debian Policy 5.6.1 and 5.6.12)
+pub record IsWellFormedLine (line : ReportLine) : Type 0 where
+  pub source : IsTrue (is_package_name line.source)
+  pub version : IsTrue (is_version_text line.version)
+  pub reason : IfSome line.reason (IsTextWithin note_limit)
 
 -- ---- a whole report
 

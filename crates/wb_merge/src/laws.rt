@@ -2,6 +2,7 @@
 ghost use Rattle.std.specs.Prelude.{◌≡◌, ◌≢◌, ℕ, pos, ◌+◌, ◌≤◌, List, [], ◌∷◌, ◌++◌, length, codes, Option, Some, None, Ok, Err, ◌↔◌, ◌⊎◌, IfSome, IsTrue, true, false};
 ghost use Rattle.std.specs.List.{list_all};
 ghost use Rattle.std.specs.Char.{is_ascii_digit};
+ghost use Rattle.std.specs.Str.{IsUtf8};
 ghost use Rattle.std.specs.declared.cmp.Ordering.TheVariants.{Less, Equal};
 ghost use Rattle.std.specs.FinMap as map;
 ghost use Rattle.deb_version.specs.Order.{version_cmp};
@@ -25,12 +26,12 @@ ghost use Rattle.wb_states.specs.Record.{FitsState, IsWellFormed};
 ghost use Rattle.wb_states.specs.State.{is_held};
 ghost use Rattle.deb_text.specs.Text.{IsTextWithin};
 ghost use Rattle.wb_merge.specs.Merge.{ends_hold, HasSameHold};
-ghost use Rattle.wb_merge.specs.Examples.{Becomes, BecomesBeside, binary_of, built_at, held_in, listed_at, record_in, source_of, version_listed};
+ghost use Rattle.wb_merge.specs.Examples.{Becomes, BecomesBeside, BecomesByReport, binary_of, built_at, held_in, listed_at, record_in, reported_of, source_of, version_listed};
 ghost use Rattle.wb_merge.specs.Merged.{Records, BecomesAt, record_after_at, all_kept, is_same_record, merge_counts, merged, recorded_names};
 ghost use Rattle.wb_merge.specs.Steps.{Key};
 ghost use Rattle.wb_merge.specs.declared.report.ReportLine.{ReportLine};
 ghost use Rattle.wb_merge.specs.declared.report.ReportFault.TheVariants.{BadReport};
-ghost use Rattle.wb_merge.specs.Report.{AreGoodLines, IsFirstBadLine, Lines, by_source, is_reported, lines_in, read_lines, record_after_report, report_of};
+ghost use Rattle.wb_merge.specs.Report.{AreGoodLines, IsFirstBadLine, IsWellFormedLine, Lines, by_source, is_reported, line_of, lines_in, read_lines, record_after_report, report_of};
 ghost use Rattle.deb_text.specs.Lists.{IsIn};
 
 /// A list is read as the rows of its paragraphs, one for each, or refused for the first paragraph
@@ -199,6 +200,13 @@ pub fn reports_have_their_lines()
         ↔ (IsIn line (read_lines text) × (line.source ≡ source)) }
 {}
 
+/// What is read of a report has its form: a source package's name, a version, and a reason that is a text of at most
+/// 1000 bytes (Debian Policy 5.6.1 and 5.6.12).
+pub fn reports_have_well_formed_lines()
+    ensures form { (text : List ℕ) (lines : Lines) (source : List ℕ) (line : ReportLine) → IsUtf8 text
+        → report_of text ≡ Ok lines → map.get lines source ≡ Some line → IsWellFormedLine line }
+{}
+
 /// A line of a report moves a record only between Needs-Build and BD-Uninstallable, and only one of the version that
 /// it names: there `uninstallable` leaves BD-Uninstallable with the reason as the note, and `installable` Needs-Build.
 /// All else stays as it is, so no hold ends (the order of versions is that of Debian Policy 5.6.12).
@@ -223,8 +231,9 @@ pub fn reports_move_between_two_states()
         → line.reason ≡ None → (record_after_report line current).state ≡ NeedsBuild }
     ensures others { (line : ReportLine) (current : Record) → FitsState current
         → record_after_report line current ≡ record current {
-            state = (record_after_report line current).state;
-            note = (record_after_report line current).note } }
+          state = (record_after_report line current).state;
+          note = (record_after_report line current).note;
+        } }
 {}
 
 /// A line of a report that is read again at once changes nothing.
@@ -327,4 +336,55 @@ pub fn examples_of_merges()
         (codes "curl") (listed_at (codes "7.88.1-10")) None
         (Some (record (record_in DepWait (codes "7.88.1-10")) { waits = codes "libssl-dev (>= 3)" }))
         (Some (record_in NeedsBuild (codes "7.88.1-10"))) }
+{}
+
+/// Examples of reports: what a line reads as, and which line of a report is the first bad one.
+/// Source: Debian Policy 5.6.1 and 5.6.12 for the forms of names and versions; the rest is this project's own.
+pub fn examples_of_reports()
+    // a line with any blanks round its words; a reason may have several words or none
+    ensures installable { line_of (codes "hello 2.10-3 installable")
+        ≡ Some (reported_of (codes "hello") (codes "2.10-3") None) }
+    ensures uninstallable { line_of (codes " hello\t2.10-3  uninstallable \t libfoo-dev is missing ")
+        ≡ Some (reported_of (codes "hello") (codes "2.10-3") (Some (codes "libfoo-dev is missing"))) }
+    ensures no_reason { line_of (codes "hello 2.10-3 uninstallable")
+        ≡ Some (reported_of (codes "hello") (codes "2.10-3") (Some [])) }
+    // no line has another word there, words after `installable`, a malformed name or version, or a carriage return
+    ensures unread { (line_of (codes "hello 2.10-3 missing libfoo-dev") ≡ None)
+        × (line_of (codes "hello 2.10-3 installable now") ≡ None)
+        × (line_of (codes "hello installable") ≡ None)
+        × (line_of (codes "Hello 2.10-3 installable") ≡ None)
+        × (line_of (codes "hello 2.10_3 installable") ≡ None)
+        × (line_of (codes "hello 2.10-3 installable\r") ≡ None) }
+    // blank lines are counted
+    ensures bad { (report_of (codes "hello") ≡ Err (BadReport 1))
+        × (report_of (codes "\n \t\nhello\n") ≡ Err (BadReport 3)) }
+    ensures blank { report_of (codes "\n \t\n") ≡ Ok map.empty }
+    ensures again { report_of (codes "hello 2.10-3 installable\n\nhello 2.10-4 installable\n")
+        ≡ Err (BadReport 3) }
+{}
+
+/// Examples of what a line of a report makes of a record.
+/// Source: Debian Policy 5.6.12 for the order of versions; the rest is this project's own.
+pub fn examples_of_reported_records()
+    // what cannot be built waits no more, and waits again if it can
+    ensures uninstallable { BecomesByReport (codes "2.10-3") (Some (codes "libfoo-dev is missing"))
+        (record_in NeedsBuild (codes "2.10-3"))
+        (record (record_in BdUninstallable (codes "2.10-3")) { note = codes "libfoo-dev is missing" }) }
+    ensures another_reason { BecomesByReport (codes "2.10-3") (Some [])
+        (record (record_in BdUninstallable (codes "2.10-3")) { note = codes "libfoo-dev is missing" })
+        (record_in BdUninstallable (codes "2.10-3")) }
+    ensures installable { BecomesByReport (codes "2.10-3") None
+        (record (record_in BdUninstallable (codes "2.10-3")) { note = codes "libfoo-dev is missing" })
+        (record_in NeedsBuild (codes "2.10-3")) }
+    // the version may be written in another way, but not be another
+    ensures same_version { BecomesByReport (codes "0:2.10-03") (Some [])
+        (record_in NeedsBuild (codes "2.10-3")) (record_in BdUninstallable (codes "2.10-3")) }
+    ensures other_version { BecomesByReport (codes "2.10-4") (Some [])
+        (record_in NeedsBuild (codes "2.10-3")) (record_in NeedsBuild (codes "2.10-3")) }
+    // all else stays
+    ensures waiting { BecomesByReport (codes "2.10-3") None
+        (record (record_in NeedsBuild (codes "2.10-3")) { note = codes "given back" })
+        (record (record_in NeedsBuild (codes "2.10-3")) { note = codes "given back" }) }
+    ensures held { BecomesByReport (codes "2.10-3") (Some (codes "libfoo-dev is missing"))
+        (held_in Building (codes "2.10-3")) (held_in Building (codes "2.10-3")) }
 {}
