@@ -16,6 +16,7 @@ pub mod RebuildLemmas
 pub mod RecordLemmas
 pub mod RelistedLemmas
 pub mod ReportFormLemmas
+pub mod ReportGrammarLemmas
 pub mod ReportLemmas
 pub mod ReportLineLemmas
 pub mod ReportMoveLemmas

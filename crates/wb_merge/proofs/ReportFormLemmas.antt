@@ -1,6 +1,6 @@
 -- The lines that are read of a UTF-8 text have their forms.
 use Rattle.std.proofs.Common.{◌≡◌, ◌⊎◌, inl, inr, ℕ, zero, suc, ◌+◌, ◌<◌, ◌≤◌, Bool, true, false, cond, ◌&&◌, ◌||◌, List, [], ◌∷◌, ◌++◌, length, reverse, drop, get_or, bytes_eq, position, nat_le, codes, Option, Some, None, IfSome, Ok, refl, sym, ap, subst, ◌∙◌, arith}
-use Rattle.std.specs.List.{list_any, filter_map, cons_option, slice_split, after_first}
+use Rattle.std.specs.List.{list_any, filter_map, cons_option, slice_split}
 use Rattle.std.specs.Str.{IsUtf8}
 use Rattle.std.specs.FinMap as finite
 use Rattle.std.proofs.Math.Seq.{get_or-append_seam, drop-append_seam, take-append_seam}
@@ -45,7 +45,7 @@ blank-low c h = grind (arith, nat_tests)
 
 -- ---- where a text is cut at the first byte that passes a test
 
-cut-at : (test : ℕ → Bool) (text : List ℕ) → (list_any test text ≡ false)
+pub cut-at : (test : ℕ → Bool) (text : List ℕ) → (list_any test text ≡ false)
     ⊎ ((line : List ℕ) × (c : ℕ) × (rest : List ℕ) × (text ≡ line ++ c ∷ rest) × (list_any test line ≡ false) × (test c ≡ true))
 cut-at test [] = inl refl
 cut-at test (c ∷ cs) =
@@ -84,12 +84,13 @@ trim-utf8 text utf8 =
 
 after-utf8 : (text : List ℕ) → IsUtf8 text → IsUtf8 (after_word text)
 after-utf8 text utf8 =
-    (elim (position is_blank text) as (λ o. position is_blank text ≡ o → IsUtf8 (after_word text)) [
-      | None ↦ λ none. subst IsUtf8 (no_blank-rest text text refl none) IsUtf8-nil
+    let start : List ℕ = trim_start text in
+    let good : IsUtf8 start = trim_start-utf8 text utf8 in
+    (elim (position is_blank start) as (λ o. position is_blank start ≡ o → IsUtf8 (after_word text)) [
+      | None ↦ λ none. subst IsUtf8 (no_blank-rest start start refl none) IsUtf8-nil
       | Some at ↦ λ found.
-          let blank = has-blank text text at refl utf8 found in
-          trim-utf8 (after_first is_blank text)
-          (subst (λ n. IsUtf8 (drop (n + 1) text)) (sym blank.place) (IsUtf8-drop text (at + 1) utf8 blank.behind))
+          let blank = has-blank start start at refl good found in
+          subst (λ n. IsUtf8 (drop (n + 1) start)) (sym blank.place) (IsUtf8-drop start (at + 1) good blank.behind)
     ]) refl
 
 -- ---- the lines of a UTF-8 text
@@ -120,7 +121,7 @@ lines-utf8 (suc n) text small utf8 part is = elim (cut-at is_line_feed text) [
 
 -- ---- a line that is read
 
-split-and : (a b : Bool) → (a && b) ≡ true → (a ≡ true) × (b ≡ true)
+pub split-and : (a b : Bool) → (a && b) ≡ true → (a ≡ true) × (b ≡ true)
 split-and true b e = (refl, e)
 split-and false b e = absurd cc
 
@@ -160,10 +161,10 @@ with-form source version (Some reason) read form is =
 line-form : (line : List ℕ) (read : ReportLine) → IsUtf8 line → line_of line ≡ Some read → IsWellFormedLine read
 unfolding line_of
 line-form line read utf8 is =
-    let text : List ℕ = trim line in
-    let last : IsUtf8 (after_word (after_word (after_word text))) = after-utf8 _ (after-utf8 _ (after-utf8 text (trim-utf8 line utf8))) in
-    with-form (word_of text) (word_of (after_word text)) (reason_of (word_of (after_word (after_word text))) (after_word (after_word (after_word text)))) read
-    (λ reason. reason-form (word_of (after_word (after_word text))) (after_word (after_word (after_word text))) reason last) is
+    let outcome : List ℕ = after_word (after_word line) in
+    let last : IsUtf8 (trim (after_word outcome)) = trim-utf8 (after_word outcome) (after-utf8 outcome (after-utf8 _ (after-utf8 line utf8))) in
+    with-form (word_of line) (word_of (after_word line)) (reason_of (word_of outcome) (trim (after_word outcome))) read
+    (λ reason. reason-form (word_of outcome) (trim (after_word outcome)) reason last) is
 
 read-from : (lines : List (List ℕ)) (read : ReportLine) → IsIn read (filter_map line_of lines) → (line : List ℕ) × IsIn line lines × (line_of line ≡ Some read)
 read-from [] read is = absurd is

@@ -1,13 +1,12 @@
 -- The first space or tab of a text, and that a text may be cut there.
 use Rattle.std.proofs.Common.{◌≡◌, ℕ, suc, ◌+◌, ◌<◌, ◌≤◌, Bool, true, false, cond, not, List, [], ◌∷◌, length, get_or, position, Some, None, refl, sym, ap, subst, ◌∙◌, arith}
-use Rattle.std.specs.List.{position_or_len}
+use Rattle.std.specs.List.{position_or_len, after_first}
 use Rattle.std.specs.Prelude.{nat_lt}
 use Rattle.std.specs.Str.{IsUtf8, IsCharBoundary}
 use Rattle.std.proofs.lemmas.Bool.Decides.{nat_tests}
 use Rattle.std.proofs.lemmas.List.{drop_all}
 use Rattle.std.proofs.lemmas.Str.{IsCharBoundary-after_ascii}
-use Rattle.deb_control.specs.Lines.{is_blank, trim, trim_end}
-use Rattle.wb_merge.specs.Report.{after_word}
+use Rattle.deb_control.specs.Lines.{is_blank}
 
 blank-ascii : (c : ℕ) → is_blank c ≡ true → c < 128
 blank-ascii c h = grind (arith, nat_tests)
@@ -49,13 +48,9 @@ has-blank bytes text at same utf8 found =
       behind = subst (λ n. IsCharBoundary text (n + 1)) two.1 (IsCharBoundary-after_ascii text (position_or_len is_blank text) utf8 inside blank);
     }
 
-trim-empty : trim [] ≡ []
-unfolding trim trim_end
-trim-empty = refl
-
 -- what stands after the only word of a text
-pub no_blank-rest : (bytes text : List ℕ) → bytes ≡ text → position is_blank bytes ≡ None → [] ≡ after_word text
+pub no_blank-rest : (bytes text : List ℕ) → bytes ≡ text → position is_blank bytes ≡ None → [] ≡ after_first is_blank text
 no_blank-rest bytes text same none =
     let past : nat_lt (position_or_len is_blank text) (length text) ≡ false = not_placed _ _ (ap (position is_blank) (sym same) ∙ none) in
     let far : length text ≤ position_or_len is_blank text + 1 = grind (arith, nat_tests) in
-    sym (ap trim (drop_all (position_or_len is_blank text + 1) text far) ∙ trim-empty)
+    sym (drop_all (position_or_len is_blank text + 1) text far)

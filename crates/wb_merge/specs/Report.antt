@@ -1,13 +1,14 @@
 -- Reports that say of source packages whether what they need to be built can be installed, and what becomes of their records (in wanna-build's states).
-use Rattle.std.specs.Prelude.{◌≡◌, ℕ, ◌+◌, Bool, true, false, not, ◌&&◌, nat_le, List, [], ◌∷◌, ◌++◌, length, codes, bytes_eq, Option, Some, None, is_some, IfSome, IsTrue, Result, if◌then◌else◌}
+use Rattle.std.specs.Prelude.{◌≡◌, ◌⊎◌, ◌≤◌, ℕ, ◌+◌, Bool, true, false, not, ◌&&◌, nat_le, List, [], ◌∷◌, ◌++◌, length, codes, bytes_eq, Option, Some, None, is_some, IfSome, IsTrue, Result, if◌then◌else◌}
 use Rattle.std.specs.List.{list_any, filter_map, fold, before_first, after_first, slice_split}
 use Rattle.std.specs.Option.{option_map, option_map_or}
 use Rattle.std.specs.Ordering.{match_ordering}
 use Rattle.std.specs.FinMap as finite
 use Rattle.deb_text.specs.Lines.{is_line_feed, is_blank, is_blank_line}
+use Rattle.deb_text.specs.Lists.{is_nonempty}
 use Rattle.deb_text.specs.Options.{ok_unless}
 use Rattle.deb_text.specs.Text.{IsTextWithin, text_cmp, is_empty_text}
-use Rattle.deb_control.specs.Lines.{trim}
+use Rattle.deb_control.specs.Lines.{trim_start, trim}
 use Rattle.deb_version.specs.Order.{version_cmp}
 use Rattle.deb_version.specs.Syntax.{is_version_text}
 use Rattle.deb_relations.specs.Names.{is_package_name}
@@ -22,13 +23,13 @@ use Rattle.wb_merge.specs.declared.report.ReportFault.TheVariants.{BadReport}
 
 -- ---- one line: `SOURCE VERSION installable`, or `SOURCE VERSION uninstallable REASON`
 
--- the first word of a text that begins with one
+-- the first word of a text, which blanks may stand before
 abbrev pub word_of : List ℕ → List ℕ
-word_of text = before_first is_blank text
+word_of text = before_first is_blank (trim_start text)
 
--- what stands after the first word, without the blanks round it
+-- what stands after the first word and the blank that ends it
 abbrev pub after_word : List ℕ → List ℕ
-after_word text = trim (after_first is_blank text)
+after_word text = after_first is_blank (trim_start text)
 
 -- the reason of a line, which `installable` has not and `uninstallable` has, be it empty, of at most 1000 bytes; or nothing if it is neither
 abbrev pub reason_of : List ℕ → List ℕ → Option (Option (List ℕ))
@@ -43,16 +44,38 @@ line_with source version (Some reason) =
     if is_package_name source && is_version_text version
     then Some (record { source = source; version = version; reason = reason }) else None
 
--- what a line reads as that begins with its source, if it can be read
-abbrev pub line_of_words : List ℕ → Option ReportLine
-line_of_words text =
-    let version = after_word text in
-    let outcome = after_word version in
-    line_with (word_of text) (word_of version) (reason_of (word_of outcome) (after_word outcome))
-
 -- what a line reads as, if it can be read; the blanks round it and between its words are no part of them
 unfoldable pub line_of : List ℕ → Option ReportLine
-line_of line = line_of_words (trim line)
+line_of line =
+    let version = after_word line in
+    let outcome = after_word version in
+    line_with (word_of line) (word_of version) (reason_of (word_of outcome) (trim (after_word outcome)))
+
+-- a text of blanks, then this word, in which no blank is, and then the end, or one more blank and this rest
+pub record BeginsWith (text word rest : List ℕ) : Type 0 where
+  pub blanks : List ℕ
+  pub blank : IsTrue (is_blank_line blanks)
+  pub filled : IsTrue (is_nonempty word)
+  pub whole : list_any is_blank word ≡ false
+  pub stands : ((text ≡ blanks ++ word) × (rest ≡ [])) ⊎ ((c : ℕ) × IsTrue (is_blank c) × (text ≡ blanks ++ (word ++ c ∷ rest)))
+
+-- the word that says this reason, or none, with this text after it
+abbrev pub SaysReason : List ℕ → List ℕ → Option (List ℕ) → Type 0
+SaysReason word rest None = (word ≡ codes "installable") × (rest ≡ [])
+SaysReason word rest (Some reason) = (word ≡ codes "uninstallable") × (rest ≡ reason) × (length reason ≤ note_limit)
+
+-- a line with these three words, and a text after them that counts without the blanks round it (Debian Policy 5.6.1 and 5.6.12)
+pub record IsWritten (line : List ℕ) (read : ReportLine) : Type 0 where
+  pub after_source : List ℕ
+  pub after_version : List ℕ
+  pub word : List ℕ
+  pub rest : List ℕ
+  pub source : BeginsWith line read.source after_source
+  pub version : BeginsWith after_source read.version after_version
+  pub outcome : BeginsWith after_version word rest
+  pub said : SaysReason word (trim rest) read.reason
+  pub good_source : IsTrue (is_package_name read.source)
+  pub good_version : IsTrue (is_version_text read.version)
 
 -- a line whose source, version and reason have their forms and limits (Debian Policy 5.6.1 and 5.6.12)
 pub record IsWellFormedLine (line : ReportLine) : Type 0 where

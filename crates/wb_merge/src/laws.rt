@@ -31,7 +31,7 @@ ghost use Rattle.wb_merge.specs.Merged.{Records, BecomesAt, record_after_at, all
 ghost use Rattle.wb_merge.specs.Steps.{Key};
 ghost use Rattle.wb_merge.specs.declared.report.ReportLine.{ReportLine};
 ghost use Rattle.wb_merge.specs.declared.report.ReportFault.TheVariants.{BadReport};
-ghost use Rattle.wb_merge.specs.Report.{AreGoodLines, IsFirstBadLine, IsWellFormedLine, Lines, by_source, is_reported, line_of, lines_in, read_lines, record_after_report, report_of};
+ghost use Rattle.wb_merge.specs.Report.{AreGoodLines, IsFirstBadLine, IsWellFormedLine, IsWritten, Lines, by_source, is_reported, line_of, lines_in, read_lines, record_after_report, report_of};
 ghost use Rattle.deb_text.specs.Lists.{IsIn};
 
 /// A list is read as the rows of its paragraphs, one for each, or refused for the first paragraph
@@ -181,6 +181,14 @@ pub fn source_texts_read_back()
         → NamesSource (with_version name version) name (Some version) }
     ensures only { (text : List ℕ) → IsTrue (is_source_text text) → (text ≡ source_name text)
         ⊎ ((version : List ℕ) × (text ≡ with_version (source_name text) version)) }
+{}
+
+/// A line of a report can be read exactly if it is written as three words, with blanks between and round them: the
+/// name of a source package, a version, and `installable` at the end or `uninstallable`, after which the reason is
+/// what is left without the blanks round it (Debian Policy 5.6.1 and 5.6.12 for the name and the version).
+pub fn report_lines_are_written_so()
+    ensures written { (line : List ℕ) (read : ReportLine)
+        → (line_of line ≡ Some read) ↔ IsWritten line read }
 {}
 
 /// A report is read if none of its lines is bad, and else refused with the number of the first that is, counted from

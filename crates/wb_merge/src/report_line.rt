@@ -1,9 +1,9 @@
 //! One line of a report, cut into its words.
 ghost use Rattle.std.specs.Prelude.{◌≡◌, length, position, drop, ◌<◌, IfOk, IfNone, IfSome, OnOk, OnErr, OnSome, IsSome, Some, None, true, false, if◌then◌else◌};
 ghost use Rattle.std.specs.Option.{option_map, option_copied};
-ghost use Rattle.deb_control.specs.Lines.{is_blank, is_continuation, trim_end, trim};
+ghost use Rattle.deb_control.specs.Lines.{is_blank, is_continuation, trim_start, trim_end, trim};
 ghost use Rattle.deb_version.specs.Syntax.{is_version_text};
-ghost use Rattle.wb_merge.specs.Report.{word_of, after_word, reason_of, line_of_words, line_of};
+ghost use Rattle.wb_merge.specs.Report.{word_of, after_word, reason_of, line_of};
 
 use crate::ReportLine;
 use deb_text::Text;
@@ -46,15 +46,23 @@ fn without_blank_end(text: &str) -> &str
     left
 }
 
-/// A text without the spaces and tabs round it.
-fn without_blanks(text: &str) -> &str
-    ensures { result.now ≡ trim text.now }
+/// A text without the spaces and tabs at its start.
+fn without_blank_start(text: &str) -> &str
+    ensures { result.now ≡ trim_start text.now }
 {
     let mut left = text;
     while let Some(rest) = after_blank(left) {
         left = rest;
     }
-    without_blank_end(left)
+    left
+}
+
+/// A text without the spaces and tabs round it.
+#[tactic(auto, unfolding(deb_control::specs::Lines::trim))]
+fn without_blanks(text: &str) -> &str
+    ensures { result.now ≡ trim text.now }
+{
+    without_blank_end(without_blank_start(text))
 }
 
 /// The place of the first space or tab.
@@ -64,14 +72,15 @@ fn blank_place(text: &[u8]) -> Option<usize>
     text.iter().position(|b| *b == b' ' || *b == b'\t')
 }
 
-/// The first word of a text that begins with one, and what stands after it, without the blanks round that.
+/// The first word of a text, and what stands after it and the blank that ends it.
 fn cut_word(text: &str) -> (&str, &str)
     ensures word { result.0.now ≡ word_of text.now }
     ensures rest { result.1.now ≡ after_word text.now }
 {
-    match blank_place(text.as_bytes()) {
-        Some(at) => (&text[..at], without_blanks(&text[at + 1..])),
-        None => (text, ""),
+    let start = without_blank_start(text);
+    match blank_place(start.as_bytes()) {
+        Some(at) => (&start[..at], &start[at + 1..]),
+        None => (start, ""),
     }
 }
 
@@ -116,13 +125,13 @@ pub(crate) fn parse_line(alloc: Global, line: &str) -> Result<Option<ReportLine>
     ensures value { IfOk result (λ found. found ≡ line_of line.now) }
     ensures memory { OnErr result (IsSome (line_of line.now)) }
 {
-    let (source, rest) = cut_word(without_blanks(line));
+    let (source, rest) = cut_word(line);
     let (version, rest) = cut_word(rest);
     let (word, rest) = cut_word(rest);
     if !is_source(source) {
         return Ok(None);
     }
-    let Some(reason) = parse_reason(word, rest) else {
+    let Some(reason) = parse_reason(word, without_blanks(rest)) else {
         return Ok(None);
     };
     let Some(version) = parse_version(alloc, version)? else {
