@@ -7,4 +7,6 @@ mod moves;
 #[cfg(test)]
 mod records;
 #[cfg(test)]
+mod reports;
+#[cfg(test)]
 mod sockets;
