@@ -31,7 +31,7 @@ word_of text = before_first is_blank (trim_start text)
 abbrev pub after_word : List ℕ → List ℕ
 after_word text = after_first is_blank (trim_start text)
 
--- the reason of a line, which `installable` has not and `uninstallable` has, be it empty, of at most 1000 bytes; or nothing if it is neither
+-- the reason of a line: none for `installable`, and for `uninstallable` the rest, perhaps empty, of at most 1000 bytes; or nothing if it is neither
 abbrev pub reason_of : List ℕ → List ℕ → Option (Option (List ℕ))
 reason_of word rest =
     if bytes_eq word (codes "installable") && is_empty_text rest then Some None
@@ -51,7 +51,7 @@ line_of line =
     let outcome = after_word version in
     line_with (word_of line) (word_of version) (reason_of (word_of outcome) (trim (after_word outcome)))
 
--- a text of blanks, then this word, in which no blank is, and then the end, or one more blank and this rest
+-- a text of blanks, then this word without blanks in it, and then the end, or one more blank and this rest
 pub record BeginsWith (text word rest : List ℕ) : Type 0 where
   pub blanks : List ℕ
   pub blank : IsTrue (is_blank_line blanks)
@@ -124,7 +124,7 @@ abbrev pub AreGoodLines : List (List ℕ) → Type 0
 AreGoodLines lines =
     (before : List (List ℕ)) (line : List ℕ) (behind : List (List ℕ)) → lines ≡ before ++ line ∷ behind → is_bad_line (by_source before) line ≡ false
 
--- a number of a line, counted from 1, that is bad after those before it, of which none is
+-- the number, counted from 1, of a line that is bad after those before it, of which none is bad
 pub record IsFirstBadLine (lines : List (List ℕ)) (number : ℕ) : Type 0 where
   pub before : List (List ℕ)
   pub line : List ℕ
@@ -140,11 +140,11 @@ report_takes_memory text = list_any (λ line. is_some (line_of line)) (lines_in 
 
 -- ---- the record of the source that a line names
 
--- the states between which reports move a record
+-- whether a state is one of the two between which reports move a record
 abbrev pub is_reported : State → Bool
 is_reported = one_of (NeedsBuild ∷ BdUninstallable ∷ [])
 
--- a record of which it is reported that what it needs cannot be installed, for this reason, or that it can (wanna-build)
+-- a record after the report that what it needs cannot be installed, for this reason, or that it can (wanna-build)
 abbrev pub reported : Option (List ℕ) → Record → Record
 reported (Some reason) current =
     if is_reported current.state then record (in_state BdUninstallable current) { note = reason } else current
