@@ -10,7 +10,10 @@ mod found;
 use crate::requests::{self, MemoryOffice};
 use anyhow::{Context, Result, bail};
 use deb_text::Text;
-use found::Found;
+use found::{
+    show_architectures, show_builds, show_counts, show_office_row, show_record, show_row,
+    show_rows, show_words, show_words_of,
+};
 use sqlite::{FileStore, Options};
 use sqlite_disk::{Disk, Memory};
 use std::alloc::Global;
@@ -32,6 +35,8 @@ const HANDED: u64 = 2;
 
 type MemoryStore = Store<FileStore<Memory>>;
 
+type MemoryWriting<'store> = Writing<'store, FileStore<Memory>>;
+
 /// Shows the look-ups over the office of the input's lists.
 pub(crate) fn show_all<R: BufRead + Drop, W: Write>(
     alloc: Global,
@@ -43,12 +48,15 @@ pub(crate) fn show_all<R: BufRead + Drop, W: Write>(
     let mut store = store_of(alloc, office)?;
     writeln!(output, "store")?;
     for arch in &ARCHS {
-        Found::in_store(alloc, &mut store, arch)?.show(output)?;
+        let arch = Text::copied(alloc, arch)?;
+        show_people(alloc, &mut store, &arch, output)?;
+        show_numbers(&mut store, &arch, output)?;
+        show_records(&mut store, &arch, output)?;
+        show_holds_and_queue(alloc, &mut store, &arch, output)?;
     }
     show_transaction(alloc, &mut store, output)?;
     writeln!(output, "restored")?;
-    let counts = store.counts(&Text::copied(alloc, ARCHS[0])?)?;
-    found::show_counts(&counts, output)?;
+    show_counts(store.counts(&Text::copied(alloc, ARCHS[0])?)?, output)?;
     writeln!(output, "end")?;
     output.flush()?;
     Ok(())
@@ -76,6 +84,50 @@ fn store_of(alloc: Global, office: MemoryOffice) -> Result<MemoryStore> {
     Ok(store)
 }
 
+/// Shows what the store finds of architectures and builders.
+fn show_people<W: Write>(
+    alloc: Global,
+    store: &mut MemoryStore,
+    arch: &Text,
+    output: &mut W,
+) -> Result<()> {
+    let builder = Text::copied(alloc, BUILDER)?;
+    show_words(&store.archs()?, output)?;
+    show_words_of(arch, &store.arch(arch)?, output)?;
+    show_builds(store.has_builder(&builder, arch)?, arch, output)?;
+    show_architectures(&store.archs_of(&builder)?, output)
+}
+
+/// Shows the counts of the store.
+fn show_numbers<W: Write>(store: &mut MemoryStore, arch: &Text, output: &mut W) -> Result<()> {
+    show_office_row(store.office_row()?, output)?;
+    show_counts(store.counts(arch)?, output)
+}
+
+/// Shows all records that the store finds, and the last package that was handed out.
+fn show_records<W: Write>(store: &mut MemoryStore, arch: &Text, output: &mut W) -> Result<()> {
+    show_rows("all_of", &store.all_of(arch)?, output)?;
+    let last = store.by_take(HANDED)?;
+    show_row("by_take", &last, output)?;
+    match last {
+        Some(last) => show_record("get", arch, &store.get(arch, &last.source)?, output),
+        None => Ok(()),
+    }
+}
+
+/// Shows what the store finds of the builder's holds and of the queue.
+fn show_holds_and_queue<W: Write>(
+    alloc: Global,
+    store: &mut MemoryStore,
+    arch: &Text,
+    output: &mut W,
+) -> Result<()> {
+    let builder = Text::copied(alloc, BUILDER)?;
+    show_rows("held_by", &store.held_by(&builder)?, output)?;
+    show_row("head", &store.head(arch)?, output)?;
+    show_rows("queue_of", &store.queue_of(arch)?, output)
+}
+
 /// Shows the look-ups of a transaction, which is rolled back whatever they answer.
 fn show_transaction<W: Write>(
     alloc: Global,
@@ -91,15 +143,71 @@ fn show_transaction<W: Write>(
 /// Shows the look-ups of the transaction, and its counts once a record is taken out.
 fn show_writing<W: Write>(
     alloc: Global,
-    writing: &mut Writing<'_, FileStore<Memory>>,
+    writing: &mut MemoryWriting<'_>,
     output: &mut W,
 ) -> Result<()> {
     writeln!(output, "transaction")?;
     for arch in &ARCHS {
-        Found::in_transaction(alloc, writing, arch)?.show(output)?;
+        let arch = Text::copied(alloc, arch)?;
+        show_people_in(alloc, writing, &arch, output)?;
+        show_numbers_in(writing, &arch, output)?;
+        show_records_in(writing, &arch, output)?;
+        show_holds_and_queue_in(alloc, writing, &arch, output)?;
     }
     let KeyedRecord { arch, source, .. } = writing.by_take(1)?.context("nothing was handed out")?;
     writing.remove(&arch, &source)?;
     writeln!(output, "removed")?;
-    found::show_counts(&writing.counts(&arch)?, output)
+    show_counts(writing.counts(&arch)?, output)
+}
+
+/// Shows what the transaction finds of architectures and builders.
+fn show_people_in<W: Write>(
+    alloc: Global,
+    writing: &mut MemoryWriting<'_>,
+    arch: &Text,
+    output: &mut W,
+) -> Result<()> {
+    let builder = Text::copied(alloc, BUILDER)?;
+    show_words(&writing.archs()?, output)?;
+    show_words_of(arch, &writing.arch(arch)?, output)?;
+    show_builds(writing.has_builder(&builder, arch)?, arch, output)?;
+    show_architectures(&writing.archs_of(&builder)?, output)
+}
+
+/// Shows the counts of the transaction.
+fn show_numbers_in<W: Write>(
+    writing: &mut MemoryWriting<'_>,
+    arch: &Text,
+    output: &mut W,
+) -> Result<()> {
+    show_office_row(writing.office_row()?, output)?;
+    show_counts(writing.counts(arch)?, output)
+}
+
+/// Shows all records that the transaction finds, and the last package that was handed out.
+fn show_records_in<W: Write>(
+    writing: &mut MemoryWriting<'_>,
+    arch: &Text,
+    output: &mut W,
+) -> Result<()> {
+    show_rows("all_of", &writing.all_of(arch)?, output)?;
+    let last = writing.by_take(HANDED)?;
+    show_row("by_take", &last, output)?;
+    match last {
+        Some(last) => show_record("get", arch, &writing.get(arch, &last.source)?, output),
+        None => Ok(()),
+    }
+}
+
+/// Shows what the transaction finds of the builder's holds and of the queue.
+fn show_holds_and_queue_in<W: Write>(
+    alloc: Global,
+    writing: &mut MemoryWriting<'_>,
+    arch: &Text,
+    output: &mut W,
+) -> Result<()> {
+    let builder = Text::copied(alloc, BUILDER)?;
+    show_rows("held_by", &writing.held_by(&builder)?, output)?;
+    show_row("head", &writing.head(arch)?, output)?;
+    show_rows("queue_of", &writing.queue_of(arch)?, output)
 }

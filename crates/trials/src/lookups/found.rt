@@ -1,132 +1,55 @@
-//! What the look-ups find for an architecture.
+//! The lines for what look-ups find, each behind the name of its call.
 
-use super::{BUILDER, HANDED, MemoryStore};
+use super::BUILDER;
 use anyhow::Result;
 use deb_text::Text;
-use sqlite::FileStore;
-use sqlite_disk::Memory;
-use std::alloc::Global;
 use std::io::Write;
 use wb_states::{Counts, KeyedRecord, OsCpu, Record, StateCounts};
-use wb_store::Writing;
 
-/// The answer of each look-up, where it is asked for the architecture, for the builder, and for the last package handed out.
-#[derive(Drop)]
-pub(crate) struct Found {
-    arch: Text,
-    archs: Vec<(Text, OsCpu)>,
-    words: Option<OsCpu>,
-    has_builder: bool,
-    archs_of: Vec<Text>,
-    office_row: Counts,
-    counts: StateCounts,
-    all_of: Vec<KeyedRecord>,
-    by_take: Option<KeyedRecord>,
-    get: Option<Record>,
-    held_by: Vec<KeyedRecord>,
-    head: Option<KeyedRecord>,
-    queue_of: Vec<KeyedRecord>,
+/// Writes all architectures with their words.
+pub(crate) fn show_words<W: Write>(archs: &[(Text, OsCpu)], output: &mut W) -> Result<()> {
+    for (name, words) in archs {
+        writeln!(output, "archs {name} {} {}", words.os, words.cpu)?;
+    }
+    Ok(())
 }
 
-impl Found {
-    /// What the store finds.
-    pub(crate) fn in_store(alloc: Global, store: &mut MemoryStore, arch: &str) -> Result<Found> {
-        let arch = Text::copied(alloc, arch)?;
-        let builder = Text::copied(alloc, BUILDER)?;
-        let by_take = store.by_take(HANDED)?;
-        let source = source_of(alloc, &by_take)?;
-        Ok(Found {
-            archs: store.archs()?,
-            words: store.arch(&arch)?,
-            has_builder: store.has_builder(&builder, &arch)?,
-            archs_of: store.archs_of(&builder)?,
-            office_row: store.office_row()?,
-            counts: store.counts(&arch)?,
-            all_of: store.all_of(&arch)?,
-            get: store.get(&arch, &source)?,
-            held_by: store.held_by(&builder)?,
-            head: store.head(&arch)?,
-            queue_of: store.queue_of(&arch)?,
-            by_take,
-            arch,
-        })
+/// Writes the words of the architecture, or `none`.
+pub(crate) fn show_words_of<W: Write>(
+    arch: &Text,
+    words: &Option<OsCpu>,
+    output: &mut W,
+) -> Result<()> {
+    match words {
+        Some(words) => writeln!(output, "arch {arch} {} {}", words.os, words.cpu)?,
+        None => writeln!(output, "arch {arch} none")?,
     }
-
-    /// What the transaction finds.
-    pub(crate) fn in_transaction(
-        alloc: Global,
-        writing: &mut Writing<'_, FileStore<Memory>>,
-        arch: &str,
-    ) -> Result<Found> {
-        let arch = Text::copied(alloc, arch)?;
-        let builder = Text::copied(alloc, BUILDER)?;
-        let by_take = writing.by_take(HANDED)?;
-        let source = source_of(alloc, &by_take)?;
-        Ok(Found {
-            archs: writing.archs()?,
-            words: writing.arch(&arch)?,
-            has_builder: writing.has_builder(&builder, &arch)?,
-            archs_of: writing.archs_of(&builder)?,
-            office_row: writing.office_row()?,
-            counts: writing.counts(&arch)?,
-            all_of: writing.all_of(&arch)?,
-            get: writing.get(&arch, &source)?,
-            held_by: writing.held_by(&builder)?,
-            head: writing.head(&arch)?,
-            queue_of: writing.queue_of(&arch)?,
-            by_take,
-            arch,
-        })
-    }
-
-    /// Writes each answer behind the name of its call.
-    pub(crate) fn show<W: Write>(&self, output: &mut W) -> Result<()> {
-        for (name, words) in &self.archs {
-            writeln!(output, "archs {name} {} {}", words.os, words.cpu)?;
-        }
-        match &self.words {
-            Some(words) => writeln!(output, "arch {} {} {}", self.arch, words.os, words.cpu)?,
-            None => writeln!(output, "arch {} none", self.arch)?,
-        }
-        writeln!(
-            output,
-            "has_builder {BUILDER} {} {}",
-            self.arch, self.has_builder
-        )?;
-        for arch in &self.archs_of {
-            writeln!(output, "archs_of {BUILDER} {arch}")?;
-        }
-        let Counts { handed, accepted } = self.office_row;
-        writeln!(output, "office_row {handed} {accepted}")?;
-        show_counts(&self.counts, output)?;
-        self.show_records(output)
-    }
-
-    /// Writes the answers that are records.
-    fn show_records<W: Write>(&self, output: &mut W) -> Result<()> {
-        show_rows("all_of", &self.all_of, output)?;
-        show_row("by_take", &self.by_take, output)?;
-        write!(output, "get {}", self.arch)?;
-        match &self.get {
-            Some(current) => show_record(current, output)?,
-            None => writeln!(output, " none")?,
-        }
-        show_rows("held_by", &self.held_by, output)?;
-        show_row("head", &self.head, output)?;
-        show_rows("queue_of", &self.queue_of, output)
-    }
+    Ok(())
 }
 
-/// The source package of the record; an empty text if there is none.
-fn source_of(alloc: Global, found: &Option<KeyedRecord>) -> Result<Text> {
-    match found {
-        Some(row) => Ok(Text::copied(alloc, row.source.as_str())?),
-        None => Ok(Text::new(alloc)),
+/// Writes whether the builder was added for the architecture.
+pub(crate) fn show_builds<W: Write>(is_there: bool, arch: &Text, output: &mut W) -> Result<()> {
+    writeln!(output, "has_builder {BUILDER} {arch} {is_there}")?;
+    Ok(())
+}
+
+/// Writes the architectures of the builder.
+pub(crate) fn show_architectures<W: Write>(archs: &[Text], output: &mut W) -> Result<()> {
+    for arch in archs {
+        writeln!(output, "archs_of {BUILDER} {arch}")?;
     }
+    Ok(())
+}
+
+/// Writes the counts of the office.
+pub(crate) fn show_office_row<W: Write>(counts: Counts, output: &mut W) -> Result<()> {
+    let Counts { handed, accepted } = counts;
+    writeln!(output, "office_row {handed} {accepted}")?;
+    Ok(())
 }
 
 /// Writes how many records are in each state, in the order of the type's fields.
-pub(crate) fn show_counts<W: Write>(counts: &StateCounts, output: &mut W) -> Result<()> {
+pub(crate) fn show_counts<W: Write>(counts: StateCounts, output: &mut W) -> Result<()> {
     write!(output, "counts {} {}", counts.needs_build, counts.building)?;
     write!(output, " {} {}", counts.built, counts.uploaded)?;
     write!(output, " {} {}", counts.installed, counts.dep_wait)?;
@@ -135,21 +58,25 @@ pub(crate) fn show_counts<W: Write>(counts: &StateCounts, output: &mut W) -> Res
     Ok(())
 }
 
-/// Writes each record behind the name of the call.
-fn show_rows<W: Write>(call: &str, rows: &[KeyedRecord], output: &mut W) -> Result<()> {
+/// Writes each record.
+pub(crate) fn show_rows<W: Write>(call: &str, rows: &[KeyedRecord], output: &mut W) -> Result<()> {
     for row in rows {
         write!(output, "{call} {} {}", row.arch, row.source)?;
-        show_record(&row.current, output)?;
+        show_fields(&row.current, output)?;
     }
     Ok(())
 }
 
-/// Writes the record behind the name of the call, or `none`.
-fn show_row<W: Write>(call: &str, found: &Option<KeyedRecord>, output: &mut W) -> Result<()> {
+/// Writes the record, or `none`.
+pub(crate) fn show_row<W: Write>(
+    call: &str,
+    found: &Option<KeyedRecord>,
+    output: &mut W,
+) -> Result<()> {
     match found {
         Some(row) => {
             write!(output, "{call} {} {}", row.arch, row.source)?;
-            show_record(&row.current, output)
+            show_fields(&row.current, output)
         }
         None => {
             writeln!(output, "{call} none")?;
@@ -158,8 +85,25 @@ fn show_row<W: Write>(call: &str, found: &Option<KeyedRecord>, output: &mut W) -
     }
 }
 
+/// Writes the record that was found on the architecture, or `none`.
+pub(crate) fn show_record<W: Write>(
+    call: &str,
+    arch: &Text,
+    found: &Option<Record>,
+    output: &mut W,
+) -> Result<()> {
+    write!(output, "{call} {arch}")?;
+    match found {
+        Some(current) => show_fields(current, output),
+        None => {
+            writeln!(output, " none")?;
+            Ok(())
+        }
+    }
+}
+
 /// Writes where a record stands, and by whom and under which take number it is held, `-` for none; and ends the line.
-fn show_record<W: Write>(current: &Record, output: &mut W) -> Result<()> {
+fn show_fields<W: Write>(current: &Record, output: &mut W) -> Result<()> {
     let state = current.state.name();
     write!(output, " {state} {}", current.version.text())?;
     write!(output, " {} {}", current.priority, current.section)?;
