@@ -46,17 +46,23 @@ pub(crate) fn show_all<R: BufRead + Drop, W: Write>(
     let mut office = requests::begun(alloc, input)?.context("there is no Sources list")?;
     hand_out(alloc, &mut office)?;
     let mut store = store_of(alloc, office)?;
+    show_store(alloc, &mut store, output)
+}
+
+/// Shows the look-ups of the store, and those of a transaction, and what is found once that was rolled back.
+fn show_store<W: Write>(alloc: Global, store: &mut MemoryStore, output: &mut W) -> Result<()> {
     writeln!(output, "store")?;
     for arch in &ARCHS {
         let arch = Text::copied(alloc, arch)?;
-        show_people(alloc, &mut store, &arch, output)?;
-        show_numbers(&mut store, &arch, output)?;
-        show_records(&mut store, &arch, output)?;
-        show_holds_and_queue(alloc, &mut store, &arch, output)?;
+        show_people(alloc, store, &arch, output)?;
+        show_numbers(store, &arch, output)?;
+        show_records(store, &arch, output)?;
+        show_holds_and_queue(alloc, store, &arch, output)?;
     }
-    show_transaction(alloc, &mut store, output)?;
+    show_transaction(alloc, store, output)?;
     writeln!(output, "restored")?;
-    show_counts(store.counts(&Text::copied(alloc, ARCHS[0])?)?, output)?;
+    let arch = Text::copied(alloc, ARCHS[0])?;
+    show_counts(store.counts(&arch)?, output)?;
     writeln!(output, "end")?;
     output.flush()?;
     Ok(())
