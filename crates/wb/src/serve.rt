@@ -44,7 +44,7 @@ pub(crate) fn serve<S: Alter + Drop>(
     listener: &TcpListener,
     requests: u32,
 ) -> u8 {
-    let mut failures = 0;
+    let mut failures: u32 = 0;
     for _ in 0..requests {
         match listener.accept() {
             Ok((stream, _)) => {
@@ -52,7 +52,7 @@ pub(crate) fn serve<S: Alter + Drop>(
                 report(rt, serve_stream(rt, office, &stream));
             }
             Err(error) => {
-                failures += 1;
+                failures = failures.saturating_add(1);
                 let _ = eprintln!(rt; "wb: a connection was not accepted: {error}");
             }
         }
