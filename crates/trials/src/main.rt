@@ -1,8 +1,7 @@
 //! Trials of the office over memory. A line of standard input says which come after it: `requests` for requests over HTTP, up to a line
-//! `end`; `lookups` for what the store finds over three lists; or `stops` for stops within a call of the disk, up to the end of the input.
+//! `end`, or `stops` for stops within a call of the disk, up to the end of the input.
 #![tactic(auto)]
 
-mod lookups;
 mod requests;
 mod stops;
 
@@ -19,7 +18,6 @@ fn main(rt: HostRuntime) -> Result<()> {
         }
         match line.trim_end() {
             "requests" => requests::answer_all(rt.alloc(), &mut input, &mut output)?,
-            "lookups" => lookups::show_all(rt.alloc(), &mut input, &mut output)?,
             "stops" => stops::make_all(&rt, rt.alloc(), &mut input, &mut output)?,
             other => bail!("no trials are named {other}"),
         }

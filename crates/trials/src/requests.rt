@@ -13,7 +13,7 @@ mod writer;
 
 use anyhow::{Context, Result};
 use frames::Frame;
-pub(crate) use opening::MemoryOffice;
+use opening::MemoryOffice;
 use reader::CutReader;
 use std::alloc::Global;
 use std::io::{BufRead, Write};
@@ -27,25 +27,24 @@ pub(crate) fn answer_all<R: BufRead + Drop, W: Write + Drop>(
     input: &mut R,
     output: &mut W,
 ) -> Result<()> {
-    match begun(alloc, input)? {
-        Some(mut office) => answer_each(alloc, &mut office, input, output),
+    match frames::next(alloc, input)? {
+        Some(sources) => {
+            let mut office = begun(alloc, input, sources.bytes)?;
+            answer_each(alloc, &mut office, input, output)
+        }
         None => Ok(()),
     }
 }
 
-/// The office over the Sources list and the Packages lists that stand next in the input; none where the input, or its
-/// part, ends before them.
-pub(crate) fn begun<R: BufRead + Drop>(
+/// The office over this Sources list and the Packages lists that stand next in the input.
+fn begun<R: BufRead + Drop>(
     alloc: Global,
     input: &mut R,
-) -> Result<Option<MemoryOffice>> {
-    let Some(sources) = frames::next(alloc, input)? else {
-        return Ok(None);
-    };
+    sources: Vec<u8>,
+) -> Result<MemoryOffice> {
     let amd64 = frames::next(alloc, input)?.context("there is no list of amd64")?;
     let arm64 = frames::next(alloc, input)?.context("there is no list of arm64")?;
-    let office = opening::office_of(alloc, sources.bytes, amd64.bytes, arm64.bytes)?;
-    Ok(Some(office))
+    opening::office_of(alloc, sources, amd64.bytes, arm64.bytes)
 }
 
 /// Answers each request of the input. Each answer is written before the next request is read.
