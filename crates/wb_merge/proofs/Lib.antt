@@ -21,6 +21,7 @@ pub mod ReportLemmas
 pub mod ReportLineLemmas
 pub mod ReportMoveLemmas
 pub mod ReportReadLemmas
+pub mod ReportedLemmas
 pub mod RowLemmas
 pub mod SourceLemmas
 pub mod SourceTextLemmas

@@ -50,7 +50,7 @@ recorded-apart arch (key ∷ keys) h =
 pub recorded-names-any : (old : Records) (arch name : List ℕ) → list_any (bytes_eq name) (recorded_names old arch) ≡ finite.contains_key old (arch, name)
 recorded-names-any old arch name = recorded-any arch name (finite.keys old) ∙ sym (finite.contains_key-keys old (arch, name))
 
-listed-any : {X : Type 0} (listed : finite.FinMap text_cmp X) (name : List ℕ) → list_any (bytes_eq name) (finite.keys listed) ≡ finite.contains_key listed name
+pub listed-any : {X : Type 0} (listed : finite.FinMap text_cmp X) (name : List ℕ) → list_any (bytes_eq name) (finite.keys listed) ≡ finite.contains_key listed name
 listed-any listed name =
     ap (λ (eq : List ℕ → Bool). list_any eq (finite.keys listed)) (λ i other. sym (is_eq-slice_cmp name other) i) ∙ sym (finite.contains_key-keys listed name)
 

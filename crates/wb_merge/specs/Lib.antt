@@ -7,5 +7,6 @@ pub mod Merge
 pub mod Merged
 pub mod Offers
 pub mod Report
+pub mod Reported
 pub mod Rows
 pub mod Steps

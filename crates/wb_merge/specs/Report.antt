@@ -13,13 +13,15 @@ use Rattle.deb_version.specs.Order.{version_cmp}
 use Rattle.deb_version.specs.Syntax.{is_version_text}
 use Rattle.deb_relations.specs.Names.{is_package_name}
 use Rattle.wb_states.specs.declared.record.Record.{Record}
+use Rattle.wb_states.specs.declared.refusal.Refusal.{Refusal}
+use Rattle.wb_states.specs.declared.refusal.Refusal.TheVariants.{BadReport as Bad, Memory as NoMemory}
 use Rattle.wb_states.specs.declared.state.State.{State}
 use Rattle.wb_states.specs.declared.state.State.TheVariants.{NeedsBuild, BdUninstallable}
 use Rattle.wb_states.specs.Limits.{note_limit}
 use Rattle.wb_states.specs.Moves.{one_of, in_state}
 use Rattle.wb_merge.specs.declared.report.ReportLine.{ReportLine}
 use Rattle.wb_merge.specs.declared.report.ReportFault.{ReportFault}
-use Rattle.wb_merge.specs.declared.report.ReportFault.TheVariants.{BadReport}
+use Rattle.wb_merge.specs.declared.report.ReportFault.TheVariants.{BadReport, Memory}
 
 -- ---- one line: `SOURCE VERSION installable`, or `SOURCE VERSION uninstallable REASON`
 
@@ -133,6 +135,11 @@ pub record IsFirstBadLine (lines : List (List ℕ)) (number : ℕ) : Type 0 wher
   pub good : AreGoodLines before
   pub bad : is_bad_line (by_source before) line ≡ true
   pub counted : number ≡ length before + 1
+
+-- the refusal of a command for what is wrong with its report
+abbrev pub refusal_of_report : ReportFault → Refusal
+refusal_of_report (BadReport line) = Bad line
+refusal_of_report Memory = NoMemory
 
 -- whether memory is taken for a report: one of its lines can be read
 unfoldable pub report_takes_memory : List ℕ → Bool

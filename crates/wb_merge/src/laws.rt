@@ -1,5 +1,5 @@
 //! Laws of the listing and of the merge, each on a function that does nothing.
-ghost use Rattle.std.specs.Prelude.{◌≡◌, ◌≢◌, ℕ, pos, ◌+◌, ◌≤◌, List, [], ◌∷◌, ◌++◌, length, codes, Option, Some, None, Ok, Err, ◌↔◌, ◌⊎◌, IfSome, IsTrue, true, false};
+ghost use Rattle.std.specs.Prelude.{◌≡◌, ◌≢◌, ℕ, pos, ◌+◌, ◌≤◌, List, [], ◌∷◌, ◌++◌, length, codes, Option, option_map, Some, None, Ok, Err, ◌↔◌, ◌⊎◌, IfSome, IsTrue, true, false};
 ghost use Rattle.std.specs.List.{list_all};
 ghost use Rattle.std.specs.Char.{is_ascii_digit};
 ghost use Rattle.std.specs.Str.{IsUtf8};
@@ -32,6 +32,7 @@ ghost use Rattle.wb_merge.specs.Steps.{Key};
 ghost use Rattle.wb_merge.specs.declared.report.ReportLine.{ReportLine};
 ghost use Rattle.wb_merge.specs.declared.report.ReportFault.TheVariants.{BadReport};
 ghost use Rattle.wb_merge.specs.Report.{AreGoodLines, IsFirstBadLine, IsWellFormedLine, IsWritten, Lines, by_source, is_reported, line_of, lines_in, read_lines, record_after_report, report_of};
+ghost use Rattle.wb_merge.specs.Reported.{records_reported, rows_reported, with_rows};
 ghost use Rattle.deb_text.specs.Lists.{IsIn};
 
 /// A list is read as the rows of its paragraphs, one for each, or refused for the first paragraph
@@ -249,6 +250,21 @@ pub fn reports_twice_change_nothing()
     ensures twice { (line : ReportLine) (current : Record)
         → record_after_report line (record_after_report line current)
         ≡ record_after_report line current }
+{}
+
+/// A report of an architecture says of each of its source packages what the line that names it says, if there is one, and
+/// nothing of any other record; and what it makes of them are the records before with those that differ put at their keys.
+pub fn reports_are_pointwise()
+    ensures named { (old : Records) (arch source : List ℕ) (lines : Lines) (line : ReportLine)
+        → map.get lines source ≡ Some line
+        → map.get (records_reported old arch lines) (arch, source)
+        ≡ option_map (record_after_report line) (map.get old (arch, source)) }
+    ensures unnamed { (old : Records) (arch : List ℕ) (lines : Lines) (key : Key) → map.get lines key.1 ≡ None
+        → map.get (records_reported old arch lines) key ≡ map.get old key }
+    ensures others { (old : Records) (arch : List ℕ) (lines : Lines) (key : Key) → key.0 ≢ arch
+        → map.get (records_reported old arch lines) key ≡ map.get old key }
+    ensures rows { (old : Records) (arch : List ℕ) (lines : Lines)
+        → with_rows old (rows_reported old arch lines) ≡ records_reported old arch lines }
 {}
 
 /// A line whose reason is a text of at most 1000 bytes keeps the fields of a record in their forms and limits.

@@ -20,5 +20,5 @@ pub use listing::{Built, Listed, Listing};
 pub use merge::{Change, counted};
 pub use record::{after, blank_record};
 pub use report::{ReportFault, ReportLine, ReportLines};
-pub use report_moves::after_report;
+pub use report_moves::{after_report, changed_by_report};
 pub use sources::Sources;

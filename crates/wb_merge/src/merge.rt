@@ -52,7 +52,7 @@ fn has_same_texts(one: &Record, other: &Record) -> bool
 
 /// Whether two records are equal in all fields.
 #[tactic(auto, unfolding(crate::specs::Merged::is_same_record))]
-fn is_same_record(one: &Record, other: &Record) -> bool
+pub(crate) fn is_same_record(one: &Record, other: &Record) -> bool
     ensures { result ≡ is_same_record one.now other.now }
 {
     has_same_source(one, other) && (has_same_place(one, other) && has_same_texts(one, other))

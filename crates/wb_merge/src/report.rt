@@ -4,7 +4,7 @@ ghost use Rattle.std.specs.Option.{option_copied};
 ghost use Rattle.std.specs.FinMap as map;
 ghost use Rattle.deb_text.specs.Text.{text_cmp};
 ghost use Rattle.wb_merge.specs.declared.report.ReportFault.TheVariants.{BadReport, Memory};
-ghost use Rattle.wb_merge.specs.Report.{line_of, is_bad_line, with_line, report_of, report_takes_memory};
+ghost use Rattle.wb_merge.specs.Report.{line_of, is_bad_line, with_line, refusal_of_report, report_of, report_takes_memory};
 
 use crate::report_line::parse_line;
 use deb_text::{Text, is_blank_line};
@@ -12,6 +12,7 @@ use deb_version::Version;
 use std::alloc::{AllocError, AllocFailed, Global};
 use std::collections::BTreeMap;
 use std::marker::Model;
+use wb_states::Refusal;
 
 /// Why a text is no report.
 /// Source: this project's own.
@@ -36,6 +37,17 @@ impl<T: Drop> From<AllocFailed<T>> for ReportFault {
 
     fn from(_failed: AllocFailed<T>) -> ReportFault {
         ReportFault::Memory
+    }
+}
+
+impl From<ReportFault> for Refusal {
+    ghost from_gives = { λ fault refusal. refusal ≡ refusal_of_report fault };
+
+    fn from(fault: ReportFault) -> Refusal {
+        match fault {
+            ReportFault::BadReport { line } => Refusal::BadReport { line },
+            ReportFault::Memory => Refusal::Memory,
+        }
     }
 }
 

@@ -1,13 +1,15 @@
 //! What a report makes of the record of one source package.
-ghost use Rattle.std.specs.Prelude.{◌≡◌, [], IfOk, IfErr};
+ghost use Rattle.std.specs.Prelude.{◌≡◌, [], Some, IfOk, IfErr};
 ghost use Rattle.std.specs.Ordering.{is_eq};
 ghost use Rattle.deb_version.specs.Order.{version_cmp};
 ghost use Rattle.wb_states.specs.declared.refusal.Refusal.TheVariants.{Memory};
 ghost use Rattle.wb_states.specs.declared.state.State.TheVariants.{NeedsBuild, BdUninstallable};
 ghost use Rattle.wb_states.specs.Moves.{in_state};
 ghost use Rattle.wb_merge.specs.Report.{reported, record_after_report};
+ghost use Rattle.wb_merge.specs.Reported.{changed_by_line};
 
 use crate::ReportLine;
+use crate::merge::is_same_record;
 use crate::record::copied;
 use deb_text::Text;
 use deb_version::compare;
@@ -74,4 +76,22 @@ pub fn after_report(alloc: Global, current: &Record, line: &ReportLine) -> Resul
     } else {
         Ok(copy)
     }
+}
+
+/// The record of a source package after the line of a report that names the package, as [`after_report`] makes it, or
+/// none if no field of it differs. The record that was there is left as it is; the only error is `Memory`.
+/// Source: this project's own.
+pub fn changed_by_report(
+    alloc: Global,
+    current: &Record,
+    line: &ReportLine,
+) -> Result<Option<Record>, Refusal>
+    ensures value { IfOk result (λ new. new ≡ changed_by_line (Some line.now) current.now) }
+    ensures refused { IfErr result (λ refusal. refusal ≡ Memory) }
+{
+    let new = after_report(alloc, current, line)?;
+    if is_same_record(current, &new) {
+        return Ok(None);
+    }
+    Ok(Some(new))
 }

@@ -2,7 +2,7 @@
 use Rattle.std.proofs.Common.{◌≡◌, ◌↔◌, ℕ, cond, List, [], refl, sym, ap, ◌∙◌, nat_eq, bytes_eq}
 use Rattle.std.specs.Prelude.{codes}
 use Rattle.wb_states.specs.declared.refusal.Refusal.{Refusal}
-use Rattle.wb_states.specs.declared.refusal.Refusal.TheVariants.{UnknownArch, UnknownBuilder, WrongArch, UnknownSource, OtherVersion, WrongState, QueueEmpty, NotHeld, AfterAhead, AlreadyThere, BadName, BadVersion, BadRelations, BadNumber, BadListing, TextTooLong, Spent, RepeatedArch, Closed, Store, Memory}
+use Rattle.wb_states.specs.declared.refusal.Refusal.TheVariants.{UnknownArch, UnknownBuilder, WrongArch, UnknownSource, OtherVersion, WrongState, QueueEmpty, NotHeld, AfterAhead, AlreadyThere, BadName, BadVersion, BadRelations, BadNumber, BadListing, BadReport, TextTooLong, Spent, RepeatedArch, Closed, Store, Memory}
 use Rattle.wb_states.specs.declared.state.State.{State}
 use Rattle.wb_states.specs.declared.state.State.TheVariants.{NeedsBuild, Building, Built, Uploaded, Installed, DepWait, BdUninstallable, Failed, NotForUs, BuildAttempted}
 use Rattle.wb_states.specs.Refusals.{code_of_refusal, name_of_refusal}
@@ -92,13 +92,14 @@ name_at code =
     (cond (nat_eq code 13) (codes "BadRelations")
     (cond (nat_eq code 14) (codes "BadNumber")
     (cond (nat_eq code 15) (codes "BadListing")
+    (cond (nat_eq code 16) (codes "BadReport")
     (cond (nat_eq code 17) (codes "TextTooLong")
     (cond (nat_eq code 18) (codes "Spent")
     (cond (nat_eq code 22) (codes "RepeatedArch")
     (cond (nat_eq code 19) (codes "Closed")
     (cond (nat_eq code 20) (codes "Memory")
     (cond (nat_eq code 21) (codes "Store")
-    [])))))))))))))))))))))
+    []))))))))))))))))))))))
 
 name_at-code : (refusal : Refusal) → name_at (code_of_refusal refusal) ≡ name_of_refusal refusal
 name_at-code UnknownArch = refl
@@ -116,6 +117,7 @@ name_at-code (BadVersion fault) = refl
 name_at-code (BadRelations fault) = refl
 name_at-code BadNumber = refl
 name_at-code (BadListing which paragraph fault) = refl
+name_at-code (BadReport line) = refl
 name_at-code TextTooLong = refl
 name_at-code Spent = refl
 name_at-code RepeatedArch = refl
@@ -141,13 +143,14 @@ code_at name =
     (cond (bytes_eq name (codes "BadRelations")) 13
     (cond (bytes_eq name (codes "BadNumber")) 14
     (cond (bytes_eq name (codes "BadListing")) 15
+    (cond (bytes_eq name (codes "BadReport")) 16
     (cond (bytes_eq name (codes "TextTooLong")) 17
     (cond (bytes_eq name (codes "Spent")) 18
     (cond (bytes_eq name (codes "RepeatedArch")) 22
     (cond (bytes_eq name (codes "Closed")) 19
     (cond (bytes_eq name (codes "Memory")) 20
     (cond (bytes_eq name (codes "Store")) 21
-    0)))))))))))))))))))))
+    0))))))))))))))))))))))
 
 code_at-name : (refusal : Refusal) → code_at (name_of_refusal refusal) ≡ code_of_refusal refusal
 code_at-name UnknownArch = refl
@@ -165,6 +168,7 @@ code_at-name (BadVersion fault) = refl
 code_at-name (BadRelations fault) = refl
 code_at-name BadNumber = refl
 code_at-name (BadListing which paragraph fault) = refl
+code_at-name (BadReport line) = refl
 code_at-name TextTooLong = refl
 code_at-name Spent = refl
 code_at-name RepeatedArch = refl

@@ -76,7 +76,7 @@ taken_as-none machine take_number entry none kept is =
 
 -- ---- what a builder holds
 
-text-is : (builder : List ℕ) (holder : Option (List ℕ)) → has_value (bytes_eq builder) holder ≡ true ↔ (holder ≡ Some builder)
+pub text-is : (builder : List ℕ) (holder : Option (List ℕ)) → has_value (bytes_eq builder) holder ≡ true ↔ (holder ≡ Some builder)
 text-is builder None = (λ h. absurd cc, λ h. absurd cc)
 text-is builder (Some other) =
     let same = bytes_eq-Decides builder other in

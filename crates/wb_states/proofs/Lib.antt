@@ -2,10 +2,12 @@ pub mod CodeLemmas
 pub mod ConsistencyLemmas
 pub mod HoldLemmas
 pub mod InStateLemmas
+pub mod ListedLemmas
 pub mod MoveFormLemmas
 pub mod MoveRowLemmas
 pub mod QueryLemmas
 pub mod QueueLemmas
 pub mod RankLemmas
+pub mod ShareLemmas
 pub mod SortLemmas
 pub mod WaitLemmas

@@ -9,17 +9,19 @@ use Rattle.wb_states.specs.declared.refusal.Refusal.{Refusal}
 use Rattle.wb_states.specs.declared.refusal.Refusal.TheVariants.{BadName, UnknownArch, UnknownBuilder}
 use Rattle.wb_states.specs.Holds.{held_of}
 use Rattle.wb_states.specs.Machine.{Machine}
-use Rattle.wb_states.specs.Queue.{Entry}
+use Rattle.wb_states.specs.Queue.{Entry, queue_of}
 use Rattle.wb_states.specs.declared.keyed.KeyedRecord.{KeyedRecord}
 use Rattle.wb_states.specs.Lookups.{entry_of}
 use Rattle.wb_states.specs.declared.query.Answer.{Answer}
-use Rattle.wb_states.specs.declared.query.Answer.TheVariants.{Mine}
+use Rattle.wb_states.specs.declared.query.Answer.TheVariants.{Queue, ByState, Mine, Summary}
 use Rattle.wb_states.specs.Machine.{is_unknown_arch, is_unknown_builder}
 use Rattle.wb_states.specs.Refusals.{is_of_store}
-use Rattle.wb_states.specs.Queries.{answer_in, answer_of, found_at, has_malformed_name, item_in, mine_in}
+use Rattle.wb_states.specs.Queries.{answer_in, answer_of, depends_at, depends_in, found_at, has_malformed_name, item_in, mine_in, queue_in, records_in, summary_in}
 use Rattle.wb_states.specs.declared.query.Query.{Query}
 use Rattle.wb_states.specs.declared.query.Query.TheVariants as asked
-use Rattle.wb_states.specs.Lookups.{keyed}
+use Rattle.wb_states.specs.Lookups.{counts_of, keyed, rows_in}
+use Rattle.wb_states.specs.State.{state_named}
+use Rattle.wb_states.specs.declared.state.State.{State}
 
 -- records that were looked up are those of the state, each with its key
 pub keyed-entries : {rows : List KeyedRecord} {entries : List Entry} → each entry_of rows ≡ entries → each keyed entries ≡ rows
@@ -48,9 +50,34 @@ mine-state : (machine : Machine) (builder : List ℕ) → IsOfState (mine_in mac
 mine-state machine builder =
     either-state (is_unknown_builder machine builder) UnknownBuilder (Ok (Mine builder (each keyed (held_of machine builder)))) refl tt
 
+queue-state : (machine : Machine) (arch : List ℕ) → IsOfState (queue_in machine arch)
+queue-state machine arch = either-state (is_unknown_arch machine arch) UnknownArch (Ok (Queue arch (each keyed (queue_of machine arch)))) refl tt
+
+records-state : (machine : Machine) (arch : List ℕ) (named : Option State) → IsOfState (records_in machine arch named)
+records-state machine arch None = refl
+records-state machine arch (Some state) =
+    either-state (is_unknown_arch machine arch) UnknownArch (Ok (ByState arch state (each keyed (rows_in machine arch state)))) refl tt
+
+needed-state : (arch source : List ℕ) (found : Option Record) → IsOfState (depends_at arch source found)
+needed-state arch source None = refl
+needed-state arch source (Some current) = tt
+
+depends-state : (machine : Machine) (arch source : List ℕ) → IsOfState (depends_in machine arch source)
+depends-state machine arch source =
+    either-state (is_unknown_arch machine arch) UnknownArch (depends_at arch source (map.get machine.records (arch, source))) refl
+    (needed-state arch source (map.get machine.records (arch, source)))
+
+summary-state : (machine : Machine) (arch : List ℕ) → IsOfState (summary_in machine arch)
+summary-state machine arch =
+    either-state (is_unknown_arch machine arch) UnknownArch (Ok (Summary machine.accepted arch (counts_of machine arch))) refl tt
+
 answer-state : (machine : Machine) (query : Query) → IsOfState (answer_in machine query)
+answer-state machine (asked.Queue arch) = queue-state machine arch
+answer-state machine (asked.ByState arch state) = records-state machine arch (state_named state)
 answer-state machine (asked.Item arch source) = item-state machine arch source
 answer-state machine (asked.Mine builder) = mine-state machine builder
+answer-state machine (asked.Depends arch source) = depends-state machine arch source
+answer-state machine (asked.Summary arch) = summary-state machine arch
 
 never : (answer : Result Answer Refusal) (refusal : Refusal) → IsOfState answer → is_of_store refusal ≡ true → ¬ (answer ≡ Err refusal)
 never answer refusal of_state of_store is = both_ways (is_of_store refusal) (subst IsOfState is of_state) of_store

@@ -1,7 +1,7 @@
 -- The names of the commands, which are those of the subcommands that ask for them.
 use Rattle.std.specs.Prelude.{ℕ, List, codes}
 use Rattle.wb_states.specs.declared.command.Command.{Command}
-use Rattle.wb_states.specs.declared.command.Command.TheVariants.{AddArch, AddBuilder, Enter, Next, Take, Built, Uploaded, Waits, PutBack, Attempted, GiveBack, DepWait, Fail, NotForUs, Rebuild, BuildPriority, Merge}
+use Rattle.wb_states.specs.declared.command.Command.TheVariants.{AddArch, AddBuilder, Enter, Next, Take, Built, Uploaded, Waits, PutBack, Attempted, GiveBack, DepWait, Fail, NotForUs, Rebuild, BuildPriority, Merge, Report}
 
 -- the name of a command
 abbrev pub name_of_command : Command → List ℕ
@@ -22,3 +22,4 @@ name_of_command (NotForUs fields) = codes "not-for-us"
 name_of_command (Rebuild fields) = codes "rebuild"
 name_of_command (BuildPriority fields) = codes "build-priority"
 name_of_command (Merge fields) = codes "merge"
+name_of_command (Report fields) = codes "report"

@@ -71,3 +71,7 @@ BuildPriority arch source version value = of.BuildPriority (record { arch = arch
 -- lists are merged
 abbrev pub Merge : List ℕ → List Part → Command
 Merge sources parts = of.Merge (record { sources = sources; parts = parts })
+
+-- a report of an architecture is carried out
+abbrev pub Report : List ℕ → List ℕ → Command
+Report arch text = of.Report (record { arch = arch; text = text })

@@ -1,5 +1,5 @@
 -- What is looked up in the state of the office.
-use Rattle.std.specs.Prelude.{ℕ, Bool, List, filter, nat_eq, bytes_eq, ◌&&◌, length}
+use Rattle.std.specs.Prelude.{ℕ, ◌+◌, Bool, List, filter, nat_eq, bytes_eq, ◌&&◌, length}
 use Rattle.std.specs.FinMap as finite
 use Rattle.wb_states.specs.declared.state.State.{State}
 use Rattle.wb_states.specs.declared.state.State.TheVariants.{NeedsBuild, Building, Built, Uploaded, Installed, DepWait, BdUninstallable, Failed, NotForUs, BuildAttempted}
@@ -29,6 +29,10 @@ rows_of machine arch = filter (is_of arch) (finite.entries machine.records)
 abbrev pub is_in : List ℕ → State → Entry → Bool
 is_in arch state entry = is_of arch entry && nat_eq (code_of entry.1.state) (code_of state)
 
+-- the records of the architecture that are in the state, by the names of their source packages
+unfoldable pub rows_in : Machine → List ℕ → State → List Entry
+rows_in machine arch state = filter (is_in arch state) (finite.entries machine.records)
+
 -- how many records of the architecture are in the state
 unfoldable pub number_in : Machine → List ℕ → State → ℕ
 number_in machine arch state = length (filter (is_in arch state) (finite.entries machine.records))
@@ -47,3 +51,9 @@ counts_of machine arch = record {
   not_for_us = number_in machine arch NotForUs;
   build_attempted = number_in machine arch BuildAttempted;
 }
+
+-- how many records are counted, in all states together
+abbrev pub total_of : StateCounts → ℕ
+total_of counts =
+    counts.needs_build + counts.building + counts.built + counts.uploaded + counts.installed + counts.dep_wait + counts.bd_uninstallable + counts.failed
+    + counts.not_for_us + counts.build_attempted

@@ -3,7 +3,7 @@ use Rattle.std.specs.Prelude.{ℕ, List, ◌++◌, codes, decimal, Some, None}
 use Rattle.deb_relations.specs.Faults.{fault_text as relation_fault_text}
 use Rattle.deb_version.specs.Faults.{fault_text as version_fault_text}
 use Rattle.wb_states.specs.declared.refusal.Refusal.{Refusal}
-use Rattle.wb_states.specs.declared.refusal.Refusal.TheVariants.{UnknownArch, UnknownBuilder, WrongArch, UnknownSource, OtherVersion, WrongState, QueueEmpty, NotHeld, AfterAhead, AlreadyThere, BadName, BadVersion, BadRelations, BadNumber, BadListing, TextTooLong, Spent, RepeatedArch, Closed, Store, Memory}
+use Rattle.wb_states.specs.declared.refusal.Refusal.TheVariants.{UnknownArch, UnknownBuilder, WrongArch, UnknownSource, OtherVersion, WrongState, QueueEmpty, NotHeld, AfterAhead, AlreadyThere, BadName, BadVersion, BadRelations, BadNumber, BadListing, BadReport, TextTooLong, Spent, RepeatedArch, Closed, Store, Memory}
 use Rattle.wb_states.specs.declared.refusal.ListKind.TheVariants.{Sources, Packages}
 use Rattle.wb_states.specs.Refusals.{name_of_listing_fault}
 use Rattle.wb_states.specs.State.{name_of}
@@ -30,6 +30,8 @@ message_of_refusal (BadListing Sources paragraph fault) =
     name_of_listing_fault fault ++ (codes " in paragraph " ++ (decimal paragraph ++ codes " of Sources"))
 message_of_refusal (BadListing Packages paragraph fault) =
     name_of_listing_fault fault ++ (codes " in paragraph " ++ (decimal paragraph ++ codes " of Packages"))
+message_of_refusal (BadReport line) =
+    codes "line " ++ (decimal line ++ codes " is malformed, or names a source package again")
 message_of_refusal TextTooLong = codes "a note, a reason or a message has more than 1000 bytes"
 message_of_refusal Spent = codes "a count of the office is at its limit"
 message_of_refusal RepeatedArch = codes "two parts are for one architecture"

@@ -2,7 +2,7 @@
 use Rattle.std.specs.Prelude.{◌≡◌, ◌≢◌, ℕ, Bool, true, false, List, codes}
 use Rattle.deb_control.specs.Faults.{fault_name}
 use Rattle.wb_states.specs.declared.refusal.Refusal.{Refusal}
-use Rattle.wb_states.specs.declared.refusal.Refusal.TheVariants.{UnknownArch, UnknownBuilder, WrongArch, UnknownSource, OtherVersion, WrongState, QueueEmpty, NotHeld, AfterAhead, AlreadyThere, BadName, BadVersion, BadRelations, BadNumber, BadListing, TextTooLong, Spent, RepeatedArch, Closed, Store, Memory}
+use Rattle.wb_states.specs.declared.refusal.Refusal.TheVariants.{UnknownArch, UnknownBuilder, WrongArch, UnknownSource, OtherVersion, WrongState, QueueEmpty, NotHeld, AfterAhead, AlreadyThere, BadName, BadVersion, BadRelations, BadNumber, BadListing, BadReport, TextTooLong, Spent, RepeatedArch, Closed, Store, Memory}
 use Rattle.wb_states.specs.declared.store_fault.StoreFault.{StoreFault}
 use Rattle.wb_states.specs.declared.store_fault.StoreFault.TheVariants.{Memory as NoMemory}
 use Rattle.wb_states.specs.declared.refusal.ListKind.{ListKind}
@@ -29,6 +29,7 @@ code_of_refusal (BadVersion fault) = 12
 code_of_refusal (BadRelations fault) = 13
 code_of_refusal BadNumber = 14
 code_of_refusal (BadListing which paragraph fault) = 15
+code_of_refusal (BadReport line) = 16
 code_of_refusal TextTooLong = 17
 code_of_refusal Spent = 18
 code_of_refusal RepeatedArch = 22
@@ -53,6 +54,7 @@ name_of_refusal (BadVersion fault) = codes "BadVersion"
 name_of_refusal (BadRelations fault) = codes "BadRelations"
 name_of_refusal BadNumber = codes "BadNumber"
 name_of_refusal (BadListing which paragraph fault) = codes "BadListing"
+name_of_refusal (BadReport line) = codes "BadReport"
 name_of_refusal TextTooLong = codes "TextTooLong"
 name_of_refusal Spent = codes "Spent"
 name_of_refusal RepeatedArch = codes "RepeatedArch"

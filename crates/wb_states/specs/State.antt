@@ -1,5 +1,5 @@
 -- The states of a source package on an architecture: wanna-build's names, and a number for each.
-use Rattle.std.specs.Prelude.{ℕ, Bool, true, false, List, codes}
+use Rattle.std.specs.Prelude.{ℕ, Bool, true, false, List, [], ◌∷◌, codes, bytes_eq, find, Option}
 use Rattle.wb_states.specs.declared.state.State.{State}
 use Rattle.wb_states.specs.declared.state.State.TheVariants.{NeedsBuild, Building, Built, Uploaded, Installed, DepWait, BdUninstallable, Failed, NotForUs, BuildAttempted}
 
@@ -28,6 +28,15 @@ name_of BdUninstallable = codes "BD-Uninstallable"
 name_of Failed = codes "Failed"
 name_of NotForUs = codes "Not-For-Us"
 name_of BuildAttempted = codes "Build-Attempted"
+
+-- the states, by their numbers
+abbrev pub states : List State
+states =
+    NeedsBuild ∷ Building ∷ Built ∷ Uploaded ∷ Installed ∷ DepWait ∷ BdUninstallable ∷ Failed ∷ NotForUs ∷ BuildAttempted ∷ []
+
+-- the state of this name, if a state has it (wanna-build)
+abbrev pub state_named : List ℕ → Option State
+state_named name = find (λ state. bytes_eq name (name_of state)) states
 
 -- the state in which a source package waits in the queue for a builder
 abbrev pub is_needs_build : State → Bool

@@ -8,7 +8,7 @@ use Rattle.wb_states.specs.declared.subject.Names.TheVariants as names
 
 -- what a command names
 pub data Subject : Type 0 where
-  -- no record: the command adds an architecture or a builder, or is a merge
+  -- no record by itself: the command adds an architecture or a builder, or its lists or its report name them
   Nothing : Subject
   -- the record of a source package: the architecture and the source package
   Source : List ℕ → List ℕ → Subject
@@ -36,6 +36,7 @@ subject_of (of.NotForUs fields) = Source fields.arch fields.source
 subject_of (of.Rebuild fields) = Source fields.arch fields.source
 subject_of (of.BuildPriority fields) = Source fields.arch fields.source
 subject_of (of.Merge fields) = Nothing
+subject_of (of.Report fields) = Nothing
 
 -- the records that are named, in a program by what it refers to
 abbrev pub subject_named : Names → Subject

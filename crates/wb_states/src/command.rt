@@ -173,6 +173,15 @@ pub struct Merge {
     pub parts: Items<Part>,
 }
 
+/// Moves the source packages of an architecture by what a report says of their build dependencies.
+#[derive(Debug, Drop)]
+pub struct Report {
+    /// The architecture.
+    pub arch: Text,
+    /// The lines of the report.
+    pub text: Text,
+}
+
 /// A command to the office. All its texts are taken as they came: the office tests their forms.
 #[derive(Debug, Drop)]
 pub enum Command {
@@ -210,6 +219,8 @@ pub enum Command {
     BuildPriority(BuildPriority),
     /// Brings the records in line with what the archive lists.
     Merge(Merge),
+    /// Moves records by what a report says of their build dependencies.
+    Report(Report),
 }
 
 impl Command {
@@ -235,6 +246,7 @@ impl Command {
             Command::Rebuild(_) => "rebuild",
             Command::BuildPriority(_) => "build-priority",
             Command::Merge(_) => "merge",
+            Command::Report(_) => "report",
         }
     }
 }

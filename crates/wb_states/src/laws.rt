@@ -1,24 +1,35 @@
 //! Laws of the definitions, each on a function that does nothing.
 ghost use Rattle.std.specs.Prelude.{◌≡◌, ◌≢◌, ◌↔◌, ◌≤◌, ℕ, List, IsTrue, Some, None, Ok, codes, false, pos, true};
+ghost use Rattle.std.specs.Prelude.{IsPermutation, bytes_eq, filter, length};
 ghost use Rattle.std.specs.Ordering.{nat_cmp, ordering_then};
 ghost use Rattle.deb_text.specs.Text.{text_cmp};
 ghost use Rattle.std.specs.FinMap as map;
+ghost use Rattle.std.specs.FinSet as set;
+ghost use Rattle.std.specs.List.{IsDistinct, flat_map};
 ghost use Rattle.std.specs.List.Sorted.{IsStrictlySortedBy};
 ghost use Rattle.std.specs.Cmp.{IsTotalOrder};
 ghost use Rattle.std.specs.declared.cmp.Ordering.TheVariants.{Less, Equal};
+ghost use Rattle.wb_states.specs.declared.keyed.KeyedRecord.{KeyedRecord};
+ghost use Rattle.wb_states.specs.declared.query.Answer.{Answer};
+ghost use Rattle.wb_states.specs.declared.query.Answer.TheVariants.{Item};
+ghost use Rattle.wb_states.specs.declared.query.Query.{Query};
+ghost use Rattle.wb_states.specs.declared.query.Query.TheVariants as asked;
 ghost use Rattle.wb_states.specs.declared.record.Record.{Record};
 ghost use Rattle.wb_states.specs.declared.moves.Move.{Move};
 ghost use Rattle.wb_states.specs.declared.refusal.Refusal.{Refusal};
 ghost use Rattle.wb_states.specs.declared.state.State.{State};
+ghost use Rattle.wb_states.specs.declared.state.State.TheVariants.{NeedsBuild};
 ghost use Rattle.wb_states.specs.Examples.{with_place};
 ghost use Rattle.wb_states.specs.Holds.{IsBuildingAfter, building_after, held_of, take_cmp, take_of, taken_as};
 ghost use Rattle.wb_states.specs.Machine.{AreRelations, HasDistinctTakes, IsConsistent, Machine, arch_words};
 ghost use Rattle.wb_states.specs.Moves.{may_go, move_outcome};
+ghost use Rattle.wb_states.specs.Queries.{answer_of, listed_in};
 ghost use Rattle.wb_states.specs.Queue.{Entry, IsWaitingAt, entry_cmp, head_of, queue_of, place_cmp, place_of, rank_of};
 ghost use Rattle.deb_text.specs.Lists.{IsIn};
 ghost use Rattle.wb_states.specs.Record.{IsWellFormed};
 ghost use Rattle.wb_states.specs.Refusals.{code_of_refusal, name_of_refusal};
-ghost use Rattle.wb_states.specs.State.{code_of, name_of};
+ghost use Rattle.wb_states.specs.Lookups.{counts_of, rows_in, rows_of, total_of};
+ghost use Rattle.wb_states.specs.State.{code_of, is_held, name_of, states};
 ghost use Rattle.wb_states.specs.Table.{HasForm, row_of};
 
 /// The queue of an architecture has each of its records that wait for a builder, and no other, and they
@@ -110,6 +121,55 @@ pub fn holds_are_by_take_number()
     ensures none { (machine : Machine) (arch builder : List ℕ) (after : ℕ) (entry : Entry)
         → building_after machine arch builder after ≡ None
         → ¬ (IsBuildingAfter machine arch builder after entry) }
+{}
+
+/// The states share out the records of an architecture: the records in a state are those of the architecture that
+/// are in it; listed state by state, they are all of its records, each once; and so the numbers of records in the
+/// states add up to the number of its records.
+pub fn states_share_out_the_records()
+    ensures members { (machine : Machine) (arch : List ℕ) (state : State) (entry : Entry)
+        → IsIn entry (rows_in machine arch state)
+        ↔ (IsIn entry (rows_of machine arch) × (entry.1.state ≡ state)) }
+    ensures once { (machine : Machine) (arch : List ℕ)
+        → IsPermutation (rows_of machine arch) (flat_map (rows_in machine arch) states) }
+    ensures total { (machine : Machine) (arch : List ℕ)
+        → total_of (counts_of machine arch) ≡ length (rows_of machine arch) }
+{}
+
+/// The queue of an architecture has its records in Needs-Build, each once, in another order.
+pub fn the_queue_is_what_needs_a_build()
+    ensures { (machine : Machine) (arch : List ℕ)
+        → IsPermutation (rows_in machine arch NeedsBuild) (queue_of machine arch) }
+{}
+
+/// The builders share out the held records of a consistent office: what all builders hold, listed builder by
+/// builder, are the records that are held, each once.
+pub fn builders_share_out_the_held_records()
+    ensures { (machine : Machine) (builders : List (List ℕ)) → IsConsistent machine
+        → IsDistinct bytes_eq builders
+        → ((builder arch : List ℕ) → IsTrue (set.contains machine.builders (builder, arch))
+        → IsIn builder builders)
+        → IsPermutation (filter (λ entry. is_held entry.1.state) (map.entries machine.records))
+        (flat_map (held_of machine) builders) }
+{}
+
+/// What a query for a record shows is what lists show of it: a record that it shows is listed among those in its
+/// state, and among those of its holder if it has one; and each record that a list of a consistent office has is
+/// what the query for it shows.
+pub fn lists_show_what_items_show()
+    ensures by_state { (machine : Machine) (arch source : List ℕ) (row : KeyedRecord)
+        → answer_of machine (asked.Item arch source) ≡ Ok (Item row)
+        → (answer : Answer)
+        × (answer_of machine (asked.ByState arch (name_of row.current.state)) ≡ Ok answer)
+        × IsIn row (listed_in answer) }
+    ensures mine { (machine : Machine) (arch source builder : List ℕ) (row : KeyedRecord)
+        → IsConsistent machine → answer_of machine (asked.Item arch source) ≡ Ok (Item row)
+        → row.current.holder ≡ Some builder
+        → (answer : Answer) × (answer_of machine (asked.Mine builder) ≡ Ok answer)
+        × IsIn row (listed_in answer) }
+    ensures shown { (machine : Machine) (query : Query) (answer : Answer) (row : KeyedRecord)
+        → IsConsistent machine → answer_of machine query ≡ Ok answer → IsIn row (listed_in answer)
+        → answer_of machine (asked.Item row.arch row.source) ≡ Ok (Item row) }
 {}
 
 /// No two states share a number or a name, and two refusals share a number exactly if they share a

@@ -103,7 +103,7 @@ impl fmt::Display for ListingFault {
 ///
 /// If several apply to a command, the first is answered, in this order. `Closed`. The forms of its texts:
 /// `BadName`, `BadVersion`, `BadRelations` for relations that cannot be read, `BadNumber` for a number
-/// that no rebuild and no build priority has, `TextTooLong`, `RepeatedArch`. Then what the office has: `UnknownArch`,
+/// that no rebuild and no build priority has, `TextTooLong`, `BadReport`, `RepeatedArch`. Then what the office has: `UnknownArch`,
 /// `BadListing`, `UnknownBuilder`, `WrongArch`, `AfterAhead`, `NotHeld`, `UnknownSource`,
 /// `OtherVersion`, `WrongState`, `QueueEmpty`, `AlreadyThere`, `BadRelations` for waits that reduce to
 /// nothing or to too much, `BadNumber` for a number that is not above the record's, `Spent`. `Memory` and,
@@ -156,6 +156,10 @@ pub enum Refusal {
         paragraph: u64,
         fault: ListingFault,
     },
+    /// The line of this number, counted from 1, of a report is malformed, or it names a source package again.
+    BadReport {
+        line: u64,
+    },
     /// A note, a reason or a message has more than 1000 bytes.
     TextTooLong,
     /// There is no count left: a count of the office is at its limit of 10^12.
@@ -201,6 +205,7 @@ impl Refusal {
             Refusal::BadRelations { .. } => 13,
             Refusal::BadNumber => 14,
             Refusal::BadListing { .. } => 15,
+            Refusal::BadReport { .. } => 16,
             Refusal::TextTooLong => 17,
             Refusal::Spent => 18,
             Refusal::Closed => 19,
@@ -230,6 +235,7 @@ impl Refusal {
             Refusal::BadRelations { .. } => "BadRelations",
             Refusal::BadNumber => "BadNumber",
             Refusal::BadListing { .. } => "BadListing",
+            Refusal::BadReport { .. } => "BadReport",
             Refusal::TextTooLong => "TextTooLong",
             Refusal::Spent => "Spent",
             Refusal::Closed => "Closed",
@@ -285,6 +291,12 @@ impl fmt::Display for Refusal {
                 paragraph,
                 fault,
             } => write!(f, "{fault} in paragraph {paragraph} of Packages"),
+            Refusal::BadReport { line } => {
+                write!(
+                    f,
+                    "line {line} is malformed, or names a source package again"
+                )
+            }
             Refusal::TextTooLong => f.write_str(
                 "a note, a reason or a message has more than 1000 bytes",
             ),

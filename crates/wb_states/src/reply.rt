@@ -70,6 +70,11 @@ pub enum Reply {
         accepted: u64,
         assignment: Assignment,
     },
+    /// The records are as the report says; `changed` of them differ in some field from what they were.
+    Reported {
+        accepted: u64,
+        changed: u64,
+    },
     /// At least one part is merged; this is the end of each, in their order.
     Merged {
         accepted: u64,

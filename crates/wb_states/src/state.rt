@@ -1,6 +1,6 @@
 //! The states of a source package on an architecture, with wanna-build's names.
 ghost use Rattle.std.specs.Prelude.{◌≡◌, ◌≢◌, ◌<◌, IfSome, IfNone};
-ghost use Rattle.wb_states.specs.State.{code_of, name_of};
+ghost use Rattle.wb_states.specs.State.{code_of, name_of, state_named};
 
 /// Where a source package stands on an architecture. The names are wanna-build's, the codes are this
 /// project's own and never change.
@@ -89,6 +89,7 @@ impl State {
     pub fn of_name(name: &str) -> Option<State>
         ensures value { IfSome result (λ state. name_of state ≡ name.now) }
         ensures refused { IfNone result ((state : State) → name_of state ≢ name.now) }
+        ensures found { result ≡ state_named name.now }
     {
         match name {
             "Needs-Build" => Some(State::NeedsBuild),

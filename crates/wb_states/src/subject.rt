@@ -8,7 +8,7 @@ use deb_text::Text;
 /// The records that a command names: what has to be looked up before it can be carried out.
 #[derive(Debug, Drop)]
 pub enum Names<'a> {
-    /// None: the command adds an architecture or a builder, or is a merge.
+    /// None by itself: the command adds an architecture or a builder, or its lists or its report name them.
     Nothing,
     /// That of a source package: the architecture and the source package.
     Source(&'a Text, &'a Text),
@@ -24,7 +24,8 @@ impl Command {
         ensures value { subject_named result ≡ subject_of self.now }
     {
         match self {
-            Command::AddArch(_) | Command::AddBuilder(_) | Command::Merge(_) => Names::Nothing,
+            Command::AddArch(_) | Command::AddBuilder(_) | Command::Merge(_) | Command::Report(_) =>
+                Names::Nothing,
             Command::Enter(enter) => Names::Source(&enter.arch, &enter.source),
             Command::Next(next) => Names::Next(next),
             Command::Take(take) => Names::Source(&take.arch, &take.source),

@@ -25,10 +25,11 @@ use Rattle.wb_merge.specs.Merge.{record_after}
 use Rattle.wb_step.specs.Checks.{first_refusal, is_not_held, refused_move, take_named}
 use Rattle.wb_step.specs.Targets.{again_of, move_of_command, transition_of}
 use Rattle.wb_step.specs.Replay.{replay}
-use Rattle.wb_step.specs.Step.{after_move, after_priority, state_after, entered, outcome, step}
+use Rattle.wb_step.specs.Step.{after_move, after_priority, lines_said, state_after, entered, outcome, step}
 use Rattle.wb_step.proofs.HandOutLemmas.{step-handed}
 use Rattle.wb_step.proofs.HeldLemmas.{step-Built, taken_step-NotHeld}
 use Rattle.wb_step.proofs.MergedLemmas.{records_after-keeps}
+use Rattle.wb_step.proofs.ReportingLemmas.{line-free, reported-keeps}
 use Rattle.wb_step.proofs.TransitionLemmas.{transition_of-may, taken_as-stands}
 use Rattle.wb_step.proofs.PassLemmas.{passes, step-either}
 use Rattle.wb_merge.proofs.RelistedLemmas.{listed-left, new-left}
@@ -76,6 +77,7 @@ asked-other take_number machine command words move below is = at command is wher
   at (of.Enter fields) e = cc
   at (of.BuildPriority fields) e = cc
   at (of.Merge fields) e = cc
+  at (of.Report fields) e = cc
   at (of.Next fields) e = made (to.Take fields.builder (machine.handed + 1)) next e
   at (of.Take fields) e = made (to.Take fields.builder (machine.handed + 1)) next e
   at _ e = made _ tt e
@@ -116,6 +118,9 @@ state_after-free take_number machine (of.Enter fields) below old allowed =
 state_after-free take_number machine (of.Merge fields) below old allowed =
     records_after-keeps (λ key. IsNotTaken take_number) machine fields.sources fields.parts
     (λ part listing is source found had. after-free take_number found (map.get listing.listed source) (map.get listing.built source) listing.available had) machine.records old
+state_after-free take_number machine (of.Report fields) below old allowed =
+    reported-keeps (λ key. IsNotTaken take_number) machine.records fields.arch (lines_said fields.text)
+    (λ source line is current had. line-free take_number line current had) old
 state_after-free take_number machine (of.BuildPriority fields) below old allowed =
     after_priority-free take_number machine (fields.arch, fields.source) fields.value old
 state_after-free take_number machine command below old allowed = transition_of-free take_number machine command below old allowed

@@ -20,7 +20,8 @@ use Rattle.wb_merge.proofs.MergeLemmas.{merged-get}
 use Rattle.wb_step.specs.Checks.{refused_move}
 use Rattle.wb_step.specs.Targets.{MayChange, transition_of, target_of}
 use Rattle.wb_step.specs.Parts.{part_listing, records_after, records_with}
-use Rattle.wb_step.specs.Step.{after_move, after_priority, state_after, entered, step}
+use Rattle.wb_step.specs.Step.{after_move, after_priority, lines_said, state_after, entered, step}
+use Rattle.wb_step.proofs.ReportingLemmas.{report-others}
 use Rattle.wb_step.proofs.TransitionLemmas.{transition_of-may}
 use Rattle.wb_step.proofs.PassLemmas.{step-either}
 
@@ -81,6 +82,7 @@ state_after-others machine (of.AddBuilder fields) key allowed apart = refl
 state_after-others machine (of.Enter fields) key allowed apart =
     insert-other machine.records (fields.arch, fields.source) key (entered fields.version fields.priority fields.section) apart
 state_after-others machine (of.Merge fields) key allowed apart = parts-others machine fields.sources fields.parts machine.records key apart
+state_after-others machine (of.Report fields) key allowed apart = report-others machine.records fields.arch (lines_said fields.text) key apart
 state_after-others machine (of.BuildPriority fields) key allowed apart =
     after_priority-others machine (fields.arch, fields.source) key fields.value (map.get machine.records (fields.arch, fields.source)) apart
 state_after-others machine command key allowed apart = transition_of-others machine command key allowed apart

@@ -122,6 +122,7 @@ state_after-handed machine (of.Enter fields) = omega arith
 state_after-handed machine (of.Next fields) = omega arith
 state_after-handed machine (of.Take fields) = omega arith
 state_after-handed machine (of.Merge fields) = omega arith
+state_after-handed machine (of.Report fields) = omega arith
 state_after-handed machine (of.BuildPriority fields) =
     priority-handed machine (fields.arch, fields.source) fields.value (map.get machine.records (fields.arch, fields.source))
 state_after-handed machine command = move-handed machine (transition_of machine command)

@@ -26,6 +26,7 @@ use Rattle.wb_step.specs.Utf8.{HasUtf8Texts, HaveUtf8Texts}
 use Rattle.wb_step.proofs.MoveOfCommandLemmas.{HasHanded, asked-good}
 use Rattle.wb_states.proofs.ConsistencyLemmas.{IsFreshOrKept, with_arch, with_builder, with_record, with_counts}
 use Rattle.wb_step.proofs.MergingLemmas.{merging-keeps}
+use Rattle.wb_step.proofs.ReportingLemmas.{reporting-keeps}
 use Rattle.wb_step.proofs.MovedRecordLemmas.{IsGoodMove, record_after_move-well, record_after_move-holder, record_after_move-waits, record_after_move-number}
 use Rattle.wb_step.proofs.TransitionLemmas.{transition_of-may}
 use Rattle.wb_step.proofs.PassLemmas.{Passes, step-either}
@@ -190,6 +191,8 @@ state_after-keeps machine (of.Take fields) old utf8 pass again =
     let spent = or_parts (nat_le count_limit machine.accepted) (nat_le count_limit machine.handed) pass.room in
     taking-keeps machine (of.Take fields) old utf8 refl pass (leb-false count_limit machine.handed spent.1) (room-for machine spent.0)
 state_after-keeps machine (of.Merge fields) old utf8 pass again = merging-keeps machine fields.sources fields.parts old (room-for machine pass.room)
+state_after-keeps machine (of.Report fields) old utf8 pass again =
+    reporting-keeps machine fields.arch fields.text old utf8 pass.report (room-for machine pass.room)
 state_after-keeps machine (of.BuildPriority fields) old utf8 pass again =
     priority-keeps machine (fields.arch, fields.source) fields.value old (good-priority fields.value pass.number) (room-for machine pass.room)
 state_after-keeps machine command old utf8 pass again = transition_of-keeps machine command old utf8 tt pass (room-for machine pass.room)

@@ -26,6 +26,7 @@ pub mod PassLemmas
 pub mod PriorityLemmas
 pub mod QueueLemmas
 pub mod RefusalLemmas
+pub mod ReportingLemmas
 pub mod RetryLemmas
 pub mod SoughtLemmas
 pub mod StateRefusalLemmas

@@ -16,7 +16,6 @@ use Rattle.deb_text.specs.Lists.{is_nonempty}
 use Rattle.deb_text.specs.Options.{has_value, first_some}
 use Rattle.wb_states.specs.declared.command.Command.{Command}
 use Rattle.wb_states.specs.declared.command.Command.TheVariants as of
-use Rattle.wb_states.specs.declared.command.Merge.{Merge}
 use Rattle.wb_states.specs.declared.command.Next.{Next}
 use Rattle.wb_states.specs.declared.moves.Move.{Move}
 use Rattle.wb_states.specs.declared.record.Record.{Record}
@@ -28,8 +27,8 @@ use Rattle.wb_states.specs.Machine.{Machine, Key, archs_of, arch_words}
 use Rattle.wb_states.specs.Moves.{move_refusal}
 use Rattle.wb_states.specs.Queue.{Entry, head_of}
 use Rattle.wb_states.specs.Subject.{Subject, Nothing, Source, Taken, Head, subject_of}
-use Rattle.wb_step.specs.Arguments.{Addition, arguments_of}
-use Rattle.wb_step.specs.Checks.{first_refusal, state_refusal, text_refusal, lacks_arch, merge_refusal, lacks_builder, is_for_other_archs, is_ahead, is_not_held, lacks_source, other_version, refused_move, has_empty_queue, has_full_count, is_spent, is_for_others, is_unknown_source, other_version_at, source_in, source_named, take_in, take_named}
+use Rattle.wb_step.specs.Arguments.{Addition, Import, Lists, Lines, arguments_of}
+use Rattle.wb_step.specs.Checks.{first_refusal, state_refusal, text_refusal, lacks_arch, merge_refusal, lacks_builder, is_for_other_archs, is_ahead, is_not_held, lacks_source, lists_refusal, other_version, refused_move, has_empty_queue, has_full_count, is_spent, is_for_others, is_unknown_source, other_version_at, source_in, source_named, take_in, take_named}
 use Rattle.wb_states.specs.Machine.{is_unknown_arch, is_unknown_builder}
 use Rattle.wb_step.specs.Parts.{parts_refusal}
 use Rattle.wb_step.specs.Targets.{again_of, first_named, next_in, next_named, target_of, transition_of, record_named, with_move, move_of_command}
@@ -53,8 +52,7 @@ module _ (command : Command) (one other : Machine) (alike : LooksAlike command o
 
   same_merge : merge_refusal one command ≡ merge_refusal other command
   same_merge =
-      ap (option_and_then (λ (merge : Merge). parts_refusal one merge.sources merge.parts)) alike.single
-      ∙ sym (ap (option_and_then (λ (merge : Merge). parts_refusal other merge.sources merge.parts)) alike.single)
+      ap (option_and_then (lists_refusal one)) alike.single ∙ sym (ap (option_and_then (lists_refusal other)) alike.single)
 
   same_archs_of : (name : List ℕ) → (arguments_of command).builder ≡ Some name → archs_of one name ≡ archs_of other name
   same_archs_of name is i = filter (λ arch. alike.builder name arch is i) (map.keys (alike.archs i))
@@ -120,6 +118,7 @@ same_target (of.AddBuilder fields) one other alike = refl
 same_target (of.Enter fields) one other alike = refl
 same_target (of.BuildPriority fields) one other alike = refl
 same_target (of.Merge fields) one other alike = refl
+same_target (of.Report fields) one other alike = refl
 same_target command one other alike = same_first command one other alike (subject_of command) refl refl
 
 same_move : (command : Command) (one other : Machine) → LooksAlike command one other → (words : ArchWords) → move_of_command one command words ≡ move_of_command other command words
@@ -172,10 +171,10 @@ assigned : (machine : Machine) (found : Option Entry) → assignment_reply machi
 assigned machine None = refl
 assigned machine (Some entry) = refl
 
-no_merge : (fields : Merge) → Some fields ≢ None
-no_merge fields e = cc
+no_import : (imported : Import) → Some imported ≢ None
+no_import imported e = cc
 
--- the reply to a command that is no merge
+-- the reply to a command that imports nothing
 same_answered : (command : Command) (builder : Option (List ℕ)) (one other : Machine) → LooksAlike command one other → reply_by one command None builder ≡ reply_by other command None builder
 same_answered command None one other alike = ap (λ n. Done (n + 1)) alike.accepted
 same_answered command (Some builder) one other alike =
@@ -183,9 +182,9 @@ same_answered command (Some builder) one other alike =
 
 same_reply : (command : Command) (one other : Machine) → LooksAlike command one other → reply_to one command ≡ reply_to other command
 same_reply command one other alike =
-    ap (λ merge. reply_by one command merge (arguments_of command).builder) alike.single
+    ap (λ imports. reply_by one command imports (arguments_of command).builder) alike.single
     ∙ same_answered command (arguments_of command).builder one other alike
-    ∙ sym (ap (λ merge. reply_by other command merge (arguments_of command).builder) alike.single)
+    ∙ sym (ap (λ imports. reply_by other command imports (arguments_of command).builder) alike.single)
 
 -- what is answered, without the state after it
 abbrev answered : Option Refusal → Option Entry → ℕ → Reply → Result Reply Refusal
@@ -232,18 +231,19 @@ counted_take : (machine : Machine) (asked : Option (Entry × Move))
     → counted machine (after_take machine asked) ≡ record machine { records = with_entry (option_map moved asked) machine.records; handed = machine.handed + 1; accepted = machine.accepted + 1 }
 counted_take machine asked = ap (λ (after : Machine). counted machine (record after { handed = machine.handed + 1 })) (by_move machine asked)
 
-as_changed : (command : Command) (machine : Machine) → (arguments_of command).merge ≡ None → counted machine (state_after machine command) ≡ changed machine command
+as_changed : (command : Command) (machine : Machine) → (arguments_of command).imports ≡ None → counted machine (state_after machine command) ≡ changed machine command
 as_changed (of.AddArch fields) machine single = refl
 as_changed (of.AddBuilder fields) machine single = refl
 as_changed (of.Enter fields) machine single = refl
 as_changed (of.Next fields) machine single = counted_take machine (transition_of machine (of.Next fields))
 as_changed (of.Take fields) machine single = counted_take machine (transition_of machine (of.Take fields))
 as_changed (of.BuildPriority fields) machine single = ap (counted machine) (by_priority machine (fields.arch, fields.source) fields.value (map.get machine.records (fields.arch, fields.source)))
-as_changed (of.Merge fields) machine single = absurd (no_merge fields single)
+as_changed (of.Merge fields) machine single = absurd (no_import (Lists fields) single)
+as_changed (of.Report fields) machine single = absurd (no_import (Lines fields) single)
 as_changed command machine single = counted_move machine (transition_of machine command)
 
--- a command that is accepted, is not told again and is no merge makes this change
-pub steps_change : (command : Command) (machine : Machine) → (arguments_of command).merge ≡ None → first_refusal machine command ≡ None → again_of machine command ≡ None
+-- a command that is accepted, is not told again and imports nothing makes this change
+pub steps_change : (command : Command) (machine : Machine) → (arguments_of command).imports ≡ None → first_refusal machine command ≡ None → again_of machine command ≡ None
     → (step machine command).1 ≡ changed machine command
 unfolding step
 steps_change command machine single none fresh = ap₂ (λ refusal again. (outcome refusal again machine command).1) none fresh ∙ as_changed command machine single

@@ -23,7 +23,7 @@ abbrev pub IsNumberAt : Machine → List ℕ × List ℕ → ℕ → Type 0
 IsNumberAt machine key take_number = (old : Record) × ((map.get machine.records key ≡ Some old) × (old.take ≡ Some take_number))
 
 -- a record has its form, and the take number of the one at its key or none
-abbrev MayReplace : Machine → OfKeys
+abbrev pub MayReplace : Machine → OfKeys
 MayReplace machine key current = IsRecord machine key.0 key.1 current × IfSome current.take (IsNumberAt machine key)
 
 -- what the merge makes of a record that may be there
@@ -69,7 +69,8 @@ part-is machine sources part listing is = at (map.get machine.archs part.arch) r
   at None e is = cc
   at (Some words) e is = (ap is_some e, listing_of-good sources part.packages (with_words part.arch words) listing is)
 
-all-may : (machine : Machine) → IsConsistent machine → (key : List ℕ × List ℕ) → IfSome (map.get machine.records key) (MayReplace machine key)
+-- each record may take its own place
+pub all-may : (machine : Machine) → IsConsistent machine → (key : List ℕ × List ℕ) → IfSome (map.get machine.records key) (MayReplace machine key)
 all-may machine old key = at (map.get machine.records key) refl (old.records key.0 key.1) where
   number : (current : Record) (take : Option ℕ) → map.get machine.records key ≡ Some current → current.take ≡ take → IfSome take (IsNumberAt machine key)
   number current None stands of = tt
@@ -93,11 +94,10 @@ number-was machine records may key current take_number stands of =
     let here : IfSome (Some current) (MayReplace machine key) = subst (λ r. IfSome r (MayReplace machine key)) stands (may key) in
     subst (λ t. IfSome t (IsNumberAt machine key)) of here.1
 
-pub merging-keeps : (machine : Machine) (sources : List ℕ) (parts : List Part) → IsConsistent machine → machine.accepted < count_limit
-    → IsConsistent (record machine { records = records_after machine sources parts machine.records; accepted = machine.accepted + 1 })
-merging-keeps machine sources parts old room =
-    let records : Records = records_after machine sources parts machine.records in
-    let may : (key : List ℕ × List ℕ) → IfSome (map.get records key) (MayReplace machine key) = merged-may machine sources parts old in
+-- records that may take the places of those before keep the invariant
+pub replaced-keeps : (machine : Machine) (records : Records) → IsConsistent machine → ((key : List ℕ × List ℕ) → IfSome (map.get records key) (MayReplace machine key))
+    → machine.accepted < count_limit → IsConsistent (record machine { records = records; accepted = machine.accepted + 1 })
+replaced-keeps machine records old may room =
     with_records machine records old
     (λ key. each (map.get records key) key (may key))
     (λ one other first second take_number at_one at_other of_first of_second.
@@ -109,3 +109,8 @@ merging-keeps machine sources parts old room =
     each : (found : Option Record) (key : List ℕ × List ℕ) → IfSome found (MayReplace machine key) → IfSome found (IsRecord machine key.0 key.1)
     each None key is = tt
     each (Some current) key is = is.0
+
+pub merging-keeps : (machine : Machine) (sources : List ℕ) (parts : List Part) → IsConsistent machine → machine.accepted < count_limit
+    → IsConsistent (record machine { records = records_after machine sources parts machine.records; accepted = machine.accepted + 1 })
+merging-keeps machine sources parts old room =
+    replaced-keeps machine (records_after machine sources parts machine.records) old (merged-may machine sources parts old) room

@@ -71,6 +71,7 @@ asked-good machine handed (of.AddBuilder fields) entry move utf8 given pass targ
 asked-good machine handed (of.Enter fields) entry move utf8 given pass target is = none move is
 asked-good machine handed (of.BuildPriority fields) entry move utf8 given pass target is = none move is
 asked-good machine handed (of.Merge fields) entry move utf8 given pass target is = none move is
+asked-good machine handed (of.Report fields) entry move utf8 given pass target is = none move is
 asked-good machine handed (of.Next fields) entry move utf8 given pass target is =
     let names = and_parts (is_arch_name fields.arch) (is_builder_name fields.builder) (not-false _ pass.names) in
     let here : entry.0.0 ≡ fields.arch = (head_of-waits machine fields.arch entry target).1 in

@@ -344,7 +344,7 @@ unfolding part_named
 builder_in_part machine command is name arch named h =
     in_set (name, arch) _ (joined_later _ (holder_pairs (entries_named machine command)) (pairs_named machine command) (named_builder machine command is name arch named h))
 
-pub part_has_all_named : (machine : Machine) (command : Command) → IsConsistent machine → (arguments_of command).merge ≡ None → HasAllNamed command (part_named machine command) machine
+pub part_has_all_named : (machine : Machine) (command : Command) → IsConsistent machine → (arguments_of command).imports ≡ None → HasAllNamed command (part_named machine command) machine
 part_has_all_named machine command is single = record {
   builder = λ name arch named h. builder_in_part machine command is name arch named h;
   source = λ key named. weaker _ (λ current. kept_by_part machine command (key, current)) (named_source machine command key named);

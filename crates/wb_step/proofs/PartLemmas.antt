@@ -19,7 +19,7 @@ use Rattle.wb_step.specs.Parts.{is_good, is_known, listing_for, parts_refusal, p
 use Rattle.wb_merge.proofs.NameLemmas.{none-is}
 
 joined : (is_bad is_repeated : Bool) (refused : Option Refusal) (is_full : Bool) (handed : ℕ)
-    → option_or (first_some (when is_bad BadName ∷ None ∷ None ∷ when false BadNumber ∷ when false TextTooLong ∷ when is_repeated RepeatedArch ∷ []))
+    → option_or (first_some (when is_bad BadName ∷ None ∷ None ∷ when false BadNumber ∷ when false TextTooLong ∷ None ∷ when is_repeated RepeatedArch ∷ []))
     (first_some (when false UnknownArch ∷ refused ∷ when false UnknownBuilder ∷ when false WrongArch ∷ when false (AfterAhead handed)
     ∷ when false NotHeld ∷ when false UnknownSource ∷ None ∷ None ∷ when false QueueEmpty ∷ when false AlreadyThere ∷ when is_full Spent ∷ []))
     ≡ first_some (when is_bad BadName ∷ when is_repeated RepeatedArch ∷ refused ∷ when is_full Spent ∷ [])

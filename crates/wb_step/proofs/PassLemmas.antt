@@ -5,7 +5,7 @@ use Rattle.wb_states.specs.declared.refusal.Refusal.{Refusal}
 use Rattle.wb_states.specs.declared.refusal.Refusal.TheVariants.{BadVersion, BadRelations}
 use Rattle.wb_states.specs.Machine.{Machine}
 use Rattle.deb_text.proofs.OptionLemmas.{option_or-None, first_some-None}
-use Rattle.wb_step.specs.Checks.{when, text_refusal, state_refusal, first_refusal, has_bad_name, version_fault, relation_fault, has_bad_number, has_long_text, repeats_arch, lacks_arch, lacks_builder, is_for_other_archs, is_ahead, is_not_held, lacks_source, refused_move, is_there_already, is_spent, text_checks, state_checks}
+use Rattle.wb_step.specs.Checks.{when, text_refusal, state_refusal, first_refusal, has_bad_name, version_fault, relation_fault, has_bad_number, has_long_text, repeats_arch, lacks_arch, lacks_builder, is_for_other_archs, is_ahead, is_not_held, lacks_source, refused_move, refused_report, is_there_already, is_spent, text_checks, state_checks}
 use Rattle.wb_step.specs.Targets.{again_of}
 use Rattle.wb_step.specs.Step.{outcome, step, state_after, counted}
 
@@ -24,6 +24,7 @@ pub record Passes (machine : Machine) (command : Command) : Type 0 where
   pub relations : relation_fault command ≡ None
   pub number : has_bad_number command ≡ false
   pub short : has_long_text command ≡ false
+  pub report : refused_report command ≡ None
   pub parts : repeats_arch command ≡ false
   pub arch : lacks_arch machine command ≡ false
   pub builder : lacks_builder machine command ≡ false
@@ -48,7 +49,8 @@ passes machine command is =
       relations = option_map-None (λ fault. BadRelations (Some fault)) _ texts.1.1.0;
       number = when-None _ _ texts.1.1.1.0;
       short = when-None _ _ texts.1.1.1.1.0;
-      parts = when-None _ _ texts.1.1.1.1.1.0;
+      report = texts.1.1.1.1.1.0;
+      parts = when-None _ _ texts.1.1.1.1.1.1.0;
       arch = when-None _ _ states.0;
       builder = when-None _ _ states.1.1.0;
       others = when-None _ _ states.1.1.1.0;

@@ -102,7 +102,7 @@ pub want-BuildPriority : (arch source version : List ℕ) (value : ℤ) → key_
     → MayWantMemory (BuildPriority arch source version value)
 want-BuildPriority arch source version value key good =
     let names = key-good arch source version key in
-    record { names = names.0; version = names.1; relations = refl; number = ap (λ b. b || false) good; short = refl; parts = refl }
+    record { names = names.0; version = names.1; relations = refl; number = ap (λ b. b || false) good; short = refl; parts = refl; report = refl }
 
 -- ---- the record
 

@@ -20,7 +20,7 @@ use Rattle.wb_states.specs.declared.refusal.ListKind.{ListKind}
 use Rattle.wb_states.specs.declared.refusal.ListingFault.{ListingFault}
 use Rattle.wb_states.specs.declared.refusal.ListKind.TheVariants.{Packages, Sources}
 use Rattle.wb_states.specs.declared.refusal.Refusal.{Refusal}
-use Rattle.wb_states.specs.declared.refusal.Refusal.TheVariants.{AfterAhead, AlreadyThere, BadName, BadNumber, BadRelations, BadVersion, NotHeld, OtherVersion, QueueEmpty, RepeatedArch, Spent, TextTooLong, UnknownArch, UnknownBuilder, UnknownSource, WrongArch, WrongState}
+use Rattle.wb_states.specs.declared.refusal.Refusal.TheVariants.{AfterAhead, AlreadyThere, BadName, BadNumber, BadRelations, BadReport, BadVersion, NotHeld, OtherVersion, QueueEmpty, RepeatedArch, Spent, TextTooLong, UnknownArch, UnknownBuilder, UnknownSource, WrongArch, WrongState}
 use Rattle.wb_states.specs.Machine.{Machine}
 use Rattle.wb_states.specs.Limits.{relations_limit}
 use Rattle.wb_states.specs.Moves.{may_go, move_refusal, value_refusal, waits_for, waits_refusal}
@@ -29,8 +29,9 @@ use Rattle.wb_states.specs.Refusals.{IsOfMachine, is_of_store}
 use Rattle.wb_merge.specs.Listing.{listing_in, listing_of}
 use Rattle.wb_merge.specs.Rows.{BinaryRow, SourceRow, binary_paragraph, binary_rows, onto_rows, refused_at, rows_behind, source_paragraph, source_rows}
 use Rattle.deb_control.specs.Lines.{lines_of, paragraphs_in}
-use Rattle.wb_step.specs.Arguments.{arguments_of}
-use Rattle.wb_step.specs.Checks.{differing, first_refusal, has_bad_name, has_bad_number, has_empty_queue, has_long_text, is_ahead, is_for_other_archs, is_not_held, is_spent, is_there_already, lacks_arch, lacks_builder, lacks_source, other_version_at, relation_fault, repeats_arch, source_named, state_checks, state_refusal, text_checks, text_refusal, version_fault, when}
+use Rattle.wb_merge.specs.Report.{first_bad_line, lines_in}
+use Rattle.wb_step.specs.Arguments.{Import, Lists, Lines, arguments_of}
+use Rattle.wb_step.specs.Checks.{differing, first_refusal, has_bad_name, has_bad_number, has_empty_queue, has_long_text, is_ahead, is_for_other_archs, is_not_held, is_spent, is_there_already, lacks_arch, lacks_builder, lacks_source, lines_refusal, lists_refusal, other_version_at, relation_fault, repeats_arch, source_named, state_checks, state_refusal, text_checks, text_refusal, version_fault, when}
 use Rattle.wb_step.specs.Parts.{listing_for, part_listing, parts_refusal, is_good}
 use Rattle.wb_step.specs.Step.{outcome, step}
 use Rattle.wb_step.specs.Targets.{again_of, transition_of}
@@ -73,6 +74,10 @@ if-state false one other is_one is_other = is_other
 
 -- ---- the texts
 
+lines-state : (imported : Import) → OfState (lines_refusal imported)
+lines-state (Lists merge) = tt
+lines-state (Lines report) = map-state BadReport (λ _. (refl, λ e. cc)) (first_bad_line [] (lines_in report.text))
+
 text-state : (command : Command) → OfState (text_refusal command)
 unfolding text_refusal
 text-state command = all-state (text_checks command) (
@@ -86,8 +91,11 @@ text-state command = all-state (text_checks command) (
         (
           when-state (has_long_text command) TextTooLong (refl, λ e. cc),
           (
-            when-state (repeats_arch command) RepeatedArch (refl, λ e. cc),
-            tt,
+            then-state lines_refusal lines-state (arguments_of command).imports,
+            (
+              when-state (repeats_arch command) RepeatedArch (refl, λ e. cc),
+              tt,
+            ),
           ),
         ),
       ),
@@ -145,6 +153,10 @@ parts-state machine sources [] = (refl, λ e. cc)
 parts-state machine sources (part ∷ parts) =
     if-state (list_any (is_good machine sources) (part ∷ parts)) None (result_err (part_listing machine sources part)) tt (err-state (part_listing machine sources part) (part-state machine sources part))
 
+lists-state : (machine : Machine) (imported : Import) → OfState (lists_refusal machine imported)
+lists-state machine (Lists merge) = parts-state machine merge.sources merge.parts
+lists-state machine (Lines report) = tt
+
 -- ---- a move
 
 waits-state : (waits : List ℕ) → OfState (waits_refusal waits)
@@ -179,7 +191,7 @@ unfolding state_refusal
 state-state machine command = all-state (state_checks machine command) (
   when-state (lacks_arch machine command) UnknownArch (refl, λ e. cc),
   (
-    then-state (λ merge. parts_refusal machine merge.sources merge.parts) (λ merge. parts-state machine merge.sources merge.parts) (arguments_of command).merge,
+    then-state (lists_refusal machine) (lists-state machine) (arguments_of command).imports,
     (
       when-state (lacks_builder machine command) UnknownBuilder (refl, λ e. cc),
       (

@@ -27,9 +27,10 @@ use Rattle.wb_step.specs.Checks.{refused_move}
 use Rattle.wb_step.specs.HandOuts.{HasTakeByState, HasTakesByState}
 use Rattle.wb_step.specs.Targets.{transition_of}
 use Rattle.wb_step.specs.Replay.{replay}
-use Rattle.wb_step.specs.Step.{step, state_after, entered, after_move, after_priority}
+use Rattle.wb_step.specs.Step.{step, state_after, entered, after_move, after_priority, lines_said}
 use Rattle.wb_merge.proofs.ChosenLemmas.{new-chosen, newer-chosen, same-chosen}
 use Rattle.wb_step.proofs.MergedLemmas.{records_after-keeps}
+use Rattle.wb_step.proofs.ReportingLemmas.{line-takes, reported-keeps}
 use Rattle.wb_step.proofs.TransitionLemmas.{transition_of-may}
 use Rattle.wb_step.proofs.PassLemmas.{step-either}
 
@@ -143,6 +144,8 @@ state_after-takes machine (of.Enter fields) old allowed =
 state_after-takes machine (of.Merge fields) old allowed =
     records_after-keeps (λ key. HasTakeByState) machine fields.sources fields.parts
     (λ part listing is source found had. after-take found (map.get listing.listed source) (map.get listing.built source) listing.available had) machine.records old
+state_after-takes machine (of.Report fields) old allowed =
+    reported-keeps (λ key. HasTakeByState) machine.records fields.arch (lines_said fields.text) (λ source line is current had. line-takes line current had) old
 state_after-takes machine (of.BuildPriority fields) old allowed =
     after_priority-takes machine (fields.arch, fields.source) fields.value old
 state_after-takes machine command old allowed = transition_of-takes machine command old allowed

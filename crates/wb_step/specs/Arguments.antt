@@ -6,6 +6,7 @@ use Rattle.wb_states.specs.declared.command.Command.{Command}
 use Rattle.wb_states.specs.declared.command.Command.TheVariants as of
 use Rattle.wb_states.specs.declared.command.Enter.{Enter}
 use Rattle.wb_states.specs.declared.command.Merge.{Merge}
+use Rattle.wb_states.specs.declared.command.Report.{Report}
 
 -- what a command adds
 pub data Addition : Type 0 where
@@ -16,8 +17,15 @@ pub data Addition : Type 0 where
   -- a record of a source package
   Package : Enter → Addition
 
+-- what a command imports that may change many records
+pub data Import : Type 0 where
+  -- the lists of a merge
+  Lists : Merge → Import
+  -- the lines of a report
+  Lines : Report → Import
+
 -- what a command may bring: an architecture that must be there, a builder that may build for it and is handed a record, a version,
--- relations, the number of a rebuild, a build priority, a note, a reason or a message, what it adds, and the lists of a merge
+-- relations, the number of a rebuild, a build priority, a note, a reason or a message, what it adds, and what it imports
 pub record Arguments : Type 0 where
   pub arch : Option (List ℕ)
   pub builder : Option (List ℕ)
@@ -27,7 +35,7 @@ pub record Arguments : Type 0 where
   pub build_priority : Option ℤ
   pub text : Option (List ℕ)
   pub adds : Option Addition
-  pub merge : Option Merge
+  pub imports : Option Import
 
 -- nothing
 abbrev pub no_arguments : Arguments
@@ -40,7 +48,7 @@ no_arguments = record {
   build_priority = None;
   text = None;
   adds = None;
-  merge = None;
+  imports = None;
 }
 
 -- an architecture that must be there, and a version
@@ -66,4 +74,5 @@ arguments_of (of.NotForUs fields) = record (version_arguments fields.arch fields
 arguments_of (of.Rebuild fields) =
     record (version_arguments fields.arch fields.version) { number = Some fields.number; text = Some fields.message }
 arguments_of (of.BuildPriority fields) = record (version_arguments fields.arch fields.version) { build_priority = Some fields.value }
-arguments_of (of.Merge fields) = record no_arguments { merge = Some fields }
+arguments_of (of.Merge fields) = record no_arguments { imports = Some (Lists fields) }
+arguments_of (of.Report fields) = record no_arguments { arch = Some fields.arch; imports = Some (Lines fields) }

@@ -17,7 +17,7 @@ use Rattle.wb_states.specs.declared.command.Merge.{Merge}
 use Rattle.wb_states.specs.declared.command.Part.{Part}
 use Rattle.wb_states.specs.declared.record.Record.{Record}
 use Rattle.wb_states.specs.declared.refusal.Refusal.{Refusal}
-use Rattle.wb_states.specs.declared.refusal.Refusal.TheVariants.{UnknownArch, UnknownBuilder, WrongArch, UnknownSource, OtherVersion, QueueEmpty, NotHeld, AfterAhead, AlreadyThere, BadName, BadVersion, BadRelations, BadNumber, TextTooLong, Spent, RepeatedArch, Memory}
+use Rattle.wb_states.specs.declared.refusal.Refusal.TheVariants.{UnknownArch, UnknownBuilder, WrongArch, UnknownSource, OtherVersion, QueueEmpty, NotHeld, AfterAhead, AlreadyThere, BadName, BadVersion, BadRelations, BadNumber, BadReport, TextTooLong, Spent, RepeatedArch, Memory}
 use Rattle.wb_states.specs.Holds.{taken_as}
 use Rattle.deb_text.specs.Options.{has_value, first_some}
 use Rattle.wb_states.specs.Limits.{count_limit, is_build_priority, note_limit, rebuild_limit, relations_limit}
@@ -27,8 +27,9 @@ use Rattle.deb_relations.specs.Names.{is_package_name}
 use Rattle.wb_states.specs.Names.{has_bad_key, is_arch_name, is_os_cpu_word, is_builder_name, is_label_text}
 use Rattle.wb_states.specs.Queue.{head_of}
 use Rattle.wb_states.specs.Subject.{Subject, Nothing, Source, Taken, Head, subject_of}
-use Rattle.wb_step.specs.Arguments.{Addition, Arch, Builder, Package, arguments_of}
+use Rattle.wb_step.specs.Arguments.{Addition, Arch, Builder, Package, Import, Lists, Lines, arguments_of}
 use Rattle.wb_step.specs.Targets.{again_of, next_named, transition_of}
+use Rattle.wb_merge.specs.Report.{first_bad_line, lines_in, report_takes_memory}
 use Rattle.wb_step.specs.Parts.{parts_refusal}
 
 -- a refusal if a test holds
@@ -96,6 +97,10 @@ abbrev pub aside_refusal : List ℕ → List ℕ → List ℕ → List ℕ → O
 aside_refusal arch source version note =
     first_some (when (has_bad_key arch source) BadName ∷ version_refusal version ∷ when (is_long_text note) TextTooLong ∷ [])
 
+-- the refusal of a report for its first bad line
+abbrev pub report_refusal : List ℕ → Option Refusal
+report_refusal text = option_map BadReport (first_bad_line [] (lines_in text))
+
 -- two parts are for one architecture
 abbrev pub has_repeated_arch : List Part → Bool
 has_repeated_arch [] = false
@@ -117,16 +122,21 @@ has_bad_subject (Source arch source) (Some builder) = has_bad_take arch builder 
 has_bad_subject (Taken take_number) builder = false
 has_bad_subject (Head next) builder = has_bad_request next.arch next.builder
 
--- a name, a priority or a section is malformed of what is added, of the parts of a merge, or else of what is named
-abbrev pub has_bad_name_by : Option Addition → Option Merge → Subject → Option (List ℕ) → Bool
-has_bad_name_by (Some added) merge subject builder = has_bad_form added
-has_bad_name_by None (Some merge) subject builder = has_bad_part merge.parts
+-- the architecture of a part of a merge, or of a report, is malformed
+abbrev pub has_bad_arch_name : Import → Bool
+has_bad_arch_name (Lists merge) = has_bad_part merge.parts
+has_bad_arch_name (Lines report) = not (is_arch_name report.arch)
+
+-- a name, a priority or a section is malformed of what is added, of what is imported, or else of what is named
+abbrev pub has_bad_name_by : Option Addition → Option Import → Subject → Option (List ℕ) → Bool
+has_bad_name_by (Some added) imports subject builder = has_bad_form added
+has_bad_name_by None (Some imported) subject builder = has_bad_arch_name imported
 has_bad_name_by None None subject builder = has_bad_subject subject builder
 
 -- a name, a priority or a section of the command is malformed
 abbrev pub has_bad_name : Command → Bool
 has_bad_name command =
-    has_bad_name_by (arguments_of command).adds (arguments_of command).merge (subject_of command) (arguments_of command).builder
+    has_bad_name_by (arguments_of command).adds (arguments_of command).imports (subject_of command) (arguments_of command).builder
 
 -- the fault of the command's version
 abbrev pub version_fault : Command → Option VersionFault
@@ -149,9 +159,23 @@ has_bad_number command =
 abbrev pub has_long_text : Command → Bool
 has_long_text command = has_value is_long_text (arguments_of command).text
 
+-- the refusal of what is imported for a line of a report
+abbrev pub lines_refusal : Import → Option Refusal
+lines_refusal (Lists merge) = None
+lines_refusal (Lines report) = report_refusal report.text
+
+-- the refusal of the command's report, if it has a bad line
+abbrev pub refused_report : Command → Option Refusal
+refused_report command = option_and_then lines_refusal (arguments_of command).imports
+
+-- two parts of a merge are for one architecture
+abbrev pub has_repeated_part : Import → Bool
+has_repeated_part (Lists merge) = has_repeated_arch merge.parts
+has_repeated_part (Lines report) = false
+
 -- two parts of the command are for one architecture
 abbrev pub repeats_arch : Command → Bool
-repeats_arch command = has_value (λ merge. has_repeated_arch merge.parts) (arguments_of command).merge
+repeats_arch command = has_value has_repeated_part (arguments_of command).imports
 
 -- ---- what the office has
 
@@ -199,10 +223,14 @@ found_refusal machine arch source version =
 abbrev pub lacks_arch : Machine → Command → Bool
 lacks_arch machine command = has_value (is_unknown_arch machine) (arguments_of command).arch
 
+-- the refusal of the lists of a merge, of which no part can be merged
+abbrev pub lists_refusal : Machine → Import → Option Refusal
+lists_refusal machine (Lists merge) = parts_refusal machine merge.sources merge.parts
+lists_refusal machine (Lines report) = None
+
 -- no part of a merge can be merged
 abbrev pub merge_refusal : Machine → Command → Option Refusal
-merge_refusal machine command =
-    option_and_then (λ merge. parts_refusal machine merge.sources merge.parts) (arguments_of command).merge
+merge_refusal machine command = option_and_then (lists_refusal machine) (arguments_of command).imports
 
 -- its builder was added for no architecture
 abbrev pub lacks_builder : Machine → Command → Bool
@@ -287,6 +315,7 @@ text_checks command =
     ∷ refused_relations command
     ∷ when (has_bad_number command) BadNumber
     ∷ when (has_long_text command) TextTooLong
+    ∷ refused_report command
     ∷ when (repeats_arch command) RepeatedArch
     ∷ []
 
@@ -323,6 +352,15 @@ first_refusal machine command = option_or (text_refusal command) (state_refusal 
 abbrev pub has_long_relations : Command → Bool
 has_long_relations command = has_value (λ relations. nat_lt relations_limit (length relations)) (arguments_of command).relations
 
+-- the refusal of a report for a bad line, if no line of it can be read
+abbrev pub unread_lines : Import → Option Refusal
+unread_lines (Lists merge) = None
+unread_lines (Lines report) = if report_takes_memory report.text then None else report_refusal report.text
+
+-- the refusal of the command's report for a bad line, if no line of it can be read
+abbrev pub unread_report : Command → Option Refusal
+unread_report command = option_and_then unread_lines (arguments_of command).imports
+
 -- what is known of a command that may need memory: no check without memory refuses its texts
 pub record MayWantMemory (command : Command) : Type 0 where
   pub names : has_bad_name command ≡ false
@@ -331,6 +369,7 @@ pub record MayWantMemory (command : Command) : Type 0 where
   pub number : has_bad_number command ≡ false
   pub short : has_long_text command ≡ false
   pub parts : repeats_arch command ≡ false
+  pub report : unread_report command ≡ None
 
 -- the refusal of a version's fault: out of memory is no fault of the version
 abbrev pub refusal_of_fault : VersionFault → Refusal

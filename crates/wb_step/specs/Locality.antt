@@ -18,7 +18,7 @@ use Rattle.wb_step.specs.Checks.{is_there_already, source_named, take_named}
 use Rattle.wb_step.specs.Targets.{again_of, next_named, transition_of}
 use Rattle.wb_step.specs.Step.{entered}
 
--- two states look alike to a command that is no merge: they have the same counts and architectures, its builder was added for the same
+-- two states look alike to a command that imports nothing: they have the same counts and architectures, its builder was added for the same
 -- architectures, and they have the same records of the source package and under the take number that it names, at the head of the queue
 -- that it asks for, and of what its builder builds; and what it adds is there in both or in neither
 pub record LooksAlike (command : Command) (one other : Machine) : Type 0 where
@@ -31,7 +31,7 @@ pub record LooksAlike (command : Command) (one other : Machine) : Type 0 where
   pub head : (next : Next) → next_named command ≡ Some next → head_of one next.arch ≡ head_of other next.arch
   pub again : again_of one command ≡ again_of other command
   pub there : is_there_already one command ≡ is_there_already other command
-  pub single : (arguments_of command).merge ≡ None
+  pub single : (arguments_of command).imports ≡ None
 
 -- a record as a move makes it, with its key
 abbrev pub moved : Entry × Move → Entry
@@ -84,7 +84,7 @@ builders_after command builders = with_builder (arguments_of command).adds build
 abbrev pub handed_after : Command → ℕ → ℕ
 handed_after command handed = if is_some (arguments_of command).builder then handed + 1 else handed
 
--- the state after a command that is accepted, and is no merge: one record is put, an architecture or a builder is added, and it is counted
+-- the state after a command that is accepted, and imports nothing: one record is put, an architecture or a builder is added, and it is counted
 abbrev pub changed : Machine → Command → Machine
 changed machine command = record {
   records = with_entry (entry_put machine command) machine.records;
@@ -110,7 +110,7 @@ pub record IsPartOf (part whole : Machine) : Type 0 where
   pub records : (entry : Entry) → IsKept part entry → IsKept whole entry
   pub holders : (entry : Entry) → IsKept part entry → IfSome entry.1.holder (λ name. IsTrue (set.contains part.builders (name, entry.0.0)))
 
--- a part has all that a command which is no merge names of the whole
+-- a part has all that a command which imports nothing names of the whole
 pub record HasAllNamed (command : Command) (part whole : Machine) : Type 0 where
   pub builder : (name arch : List ℕ) → (arguments_of command).builder ≡ Some name → IsTrue (set.contains whole.builders (name, arch)) → IsTrue (set.contains part.builders (name, arch))
   pub source : (key : Key) → source_named command ≡ Some key → IfSome (map.get whole.records key) (λ current. IsKept part (key, current))
@@ -118,4 +118,4 @@ pub record HasAllNamed (command : Command) (part whole : Machine) : Type 0 where
   pub head : (next : Next) → next_named command ≡ Some next → IfSome (head_of whole next.arch) (IsKept part)
   pub again : IfSome (again_of whole command) (IsKept part)
   pub there : is_there_already part command ≡ is_there_already whole command
-  pub single : (arguments_of command).merge ≡ None
+  pub single : (arguments_of command).imports ≡ None

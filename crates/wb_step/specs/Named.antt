@@ -1,4 +1,4 @@
--- What a command that is no merge names of an office, as an office of its own.
+-- What a command that imports nothing names of an office, as an office of its own.
 use Rattle.std.specs.Prelude.{ℕ, List, [], ◌∷◌, ◌++◌, map as each, Option, Some, None, if◌then◌else◌}
 use Rattle.std.specs.FinMap as map
 use Rattle.std.specs.FinSet as set

@@ -3,19 +3,21 @@ use Rattle.std.specs.Prelude.{ℕ, ℤ, ◌+◌, List, [], Option, Some, None, R
 use Rattle.std.specs.FinMap as map
 use Rattle.std.specs.FinSet as set
 use Rattle.wb_states.specs.declared.command.Command.{Command}
-use Rattle.wb_states.specs.declared.command.Merge.{Merge}
 use Rattle.wb_states.specs.declared.moves.Move.{Move}
 use Rattle.wb_states.specs.declared.record.Record.{Record}
 use Rattle.wb_states.specs.declared.reply.Assignment.{Assignment}
 use Rattle.wb_states.specs.declared.reply.Reply.{Reply}
-use Rattle.wb_states.specs.declared.reply.Reply.TheVariants.{Done, Job, Again, Merged}
+use Rattle.wb_states.specs.declared.reply.Reply.TheVariants.{Done, Job, Again, Merged, Reported}
 use Rattle.wb_states.specs.declared.refusal.Refusal.{Refusal}
 use Rattle.wb_states.specs.Holds.{take_of}
 use Rattle.wb_states.specs.Machine.{Machine}
 use Rattle.wb_states.specs.Moves.{build_text_of, record_after_move}
 use Rattle.wb_states.specs.Queue.{Entry}
 use Rattle.wb_merge.specs.Merge.{blank_record}
-use Rattle.wb_step.specs.Arguments.{Addition, Arch, Builder, Package, arguments_of}
+use Rattle.wb_merge.specs.Merged.{Records}
+use Rattle.wb_merge.specs.Report.{Lines as LinesOf, by_source, lines_in}
+use Rattle.wb_merge.specs.Reported.{number_reported, records_reported}
+use Rattle.wb_step.specs.Arguments.{Addition, Arch, Builder, Package, Import, Lists, Lines, arguments_of}
 use Rattle.wb_step.specs.Checks.{first_refusal, source_named}
 use Rattle.wb_step.specs.Targets.{again_of, transition_of, target_of}
 use Rattle.wb_step.specs.Parts.{part_replies, records_after}
@@ -65,18 +67,26 @@ abbrev pub after_value : Machine → ℤ → Option (List ℕ × List ℕ) → M
 after_value machine value None = machine
 after_value machine value (Some key) = after_priority machine key value (map.get machine.records key)
 
--- the state after a command that adds this, or else is this merge, or else gives this build priority, or else moves a record
-abbrev pub state_by : Machine → Command → Option Addition → Option Merge → Option ℤ → Machine
-state_by machine command (Some added) merge value = after_adding machine added
-state_by machine command None (Some merge) value =
-    record machine { records = records_after machine merge.sources merge.parts machine.records }
+-- the lines of a report that can be read, by their source packages
+abbrev pub lines_said : List ℕ → LinesOf
+lines_said text = by_source (lines_in text)
+
+-- the records after what is imported: after the parts of a merge, or the lines of a report
+abbrev pub records_imported : Machine → Import → Records
+records_imported machine (Lists merge) = records_after machine merge.sources merge.parts machine.records
+records_imported machine (Lines report) = records_reported machine.records report.arch (lines_said report.text)
+
+-- the state after a command that adds this, or else imports this, or else gives this build priority, or else moves a record
+abbrev pub state_by : Machine → Command → Option Addition → Option Import → Option ℤ → Machine
+state_by machine command (Some added) imports value = after_adding machine added
+state_by machine command None (Some imported) value = record machine { records = records_imported machine imported }
 state_by machine command None None (Some value) = after_value machine value (source_named command)
 state_by machine command None None None = after_moving machine (arguments_of command).builder (transition_of machine command)
 
 -- the state after a command
 abbrev pub state_after : Machine → Command → Machine
 state_after machine command =
-    state_by machine command (arguments_of command).adds (arguments_of command).merge (arguments_of command).build_priority
+    state_by machine command (arguments_of command).adds (arguments_of command).imports (arguments_of command).build_priority
 
 -- ---- the reply to a command that is accepted
 
@@ -97,16 +107,21 @@ abbrev pub assignment_reply : Machine → Option Entry → Reply
 assignment_reply machine None = Done (machine.accepted + 1)
 assignment_reply machine (Some entry) = Job (machine.accepted + 1) (assignment_of entry (machine.handed + 1))
 
--- the reply to a command that is this merge, or else asks for this builder
-abbrev pub reply_by : Machine → Command → Option Merge → Option (List ℕ) → Reply
-reply_by machine command (Some merge) builder =
-    Merged (machine.accepted + 1) (part_replies machine merge.sources merge.parts machine.records)
+-- the reply to what is imported: the ends of a merge's parts, or how many records a report changed
+abbrev pub import_reply : Machine → Import → Reply
+import_reply machine (Lists merge) = Merged (machine.accepted + 1) (part_replies machine merge.sources merge.parts machine.records)
+import_reply machine (Lines report) =
+    Reported (machine.accepted + 1) (number_reported machine.records report.arch (lines_said report.text))
+
+-- the reply to a command that imports this, or else asks for this builder
+abbrev pub reply_by : Machine → Command → Option Import → Option (List ℕ) → Reply
+reply_by machine command (Some imported) builder = import_reply machine imported
 reply_by machine command None (Some builder) = assignment_reply machine (target_of machine command)
 reply_by machine command None None = Done (machine.accepted + 1)
 
 -- the reply to a command
 abbrev pub reply_to : Machine → Command → Reply
-reply_to machine command = reply_by machine command (arguments_of command).merge (arguments_of command).builder
+reply_to machine command = reply_by machine command (arguments_of command).imports (arguments_of command).builder
 
 -- ---- the step
 

@@ -1,5 +1,5 @@
 -- Which record a command moves, and by which move.
-use Rattle.std.specs.Prelude.{◌≡◌, ℕ, ◌+◌, IsTrue, bytes_eq, List, [], Option, Some, None, MatchOption, option_and_then}
+use Rattle.std.specs.Prelude.{◌≡◌, ℕ, ◌+◌, ◌&&◌, IsTrue, bytes_eq, List, [], Option, Some, None, MatchOption, option_and_then}
 use Rattle.std.specs.Result.{result_unwrap_or}
 use Rattle.std.specs.List.{list_any}
 use Rattle.std.specs.Option.{option_map}
@@ -8,7 +8,6 @@ use Rattle.deb_relations.specs.declared.arch.ArchWords.{ArchWords}
 use Rattle.deb_relations.specs.Reading.{reading_of}
 use Rattle.wb_states.specs.declared.command.Command.{Command}
 use Rattle.wb_states.specs.declared.command.Command.TheVariants as of
-use Rattle.wb_states.specs.declared.command.Merge.{Merge}
 use Rattle.wb_states.specs.declared.command.Next.{Next}
 use Rattle.wb_states.specs.declared.moves.Move.{Move}
 use Rattle.wb_states.specs.declared.moves.Move.TheVariants as to
@@ -16,7 +15,8 @@ use Rattle.wb_states.specs.Holds.{taken_as, building_after}
 use Rattle.wb_states.specs.Machine.{Machine, arch_words}
 use Rattle.wb_states.specs.Queue.{Entry, head_of}
 use Rattle.wb_states.specs.Subject.{Subject, Nothing, Source, Taken, Head, subject_of}
-use Rattle.wb_step.specs.Arguments.{arguments_of}
+use Rattle.wb_merge.specs.Report.{by_source, lines_in}
+use Rattle.wb_step.specs.Arguments.{Import, Lists, Lines, arguments_of}
 
 -- the record of a source package, with its key
 unfoldable pub record_named : Machine → List ℕ → List ℕ → Option Entry
@@ -52,6 +52,7 @@ move_of machine (of.NotForUs fields) = on_each (to.NotForUs fields.note)
 move_of machine (of.Rebuild fields) = on_each (to.Rebuild fields.number fields.message)
 move_of machine (of.BuildPriority fields) = None
 move_of machine (of.Merge fields) = None
+move_of machine (of.Report fields) = None
 
 -- the record that a command moves: the one that it names, if it makes a move (this project's own)
 abbrev pub target_of : Machine → Command → Option Entry
@@ -88,15 +89,20 @@ again_of machine command =
 abbrev pub MayMove : Machine → Command → List ℕ × List ℕ → Type 0
 MayMove machine command key = (entry : Entry) × ((target_of machine command ≡ Some entry) × (key ≡ entry.0))
 
--- a command that makes no move may change the record at a key: that of the source package that it names, and of a merge those of its parts'
--- architectures
-abbrev pub MayPut : Subject → Option Merge → List ℕ × List ℕ → Type 0
-MayPut (Source arch source) merge key = key ≡ (arch, source)
-MayPut subject (Some merge) key = IsTrue (list_any (λ part. bytes_eq key.0 part.arch) merge.parts)
+-- what is imported may change the record at a key: those of the architectures of a merge's parts, and of the source packages on a report's
+-- architecture that its lines name
+abbrev pub MayImport : Import → List ℕ × List ℕ → Type 0
+MayImport (Lists merge) key = IsTrue (list_any (λ part. bytes_eq key.0 part.arch) merge.parts)
+MayImport (Lines report) key = IsTrue (bytes_eq key.0 report.arch && map.contains_key (by_source (lines_in report.text)) key.1)
+
+-- a command that makes no move may change the record at a key: that of the source package that it names, or those that it imports
+abbrev pub MayPut : Subject → Option Import → List ℕ × List ℕ → Type 0
+MayPut (Source arch source) imports key = key ≡ (arch, source)
+MayPut subject (Some imported) key = MayImport imported key
 MayPut subject None key = ⊥
 
--- a command may change the record at a key: the one that it enters or moves or that gets a build priority, and of a merge those of its
--- parts' architectures
+-- a command may change the record at a key: the one that it enters or moves or that gets a build priority, or those that it
+-- imports
 abbrev pub MayChange : Machine → Command → List ℕ × List ℕ → Type 0
 MayChange machine command key =
-    MatchOption (move_of machine command) (MayPut (subject_of command) (arguments_of command).merge key) (λ move. MayMove machine command key)
+    MatchOption (move_of machine command) (MayPut (subject_of command) (arguments_of command).imports key) (λ move. MayMove machine command key)

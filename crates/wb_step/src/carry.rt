@@ -60,13 +60,14 @@ pub trait CarryOut {
         ensures store { (machine : Machine) → is_clean self.new → stands_at self.old machine → (fault : StoreFault)
             → result ≡ Err (Store fault) → leaves self.new machine (step machine command.now).1 fault };
 
-    /// Answers a query, which changes nothing: a record, or what a builder holds by take number.
+    /// Answers a query, which changes nothing: the queue of an architecture, its records in a state or how many are in
+    /// each, a record or what it needs to be built, or what a builder holds by take number.
     ///
-    /// The refusals come in this order: `Closed`, `BadName` if a name is malformed, `UnknownArch` if the architecture
-    /// was never added, `UnknownBuilder` if the builder was added for no architecture, `UnknownSource` if the source
-    /// package has no record there. `Memory` and `Store` come as for [`carry_out`](CarryOut::carry_out), but not for a
-    /// malformed name. The office is as it was after each answer; after `Store` it is closed, and a crash leaves the
-    /// state that it had (this project's own).
+    /// The refusals come in this order: `Closed`, `BadName` if a name is malformed or no state has the state's name,
+    /// `UnknownArch` if the architecture was never added, `UnknownBuilder` if the builder was added for no
+    /// architecture, `UnknownSource` if the source package has no record there. `Memory` and `Store` come as for
+    /// [`carry_out`](CarryOut::carry_out), but not for a malformed name. The office is as it was after each answer;
+    /// after `Store` it is closed, and a crash leaves the state that it had (this project's own).
     fn ask(&mut self, query: &Query) -> Result<Answer, Refusal>
         // whatever the store gives back
         ensures shut { is_closed self.old → (result ≡ Err Closed) × is_closed self.new }

@@ -113,8 +113,8 @@ pub fn ended_takes_stay_ended()
         → (step (replay machine commands) (Built take_number)).0 ≡ Err NotHeld }
 {}
 
-/// A command changes no record but the one that it enters, moves or gives a build priority, and a merge changes only
-/// records of its parts' architectures.
+/// A command changes no record but the one that it enters, moves or gives a build priority; a merge changes only records
+/// of its parts' architectures, and a report only those of its architecture that its lines name.
 pub fn commands_leave_other_records()
     ensures others { (machine : Machine) (command : Command) (key : List ℕ × List ℕ)
         → (MayChange machine command key → ⊥)
@@ -143,7 +143,7 @@ pub fn parts_are_merged_apart()
         ≡ map.get (records_with machine.records part.arch (part_listing machine sources part)) key }
 {}
 
-/// A command that is no merge looks at the counts, the architectures, the architectures of its builder, and the
+/// A command that imports nothing, as a merge and a report do, looks at the counts, the architectures, the architectures of its builder, and the
 /// records that it names: by key, by take number, at the head of a queue, or as what its builder builds. Two
 /// offices in which these are the same give it the same answer, and it puts the same record into both. It changes
 /// nothing else.
@@ -152,7 +152,7 @@ pub fn commands_look_only_at_what_they_name()
         → (step one command).0 ≡ (step other command).0 }
     ensures entry { (command : Command) (one other : Machine) → LooksAlike command one other
         → entry_put one command ≡ entry_put other command }
-    ensures change { (command : Command) (machine : Machine) → (arguments_of command).merge ≡ None
+    ensures change { (command : Command) (machine : Machine) → (arguments_of command).imports ≡ None
         → first_refusal machine command ≡ None → again_of machine command ≡ None
         → (step machine command).1 ≡ changed machine command }
 {}
@@ -166,7 +166,7 @@ pub fn parts_of_an_office_answer_alike()
     ensures part { (machine : Machine) (command : Command) → IsConsistent machine
         → IsPartOf (part_named machine command) machine }
     ensures named { (machine : Machine) (command : Command) → IsConsistent machine
-        → (arguments_of command).merge ≡ None → HasAllNamed command (part_named machine command) machine }
+        → (arguments_of command).imports ≡ None → HasAllNamed command (part_named machine command) machine }
 {}
 
 /// A merge looks at the counts, the architectures, and the records of the architectures that its parts are for.

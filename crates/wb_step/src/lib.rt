@@ -21,6 +21,7 @@ mod operator;
 mod priority;
 mod queue;
 mod records;
+mod reporting;
 mod step;
 mod text_check;
 mod texts;

@@ -3,7 +3,7 @@ ghost use Rattle.std.specs.Prelude.{OnOk};
 ghost use Rattle.wb_step.specs.Carries.{Carries};
 ghost use Rattle.wb_step.specs.Utf8.{HasUtf8Texts};
 
-use crate::{OfficePart, builder, holder, merging, named, operator, priority};
+use crate::{OfficePart, builder, holder, merging, named, operator, priority, reporting};
 use std::alloc::Global;
 use wb_states::{Command, Move, Refusal, Reply};
 
@@ -45,5 +45,6 @@ pub fn carry_out(
         Command::Rebuild(command) => named::rebuild(alloc, office, command),
         Command::BuildPriority(command) => priority::build_priority(alloc, office, command),
         Command::Merge(command) => merging::merge(alloc, office, command),
+        Command::Report(command) => reporting::report(alloc, office, command),
     }
 }

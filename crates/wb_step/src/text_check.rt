@@ -19,7 +19,8 @@ use crate::texts::{
 };
 use deb_text::Text;
 use std::alloc::Global;
-use wb_states::{Command, Refusal, command};
+use wb_merge::ReportLines;
+use wb_states::{Command, Refusal, command, is_arch};
 
 /// Tests the texts of a command: names, version, relations, number, and the lengths of free texts. Nothing of the office
 /// plays a part. The refusal is the first that is true of the texts, in the order of [`Refusal`]; `Memory` comes if there
@@ -74,6 +75,7 @@ pub fn check_texts(alloc: Global, command: &Command) -> Result<(), Refusal>
             let named = unless(Ok(()), has_bad_part(parts), Refusal::BadName);
             unless(named, repeats_arch(parts), Refusal::RepeatedArch)
         }
+        Command::Report(report) => check_report(alloc, report),
     }
 }
 
@@ -153,4 +155,15 @@ fn check_dep_wait(alloc: Global, waits: &command::DepWait) -> Result<(), Refusal
         Ok(()) => key,
         Err(refusal) => Err(read_refusal_or(key, refusal)),
     }
+}
+
+/// Tests the architecture and the lines of a report.
+fn check_report(alloc: Global, report: &command::Report) -> Result<(), Refusal>
+    ensures checks { ChecksTexts (of.Report report.now) result }
+{
+    if !is_arch(report.arch.as_str()) {
+        return Err(Refusal::BadName);
+    }
+    let _ = ReportLines::read(alloc, report.text.as_str())?;
+    Ok(())
 }
