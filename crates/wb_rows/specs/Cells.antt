@@ -8,6 +8,7 @@ use Rattle.wb_states.specs.declared.arch.OsCpu.{OsCpu}
 use Rattle.wb_states.specs.Machine.{Key}
 use Rattle.wb_states.specs.Queue.{Entry, rank_of}
 use Rattle.wb_states.specs.State.{code_of}
+use Rattle.wb_states.specs.declared.state.State.{State}
 
 -- a text, or NULL if there is none
 abbrev pub text_or_null : Option (List ℕ) → Value
@@ -40,3 +41,7 @@ arch_cells arch = Text arch.0 ∷ Text arch.1.os ∷ Text arch.1.cpu ∷ []
 -- the columns of a builder and an architecture for which it was added
 abbrev pub builder_cells : Key → Row
 builder_cells pair = Text pair.0 ∷ Text pair.1 ∷ []
+
+-- a state of a record alone: its number
+abbrev pub state_cells : State → Row
+state_cells state = number (code_of state) ∷ []

@@ -11,7 +11,7 @@ use Rattle.wb_states.specs.declared.state.State.{State}
 use Rattle.wb_states.specs.Machine.{Key}
 use Rattle.wb_states.specs.Queue.{Entry}
 use Rattle.wb_states.specs.State.{code_of}
-use Rattle.wb_rows.specs.Cells.{record_cells, arch_cells, builder_cells, number, number_or_null, flag, text_or_null}
+use Rattle.wb_rows.specs.Cells.{record_cells, arch_cells, builder_cells, state_cells, number, number_or_null, flag, text_or_null}
 
 -- a text as a cell
 abbrev pub text_cell : List ℕ → Value
@@ -66,3 +66,7 @@ IsNoArch row = (arch : List ℕ × OsCpu) → IsUtf8 arch.0 → IsUtf8 arch.1.os
 -- the row is not that of a builder and an architecture with names in UTF-8
 abbrev pub IsNoBuilder : Row → Type 0
 IsNoBuilder row = (pair : Key) → IsUtf8 pair.0 → IsUtf8 pair.1 → row ≢ builder_cells pair
+
+-- the row is not that of a state
+abbrev pub IsNoState : Row → Type 0
+IsNoState row = (state : State) → row ≢ state_cells state

@@ -10,5 +10,5 @@ mod read;
 mod write;
 
 pub use form::is_well_formed;
-pub use read::{arch_of, builder_of, record_of};
+pub use read::{arch_of, builder_of, record_of, state_of};
 pub use write::{arch_values, builder_values, record_values};

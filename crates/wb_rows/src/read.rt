@@ -2,16 +2,16 @@
 ghost use Rattle.std.specs.Prelude.{◌≡◌, IfOk, IfErr, IfSome, IfNone};
 ghost use Rattle.wb_rows.specs.declared.fault.RowFault.TheVariants.{Malformed};
 ghost use Rattle.wb_states.specs.Lookups.{entry_of};
-ghost use Rattle.wb_rows.specs.Cells.{arch_cells, builder_cells, record_cells};
-ghost use Rattle.wb_rows.specs.Reading.{IsNoArch, IsNoBuilder, IsNoRecord};
+ghost use Rattle.wb_rows.specs.Cells.{arch_cells, builder_cells, record_cells, state_cells};
+ghost use Rattle.wb_rows.specs.Reading.{IsNoArch, IsNoBuilder, IsNoRecord, IsNoState};
 
-use crate::columns::{number_at, text_at};
+use crate::columns::{number_at, state_at, text_at};
 use crate::fault::RowFault;
 use crate::fields::{fields_of, key_of};
 use deb_text::Text;
 use sqlite::Row;
 use std::alloc::AllocError;
-use wb_states::{KeyedRecord, OsCpu, rank};
+use wb_states::{KeyedRecord, OsCpu, State, rank};
 
 /// The record, with its key, whose row this is: one of exactly 16 columns, each of its type, with the number of a
 /// state, a version, 1 or 0 for what is or is not so, numbers that fit, and the rank of the record in the last
@@ -98,4 +98,28 @@ fn read_builder(row: &Row) -> Result<(Text, Text), RowFault>
     let name = text_at(row, 0)?;
     let arch = text_at(row, 1)?;
     Ok((name, arch))
+}
+
+/// The state that a row shows of a record and nothing else: the row has exactly 1 column, with the number of the state.
+/// None if the row is not that of a state. The only error is that memory ran out (this project's own).
+pub fn state_of(row: &Row) -> Result<Option<State>, AllocError>
+    ensures value { IfOk result (λ found. IfSome found (λ made. row.now ≡ state_cells made)) }
+    ensures none { IfOk result (λ found. IfNone found (IsNoState row.now)) }
+{
+    match read_state(row) {
+        Ok(made) => Ok(Some(made)),
+        Err(RowFault::Malformed) => Ok(None),
+        Err(RowFault::Memory) => Err(AllocError),
+    }
+}
+
+fn read_state(row: &Row) -> Result<State, RowFault>
+    ensures value { IfOk result (λ made. row.now ≡ state_cells made) }
+    ensures refused { IfErr result (λ fault. fault ≡ Malformed → IsNoState row.now) }
+{
+    if row.column_count() != 1 {
+        return Err(RowFault::Malformed);
+    }
+    let state = state_at(row, 0)?;
+    Ok(state)
 }

@@ -15,6 +15,10 @@ record_columns =
     ∷ (9, typed Integer false (codes "take")) ∷ (10, text (codes "waits")) ∷ (11, typed Text false (codes "depends")) ∷ (12, text (codes "note"))
     ∷ (13, text (codes "message")) ∷ (14, number (codes "build_priority")) ∷ (15, number (codes "rank")) ∷ []
 
+-- the column of a record's state
+abbrev pub state_columns : List (ℕ × Column)
+state_columns = (2, number (codes "state")) ∷ []
+
 -- the columns of an architecture
 abbrev pub arch_columns : List (ℕ × Column)
 arch_columns = (0, text (codes "name")) ∷ (1, text (codes "os")) ∷ (2, text (codes "cpu")) ∷ []
@@ -70,6 +74,10 @@ record_columns_are tree = (
     ),
   ),
 )
+
+pub state_columns_are : (tree : ℕ) → AreColumns (table_at tree source_record) state_columns
+unfolding same_name
+state_columns_are tree = (record { named = refl; is = refl }, tt)
 
 pub arch_columns_are : (tree : ℕ) → AreColumns (table_at tree arch) arch_columns
 unfolding same_name

@@ -90,6 +90,14 @@ held_by = records_where (equals 9 0 ∷ []) (rising 1 ∷ rising 2 ∷ []) no_li
 abbrev pub records_of_arch : TableQuery
 records_of_arch = records_where (equals 1 0 ∷ []) (rising 2 ∷ []) no_limit
 
+-- the records of one architecture in one state, by source package
+abbrev pub records_in_state : TableQuery
+records_in_state = records_where (equals 1 0 ∷ equals 3 1 ∷ []) (rising 2 ∷ []) no_limit
+
+-- the state of each record of an architecture
+abbrev pub states_of_arch : TableQuery
+states_of_arch = record { tree = 5; filter = equals 1 0 ∷ []; project = cell 3 ∷ []; order = []; collations = []; limit = no_limit; offset = none_skipped }
+
 -- all records, by architecture and then by source package
 abbrev pub all_records : TableQuery
 all_records = records_where [] (rising 1 ∷ rising 2 ∷ []) no_limit

@@ -1,12 +1,11 @@
 -- How many records of an architecture are in each state, counted among its records.
-use Rattle.std.proofs.Common.{◌≡◌, true, false, cond, Bool, ◌&&◌, ℕ, suc, List, [], ◌∷◌, length, filter, nat_eq, map as each, Result, Ok, Err, refl, sym, ap, subst, ◌∙◌}
+use Rattle.std.proofs.Common.{◌≡◌, true, false, cond, Bool, ◌&&◌, ℕ, suc, List, [], ◌∷◌, length, filter, nat_eq, Result, Ok, Err, refl, sym, ap, subst}
 use Rattle.std.specs.FinMap as finite
 use Rattle.sqlite_trees.specs.declared.store.Store.{Ghosts}
 use Rattle.sqlite.specs.Held.{Held}
-use Rattle.wb_states.specs.declared.keyed.KeyedRecord.{KeyedRecord}
 use Rattle.wb_states.specs.declared.state.State.{State}
 use Rattle.wb_states.specs.declared.store_fault.StoreFault.{StoreFault}
-use Rattle.wb_states.specs.Lookups.{entry_of, is_in, is_of, number_in, rows_of}
+use Rattle.wb_states.specs.Lookups.{is_in, is_of, number_in, rows_of}
 use Rattle.wb_states.specs.Machine.{Machine}
 use Rattle.wb_states.specs.Queue.{Entry}
 use Rattle.wb_states.specs.State.{code_of}
@@ -32,24 +31,10 @@ within arch state (entry ∷ entries) =
       | false ↦ within arch state entries
     ]
 
--- the same among records with their keys
-listed : (state : State) (rows : List KeyedRecord)
-    → length (filter (λ row. nat_eq (code_of row.current.state) (code_of state)) rows) ≡ length (filter (has_state state) (each entry_of rows))
-listed state [] = refl
-listed state (row ∷ rows) =
-    let those = filter (λ (r : KeyedRecord). nat_eq (code_of r.current.state) (code_of state)) rows in
-    let same = filter (has_state state) (each entry_of rows) in
-    elim (has_state state (entry_of row)) as (λ b. length (cond b (row ∷ those) those) ≡ length (cond b (entry_of row ∷ same) same)) [
-      | true ↦ ap suc (listed state rows)
-      | false ↦ listed state rows
-    ]
-
--- how many records of an architecture are in a state
-pub numbers : (machine : Machine) (arch : List ℕ) (state : State) (rows : List KeyedRecord) → each entry_of rows ≡ rows_of machine arch
-    → length (filter (λ row. nat_eq (code_of row.current.state) (code_of state)) rows) ≡ number_in machine arch state
+-- how many of the records of an architecture are in a state
+pub among : (machine : Machine) (arch : List ℕ) (state : State) → length (filter (has_state state) (rows_of machine arch)) ≡ number_in machine arch state
 unfolding rows_of number_in
-numbers machine arch state rows is =
-    listed state rows ∙ ap (λ entries. length (filter (has_state state) entries)) is ∙ within arch state (finite.entries machine.records)
+among machine arch state = within arch state (finite.entries machine.records)
 
 -- what follows from the answer of a look-up is looked up too
 pub looks_up_as : {S A B : Type 0} {g : Ghosts S} {query : OfficeQuery} {Before : Machine → A → Type 0} {After : Machine → B → Type 0} {old new : Held S} {x : A} (y : B)

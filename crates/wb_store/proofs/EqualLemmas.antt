@@ -36,6 +36,10 @@ equal-Text s t =
     true_is (is_eq (value_cmp (Text s) (Text t))) ∙ ap is_eq (value_cmp-Text s t)
     ∙ same_from_decides (is_eq (text_cmp s t)) (bytes_eq s t) (text_cmp-Decides s t) (bytes_eq-Decides s t)
 
+-- two numbers, the other way round
+pub nat_eq-turned : (m n : ℕ) → nat_eq m n ≡ nat_eq n m
+nat_eq-turned m n = grind (arith, nat_tests)
+
 -- the same, the other way round
 pub bytes_eq-turned : (s t : List ℕ) → bytes_eq s t ≡ bytes_eq t s
 bytes_eq-turned s t =

@@ -25,13 +25,15 @@ use Rattle.wb_states.specs.Queue.{Entry, queue_of, head_of}
 use Rattle.wb_states.specs.Holds.{is_taken_as, is_held_by, taken_as}
 use Rattle.wb_states.proofs.QueueLemmas.{IsIn-entries}
 use Rattle.wb_states.specs.declared.keyed.KeyedRecord.{KeyedRecord}
+use Rattle.wb_states.specs.declared.state.State.{State}
 use Rattle.wb_states.specs.Lookups.{entry_of, rows_of}
+use Rattle.wb_states.specs.Lookups.{rows_in as records_in}
 use Rattle.wb_rows.specs.Cells.{record_cells, number}
 use Rattle.wb_rows.proofs.CellsLemmas.{record_cells-same}
 use Rattle.wb_store.specs.Stands.{StandsFor}
 use Rattle.wb_store.specs.Lookups.{AreCounts, counts_row, keyed_cells}
 use Rattle.wb_store.proofs.OrderLemmas.{all_from_in, entry_at, map_injective, first_of-take_one}
-use Rattle.wb_store.proofs.LookupLemmas.{key_params, key_answer, arch_answer, held_answer, queue_params, queue_answer, head_answer, take_answer}
+use Rattle.wb_store.proofs.LookupLemmas.{key_params, key_answer, arch_answer, state_params, state_answer, held_answer, queue_params, queue_answer, head_answer, take_answer}
 
 -- the records that have the rows of some entries are these
 entries_are : (rows : List KeyedRecord) (entries : List Entry) → map keyed_cells rows ≡ map record_cells entries → map entry_of rows ≡ entries
@@ -95,6 +97,12 @@ module _ (machine : Machine) (db : Database) (stands : StandsFor machine db) whe
     -- the records of an architecture
     pub arch_found : (arch : List ℕ) → params ≡ Text arch ∷ [] → Answers sql.records_of_arch params (rows_in db tables.source_record) (map keyed_cells rows) → map entry_of rows ≡ rows_of machine arch
     arch_found arch given a = entries_are rows _ (arch_answer machine db stands _ arch (subst (λ p. Answers sql.records_of_arch p (rows_in db tables.source_record) (map keyed_cells rows)) given a))
+
+    -- those of them that are in a state
+    pub state_found : (arch : List ℕ) (state : State) → params ≡ state_params arch state → Answers sql.records_in_state params (rows_in db tables.source_record) (map keyed_cells rows)
+        → map entry_of rows ≡ records_in machine arch state
+    state_found arch state given a =
+        entries_are rows _ (state_answer machine db stands _ arch state (subst (λ p. Answers sql.records_in_state p (rows_in db tables.source_record) (map keyed_cells rows)) given a))
 
     -- what a builder holds
     pub held_found : (builder : List ℕ) → params ≡ Text builder ∷ [] → Answers sql.held_by params (rows_in db tables.source_record) (map keyed_cells rows)

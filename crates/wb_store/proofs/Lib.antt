@@ -30,5 +30,6 @@ pub mod RefusalLemmas
 pub mod RenewalLemmas
 pub mod ScratchLemmas
 pub mod SettledLemmas
+pub mod StateLemmas
 pub mod StaysLemmas
 pub mod TableLemmas

@@ -32,15 +32,16 @@ use Rattle.wb_states.specs.Queue.{Entry, rank_of, entry_cmp, is_waiting, queue_o
 use Rattle.wb_states.specs.Holds.{is_taken_as, is_held_by}
 use Rattle.wb_states.proofs.QueueLemmas.{IsIn-entries, IsIn-queue_of, sorted-queue_of}
 use Rattle.wb_states.proofs.RankLemmas.{rank-order}
-use Rattle.wb_states.specs.Lookups.{is_of, rows_of}
-use Rattle.wb_rows.specs.Cells.{record_cells, number}
+use Rattle.wb_states.specs.Lookups.{is_in, is_of, rows_of}
+use Rattle.wb_states.specs.Lookups.{rows_in as records_in}
+use Rattle.wb_rows.specs.Cells.{record_cells, state_cells, number}
 use Rattle.wb_rows.specs.Reading.{IsReadable}
 use Rattle.wb_store.specs.Stands.{StandsFor}
 use Rattle.wb_store.specs.Lookups.{AreRecords}
-use Rattle.wb_store.proofs.EqualLemmas.{are_equal, and_true, then_none, equal-Text, equal-number, equal-text_or_null, equal-number_or_null, order-number}
+use Rattle.wb_store.proofs.EqualLemmas.{are_equal, and_true, then_none, nat_eq-turned, equal-Text, equal-number, equal-text_or_null, equal-number_or_null, order-number}
 use Rattle.wb_store.proofs.FormLemmas.{kept_readable}
 use Rattle.wb_store.proofs.OrderLemmas.{all_from_in, kept_pass, ascending_with, entries_ascend, ascending_from_strict, entry_at, filter_at, few_at, at_most_one, IsPermutation-sorted_by}
-use Rattle.wb_store.proofs.TableLemmas.{SkipsRowid, IsBefore, passes, few_answer, rising_answer, rising_first, whole_fits, first_fits_too}
+use Rattle.wb_store.proofs.TableLemmas.{SkipsRowid, IsBefore, passes, answer_same, few_answer, rising_answer, rising_first, whole_fits, first_fits_too}
 
 -- ---- which records pass the tests of a query
 
@@ -70,6 +71,13 @@ key_passes key entry =
 
 arch_passes : (arch : List ℕ) (entry : Entry) → entry_passes sql.records_of_arch (Text arch ∷ []) entry ≡ is_of arch entry
 arch_passes arch entry = and_true (are_equal (Text entry.0.0) (Text arch)) ∙ equal-Text entry.0.0 arch
+
+abbrev pub state_params : List ℕ → State → Row
+state_params arch state = Text arch ∷ number (code_of state) ∷ []
+
+state_passes : (arch : List ℕ) (state : State) (entry : Entry) → entry_passes sql.records_in_state (state_params arch state) entry ≡ is_in arch state entry
+state_passes arch state entry =
+    ap₂ ◌&&◌ (equal-Text entry.0.0 arch) (and_true (are_equal (number (code_of entry.1.state)) (number (code_of state))) ∙ equal-number (code_of entry.1.state) (code_of state) ∙ nat_eq-turned (code_of state) (code_of entry.1.state))
 
 by_code : (state : State) → nat_eq 0 (code_of state) ≡ is_needs_build state
 by_code NeedsBuild = refl
@@ -106,6 +114,10 @@ skips_arch : (params : Row) → SkipsRowid sql.records_of_arch params
 skips_arch params [] = (refl, refl)
 skips_arch params (x ∷ row) = (refl, refl)
 
+skips_state : (params : Row) → SkipsRowid sql.records_in_state params
+skips_state params [] = (refl, refl)
+skips_state params (x ∷ row) = (refl, refl)
+
 skips_queue : (params : Row) → SkipsRowid sql.queue_of params
 skips_queue params [] = (refl, refl)
 skips_queue params (x ∷ row) = (refl, refl)
@@ -117,6 +129,10 @@ skips_head params (x ∷ row) = (refl, refl)
 skips_take : (params : Row) → SkipsRowid sql.record_of_take params
 skips_take params [] = (refl, refl)
 skips_take params (x ∷ row) = (refl, refl)
+
+skips_states : (params : Row) → SkipsRowid sql.states_of_arch params
+skips_states params [] = (refl, refl)
+skips_states params (x ∷ row) = (refl, refl)
 
 skips_holder : (params : Row) → SkipsRowid sql.held_by params
 skips_holder params [] = (refl, refl)
@@ -171,6 +187,19 @@ module _ (machine : Machine) where
       follows a b is_a is_b less =
           let same : a.0.0 ≡ b.0.0 = (bytes_eq-Decides a.0.0 arch).0 is_a ∙ sym ((bytes_eq-Decides b.0.0 arch).0 is_b) in
           text_order a.0.1 b.0.1 ∙ second_less a.0 b.0 same less
+
+  -- those of them that are in a state too
+  state_ascends : (arch : List ℕ) (state : State)
+      → IsAscending (λ x y. IsBefore sql.records_in_state (state_params arch state) (record_cells x) (record_cells y)) (filter (is_in arch state) entries)
+  state_ascends arch state =
+      ascending_with (λ e. is_in arch state e ≡ true) (λ a b. pair_cmp a.0 b.0 ≡ Less) _ follows (filter (is_in arch state) entries) (kept_pass (is_in arch state) entries)
+      (ascending-filter (λ (a b : Entry). pair_cmp a.0 b.0 ≡ Less) (is_in arch state) entries ascend)
+    where
+      of_arch : (e : Entry) → is_in arch state e ≡ true → e.0.0 ≡ arch
+      of_arch e is = (bytes_eq-Decides e.0.0 arch).0 (and_parts _ _ is).0
+
+      follows : (a b : Entry) → is_in arch state a ≡ true → is_in arch state b ≡ true → pair_cmp a.0 b.0 ≡ Less → ordering_then (value_cmp (Text a.0.1) (Text b.0.1)) Equal ≡ Less
+      follows a b is_a is_b less = text_order a.0.1 b.0.1 ∙ second_less a.0 b.0 (of_arch a is_a ∙ sym (of_arch b is_b)) less
 
   -- what a builder holds ascends by the keys
   held_ascends : (builder : List ℕ) → IsAscending (λ x y. IsBefore sql.held_by (Text builder ∷ []) (record_cells x) (record_cells y)) (filter (is_held_by builder) entries)
@@ -244,6 +273,22 @@ module _ (machine : Machine) (db : Database) (stands : StandsFor machine db) (an
       rising_answer record_cells sql.records_of_arch (Text arch ∷ []) (skips_arch (Text arch ∷ [])) (λ e. refl) refl kept (rows_in db tables.source_record) answer stands.records a
       (filter (is_of arch) kept) (arch_ascends machine arch) (IsPermutation-same _ _ (filter_same (is_of arch) _ (λ e. sym (arch_passes arch e)) kept)) refl
 
+  -- those of them that are in a state
+  pub state_answer : (arch : List ℕ) (state : State) → Answers sql.records_in_state (state_params arch state) (rows_in db tables.source_record) answer
+      → answer ≡ map record_cells (records_in machine arch state)
+  unfolding records_in
+  state_answer arch state a =
+      rising_answer record_cells sql.records_in_state (state_params arch state) (skips_state (state_params arch state)) (λ e. refl) refl kept (rows_in db tables.source_record) answer stands.records a
+      (filter (is_in arch state) kept) (state_ascends machine arch state) (IsPermutation-same _ _ (filter_same (is_in arch state) _ (λ e. sym (state_passes arch state e)) kept)) refl
+
+  -- the states of the records of an architecture, in some order
+  pub states_answer : (arch : List ℕ) → Answers sql.states_of_arch (Text arch ∷ []) (rows_in db tables.source_record) answer
+      → IsPermutation (map (λ (entry : Entry). state_cells entry.1.state) (rows_of machine arch)) answer
+  unfolding rows_of
+  states_answer arch a =
+      subst (λ chosen. IsPermutation (map (λ (entry : Entry). state_cells entry.1.state) chosen) answer) (filter_same _ (is_of arch) (arch_passes arch) kept)
+      (answer_same record_cells sql.states_of_arch (Text arch ∷ []) (skips_states (Text arch ∷ [])) refl refl kept (rows_in db tables.source_record) answer stands.records a)
+
   -- what a builder holds, by the keys
   pub held_answer : (builder : List ℕ) → Answers sql.held_by (Text builder ∷ []) (rows_in db tables.source_record) answer → answer ≡ map record_cells (filter (is_held_by builder) kept)
   held_answer builder a =
@@ -277,6 +322,9 @@ module _ (machine : Machine) (db : Database) (stands : StandsFor machine db) (an
 
     pub arch_readable : Answers sql.records_of_arch params (rows_in db tables.source_record) answer → AreRecords answer
     arch_readable a = whole_fits record_cells sql.records_of_arch params (skips_arch params) (λ e. refl) refl kept (rows_in db tables.source_record) answer stands.records a IsReadable (readable machine sound) refl
+
+    pub state_readable : Answers sql.records_in_state params (rows_in db tables.source_record) answer → AreRecords answer
+    state_readable a = whole_fits record_cells sql.records_in_state params (skips_state params) (λ e. refl) refl kept (rows_in db tables.source_record) answer stands.records a IsReadable (readable machine sound) refl
 
     pub held_readable : Answers sql.held_by params (rows_in db tables.source_record) answer → AreRecords answer
     held_readable a = whole_fits record_cells sql.held_by params (skips_holder params) (λ e. refl) refl kept (rows_in db tables.source_record) answer stands.records a IsReadable (readable machine sound) refl

@@ -1,5 +1,5 @@
 -- How an empty office is made in a database that lacks its tables, in one transaction.
-use Rattle.std.proofs.Common.{◌≡◌, inl, inr, true, ℕ, List, [], ◌∷◌, Result, Ok, Err, OnErr, OnOk, ◌||◌, false, length, map, Ordering, refl, sym, ap, subst, ◌∙◌, arith, IsTrue}
+use Rattle.std.proofs.Common.{◌≡◌, inl, inr, true, List, [], ◌∷◌, Result, Ok, Err, OnErr, OnOk, ◌||◌, false, length, map, Ordering, refl, sym, ap, subst, ◌∙◌, arith, IsTrue}
 use Rattle.sqlite_trees.specs.declared.store.Store.{Ghosts}
 use Rattle.sqlite.specs.declared.error.Error.{Error}
 use Rattle.sqlite.specs.Order.{Row}
@@ -8,12 +8,11 @@ use Rattle.sqlite.specs.Schema.{Schema}
 use Rattle.sqlite.specs.Tree.{Trees}
 use Rattle.sqlite.specs.Effect.{Database}
 use Rattle.sqlite.specs.Held.{Held, state}
-use Rattle.sqlite.specs.State.{State, Executes, HasCleanDisk, IsLive, IsRolledBack, Survives}
-use Rattle.wb_sql.specs.Transactions.{Commits, IsTakenBack, LeavesAlone, FailsToCommit, rollback_text}
+use Rattle.sqlite.specs.State.{State, HasCleanDisk, IsLive, IsRolledBack, Survives}
+use Rattle.wb_sql.specs.Transactions.{Commits, IsTakenBack, LeavesAlone, FailsToCommit}
 use Rattle.wb_sql.specs.Among.{HasOffice, LacksOffice, IsNumbered, rows_in}
 use Rattle.wb_sql.specs.Making.{HasEmptyTables, MakesOffice, Makes, FailsAt}
 use Rattle.wb_sql.specs.Tables.{arch, builder, source_record}
-use Rattle.wb_sql.proofs.EndingLemmas.{rolls_back, fails_to_roll_back}
 use Rattle.wb_sql.proofs.GrowthLemmas.{office_made, empty_lacks}
 use Rattle.wb_states.specs.Machine.{Key, empty_office}
 use Rattle.std.specs.List.{list_any}

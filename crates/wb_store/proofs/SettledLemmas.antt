@@ -16,7 +16,7 @@ use Rattle.wb_states.specs.declared.store_fault.StoreFault.{StoreFault}
 use Rattle.wb_states.specs.declared.store_fault.StoreFault.TheVariants as fault
 use Rattle.wb_states.specs.declared.store_fault.Table.TheVariants.{Office}
 use Rattle.wb_states.specs.Machine.{Machine}
-use Rattle.wb_store.specs.Ending.{IsEndedFrom, IsFaultOfCommit, IsFaultOfRollBack, committed, doubt_of, fault_of_commit, is_over, rolled_back}
+use Rattle.wb_store.specs.Ending.{IsEndedFrom, IsFaultOfCommit, IsFaultOfRollBack, committed, doubt_of, is_over, rolled_back}
 use Rattle.wb_store.specs.Faults.{fault_of}
 use Rattle.wb_store.specs.Stands.{StandsFor}
 use Rattle.wb_store.specs.Calls.{Becomes, Changes, FailsToWrite, LooksUp, FailsToLookUp}

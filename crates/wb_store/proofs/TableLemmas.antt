@@ -56,6 +56,26 @@ module _ {X : Type 0} (columns : X → Row) (Fits : X → Type 0) where
   first_fits (row ∷ rows) ([], fit, is) = absurd cc
   first_fits (row ∷ rows) (x ∷ xs, fit, is) = (x ∷ [], (fit.0, tt), let same : row ≡ columns x = cc in ap (λ (r : Row). r ∷ []) same)
 
+-- what a query is sorted by and shows, of those of a table that pass its tests, in the order of the table
+outputs_same : {X : Type 0} (columns : X → Row) (q : TableQuery) (params : Row) → SkipsRowid q params → (xs : List X) (rows : List Row) → HoldsRows (map columns xs) rows
+    → IsPermutation (map (λ x. shows q params (columns x)) (filter (λ x. passes q params (columns x)) xs)) (outputs q params rows)
+outputs_same {X} columns q params skips xs rows held =
+    let chosen : List X = filter (λ x. passes q params (columns x)) xs in
+    let left : map (shows q params) (filter (passes q params) (map columns xs)) ≡ map (λ x. shows q params (columns x)) chosen =
+    ap (map (shows q params)) (filter-map (passes q params) columns xs) ∙ map-map (shows q params) columns chosen in
+    let same = IsPermutation-map (shows q params) _ _ (IsPermutation-filter (passes q params) (map columns xs) (cells_of rows) held.same) in
+    subst (IsPermutation (map (λ x. shows q params (columns x)) chosen)) (sym (outputs_of_cells q params rows skips))
+    (subst (λ l. IsPermutation l (map (shows q params) (filter (passes q params) (cells_of rows)))) left same)
+
+-- an answer without LIMIT has what is shown of each that passes the tests, in some order
+pub answer_same : {X : Type 0} (columns : X → Row) (q : TableQuery) (params : Row) → SkipsRowid q params → q.offset ≡ none_skipped → q.limit ≡ no_limit → (xs : List X) (rows answer : List Row)
+    → HoldsRows (map columns xs) rows → Answers q params rows answer → IsPermutation (map (λ x. (shows q params (columns x)).1) (filter (λ x. passes q params (columns x)) xs)) answer
+answer_same {X} columns q params skips from_start unlimited xs rows answer held a =
+    let chosen : List X = filter (λ x. passes q params (columns x)) xs in
+    let same = IsPermutation-map (λ (o : Output). o.1) _ _ (IsPermutation-trans _ _ _ (outputs_same columns q params skips xs rows held) a.same) in
+    subst (IsPermutation (map (λ x. (shows q params (columns x)).1) chosen)) (sym (whole_answer q params rows answer a from_start unlimited))
+    (subst (λ l. IsPermutation l (map (λ (o : Output). o.1) a.ordered)) (map-map (λ (o : Output). o.1) (λ x. shows q params (columns x)) chosen) same)
+
 -- a query on a table that holds the columns of these, and shows all columns
 module _ {X : Type 0} (columns : X → Row) (q : TableQuery) (params : Row) (skips : SkipsRowid q params) (all_shown : (x : X) → (shows q params (columns x)).1 ≡ columns x)
     (from_start : q.offset ≡ none_skipped) (xs : List X) (rows answer : List Row) (held : HoldsRows (map columns xs) rows) (a : Answers q params rows answer) where
@@ -66,12 +86,7 @@ module _ {X : Type 0} (columns : X → Row) (q : TableQuery) (params : Row) (ski
   chosen_of = filter (λ x. passes q params (columns x)) xs
 
   same_outputs : IsPermutation (map output_of chosen_of) (outputs q params rows)
-  same_outputs =
-      let left : map (shows q params) (filter (passes q params) (map columns xs)) ≡ map output_of chosen_of =
-      ap (map (shows q params)) (filter-map (passes q params) columns xs) ∙ map-map (shows q params) columns chosen_of in
-      let same = IsPermutation-map (shows q params) _ _ (IsPermutation-filter (passes q params) (map columns xs) (cells_of rows) held.same) in
-      subst (IsPermutation (map output_of chosen_of)) (sym (outputs_of_cells q params rows skips))
-      (subst (λ l. IsPermutation l (map (shows q params) (filter (passes q params) (cells_of rows)))) left same)
+  same_outputs = outputs_same columns q params skips xs rows held
 
   in_some_order : IsPermutation (map output_of chosen_of) a.ordered
   in_some_order = IsPermutation-trans _ _ _ same_outputs a.same

@@ -12,7 +12,7 @@ use Rattle.sqlite.specs.declared.file.Leftover.{Leftover}
 use Rattle.sqlite.specs.Tree.{Trees}
 use Rattle.sqlite.specs.Files.{file_state, over_files, FailsToClose, FailsToOpenFiles, IsCleanLeft, IsClosed, IsOpened, LeavesFiles}
 use Rattle.sqlite.specs.Held.{Held}
-use Rattle.sqlite.specs.State.{HasCleanDisk, State}
+use Rattle.sqlite.specs.State.{HasCleanDisk}
 use Rattle.wb_sql.specs.Settled.{AreSettled, LeaveOnly}
 use Rattle.wb_states.specs.declared.store_fault.StoreFault.{StoreFault}
 use Rattle.wb_states.specs.declared.store_fault.StoreFault.TheVariants.{Device, Memory, NotOffice}

@@ -20,8 +20,9 @@ use Rattle.wb_states.specs.declared.store_fault.Table.TheVariants.{SourceRecord}
 use Rattle.wb_states.specs.Machine.{Key}
 use Rattle.wb_states.specs.Queue.{Entry}
 use Rattle.wb_states.specs.declared.keyed.KeyedRecord.{KeyedRecord}
+use Rattle.wb_states.specs.declared.state.State.{State as BuildState}
 use Rattle.wb_states.specs.Lookups.{entry_of}
-use Rattle.wb_rows.specs.Cells.{record_cells, arch_cells, builder_cells, number}
+use Rattle.wb_rows.specs.Cells.{record_cells, arch_cells, builder_cells, state_cells, number}
 use Rattle.wb_rows.specs.Reading.{IsReadable}
 use Rattle.wb_store.specs.Faults.{IsUnfit, fault_of}
 
@@ -40,6 +41,14 @@ AreRowsOf {X} columns Fits rows = (xs : List X) × AllByRecursion Fits xs × (ro
 -- the rows are those of records that can be read
 abbrev pub AreRecords : List Row → Type 0
 AreRecords = AreRowsOf record_cells IsReadable
+
+-- the row is that of a state
+abbrev pub HasState : Row → Type 0
+HasState row = (state : BuildState) × (row ≡ state_cells state)
+
+-- the rows are those of states
+abbrev pub AreStates : List Row → Type 0
+AreStates rows = (states : List BuildState) × (rows ≡ map state_cells states)
 
 -- an architecture whose row can be read: its texts are UTF-8
 pub record IsReadableArch (arch : List ℕ × OsCpu) : Type 0 where

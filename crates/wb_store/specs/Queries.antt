@@ -10,7 +10,9 @@ use Rattle.wb_sql.specs.OfficeStatements as sql
 use Rattle.wb_sql.specs.Tables as tables
 use Rattle.wb_states.specs.declared.store_fault.Table.{Table}
 use Rattle.wb_states.specs.declared.store_fault.Table.TheVariants as on
+use Rattle.wb_states.specs.declared.state.State.{State}
 use Rattle.wb_states.specs.Machine.{Key}
+use Rattle.wb_states.specs.State.{code_of}
 use Rattle.wb_rows.specs.Cells.{number}
 
 -- the table as the database has it
@@ -33,9 +35,11 @@ pub data OfficeQuery : Type 0 where
   Builders : OfficeQuery
   PairsOf : List ℕ → OfficeQuery
   Pair : Key → OfficeQuery
-  -- all records, those of an architecture, its queue and the head of that
+  -- all records, those of an architecture, the states of these, those of it in a state, its queue and the head of that
   Records : OfficeQuery
   RecordsOf : List ℕ → OfficeQuery
+  StatesOf : List ℕ → OfficeQuery
+  InState : List ℕ → State → OfficeQuery
   QueueOf : List ℕ → OfficeQuery
   HeadOf : List ℕ → OfficeQuery
   -- the record at a key, that with a take number, and those that a builder holds
@@ -56,6 +60,8 @@ table_asked (PairsOf builder) = on.Builder
 table_asked (Pair pair) = on.Builder
 table_asked Records = on.SourceRecord
 table_asked (RecordsOf arch) = on.SourceRecord
+table_asked (StatesOf arch) = on.SourceRecord
+table_asked (InState arch state) = on.SourceRecord
 table_asked (QueueOf arch) = on.SourceRecord
 table_asked (HeadOf arch) = on.SourceRecord
 table_asked (RecordAt key) = on.SourceRecord
@@ -74,6 +80,8 @@ query_asked (PairsOf builder) = sql.pairs_of_builder
 query_asked (Pair pair) = sql.pair_of_builder
 query_asked Records = sql.all_records
 query_asked (RecordsOf arch) = sql.records_of_arch
+query_asked (StatesOf arch) = sql.states_of_arch
+query_asked (InState arch state) = sql.records_in_state
 query_asked (QueueOf arch) = sql.queue_of
 query_asked (HeadOf arch) = sql.head_of
 query_asked (RecordAt key) = sql.record_of_key
@@ -93,6 +101,8 @@ given_to (PairsOf builder) = Text builder ∷ []
 given_to (Pair pair) = Text pair.0 ∷ Text pair.1 ∷ []
 given_to Records = []
 given_to (RecordsOf arch) = Text arch ∷ []
+given_to (StatesOf arch) = Text arch ∷ []
+given_to (InState arch state) = Text arch ∷ number (code_of state) ∷ []
 given_to (QueueOf arch) = Text arch ∷ number 0 ∷ []
 given_to (HeadOf arch) = Text arch ∷ number 0 ∷ []
 given_to (RecordAt key) = Text key.0 ∷ Text key.1 ∷ []

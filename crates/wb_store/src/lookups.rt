@@ -8,7 +8,7 @@ ghost use Rattle.std.specs.FinMap as map;
 ghost use Rattle.std.specs.FinSet as set;
 ghost use Rattle.std.specs.Option.{option_map};
 ghost use Rattle.wb_states.specs.Holds.{held_of, taken_as};
-ghost use Rattle.wb_states.specs.Lookups.{counts_of, entry_of, rows_of};
+ghost use Rattle.wb_states.specs.Lookups.{counts_of, entry_of, rows_in, rows_of};
 ghost use Rattle.wb_states.specs.Machine.{IsConsistent, archs_of};
 ghost use Rattle.wb_states.specs.Queue.{head_of, queue_of};
 ghost use Rattle.wb_store.specs.Calls.{LooksUp};
@@ -19,7 +19,7 @@ use crate::writing::Writing;
 use crate::{architectures, builders, counts, holds, queue, records};
 use deb_text::Text;
 use sqlite::Alter;
-use wb_states::{Counts, KeyedRecord, OsCpu, Record, StateCounts, StoreFault};
+use wb_states::{Counts, KeyedRecord, OsCpu, Record, State, StateCounts, StoreFault};
 
 impl<S: Alter + Drop> Store<S> {
     /// The architectures of the office with their words, by name.
@@ -62,10 +62,10 @@ impl<S: Alter + Drop> Store<S> {
         records::office_row(&mut self.conn)
     }
 
-    /// How many records of the architecture are in each state: none in any if it was never added. All its records
-    /// are read.
+    /// How many records of the architecture are in each state: none in any if it was never added. No record is read,
+    /// only the index that has their states.
     pub fn counts(&mut self, arch: &Text) -> Result<StateCounts, StoreFault>
-        ensures looks_up { LooksUp S.Store (ask.RecordsOf arch.now) (λ machine counts. counts ≡ counts_of machine arch.now)
+        ensures looks_up { LooksUp S.Store (ask.StatesOf arch.now) (λ machine counts. counts ≡ counts_of machine arch.now)
             self.old self.new result }
     {
         counts::counts(&mut self.conn, arch)
@@ -94,6 +94,15 @@ impl<S: Alter + Drop> Store<S> {
             self.old self.new result }
     {
         records::all_of(&mut self.conn, arch)
+    }
+
+    /// The records of the architecture that are in the state, by the names of their source packages: none if it was
+    /// never added.
+    pub fn in_state(&mut self, arch: &Text, state: State) -> Result<Vec<KeyedRecord>, StoreFault>
+        ensures looks_up { LooksUp S.Store (ask.InState arch.now state) (λ machine rows. each entry_of rows.items ≡ rows_in machine arch.now state)
+            self.old self.new result }
+    {
+        records::in_state(&mut self.conn, arch, state)
     }
 
     /// The records that the builder holds, of all architectures, by take number: none if it was never added.
@@ -171,10 +180,10 @@ impl<S: Alter + Drop> Writing<'_, S> {
         self.store.office_row()
     }
 
-    /// How many records of the architecture are in each state: none in any if it was never added. All its records
-    /// are read. It sees what the transaction wrote.
+    /// How many records of the architecture are in each state: none in any if it was never added. No record is read,
+    /// only the index that has their states. It sees what the transaction wrote.
     pub fn counts(&mut self, arch: &Text) -> Result<StateCounts, StoreFault>
-        ensures looks_up { LooksUp S.Store (ask.RecordsOf arch.now) (λ machine counts. counts ≡ counts_of machine arch.now)
+        ensures looks_up { LooksUp S.Store (ask.StatesOf arch.now) (λ machine counts. counts ≡ counts_of machine arch.now)
             self.old.store.now self.new.store.now result }
         ensures same_reference { self.new.store.ghost_name ≡ self.old.store.ghost_name }
     {
@@ -209,6 +218,16 @@ impl<S: Alter + Drop> Writing<'_, S> {
         ensures same_reference { self.new.store.ghost_name ≡ self.old.store.ghost_name }
     {
         self.store.all_of(arch)
+    }
+
+    /// The records of the architecture that are in the state, by the names of their source packages: none if it was
+    /// never added. It sees what the transaction wrote.
+    pub fn in_state(&mut self, arch: &Text, state: State) -> Result<Vec<KeyedRecord>, StoreFault>
+        ensures looks_up { LooksUp S.Store (ask.InState arch.now state) (λ machine rows. each entry_of rows.items ≡ rows_in machine arch.now state)
+            self.old.store.now self.new.store.now result }
+        ensures same_reference { self.new.store.ghost_name ≡ self.old.store.ghost_name }
+    {
+        self.store.in_state(arch, state)
     }
 
     /// The records that the builder holds, of all architectures, by take number: none if it was never added. It

@@ -5,17 +5,17 @@ ghost use Rattle.sqlite.specs.Values.{bound};
 ghost use Rattle.deb_text.specs.Lists.{first_of};
 ghost use Rattle.wb_states.specs.declared.store_fault.Table.TheVariants.{Arch, Office, SourceRecord};
 ghost use Rattle.wb_store.specs.Faults.{IsUnfit};
-ghost use Rattle.wb_store.specs.Lookups.{AreArchs, AreCounts, AreRecords, HasArch, HasNumberAt, HasRecord, HaveCounts, ReadsRecords, ReadsTable, keyed_cells};
-ghost use Rattle.wb_rows.specs.Cells.{arch_cells, number};
+ghost use Rattle.wb_store.specs.Lookups.{AreArchs, AreCounts, AreRecords, AreStates, HasArch, HasNumberAt, HasRecord, HasState, HaveCounts, ReadsRecords, ReadsTable, keyed_cells};
+ghost use Rattle.wb_rows.specs.Cells.{arch_cells, number, state_cells};
 ghost use Rattle.sqlite.specs.Order.{column};
 
 use crate::fault::{answer_on, unfit};
 use deb_text::Text;
 use sqlite::types::ValueRef;
 use sqlite::{Alter, Connection, Error, ErrorCode, Row};
-use wb_rows::{arch_of, record_of};
+use wb_rows::{arch_of, record_of, state_of};
 use wb_sql::read;
-use wb_states::{Counts, KeyedRecord, OsCpu, Record, StoreFault, Table};
+use wb_states::{Counts, KeyedRecord, OsCpu, Record, State, StoreFault, Table};
 
 /// The rows that the query answers. Its fault names this table. The database stays as it is, but for
 /// a transaction that a failure of the query takes back.
@@ -89,6 +89,26 @@ pub(crate) fn records<S: Alter>(
     ensures reads { ReadsRecords S.Store sql.now (bound params.now) conn.old conn.new result }
 {
     records_in(rows_of(conn, Table::SourceRecord, sql, params)?)
+}
+
+/// The state in a row. The table of records is damaged if the row is not that of a state.
+fn state_in(row: &Row) -> Result<State, StoreFault>
+    ensures value { IfOk result (λ made. row.now ≡ state_cells made) }
+    ensures err { IfErr result (IsUnfit SourceRecord (HasState row.now)) }
+{
+    state_of(row)?.ok_or(unfit(Table::SourceRecord))
+}
+
+/// The states in these rows. The table of records is damaged if a row is not that of a state.
+pub(crate) fn states_in(rows: Vec<Row>) -> Result<Vec<State>, StoreFault>
+    ensures value { IfOk result (λ made. rows.items ≡ each state_cells made.items) }
+    ensures err { IfErr result (IsUnfit SourceRecord (AreStates rows.items)) }
+{
+    let mut made = Vec::new(*rows.allocator());
+    for row in rows {
+        made.push(state_in(&row)?)?;
+    }
+    Ok(made)
 }
 
 /// The architecture, with its words, in a row. The table is damaged if the row is not that of an architecture.

@@ -4,7 +4,7 @@ ghost use Rattle.std.specs.Option.{option_map};
 ghost use Rattle.std.specs.FinMap as map;
 ghost use Rattle.wb_states.specs.Machine.{IsConsistent};
 ghost use Rattle.wb_states.specs.Holds.{taken_as};
-ghost use Rattle.wb_states.specs.Lookups.{entry_of, rows_of};
+ghost use Rattle.wb_states.specs.Lookups.{entry_of, rows_in, rows_of};
 ghost use Rattle.wb_store.specs.Calls.{LooksUp};
 ghost use Rattle.wb_store.specs.Queries as ask;
 
@@ -12,7 +12,7 @@ use crate::reading::{counts_in, current_in, first_in, records, rows_of, stored_n
 use deb_text::Text;
 use sqlite::{Alter, Connection, params};
 use wb_sql::statements;
-use wb_states::{Counts, KeyedRecord, Record, StoreFault, Table};
+use wb_states::{Counts, KeyedRecord, Record, State, StoreFault, Table};
 
 /// The two counts of the office: the greatest take number that was given, and how many commands were accepted.
 pub(crate) fn office_row<S: Alter>(conn: &mut Connection<S>) -> Result<Counts, StoreFault>
@@ -65,4 +65,22 @@ pub(crate) fn all_of<S: Alter>(
         each entry_of rows.items ≡ rows_of machine arch.now) conn.old conn.new result }
 {
     records(conn, statements::records_of_arch(), params![arch.as_str()])
+}
+
+/// The records of the architecture that are in the state, by the names of their source packages: none if it was never
+/// added.
+pub(crate) fn in_state<S: Alter>(
+    conn: &mut Connection<S>,
+    arch: &Text,
+    state: State,
+) -> Result<Vec<KeyedRecord>, StoreFault>
+    ensures looks_up { LooksUp S.Store (ask.InState arch.now state) (λ machine rows.
+        each entry_of rows.items ≡ rows_in machine arch.now state) conn.old conn.new result }
+{
+    let code = u32::from(state.code());
+    records(
+        conn,
+        statements::records_in_state(),
+        params![arch.as_str(), code],
+    )
 }
