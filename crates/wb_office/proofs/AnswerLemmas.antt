@@ -6,7 +6,6 @@ use Rattle.sqlite.specs.Held.{Held, state}
 use Rattle.sqlite.specs.State.{HasCleanDisk}
 use Rattle.wb_sql.proofs.CallLemmas.{on_ok}
 use Rattle.wb_states.specs.declared.command.Command.{Command}
-use Rattle.wb_states.specs.declared.command.Merge.{Merge}
 use Rattle.wb_states.specs.declared.counts.Counts.{Counts}
 use Rattle.wb_states.specs.declared.refusal.Refusal.{Refusal}
 use Rattle.wb_states.specs.declared.reply.Reply.{Reply}
@@ -14,7 +13,7 @@ use Rattle.wb_states.specs.declared.store_fault.StoreFault.{StoreFault}
 use Rattle.wb_states.specs.Machine.{Machine, Key, IsConsistent}
 use Rattle.wb_states.specs.Queue.{Entry}
 use Rattle.wb_states.specs.Refusals.{is_of_store}
-use Rattle.wb_step.specs.Arguments.{arguments_of}
+use Rattle.wb_step.specs.Arguments.{Import, Lists, Lines, arguments_of}
 use Rattle.wb_step.specs.Carries.{Carries}
 use Rattle.wb_step.specs.Checks.{first_refusal}
 use Rattle.wb_step.specs.Locality.{LooksAlike}
@@ -94,10 +93,11 @@ assigned_is_new machine (Some entry) = refl
 
 -- the reply to an accepted command is no repetition
 reply_is_new : (machine : Machine) (command : Command) → is_again (reply_to machine command) ≡ false
-reply_is_new machine command = by_arguments (arguments_of command).merge (arguments_of command).builder
+reply_is_new machine command = by_arguments (arguments_of command).imports (arguments_of command).builder
   where
-    by_arguments : (merge : Option Merge) (builder : Option (List ℕ)) → is_again (reply_by machine command merge builder) ≡ false
-    by_arguments (Some merge) builder = refl
+    by_arguments : (imports : Option Import) (builder : Option (List ℕ)) → is_again (reply_by machine command imports builder) ≡ false
+    by_arguments (Some (Lists merge)) builder = refl
+    by_arguments (Some (Lines report)) builder = refl
     by_arguments None (Some builder) = assigned_is_new machine (target_of machine command)
     by_arguments None None = refl
 
@@ -119,7 +119,7 @@ counts_at machine = record { handed = machine.handed; accepted = machine.accepte
 
 -- ---- the whole command
 
-module _ (command : Command) (machine part : Machine) (consistent : IsConsistent machine) (single : (arguments_of command).merge ≡ None) (is : part ≡ part_named machine command) where
+module _ (command : Command) (machine part : Machine) (consistent : IsConsistent machine) (single : (arguments_of command).imports ≡ None) (is : part ≡ part_named machine command) where
   -- the part looks to the command like the whole office
   part_looks_alike : LooksAlike command part machine
   part_looks_alike = subst (λ p. LooksAlike command p machine) (sym is) (part_alike (part_named machine command) machine (part_of_named machine command consistent) command consistent (part_has_all_named machine command consistent single))
@@ -150,7 +150,7 @@ module _ (command : Command) (machine part : Machine) (consistent : IsConsistent
     }
 
 module _ {S : Type 0} (g : Ghosts S) (command : Command) (old new : Held S) (part after : Machine) (key : Option Key)
-    (single : (arguments_of command).merge ≡ None) where
+    (single : (arguments_of command).imports ≡ None) where
   -- a refusal changes nothing
   pub refused_in : (refusal : Refusal) → old ≡ new → Carries part after command (Err refusal) → Answers g (IsNamed command part key) command old new (Err (Refused refusal))
   refused_in refusal same carries = record {
@@ -231,7 +231,8 @@ module _ {S : Type 0} (g : Ghosts S) (command : Command) (old mid new : Held S) 
     left.0,
     elim left.1 [
       | inl s ↦ inl (s.0, s.1, s.2, stays_then g old mid s.0 same s.3, s.4, s.5)
-      | inr m ↦ inr (m.0, m.1, m.2, m.3, m.4, stays_then g old mid m.0 same m.5, m.6, m.7, m.8)
+      | inr (inl m) ↦ inr (inl (m.0, m.1, m.2, m.3, m.4, stays_then g old mid m.0 same m.5, m.6, m.7, m.8))
+      | inr (inr r) ↦ inr (inr (r.0, r.1, r.2, r.3, stays_then g old mid r.0 same r.4, r.5, r.6, r.7))
     ],
   )
 

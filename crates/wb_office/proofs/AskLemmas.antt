@@ -14,12 +14,15 @@ use Rattle.wb_states.specs.Holds.{held_of}
 use Rattle.wb_states.specs.Machine.{Machine}
 use Rattle.wb_states.specs.Refusals.{IsOfMachine}
 use Rattle.wb_states.specs.declared.keyed.KeyedRecord.{KeyedRecord}
-use Rattle.wb_states.specs.Lookups.{entry_of}
+use Rattle.wb_states.specs.Lookups.{entry_of, keyed}
+use Rattle.wb_states.specs.Queue.{Entry}
+use Rattle.wb_states.specs.declared.state.State.{State}
+use Rattle.wb_states.specs.declared.counts.StateCounts.{StateCounts}
 use Rattle.wb_states.specs.declared.query.Answer.{Answer}
-use Rattle.wb_states.specs.declared.query.Answer.TheVariants.{Mine}
+use Rattle.wb_states.specs.declared.query.Answer.TheVariants.{ByState, Mine, Queue, Summary}
 use Rattle.wb_states.specs.Machine.{is_unknown_arch, is_unknown_builder}
 use Rattle.wb_states.specs.Refusals.{is_of_store}
-use Rattle.wb_states.specs.Queries.{found_at, item_in, mine_in}
+use Rattle.wb_states.specs.Queries.{mine_in}
 use Rattle.wb_states.proofs.QueryLemmas.{keyed-entries}
 use Rattle.wb_step.specs.Offices.{StandsOn}
 use Rattle.wb_store.proofs.SettledLemmas.{settled_back}
@@ -36,12 +39,39 @@ use Rattle.wb_office.proofs.ApplyLemmas.{either_of, none_opens, not_closed_for, 
 
 -- ---- what was looked up
 
--- the record that was found on a known architecture is the answer of the state
-pub item-is : (machine : Machine) (arch source : List ℕ) (words : Option OsCpu) (found : Option Record) (is_unknown : Bool) → words ≡ map.get machine.archs arch → is_some words ≡ not is_unknown → is_unknown ≡ false
-    → found ≡ map.get machine.records (arch, source) → found_at arch source found ≡ item_in machine arch source
-item-is machine arch source words found is_unknown is_words known is_known is_found =
-    let there : is_unknown_arch machine arch ≡ false = ap (λ w. not (is_some w)) (sym is_words) ∙ ap not (known ∙ ap not is_known) in
-    ap (found_at arch source) is_found ∙ ap (λ b. cond b (Err UnknownArch) (found_at arch source (map.get machine.records (arch, source)))) (sym there)
+-- an architecture without words was never added
+pub unknown-is : (machine : Machine) (arch : List ℕ) (words : Option OsCpu) (is_unknown : Bool) → words ≡ map.get machine.archs arch → is_some words ≡ not is_unknown → is_unknown ≡ is_unknown_arch machine arch
+unknown-is machine arch words is_unknown is_words known = not_not is_unknown ∙ ap not (sym known) ∙ ap (λ w. not (is_some w)) is_words
+  where
+    not_not : (b : Bool) → b ≡ not (not b)
+    not_not true = refl
+    not_not false = refl
+
+-- what is answered of an unknown architecture, and of a known one
+pub of_unknown : {is_unknown was_unknown : Bool} (found : Result Answer Refusal) → is_unknown ≡ was_unknown → is_unknown ≡ true → Err UnknownArch ≡ cond was_unknown (Err UnknownArch) found
+of_unknown found same unknown = ap (λ b. cond b (Err UnknownArch) found) (sym unknown ∙ same)
+
+pub of_known : {is_unknown was_unknown : Bool} {answer found : Result Answer Refusal} → is_unknown ≡ was_unknown → is_unknown ≡ false → answer ≡ found → answer ≡ cond was_unknown (Err UnknownArch) found
+of_known {found = found} same known is = is ∙ ap (λ b. cond b (Err UnknownArch) found) (sym known ∙ same)
+
+-- the answer with the queue of an architecture, and that with its records in a state
+abbrev pub queue_with : List ℕ → List KeyedRecord → Result Answer Refusal
+queue_with arch records = Ok (Queue arch records)
+
+abbrev pub by_state_with : State → List ℕ → List KeyedRecord → Result Answer Refusal
+by_state_with state arch records = Ok (ByState arch state records)
+
+-- the answer with the numbers of an architecture's records
+abbrev pub summary_with : ℕ → List ℕ → StateCounts → Result Answer Refusal
+summary_with accepted arch counts = Ok (Summary accepted arch counts)
+
+-- the records that were looked up are the queue of the state, or its records in the state that was asked for
+pub queue-is : (arch : List ℕ) {rows : List KeyedRecord} {entries : List Entry} → each entry_of rows ≡ entries → ◌≡◌ {A = Result Answer Refusal} (Ok (Queue arch rows)) (Ok (Queue arch (each keyed entries)))
+queue-is arch is = ap (λ rows. Ok (Queue arch rows)) (sym (keyed-entries is))
+
+pub by_state-is : (arch : List ℕ) (state : State) {rows : List KeyedRecord} {entries : List Entry} → each entry_of rows ≡ entries
+    → ◌≡◌ {A = Result Answer Refusal} (Ok (ByState arch state rows)) (Ok (ByState arch state (each keyed entries)))
+by_state-is arch state is = ap (λ rows. Ok (ByState arch state rows)) (sym (keyed-entries is))
 
 -- the answer with what a builder holds
 abbrev pub mine_with : List ℕ → List KeyedRecord → Result Answer Refusal

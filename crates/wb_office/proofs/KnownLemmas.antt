@@ -7,6 +7,7 @@ use Rattle.wb_states.specs.declared.arch.OsCpu.{OsCpu}
 use Rattle.wb_states.specs.declared.command.AddArch.{AddArch}
 use Rattle.wb_states.specs.declared.command.Command.{Command}
 use Rattle.wb_states.specs.declared.command.Command.TheVariants as of
+use Rattle.wb_states.specs.declared.command.Report.{Report}
 use Rattle.wb_states.specs.declared.counts.Counts.{Counts}
 use Rattle.wb_states.specs.declared.refusal.Refusal.{Refusal}
 use Rattle.wb_states.specs.Machine.{Machine}
@@ -34,8 +35,8 @@ copied_next xs at x y within is same copy new made before =
 pub copied_all : {X : Type 0} (xs copy : List X) (at : ℕ) → length xs ≤ at → copy ++ drop at xs ≡ xs → copy ≡ xs
 copied_all xs copy at past is = sym (append-nil copy) ∙ ap (λ l. copy ++ l) (sym (drop_all at xs past)) ∙ is
 
--- a command that is no merge, and leaves the architectures if it is accepted, leaves them
-single_leaves : (command : Command) (machine : Machine) → (arguments_of command).merge ≡ None → archs_after command machine.archs ≡ machine.archs
+-- a command that imports nothing, and leaves the architectures if it is accepted, leaves them
+single_leaves : (command : Command) (machine : Machine) → (arguments_of command).imports ≡ None → archs_after command machine.archs ≡ machine.archs
     → (step machine command).1.archs ≡ machine.archs
 unfolding step
 single_leaves command machine single same = by_answer (first_refusal machine command) (again_of machine command) refl refl
@@ -46,10 +47,19 @@ single_leaves command machine single same = by_answer (first_refusal machine com
     by_answer None (Some entry) is told = ap₂ (λ r a. (outcome r a machine command).1.archs) is told
     by_answer None None is told = ap (λ (m : Machine). m.archs) (steps_change command machine single is told) ∙ same
 
+-- a report leaves them
+report_leaves : (machine : Machine) (report : Report) → (step machine (of.Report report)).1.archs ≡ machine.archs
+unfolding step
+report_leaves machine report = at (first_refusal machine (of.Report report)) where
+  at : (first : Option Refusal) → (outcome first None machine (of.Report report)).1.archs ≡ machine.archs
+  at None = refl
+  at (Some refusal) = refl
+
 -- a command that adds no architecture leaves them
 archs_stay : (command : Command) (machine : Machine) → ((fields : AddArch) → command ≢ of.AddArch fields) → (step machine command).1.archs ≡ machine.archs
 archs_stay (of.AddArch fields) machine other = absurd (other fields refl)
 archs_stay (of.Merge fields) machine other = (merge_joined machine fields.sources fields.parts).archs
+archs_stay (of.Report fields) machine other = report_leaves machine fields
 archs_stay command machine other = single_leaves command machine refl refl
 
 -- what is known is known after such a command, with the counts then

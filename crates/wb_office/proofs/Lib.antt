@@ -9,6 +9,9 @@ pub mod MergeCarryLemmas
 pub mod MergePartLemmas
 pub mod MergeRecordLemmas
 pub mod MergeWriteLemmas
+pub mod ReportLemmas
+pub mod RowsCarryLemmas
+pub mod RowsWriteLemmas
 pub mod SessionLemmas
 pub mod SoughtLemmas
 pub mod StandingLemmas

@@ -3,7 +3,7 @@ use Rattle.std.proofs.Common.{◌≡◌, ◌≢◌, ◌⊎◌, inl, inr, Bool, t
 use Rattle.wb_states.specs.declared.command.Command.{Command}
 use Rattle.wb_states.specs.declared.reply.Reply.{Reply}
 use Rattle.wb_states.specs.declared.refusal.Refusal.{Refusal}
-use Rattle.wb_states.specs.declared.refusal.Refusal.TheVariants.{UnknownArch, UnknownBuilder, WrongArch, UnknownSource, OtherVersion, WrongState, QueueEmpty, NotHeld, AfterAhead, AlreadyThere, BadName, BadVersion, BadRelations, BadNumber, BadListing, TextTooLong, Spent, RepeatedArch, Closed, Store, Memory}
+use Rattle.wb_states.specs.declared.refusal.Refusal.TheVariants.{UnknownArch, UnknownBuilder, WrongArch, UnknownSource, OtherVersion, WrongState, QueueEmpty, NotHeld, AfterAhead, AlreadyThere, BadName, BadVersion, BadRelations, BadNumber, BadListing, BadReport, TextTooLong, Spent, RepeatedArch, Closed, Store, Memory}
 use Rattle.wb_states.specs.declared.store_fault.StoreFault.{StoreFault}
 use Rattle.wb_states.specs.Machine.{Machine}
 use Rattle.wb_states.specs.Refusals.{IsOfMachine}
@@ -45,6 +45,7 @@ refused_stands machine command commands (BadVersion fault) outcomes standing on 
 refused_stands machine command commands (BadRelations fault) outcomes standing on is later = (is (λ e. cc), later)
 refused_stands machine command commands BadNumber outcomes standing on is later = (is (λ e. cc), later)
 refused_stands machine command commands (BadListing which paragraph fault) outcomes standing on is later = (is (λ e. cc), later)
+refused_stands machine command commands (BadReport line) outcomes standing on is later = (is (λ e. cc), later)
 refused_stands machine command commands TextTooLong outcomes standing on is later = (is (λ e. cc), later)
 refused_stands machine command commands Spent outcomes standing on is later = (is (λ e. cc), later)
 refused_stands machine command commands RepeatedArch outcomes standing on is later = (is (λ e. cc), later)

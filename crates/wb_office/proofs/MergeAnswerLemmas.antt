@@ -94,7 +94,7 @@ merge_not_committed {g = g} {sources = sources} {parts = parts} {before = before
   was_clean = was_clean (state g old) (state g new) carries.survives;
   limit = carries.survives.limit;
   ok = λ clean machine settled is. tt;
-  err = λ clean machine settled is. (carries.err clean machine settled is, inr (old, sources, parts, before, after, inl refl, refl, is, carries.cause clean machine settled is));
+  err = λ clean machine settled is. (carries.err clean machine settled is, inr (inl (old, sources, parts, before, after, inl refl, refl, is, carries.cause clean machine settled is)));
   others = λ clean machine settled is. tt;
   of_step = tt;
 }

@@ -161,6 +161,7 @@ nothing_put (of.BuildPriority fields) machine key none is =
     let found = unkeyed (fields.arch, fields.source) (λ (current : Record). record current { build_priority = fields.value }) (map.get machine.records (fields.arch, fields.source)) none in
     (is, ap (option_and_then (map.get machine.records)) (sym is) ∙ found)
 nothing_put (of.Merge fields) machine key none is = no_key key is
+nothing_put (of.Report fields) machine key none is = no_key key is
 nothing_put command machine key none is = not_found machine (subject_of command) key (no_target machine command (λ words. something) none) is
 
 -- what is put at a key is found there

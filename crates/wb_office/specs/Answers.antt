@@ -6,13 +6,16 @@ use Rattle.sqlite.specs.Held.{Held, state}
 use Rattle.sqlite.specs.State.{HasCleanDisk}
 use Rattle.wb_states.specs.declared.arch.OsCpu.{OsCpu}
 use Rattle.wb_states.specs.declared.command.Command.{Command}
+use Rattle.wb_states.specs.declared.command.Command.TheVariants as of
 use Rattle.wb_states.specs.declared.command.Part.{Part}
+use Rattle.wb_states.specs.declared.command.Report.{Report}
 use Rattle.wb_states.specs.declared.counts.Counts.{Counts}
 use Rattle.wb_states.specs.declared.reply.Reply.{Reply}
 use Rattle.wb_states.specs.declared.reply.Reply.TheVariants as is
 use Rattle.wb_states.specs.declared.refusal.Refusal.TheVariants.{Memory}
 use Rattle.wb_states.specs.Forms.{Merge}
 use Rattle.wb_states.specs.Machine.{Machine, Key, IsConsistent}
+use Rattle.wb_states.specs.Queue.{Entry}
 use Rattle.wb_states.specs.Refusals.{IsOfMachine, is_of_store}
 use Rattle.wb_step.specs.Checks.{MayWantMemory}
 use Rattle.wb_step.specs.MergedParts.{part_for_merge}
@@ -32,6 +35,7 @@ use Rattle.wb_store.specs.Finds.{FailsToFind, StaysAs}
 use Rattle.wb_office.specs.Keys.{key_put}
 use Rattle.wb_office.specs.MergeCarried.{MergeEndsFor}
 use Rattle.wb_office.specs.MergeWritten.{IsMergeIn}
+use Rattle.wb_office.specs.Rows.{IsReportIn, RowsEndFor}
 use Rattle.wb_store.specs.Opening.{AreCountsOf}
 use Rattle.wb_office.specs.Standing.{Knows}
 
@@ -41,6 +45,7 @@ is_again (is.Done accepted) = false
 is_again (is.Job accepted given) = false
 is_again (is.Again accepted given) = true
 is_again (is.Merged accepted parts) = false
+is_again (is.Reported accepted changed) = false
 
 -- the state has these counts and these architectures
 abbrev pub AreOf : Counts → List (List ℕ × OsCpu) → Machine → Type 0
@@ -61,13 +66,20 @@ FailsToKeepMerge {S} g machine command old new failure =
     (at : Held S) × (sources : List ℕ) × (parts : List Part) × (before : Machine) × (after : Machine) × StaysAs g old at × (command ≡ Merge sources parts)
     × IsMergeIn machine sources parts before after × MergeEndsFor g before after (step machine command).1 at new failure
 
+-- the command is a report, and what it changed was written in such a transaction
+abbrev pub FailsToKeepReport : {S : Type 0} → Ghosts S → Machine → Command → Held S → Held S → CarryError → Type 0
+FailsToKeepReport {S} g machine command old new failure =
+    (at : Held S) × (report : Report) × (rows : List Entry) × (counts : Counts) × StaysAs g old at × (command ≡ of.Report report)
+    × IsReportIn machine report rows counts × RowsEndFor g rows counts machine at new failure
+
 -- what a command changed was not committed, for this reason
 abbrev pub IsUncommitted : {S : Type 0} → Ghosts S → Machine → Command → Held S → Held S → Failure → Type 0
 IsUncommitted g machine command old new (Refused refusal) = ⊥
 IsUncommitted g machine command old new (Unread fault) = ⊥
 IsUncommitted g machine command old new (Uncommitted failure) =
     LeavesAs machine (step machine command).1 (state g new) failure
-    × (FailsToKeepStep g machine command old new failure ⊎ FailsToKeepMerge g machine command old new failure)
+    × (FailsToKeepStep g machine command old new failure
+    ⊎ (FailsToKeepMerge g machine command old new failure ⊎ FailsToKeepReport g machine command old new failure))
 
 -- why a command is not carried out, and where the office is left: it is refused, or a look-up failed, and nothing is changed; or what it changed
 -- was not committed, and the office is as it was, or, if the commit is in doubt, as it was or as the command makes it
@@ -109,6 +121,18 @@ pub record KeepsMerge {S A : Type 0} (g : Ghosts S) (sources : List ℕ) (parts 
   pub err : HasCleanDisk (state g new) → (machine : Machine) → IsSettled machine (state g old) → IsMergeIn machine sources parts before after
       → IfErr result (IsUncommitted g machine (Merge sources parts) old new)
   pub others : HasCleanDisk (state g new) → (machine : Machine) → IsSettled machine (state g old) → IsMergeIn machine sources parts before after
+      → OnOk result (KeepsOthers (state g old).now (state g new).now)
+  pub of_step : IfErr result IsOfStep
+
+-- what a report changed, written to the tables of the whole office; if it succeeds, the tables of others keep their rows
+pub record KeepsReport {S A : Type 0} (g : Ghosts S) (report : Report) (rows : List Entry) (counts : Counts) (old new : Held S) (result : Result A Failure) : Type 0 where
+  pub was_clean : HasCleanDisk (state g new) → HasCleanDisk (state g old)
+  pub limit : new.step_limit ≡ old.step_limit
+  pub ok : HasCleanDisk (state g new) → (machine : Machine) → IsSettled machine (state g old) → IsReportIn machine report rows counts
+      → OnOk result (IsSettled (step machine (of.Report report)).1 (state g new))
+  pub err : HasCleanDisk (state g new) → (machine : Machine) → IsSettled machine (state g old) → IsReportIn machine report rows counts
+      → IfErr result (IsUncommitted g machine (of.Report report) old new)
+  pub others : HasCleanDisk (state g new) → (machine : Machine) → IsSettled machine (state g old) → IsReportIn machine report rows counts
       → OnOk result (KeepsOthers (state g old).now (state g new).now)
   pub of_step : IfErr result IsOfStep
 

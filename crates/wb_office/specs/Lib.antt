@@ -11,6 +11,7 @@ pub mod MergeCarried
 pub mod MergePart
 pub mod MergeWritten
 pub mod Offices
+pub mod Rows
 pub mod Sought
 pub mod Standing
 pub mod Turns

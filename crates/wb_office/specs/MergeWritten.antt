@@ -13,6 +13,7 @@ use Rattle.wb_states.specs.Forms.{Merge}
 use Rattle.wb_states.specs.Machine.{Machine, Key}
 use Rattle.wb_states.specs.Queue.{Entry}
 use Rattle.wb_merge.specs.Merged.{Records, change_of, is_kept}
+pub use Rattle.wb_merge.specs.Reported.{with_rows}
 use Rattle.wb_states.specs.Lookups.{rows_of}
 use Rattle.wb_step.specs.MergedParts.{part_for_merge}
 use Rattle.wb_step.specs.Step.{step}
@@ -45,11 +46,6 @@ entries_changed before after arch = filter (is_different before) (rows_of after 
 abbrev pub without_rows : Records → List Entry → Records
 without_rows records [] = records
 without_rows records (entry ∷ entries) = without_rows (map.remove records entry.0) entries
-
--- records with these, each at its key
-abbrev pub with_rows : Records → List Entry → Records
-with_rows records [] = records
-with_rows records (entry ∷ entries) = with_rows (map.insert records entry.0 entry.1) entries
 
 -- records with what differs of an architecture written to them
 abbrev pub with_arch : Machine → Machine → List ℕ → Records → Records

@@ -8,6 +8,7 @@ use crate::carry::{CarryError, carry};
 use crate::known::{Known, find_archs, learn};
 use crate::merging::answer_merge;
 use crate::named::{Named, named_part};
+use crate::reporting::answer_report;
 use deb_text::Text;
 use sqlite::Alter;
 use std::alloc::Global;
@@ -69,11 +70,12 @@ fn answer_of<S: Alter + Drop>(
 {
     match command {
         Command::Merge(merge) => answer_merge(alloc, store, counts, &archs, command, merge),
+        Command::Report(report) => answer_report(alloc, store, counts, &archs, report),
         _ => answer_one(alloc, store, counts, archs, command),
     }
 }
 
-/// Carries out a command that is no merge.
+/// Carries out a command that imports nothing.
 fn answer_one<S: Alter + Drop>(
     alloc: Global,
     store: &mut Store<S>,
@@ -81,7 +83,7 @@ fn answer_one<S: Alter + Drop>(
     archs: Vec<(Text, OsCpu)>,
     command: &Command,
 ) -> Result<Answered, Failure>
-    requires single { (arguments_of command.now).merge ≡ None }
+    requires single { (arguments_of command.now).imports ≡ None }
     ensures answers { Answers S.Store (AreOf counts archs.items) command.now store.old store.new result }
 {
     match named_part(alloc, store, counts, archs, command) {
@@ -97,7 +99,7 @@ fn answer_in<S: Alter + Drop>(
     command: &Command,
     named: Named,
 ) -> Result<Answered, Failure>
-    requires single { (arguments_of command.now).merge ≡ None }
+    requires single { (arguments_of command.now).imports ≡ None }
     ensures answers { Answers S.Store (IsNamed command.now named.part named.key) command.now store.old store.new result }
 {
     let Named { mut part, key } = named;

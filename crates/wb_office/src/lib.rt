@@ -17,6 +17,7 @@ mod named;
 mod office;
 mod power;
 mod query;
+mod reporting;
 
 pub use commands::Outcome;
 pub use history::{LivesEnd, lives};

@@ -88,7 +88,7 @@ fn remove_all<S: Alter + Drop>(
 
 /// Puts these records, one after another; all else stays. The fault is that of the statement that failed, or `Damaged`
 /// with row 0 of the records at one whose take number is above the limit.
-fn put_all<S: Alter + Drop>(
+pub(crate) fn put_all<S: Alter + Drop>(
     writing: &mut Writing<'_, S>,
     rows: &[KeyedRecord],
 ) -> Result<(), StoreFault>

@@ -120,12 +120,15 @@ impl<S: Alter + Drop> Office<S> {
         }
     }
 
-    /// Answers a query, which changes nothing: a record, or what a builder holds, of all architectures, by take number.
+    /// Answers a query, which changes nothing: the queue of an architecture, its records in a state, by the names of their
+    /// source packages, or how many are in each; a record, or what it needs to be built; or what a builder holds, of all
+    /// architectures, by take number.
     ///
-    /// The refusals come in this order: `Closed`, `BadName` if a name is malformed, `UnknownArch` if the architecture was
-    /// never added, `UnknownBuilder` if the builder was added for no architecture, `UnknownSource` if the source package
-    /// has no record there. `Memory` comes for no malformed name; the office is then closed if its connection cannot be
-    /// used on. After `Store` it is closed. The office is as it was after each answer (this project's own).
+    /// The refusals come in this order: `Closed`, `BadName` if a name is malformed or no state has the state's name,
+    /// `UnknownArch` if the architecture was never added, `UnknownBuilder` if the builder was added for no architecture,
+    /// `UnknownSource` if the source package has no record there. `Memory` comes for no malformed name; the office is then
+    /// closed if its connection cannot be used on. After `Store` it is closed. The office is as it was after each answer
+    /// (this project's own).
     pub fn ask(&mut self, query: &Query) -> Result<Answer, Refusal>
         ensures asks { Asks S.Store (λ machine. answer_of machine query.now)
             (has_malformed_name query.now) self.old.is_closed self.old.known self.old.store

@@ -2,13 +2,17 @@
 ghost use Rattle.std.specs.Prelude.{◌≡◌, false, not, IfErr, IfOk};
 ghost use Rattle.deb_text.specs.Lists.{is_nonempty};
 ghost use Rattle.wb_states.specs.Refusals.{is_of_store};
-ghost use Rattle.wb_states.specs.Queries.{answer_in, found_at, item_in, mine_in};
+ghost use Rattle.std.specs.Prelude.{Some};
+ghost use Rattle.wb_states.specs.Machine.{is_unknown_arch};
+ghost use Rattle.wb_states.specs.Queries.{answer_in, depends_at, depends_in, found_at, item_in, mine_in};
+ghost use Rattle.wb_states.specs.Queries.{queue_in, records_in, summary_in};
+ghost use Rattle.wb_states.specs.State.{state_named};
 ghost use Rattle.wb_store.specs.Finds.{Finds};
 
 use deb_text::{Items, Text};
 use sqlite::Alter;
 use std::alloc::AllocError;
-use wb_states::{Answer, KeyedRecord, Query, Record, Refusal, StoreFault};
+use wb_states::{Answer, KeyedRecord, Query, Record, Refusal, State, StoreFault};
 use wb_store::Store;
 
 /// What the office answers to a query of which each name has its form. The faults are those of the look-ups, and `Memory`.
@@ -22,9 +26,79 @@ pub(crate) fn find_answer<S: Alter + Drop>(
     ensures kind { IfOk result (λ answer. IfErr answer (λ refusal. is_of_store refusal ≡ false)) }
 {
     match query {
+        Query::Queue { arch } => find_queue(store, arch),
+        Query::ByState { arch, state } => find_by_state(store, arch, state),
         Query::Item { arch, source } => find_item(store, arch, source),
         Query::Mine { builder } => find_mine(store, builder),
+        Query::Depends { arch, source } => find_depends(store, arch, source),
+        Query::Summary { arch } => find_summary(store, arch),
     }
+}
+
+/// Whether the architecture was never added.
+fn is_unknown_arch<S: Alter + Drop>(store: &mut Store<S>, arch: &Text) -> Result<bool, StoreFault>
+    ensures finds { Finds S.Store (λ machine is_unknown. is_unknown ≡ is_unknown_arch machine arch.now)
+        store.old store.new result }
+{
+    let words = store.arch(arch)?;
+    Ok(words.is_none())
+}
+
+/// The answer to a query for the queue of the architecture.
+fn find_queue<S: Alter + Drop>(
+    store: &mut Store<S>,
+    arch: &Text,
+) -> Result<Result<Answer, Refusal>, StoreFault>
+    ensures finds { Finds S.Store (λ machine answer. answer ≡ queue_in machine arch.now)
+        store.old store.new result }
+    ensures kind { IfOk result (λ answer. IfErr answer (λ refusal. is_of_store refusal ≡ false)) }
+{
+    let is_unknown = is_unknown_arch(store, arch)?;
+    if is_unknown {
+        return Ok(Err(Refusal::UnknownArch));
+    }
+    let records = Items::from(store.queue_of(arch)?);
+    let arch = arch.clone()?;
+    Ok(Ok(Answer::Queue { arch, records }))
+}
+
+/// The same for the records of the architecture that are in the state with this name.
+fn find_by_state<S: Alter + Drop>(
+    store: &mut Store<S>,
+    arch: &Text,
+    name: &Text,
+) -> Result<Result<Answer, Refusal>, StoreFault>
+    ensures finds { Finds S.Store (λ machine answer. answer ≡ records_in machine arch.now (state_named name.now))
+        store.old store.new result }
+    ensures kind { IfOk result (λ answer. IfErr answer (λ refusal. is_of_store refusal ≡ false)) }
+{
+    match State::of_name(name.as_str()) {
+        Some(state) => find_in_state(store, arch, state),
+        None => Ok(Err(Refusal::BadName)),
+    }
+}
+
+/// The same for the records of the architecture that are in the state.
+fn find_in_state<S: Alter + Drop>(
+    store: &mut Store<S>,
+    arch: &Text,
+    state: State,
+) -> Result<Result<Answer, Refusal>, StoreFault>
+    ensures finds { Finds S.Store (λ machine answer. answer ≡ records_in machine arch.now (Some state))
+        store.old store.new result }
+    ensures kind { IfOk result (λ answer. IfErr answer (λ refusal. is_of_store refusal ≡ false)) }
+{
+    let is_unknown = is_unknown_arch(store, arch)?;
+    if is_unknown {
+        return Ok(Err(Refusal::UnknownArch));
+    }
+    let records = Items::from(store.in_state(arch, state)?);
+    let arch = arch.clone()?;
+    Ok(Ok(Answer::ByState {
+        arch,
+        state,
+        records,
+    }))
 }
 
 /// The same for the record of the source package on the architecture.
@@ -37,8 +111,7 @@ fn find_item<S: Alter + Drop>(
         store.old store.new result }
     ensures kind { IfOk result (λ answer. IfErr answer (λ refusal. is_of_store refusal ≡ false)) }
 {
-    let words = store.arch(arch)?;
-    let is_unknown = words.is_none();
+    let is_unknown = is_unknown_arch(store, arch)?;
     if is_unknown {
         return Ok(Err(Refusal::UnknownArch));
     }
@@ -82,4 +155,66 @@ fn find_mine<S: Alter + Drop>(
     let records = Items::from(store.held_by(builder)?);
     let builder = builder.clone()?;
     Ok(Ok(Answer::Mine { builder, records }))
+}
+
+/// The same for what the source package needs to be built on the architecture.
+fn find_depends<S: Alter + Drop>(
+    store: &mut Store<S>,
+    arch: &Text,
+    source: &Text,
+) -> Result<Result<Answer, Refusal>, StoreFault>
+    ensures finds { Finds S.Store (λ machine answer. answer ≡ depends_in machine arch.now source.now)
+        store.old store.new result }
+    ensures kind { IfOk result (λ answer. IfErr answer (λ refusal. is_of_store refusal ≡ false)) }
+{
+    let is_unknown = is_unknown_arch(store, arch)?;
+    if is_unknown {
+        return Ok(Err(Refusal::UnknownArch));
+    }
+    let kept = store.get(arch, source)?;
+    Ok(depends_found(arch, source, kept)?)
+}
+
+/// The answer with what the record that was found needs, or that there is none. The error is that there is no memory for
+/// it.
+fn depends_found(
+    arch: &Text,
+    source: &Text,
+    found: Option<Record>,
+) -> Result<Result<Answer, Refusal>, AllocError>
+    ensures value { IfOk result (λ answer. answer ≡ depends_at arch.now source.now found) }
+    ensures kind { IfOk result (λ answer. IfErr answer (λ refusal. is_of_store refusal ≡ false)) }
+{
+    match found {
+        None => Ok(Err(Refusal::UnknownSource)),
+        Some(current) => Ok(Ok(Answer::Depends {
+            arch: arch.clone()?,
+            source: source.clone()?,
+            depends: current.depends,
+        })),
+    }
+}
+
+/// The same for how many records of the architecture are in each state.
+fn find_summary<S: Alter + Drop>(
+    store: &mut Store<S>,
+    arch: &Text,
+) -> Result<Result<Answer, Refusal>, StoreFault>
+    ensures finds { Finds S.Store (λ machine answer. answer ≡ summary_in machine arch.now)
+        store.old store.new result }
+    ensures kind { IfOk result (λ answer. IfErr answer (λ refusal. is_of_store refusal ≡ false)) }
+{
+    let is_unknown = is_unknown_arch(store, arch)?;
+    if is_unknown {
+        return Ok(Err(Refusal::UnknownArch));
+    }
+    let of_office = store.office_row()?;
+    let counts = store.counts(arch)?;
+    let accepted = of_office.accepted;
+    let arch = arch.clone()?;
+    Ok(Ok(Answer::Summary {
+        accepted,
+        arch,
+        counts,
+    }))
 }

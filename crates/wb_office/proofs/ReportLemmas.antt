@@ -1,0 +1,262 @@
+-- How a report is carried out over tables: its lines are read, the records that they name are looked up, and what differs is kept.
+use Rattle.std.proofs.Common.{◌≡◌, ◌≢◌, ◌∙◌, refl, sym, ap, subst, inl, inr, ℕ, ◌+◌, Bool, true, false, cond, not, ◌||◌, List, [], ◌∷◌, ◌++◌, map as each, length, drop, get_or, ◌<◌, Option, Some, None, option_map, option_and_then, Result, Ok, Err, IfOk, IfErr, IsErrAnd, IsTrue, OnOk, bytes_eq, append_assoc}
+use Rattle.std.proofs.lemmas.List.{map-append}
+use Rattle.std.specs.List.{cons_option, list_any}
+use Rattle.std.specs.FinMap as map
+use Rattle.sqlite_trees.specs.declared.store.Store.{Ghosts}
+use Rattle.sqlite.specs.Held.{Held, state}
+use Rattle.sqlite.specs.State.{HasCleanDisk}
+use Rattle.wb_states.specs.declared.arch.OsCpu.{OsCpu}
+use Rattle.wb_states.specs.declared.command.Command.{Command}
+use Rattle.wb_states.specs.declared.command.Command.TheVariants as of
+use Rattle.wb_states.specs.declared.command.Report.{Report}
+use Rattle.wb_states.specs.declared.counts.Counts.{Counts}
+use Rattle.wb_states.specs.declared.keyed.KeyedRecord.{KeyedRecord}
+use Rattle.wb_states.specs.declared.record.Record.{Record}
+use Rattle.wb_states.specs.declared.refusal.Refusal.{Refusal}
+use Rattle.wb_states.specs.declared.refusal.Refusal.TheVariants.{Memory}
+use Rattle.wb_states.specs.declared.reply.Reply.TheVariants.{Reported}
+use Rattle.wb_states.specs.declared.store_fault.StoreFault.{StoreFault}
+use Rattle.wb_states.specs.Lookups.{entry_of}
+use Rattle.wb_states.specs.Machine.{Machine, IsConsistent, is_unknown_arch}
+use Rattle.wb_states.specs.Queue.{Entry}
+use Rattle.wb_states.specs.Refusals.{IsOfMachine, is_of_store}
+use Rattle.wb_states.specs.Names.{is_arch_name}
+use Rattle.wb_merge.specs.declared.report.ReportFault.{ReportFault}
+use Rattle.wb_merge.specs.declared.report.ReportLine.{ReportLine}
+use Rattle.wb_merge.specs.declared.report.ReportFault.TheVariants as fault
+use Rattle.wb_merge.specs.Merged.{Records}
+use Rattle.wb_merge.specs.Report.{Lines, refusal_of_report, report_of, report_takes_memory}
+use Rattle.wb_merge.specs.Reported.{changed_by_line, number_reported, records_reported, row_reported, rows_over, rows_reported, with_rows}
+use Rattle.wb_merge.proofs.MergeLemmas.{listed-any}
+use Rattle.wb_merge.proofs.RecordLemmas.{same-record-is}
+use Rattle.wb_merge.proofs.ReportedLemmas.{reported-rows}
+use Rattle.wb_step.specs.Checks.{MayWantMemory, first_refusal}
+use Rattle.wb_step.specs.Named.{listed}
+use Rattle.wb_step.specs.Step.{Outcome, lines_said, outcome, step}
+use Rattle.wb_step.specs.Utf8.{HasUtf8Texts}
+use Rattle.wb_step.proofs.ReportingLemmas.{first_refusal-Report, report-bad, report-wants, want-Report}
+use Rattle.wb_store.specs.Finds.{FailsToFind, Finds}
+use Rattle.wb_store.specs.Opening.{AreCountsOf}
+use Rattle.wb_store.specs.Settled.{IsBackAt, IsSettled}
+use Rattle.wb_office.specs.declared.answer.Answered.{Answered}
+use Rattle.wb_office.specs.declared.answer.Failure.{Failure}
+use Rattle.wb_office.specs.declared.answer.Failure.TheVariants.{Refused, Unread, Uncommitted}
+use Rattle.wb_office.specs.declared.carry.CarryError.{CarryError}
+use Rattle.wb_office.specs.Answers.{Answers, AreOf, IsLeft, IsUncommitted, KeepsReport}
+use Rattle.wb_office.specs.Carried.{LeavesAs}
+use Rattle.wb_office.specs.Rows.{CarriesRows, IsAccepted, IsReportIn, row_from, rows_written}
+use Rattle.wb_store.proofs.StaysLemmas.{was_clean}
+use Rattle.wb_office.proofs.WrittenRowLemmas.{left_of}
+
+-- ---- the step
+
+-- the step of a report that is accepted: the reply has the number of the records that differ, and these are written
+reported_step : (machine : Machine) (report : Report) → first_refusal machine (of.Report report) ≡ None
+    → step machine (of.Report report) ≡ (
+      Ok (Reported (machine.accepted + 1) (number_reported machine.records report.arch (lines_said report.text))),
+      record machine { records = records_reported machine.records report.arch (lines_said report.text); accepted = machine.accepted + 1 },
+    )
+unfolding step
+reported_step machine report good = ap (λ (first : Option Refusal). outcome first None machine (of.Report report)) good
+
+pub report_reply : {machine : Machine} {report : Report} {rows : List Entry} {counts : Counts} → IsReportIn machine report rows counts
+    → (step machine (of.Report report)).0 ≡ Ok (Reported counts.accepted (length rows))
+unfolding number_reported
+report_reply {machine = machine} {report = report} is =
+    ap (λ (o : Outcome). o.0) (reported_step machine report is.good) ∙ (λ i. Ok (Reported (sym is.counts_are.1 i) (length (sym is.rows_are i))))
+
+pub report_whole : {machine : Machine} {report : Report} {rows : List Entry} {counts : Counts} → IsReportIn machine report rows counts
+    → rows_written rows counts machine ≡ (step machine (of.Report report)).1
+report_whole {machine = machine} {report = report} is =
+    (λ i. record machine {
+      records = with_rows machine.records (is.rows_are i);
+      handed = is.counts_are.0 i;
+      accepted = is.counts_are.1 i;
+    })
+    ∙ ap (λ records. record machine { records = records; accepted = machine.accepted + 1 }) (reported-rows machine.records report.arch (lines_said report.text))
+    ∙ sym (ap (λ (o : Outcome). o.1) (reported_step machine report is.good))
+
+-- ---- it is kept, or not
+
+module _ {S : Type 0} {g : Ghosts S} {rows : List Entry} {counts : Counts} {old new : Held S} where
+  -- what a report changed is committed
+  pub report_kept : {A B : Type 0} {x : A} {y : B} → CarriesRows {A = A} g rows counts old new (Ok x) → (report : Report) → KeepsReport {A = B} g report rows counts old new (Ok y)
+  report_kept carries report = record {
+    was_clean = was_clean (state g old) (state g new) carries.survives;
+    limit = carries.survives.limit;
+    ok = λ clean machine settled is. subst (λ (m : Machine). IsSettled m (state g new)) (report_whole is) (carries.ok clean machine settled);
+    err = λ clean machine settled is. tt;
+    others = λ clean machine settled is. carries.others clean machine settled;
+    of_step = tt;
+  }
+
+  -- its transaction was not committed
+  pub report_not_committed : {A B : Type 0} {e : CarryError} → CarriesRows {A = A} g rows counts old new (Err e) → (report : Report)
+      → KeepsReport {A = B} g report rows counts old new (Err (Uncommitted e))
+  report_not_committed {e = e} carries report = record {
+    was_clean = was_clean (state g old) (state g new) carries.survives;
+    limit = carries.survives.limit;
+    ok = λ clean machine settled is. tt;
+    err = λ clean machine settled is. (
+      subst (λ (m : Machine). LeavesAs machine m (state g new) e) (report_whole is) (carries.err clean machine settled),
+      inr (inr (old, report, rows, counts, inl refl, refl, is, carries.cause clean machine settled)),
+    );
+    others = λ clean machine settled is. tt;
+    of_step = tt;
+  }
+
+-- ---- the answer
+
+module _ {S : Type 0} (g : Ghosts S) (counts : Counts) (report : Report) (old : Held S) where
+  -- a report that is refused changes nothing
+  pub report_refused : (Given : Machine → Type 0) (refusal : Refusal) → (IsOfMachine refusal → (machine : Machine) → Given machine → first_refusal machine (of.Report report) ≡ Some refusal)
+      → (refusal ≡ Memory → MayWantMemory (of.Report report)) → is_of_store refusal ≡ false → Answers g Given (of.Report report) old old (Err (Refused refusal))
+  unfolding step
+  report_refused Given refusal refused wants kind = record {
+    was_clean = λ clean. clean;
+    limit = refl;
+    ok = λ clean machine consistent settled given. tt;
+    err = λ clean machine consistent settled given. (λ other. step_refused machine (refused other machine given), (wants, settled));
+    others = λ clean machine consistent settled given. tt;
+    of_step = kind;
+    utf8 = tt;
+  }
+    where
+      step_refused : (machine : Machine) → first_refusal machine (of.Report report) ≡ Some refusal → (step machine (of.Report report)).0 ≡ Err refusal
+      step_refused machine is = ap (λ (first : Option Refusal). (outcome first None machine (of.Report report)).0) is
+
+-- the records that differ were found
+abbrev AreFound : Report → List Entry → Machine → Type 0
+AreFound report rows machine = rows ≡ rows_reported machine.records report.arch (lines_said report.text)
+
+-- an accepted report whose rows were found
+pub is_report : (counts after : Counts) (report : Report) (rows : List Entry) (machine : Machine) → (after.handed ≡ counts.handed) × (after.accepted ≡ counts.accepted + 1)
+    → IsAccepted counts report machine → AreFound report rows machine → IsReportIn machine report rows after
+is_report counts after report rows machine raised given found = record {
+  good = given.1;
+  rows_are = found;
+  counts_are = (raised.0 ∙ given.0.0, raised.1 ∙ ap (λ n. n + 1) given.0.1);
+}
+
+-- what was found was kept
+pub report_done : {S A : Type 0} {g : Ghosts S} {x : A} (counts after : Counts) (report : Report) (rows : List Entry) (mid new : Held S)
+    → (after.handed ≡ counts.handed) × (after.accepted ≡ counts.accepted + 1) → HasUtf8Texts (of.Report report)
+    → KeepsReport {A = A} g report rows after mid new (Ok x)
+    → Answers g (λ machine. IsAccepted counts report machine × AreFound report rows machine) (of.Report report) mid new
+    (Ok (record { reply = Reported after.accepted (length rows); counts = after }))
+report_done counts after report rows mid new raised utf8 keeps = record {
+  was_clean = keeps.was_clean;
+  limit = keeps.limit;
+  ok = λ clean machine consistent settled given.
+      let is = is_report counts after report rows machine raised given.0 given.1 in (
+        report_reply is,
+        keeps.ok clean machine settled is,
+        (ap (λ (m : Machine). m.handed) (report_whole is), ap (λ (m : Machine). m.accepted) (report_whole is)),
+      );
+  err = λ clean machine consistent settled given. tt;
+  others = λ clean machine consistent settled given. keeps.others clean machine settled (is_report counts after report rows machine raised given.0 given.1);
+  of_step = tt;
+  utf8 = utf8;
+}
+
+-- what was found was not kept
+pub report_not_kept : {S A : Type 0} {g : Ghosts S} (counts after : Counts) (report : Report) (rows : List Entry) (mid new : Held S) (failure : Failure)
+    → (after.handed ≡ counts.handed) × (after.accepted ≡ counts.accepted + 1) → KeepsReport {A = A} g report rows after mid new (Err failure)
+    → Answers g (λ machine. IsAccepted counts report machine × AreFound report rows machine) (of.Report report) mid new (Err failure)
+report_not_kept {g = g} counts after report rows mid new failure raised keeps = record {
+  was_clean = keeps.was_clean;
+  limit = keeps.limit;
+  ok = λ clean machine consistent settled given. tt;
+  err = λ clean machine consistent settled given. left_by machine failure (keeps.err clean machine settled (is_report counts after report rows machine raised given.0 given.1));
+  others = λ clean machine consistent settled given. tt;
+  of_step = keeps.of_step;
+  utf8 = tt;
+}
+  where
+    left_by : (machine : Machine) (failure : Failure) → IsUncommitted g machine (of.Report report) mid new failure → IsLeft g machine (of.Report report) mid new failure
+    left_by machine (Refused refusal) none = absurd none
+    left_by machine (Unread e) none = absurd none
+    left_by machine (Uncommitted e) left = left
+
+-- ---- the architectures that are known
+
+any-first : {X : Type 0} (name : List ℕ) (entries : List (List ℕ × X)) → list_any (λ entry. bytes_eq name entry.0) entries ≡ list_any (bytes_eq name) (each (λ entry. entry.0) entries)
+any-first name [] = refl
+any-first name (entry ∷ entries) = ap (λ b. bytes_eq name entry.0 || b) (any-first name entries)
+
+pub arch_known : (machine : Machine) (archs : List (List ℕ × OsCpu)) (arch : List ℕ) → archs ≡ map.entries machine.archs
+    → not (list_any (λ entry. bytes_eq arch entry.0) archs) ≡ is_unknown_arch machine arch
+arch_known machine archs arch are =
+    ap not (ap (list_any (λ (entry : List ℕ × OsCpu). bytes_eq arch entry.0)) are ∙ any-first arch (map.entries machine.archs) ∙ listed-any machine.archs arch)
+
+-- ---- row by row
+
+listed_before : (found : Option KeyedRecord) (behind : List Entry) → each entry_of (listed found) ++ behind ≡ cons_option (option_map entry_of found) behind
+listed_before None behind = refl
+listed_before (Some row) behind = refl
+
+-- the row of one source package more
+pub rows_next : (records : Records) (arch : List ℕ) (lines : Lines) (sources : List (List ℕ)) (at : ℕ) (source : List ℕ) → at < length sources → source ≡ get_or sources at source
+    → (rows new : List KeyedRecord) (found : Option KeyedRecord) → new ≡ rows ++ listed found
+    → each entry_of rows ++ rows_over records arch lines (drop at sources) ≡ rows_reported records arch lines → option_map entry_of found ≡ row_reported records arch lines source
+    → each entry_of new ++ rows_over records arch lines (drop (at + 1) sources) ≡ rows_reported records arch lines
+rows_next records arch lines sources at source within is rows new found made before same =
+    let behind = rows_over records arch lines (drop (at + 1) sources) in
+    ap (λ (l : List KeyedRecord). each entry_of l ++ behind) made
+    ∙ ap (λ (l : List Entry). l ++ behind) (map-append entry_of rows (listed found))
+    ∙ append_assoc (each entry_of rows) (each entry_of (listed found)) behind
+    ∙ ap (λ (l : List Entry). each entry_of rows ++ l) (listed_before found behind ∙ ap (λ (o : Option Entry). cons_option o behind) same)
+    ∙ ap (λ (l : List (List ℕ)). each entry_of rows ++ rows_over records arch lines l) (sym (left_of sources at source within is))
+    ∙ before
+
+-- the row of a record that was looked up
+pub row_is : (arch : List ℕ) (lines : Lines) (source : List ℕ) (found : Option Record) (r : Result (Option KeyedRecord) StoreFault)
+    → IfOk r (λ row. option_map entry_of row ≡ row_from arch lines source found)
+    → IfOk r (λ row. (machine : Machine) → IsConsistent machine → found ≡ map.get machine.records (arch, source) → option_map entry_of row ≡ row_reported machine.records arch lines source)
+unfolding row_reported
+row_is arch lines source found (Ok row) is = λ machine sound there. is ∙ ap (row_from arch lines source) there
+row_is arch lines source found (Err fault) is = tt
+
+-- ---- a report that cannot be read
+
+pub lines_refused : {X : Type 0} (counts : Counts) (archs : List (List ℕ × OsCpu)) (report : Report) (r : Result X Refusal) (wrong : ReportFault)
+    → IsErrAnd r (λ refusal. refusal ≡ refusal_of_report wrong) → is_arch_name report.arch ≡ true → (wrong ≢ fault.Memory → report_of report.text ≡ Err wrong)
+    → IfErr r (λ refusal. IsOfMachine refusal → (machine : Machine) → AreOf counts archs machine → first_refusal machine (of.Report report) ≡ Some refusal)
+lines_refused counts archs report (Ok x) wrong is good refused = tt
+lines_refused counts archs report (Err refusal) wrong is good refused = λ other machine own.
+    first_refusal-Report machine report false (Some refusal) _ _ (ap not good) (report-bad report.text wrong refusal refused is other) refl refl
+
+pub lines_want : {X : Type 0} (report : Report) (r : Result X Refusal) (wrong : ReportFault) → IsErrAnd r (λ refusal. refusal ≡ refusal_of_report wrong)
+    → is_arch_name report.arch ≡ true → (wrong ≡ fault.Memory → IsTrue (report_takes_memory report.text))
+    → IfErr r (λ refusal. refusal ≡ Memory → MayWantMemory (of.Report report))
+lines_want report (Ok x) wrong is good wants = tt
+lines_want report (Err refusal) wrong is good wants = λ none. want-Report report.arch report.text good (report-wants report.text wrong refusal wants is none)
+
+pub lines_kind : {X : Type 0} (r : Result X Refusal) (wrong : ReportFault) → IsErrAnd r (λ refusal. refusal ≡ refusal_of_report wrong) → IfErr r (λ refusal. is_of_store refusal ≡ false)
+lines_kind (Ok x) wrong is = tt
+lines_kind (Err refusal) fault.Memory is = ap is_of_store is
+lines_kind (Err refusal) (fault.BadReport line) is = ap is_of_store is
+
+-- what holds of a wider choice of offices
+pub answers_given : {S : Type 0} {g : Ghosts S} {First Given : Machine → Type 0} {command : Command} {old new : Held S} {r : Result Answered Failure}
+    → ((machine : Machine) → First machine → Given machine) → Answers g Given command old new r → Answers g First command old new r
+answers_given gives answers = record {
+  was_clean = answers.was_clean;
+  limit = answers.limit;
+  ok = λ clean machine consistent settled first. answers.ok clean machine consistent settled (gives machine first);
+  err = λ clean machine consistent settled first. answers.err clean machine consistent settled (gives machine first);
+  others = λ clean machine consistent settled first. answers.others clean machine consistent settled (gives machine first);
+  of_step = answers.of_step;
+  utf8 = answers.utf8;
+}
+
+-- a source package that no line names
+pub unnamed_from : (arch : List ℕ) (lines : Lines) (source : List ℕ) (found : Option Record) → map.get lines source ≡ None → None ≡ row_from arch lines source found
+unnamed_from arch lines source found unnamed = sym (
+    ap (λ (line : Option ReportLine). option_map (λ (new : Record). ((arch, source), new)) (option_and_then (changed_by_line line) found)) unnamed
+    ∙ ap (option_map (λ (new : Record). ((arch, source), new))) (at found))
+  where
+    at : (one : Option Record) → option_and_then (changed_by_line None) one ≡ None
+    at None = refl
+    at (Some current) = ap (λ b. cond b None (Some current)) ((same-record-is current current).1 refl)

@@ -1,0 +1,25 @@
+use Rattle.std.proofs.Common.{ap, ◌∙◌, Ok, Err}
+use Rattle.wb_store.proofs.ReadLemmas.{handed_on}
+use Rattle.wb_office.proofs.AskLemmas.{of_known, of_unknown}
+use Rattle.wb_states.specs.Queries.{depends_at}
+use Rattle.wb_store.proofs.FindsLemmas.{fails_to_find, finds_both, finds_from, finds_looked_up, finds_then, lacks_memory, then_fails}
+use Rattle.wb_office.proofs.query.find_depends.Goals as goal
+
+pub returns-in_err-is_unknown-clause-finds : goal.returns-in_err-is_unknown-clause-finds
+returns-in_err-is_unknown-clause-finds g c = fails_to_find c.in_err-is_unknown.ensures.finds (handed_on c.from_residual.result c.from_residual.ensures.1)
+
+pub returns-then-is_unknown-clause-finds : goal.returns-then-is_unknown-clause-finds
+returns-then-is_unknown-clause-finds g c = finds_from c.in_ok-is_unknown.ensures.finds (λ machine sound same. of_unknown _ same c.if-is_unknown.true)
+
+pub returns-in_err-kept-clause-finds : goal.returns-in_err-kept-clause-finds
+returns-in_err-kept-clause-finds g c = then_fails c.in_ok-is_unknown.ensures.finds (finds_looked_up (Err _) c.in_err-kept.ensures.looks_up)
+    (handed_on c.from_residual-in_err-kept.result c.from_residual-in_err-kept.ensures.1)
+
+pub returns-in_err-depends_found-clause-finds : goal.returns-in_err-depends_found-clause-finds
+returns-in_err-depends_found-clause-finds g c = lacks_memory (finds_both c.in_ok-is_unknown.ensures.finds (finds_looked_up (Ok _) c.in_ok-kept.ensures.looks_up))
+    (handed_on c.from_residual-in_err-depends_found.result c.from_residual-in_err-depends_found.ensures.1)
+
+pub returns-clause-finds : goal.returns-clause-finds
+returns-clause-finds g c = finds_then c.in_ok-is_unknown.ensures.finds (finds_looked_up (Ok _) c.in_ok-kept.ensures.looks_up)
+    (λ machine sound same found. of_known same c.if-is_unknown.false
+    (c.in_ok-depends_found.ensures.value ∙ ap (depends_at c.args.arch.now c.args.source.now) found))

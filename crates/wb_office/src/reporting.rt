@@ -1,0 +1,277 @@
+//! What the office answers to a report over its tables: the records that its lines name are read, and those that differ
+//! are written in one transaction.
+ghost use Rattle.std.specs.Prelude.{◌≡◌, ◌++◌, bytes_eq, nat_le, false, None, Some, map as each, option_map, IfOk, IfErr, OnOk};
+ghost use Rattle.std.specs.List.{list_any};
+ghost use Rattle.std.specs.Str.{IsUtf8};
+ghost use Rattle.wb_states.specs.declared.command.Command.TheVariants as of;
+ghost use Rattle.wb_states.specs.declared.command.Report.{Report as AnyReport};
+ghost use Rattle.wb_states.specs.declared.refusal.Refusal.TheVariants.{Memory as NoMemory};
+ghost use Rattle.wb_states.specs.declared.store_fault.StoreFault.TheVariants.{Memory};
+ghost use Rattle.wb_states.specs.Limits.{count_limit};
+ghost use Rattle.wb_states.specs.Lookups.{entry_of};
+ghost use Rattle.wb_states.specs.Machine.{Machine};
+ghost use Rattle.wb_states.specs.Refusals.{IsOfMachine, is_of_store};
+ghost use Rattle.wb_merge.specs.Reported.{row_reported, rows_reported};
+ghost use Rattle.wb_step.specs.Checks.{MayWantMemory, first_refusal};
+ghost use Rattle.wb_step.specs.Named.{listed};
+ghost use Rattle.wb_step.specs.Step.{lines_said};
+ghost use Rattle.wb_states.specs.declared.store_fault.Table.TheVariants.{Office};
+ghost use Rattle.wb_store.specs.Faults.{IsUnfit};
+ghost use Rattle.wb_store.specs.Finds.{Finds};
+ghost use Rattle.wb_office.specs.Answers.{AreOf, Answers, KeepsReport};
+ghost use Rattle.wb_office.specs.Rows.{CarriesRows, HaveFit, IsAccepted, WritesRows, row_from};
+
+use crate::answer::{Answered, Failure};
+use crate::carry::{CarryError, failure};
+use crate::merge::put_all;
+use deb_text::Text;
+use sqlite::Alter;
+use std::alloc::{AllocError, Global};
+use wb_merge::{ReportLines, changed_by_report};
+use wb_states::command::Report;
+use wb_states::{
+    COUNT_LIMIT, Counts, KeyedRecord, OsCpu, Record, Refusal, Reply, StoreFault, Table, is_arch,
+};
+use wb_store::{Store, Writing, unfit};
+
+/// Whether the architecture is among these.
+fn has_arch(archs: &[(Text, OsCpu)], arch: &Text) -> bool
+    ensures value { result ≡ list_any (λ entry. bytes_eq arch.now entry.0) archs.now }
+{
+    archs.iter().any(|entry| arch == &entry.0)
+}
+
+/// Whether no more command can be counted.
+fn is_spent(counts: Counts) -> bool
+    ensures value { result ≡ nat_le count_limit counts.accepted }
+{
+    COUNT_LIMIT <= counts.accepted
+}
+
+/// The lines of a report that an office with these counts and architectures does not refuse, or the refusal.
+fn read_report(
+    alloc: Global,
+    counts: Counts,
+    archs: &[(Text, OsCpu)],
+    report: &Report,
+) -> Result<ReportLines, Refusal>
+    ensures value { IfOk result (λ lines. lines ≡ lines_said report.now.text) }
+    ensures good { OnOk result ((machine : Machine) → AreOf counts archs.now machine
+        → first_refusal machine (of.Report report.now) ≡ None) }
+    ensures room { OnOk result (nat_le count_limit counts.accepted ≡ false) }
+    ensures utf8 { OnOk result (IsUtf8 report.now.text) }
+    ensures memory { IfErr result (λ refusal. refusal ≡ NoMemory → MayWantMemory (of.Report report.now)) }
+    ensures refused { IfErr result (λ refusal. IsOfMachine refusal → (machine : Machine)
+        → AreOf counts archs.now machine → first_refusal machine (of.Report report.now) ≡ Some refusal) }
+    ensures kind { IfErr result (λ refusal. is_of_store refusal ≡ false) }
+{
+    if !is_arch(report.arch.as_str()) {
+        return Err(Refusal::BadName);
+    }
+    let lines = ReportLines::read(alloc, report.text.as_str())?;
+    if !has_arch(archs, &report.arch) {
+        return Err(Refusal::UnknownArch);
+    }
+    if is_spent(counts) {
+        return Err(Refusal::Spent);
+    }
+    Ok(lines)
+}
+
+/// The record of the source package after the line of the report that names it, with its key, if a field of it differs.
+/// The faults are those of the look-up, and `Memory`. The database stays as it is; only a failed query may take a
+/// transaction back.
+fn find_row<S: Alter + Drop>(
+    alloc: Global,
+    store: &mut Store<S>,
+    arch: &Text,
+    lines: &ReportLines,
+    source: &Text,
+) -> Result<Option<KeyedRecord>, StoreFault>
+    ensures finds { Finds S.Store (λ machine found.
+        option_map entry_of found ≡ row_reported machine.records arch.now lines.now source.now)
+        store.old store.new result }
+{
+    let found = store.get(arch, source)?;
+    row_found(alloc, arch, lines, source, found)
+}
+
+/// The same of the record that was found. The only fault is `Memory`.
+fn row_found(
+    alloc: Global,
+    arch: &Text,
+    lines: &ReportLines,
+    source: &Text,
+    found: Option<Record>,
+) -> Result<Option<KeyedRecord>, StoreFault>
+    ensures value { IfOk result (λ row. option_map entry_of row ≡ row_from arch.now lines.now source.now found) }
+    ensures fault { IfErr result (λ fault. fault ≡ Memory) }
+{
+    let Some(line) = lines.line(source) else {
+        return Ok(None);
+    };
+    let Some(current) = found else {
+        return Ok(None);
+    };
+    let Ok(changed) = changed_by_report(alloc, &current, line) else {
+        return Err(StoreFault::Memory);
+    };
+    let Some(current) = changed else {
+        return Ok(None);
+    };
+    Ok(Some(KeyedRecord {
+        arch: arch.clone()?,
+        source: source.clone()?,
+        current,
+    }))
+}
+
+/// Adds the row after the others, if one was found. The only error is that there is no memory for it.
+fn push_found(rows: &mut Vec<KeyedRecord>, found: Option<KeyedRecord>) -> Result<(), AllocError>
+    ensures ok { OnOk result (rows.new.items ≡ rows.old.items ++ listed found) }
+{
+    if let Some(row) = found {
+        rows.push(row)?;
+    }
+    Ok(())
+}
+
+/// The records that differ after the report, with their keys. The faults are those of the look-ups, and `Memory`. The
+/// database stays as it is; only a failed query may take a transaction back.
+fn find_rows<S: Alter + Drop>(
+    alloc: Global,
+    store: &mut Store<S>,
+    arch: &Text,
+    lines: &ReportLines,
+) -> Result<Vec<KeyedRecord>, StoreFault>
+    ensures finds { Finds S.Store (λ machine rows. each entry_of rows.items ≡ rows_reported machine.records arch.now lines.now)
+        store.old store.new result }
+{
+    let sources = lines.sources()?;
+    let mut rows = Vec::new(alloc);
+    for source in &sources {
+        let found = find_row(alloc, store, arch, lines, source)?;
+        push_found(&mut rows, found)?;
+    }
+    Ok(rows)
+}
+
+/// Tests that both counts fit.
+fn check_counts(counts: Counts) -> Result<(), StoreFault>
+    ensures ok { OnOk result (HaveFit counts) }
+    ensures err { IfErr result (IsUnfit Office (HaveFit counts)) }
+{
+    if counts.handed > COUNT_LIMIT || counts.accepted > COUNT_LIMIT {
+        return Err(unfit(Table::Office));
+    }
+    Ok(())
+}
+
+/// Writes these records and counts in a transaction that is under way. The fault is that of the statement that failed, or
+/// `Damaged` with row 0 of the office or of the records if a count or a take number is above [`COUNT_LIMIT`]; the caller
+/// then takes the transaction back (this project's own).
+fn write_rows<S: Alter + Drop>(
+    writing: &mut Writing<'_, S>,
+    rows: &[KeyedRecord],
+    counts: Counts,
+) -> Result<(), StoreFault>
+    ensures same_reference { writing.new.store.ghost_name ≡ writing.old.store.ghost_name }
+    ensures writes { WritesRows S.Store (each entry_of rows.now) counts writing.old.store.now writing.new.store.now result }
+{
+    check_counts(counts)?;
+    put_all(writing, rows)?;
+    writing.set_counts(counts)
+}
+
+/// Writes these records and counts in a transaction of its own, and commits it. The errors are those of [`CarryError`],
+/// with the fault of `write_rows` or of the commit; after each but `InDoubt` the office is as it was (this project's own).
+fn carry_rows<S: Alter + Drop>(
+    store: &mut Store<S>,
+    rows: &[KeyedRecord],
+    counts: Counts,
+) -> Result<(), CarryError>
+    requires idle { store.old.in_transaction ≡ false }
+    ensures carries { CarriesRows S.Store (each entry_of rows.now) counts store.old store.new result }
+{
+    let mut writing = store.begin();
+    if let Err(fault) = write_rows(&mut writing, rows, counts) {
+        let ended = writing.roll_back();
+        return Err(failure(fault, ended));
+    }
+    match writing.commit() {
+        Ok(()) => Ok(()),
+        Err(StoreFault::Memory) => {
+            let ended = store.roll_back();
+            Err(failure(StoreFault::Memory, ended))
+        }
+        Err(fault) => Err(CarryError::InDoubt(fault)),
+    }
+}
+
+/// Writes what a report changed to the tables.
+fn keep_report<S: Alter + Drop>(
+    store: &mut Store<S>,
+    rows: &[KeyedRecord],
+    counts: Counts,
+) -> Result<(), Failure>
+    ensures keeps { (report : AnyReport) → KeepsReport S.Store report (each entry_of rows.now) counts store.old store.new result }
+{
+    if !store.is_idle() {
+        return Err(Failure::Unread(unfit(Table::Office)));
+    }
+    match carry_rows(store, rows, counts) {
+        Ok(()) => Ok(()),
+        Err(failure) => Err(Failure::Uncommitted(failure)),
+    }
+}
+
+/// Carries out a report with these lines, which the office does not refuse.
+fn answer_lines<S: Alter + Drop>(
+    alloc: Global,
+    store: &mut Store<S>,
+    counts: Counts,
+    report: &Report,
+    lines: &ReportLines,
+) -> Result<Answered, Failure>
+    requires lines { lines.now ≡ lines_said report.now.text }
+    requires room { nat_le count_limit counts.accepted ≡ false }
+    requires utf8 { IsUtf8 report.now.text }
+    ensures answers { Answers S.Store (IsAccepted counts report.now) (of.Report report.now) store.old store.new result }
+{
+    let rows = match find_rows(alloc, store, &report.arch, lines) {
+        Ok(rows) => rows,
+        Err(fault) => return Err(Failure::Unread(fault)),
+    };
+    let counts = Counts {
+        handed: counts.handed,
+        accepted: counts.accepted + 1,
+    };
+    let changed = rows.len() as u64;
+    match keep_report(store, &rows, counts) {
+        Ok(()) => Ok(Answered {
+            reply: Reply::Reported {
+                accepted: counts.accepted,
+                changed,
+            },
+            counts,
+        }),
+        Err(failure) => Err(failure),
+    }
+}
+
+/// Carries out a report: of the records only those that its lines name are read, and of these only those that differ
+/// afterwards are written.
+pub(crate) fn answer_report<S: Alter + Drop>(
+    alloc: Global,
+    store: &mut Store<S>,
+    counts: Counts,
+    archs: &[(Text, OsCpu)],
+    report: &Report,
+) -> Result<Answered, Failure>
+    ensures answers { Answers S.Store (AreOf counts archs.now) (of.Report report.now) store.old store.new result }
+{
+    match read_report(alloc, counts, archs, report) {
+        Ok(lines) => answer_lines(alloc, store, counts, report, &lines),
+        Err(refusal) => Err(Failure::Refused(refusal)),
+    }
+}
