@@ -7,3 +7,4 @@ pub mod TreeLemmas
 pub mod UsageLemmas
 pub mod StartLemmas
 pub mod CommandNameLemmas
+pub mod QueryLemmas

@@ -1,10 +1,11 @@
 -- The program's own command line is one of which clap says what it reads.
-use Rattle.std.proofs.Common.{◌≡◌, ◌∙◌, true, false, refl, sym, List, [], Option, None, Some, option_map, ap, ap₂, subst, inl, inr, codes}
+use Rattle.std.proofs.Common.{◌≡◌, ◌∙◌, Bool, true, false, if◌then◌else◌, bytes_eq, Decides, refl, sym, List, [], map, Option, None, Some, option_map, ap, ap₂, subst, inl, inr, codes}
 use Rattle.clap.specs.Words.{App, HasKind, IsAmong, Row, Text, fault_of, first_of, is_simple, is_simple_and_free, kind_of, matches_of, subcommand_of}
 use Rattle.std.specs.Prelude.{Box}
 use Rattle.std.specs.Borrow.{Bor}
 use Rattle.std.specs.Box.{box_value}
 use Rattle.std.proofs.lemmas.Option.{none-some, same_Some}
+use Rattle.std.proofs.lemmas.Slice.Eq.{bytes_eq-Decides}
 use Rattle.clap.specs.Simple.{subcommand_rows, subcommand_rows_of}
 use Rattle.clap.specs.Words.{found_of, rows_of, subcommand_name_of}
 use Rattle.clap.specs.declared.parser.matches.ArgMatches.{ArgMatches}
@@ -14,9 +15,9 @@ use Rattle.clap.specs.declared.error.Error.{Error}
 use Rattle.clap.specs.declared.error.kind.ErrorKind.{ErrorKind}
 use Rattle.clap.specs.declared.error.kind.ErrorKind.TheVariants.{DisplayHelp, OutOfMemory}
 use Rattle.clap.proofs.OnLiterals.{clap_on_literals}
-use Rattle.wb_words.specs.Start.{Asks, AsksNone, IsNoStart, Starts, begins_with_help, start_app, start_faults, store_in, subcommand_in}
+use Rattle.wb_words.specs.Start.{Asks, AsksNone, IsNoStart, Names, Starts, begin_with_query, begins_with_help, single_words, start_app, start_faults, store_in, subcommand_in}
 use Rattle.wb_words.specs.declared.start.Start.{Start}
-use Rattle.wb_words.specs.declared.start.Start.TheVariants.{Run, Serve, Help}
+use Rattle.wb_words.specs.declared.start.Start.TheVariants.{Run, Serve, Ask, CarryOut, Help}
 
 start_app-free : is_simple_and_free start_app ≡ true
 unfolding start_app clap_on_literals
@@ -66,12 +67,14 @@ subcommand_in-met app words met e found =
 
 -- words that have no fault ask for what their subcommand asks for
 pub starts-asked : (words : List Text) (start : Start) → begins_with_help words ≡ false → start_faults words ≡ []
-    → Asks (store_in words) (subcommand_in words) start → Starts words start
+    → Asks words (store_in words) (subcommand_in words) start → Starts words start
 starts-asked words (Run store) h faults asks = (h, faults, asks)
 starts-asked words (Serve store port requests) h faults asks = (h, faults, asks)
+starts-asked words (Ask store given) h faults asks = (h, faults, asks)
+starts-asked words (CarryOut store given) h faults asks = (h, faults, asks)
 starts-asked words Help h faults asks = absurd (never (subcommand_in words) asks)
   where
-    never : (named : Option (Text × List Row)) → Asks (store_in words) named Help → ⊥
+    never : (named : Option (Text × List Row)) → Asks words (store_in words) named Help → ⊥
     never None asks = asks
     never (Some named) asks = asks
 
@@ -80,13 +83,13 @@ pub starts-met : (app : App) (words : List Text) (rows : List Row) (met : Option
     → app ≡ start_app → begins_with_help words ≡ false
     → (is_simple_and_free app ≡ true → fault_of app words ≡ [])
     → (is_simple app ≡ true → (rows ≡ matches_of app words) × (met ≡ subcommand_of app words))
-    → Asks (first_of (codes "store") rows) met start → Starts words start
+    → Asks words (first_of (codes "store") rows) met start → Starts words start
 starts-met app words rows met start e h free found asks =
     let stored : first_of (codes "store") rows ≡ store_in words = store_in-found app words rows e (λ simple. (found simple).0) in
     let named : met ≡ subcommand_in words = subcommand_in-met app words met e (λ simple. (found simple).1) in
     starts-asked words start h (start_faults-none app words e free)
-    (subst (λ (sub : Option (Text × List Row)). Asks (store_in words) sub start) named
-    (subst (λ (file : Option Text). Asks file met start) stored asks))
+    (subst (λ (sub : Option (Text × List Row)). Asks words (store_in words) sub start) named
+    (subst (λ (file : Option Text). Asks words file met start) stored asks))
 
 -- words whose subcommand, as it was met, asks for nothing
 pub starts-none : (app : App) (words : List Text) (rows : List Row) (met : Option (Text × List Row))
@@ -121,3 +124,36 @@ pub subcommand_rows-met : (m : ArgMatches) (met : Option (Bor Text × Bor ArgMat
     → subcommand_rows_of m ≡ option_map (λ p. (p.0.now, rows_of (found_of p.1.now))) met
 subcommand_rows-met m met h k = names-of (subcommand_rows_of m) met (λ name. name.now) (λ arguments. rows_of (found_of arguments.now))
     (h ∙ names-met (out-ArgMatches m).subcommand) k
+
+-- ---- a single command
+
+other-name : (name other : Text) → (name ≡ other → ⊥) → bytes_eq name other ≡ false
+other-name name other h = elim (bytes_eq name other) as (λ b. Decides b (name ≡ other) → b ≡ false) [
+  | true ↦ λ d. absurd (h (d.0 refl))
+  | false ↦ λ d. refl
+] (bytes_eq-Decides name other)
+
+-- the words of a single command ask for a query or a command, by the name that they begin with
+pub single-names : (words : List Text) (file : Option Text) (name : Text) (rows : List Row) (store : Option (Bor Text)) (given : Bor (List (Bor Text)))
+    (start : Start) (asked : Bool) → start ≡ (if asked then Ask store given else CarryOut store given)
+    → begin_with_query (map (λ word. word.now) given.now) ≡ asked → map (λ word. word.now) given.now ≡ single_words words
+    → option_map (λ file. file.now) store ≡ file → (name ≡ codes "run" → ⊥) → (name ≡ codes "serve" → ⊥)
+    → Names words file (name, rows) start
+single-names words file name rows store given start true e asks are same run serve = subst (Names words file (name, rows)) (sym e) (
+  same,
+  record {
+    words_are = are;
+    asks = ap begin_with_query (sym are) ∙ asks;
+    no_run = other-name name (codes "run") run;
+    no_service = other-name name (codes "serve") serve;
+  },
+)
+single-names words file name rows store given start false e asks are same run serve = subst (Names words file (name, rows)) (sym e) (
+  same,
+  record {
+    words_are = are;
+    asks = ap begin_with_query (sym are) ∙ asks;
+    no_run = other-name name (codes "run") run;
+    no_service = other-name name (codes "serve") serve;
+  },
+)

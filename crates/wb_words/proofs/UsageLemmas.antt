@@ -7,12 +7,12 @@ use Rattle.std.specs.Borrow.{Bor}
 use Rattle.clap.specs.Words.{App, Text, app_of, new_app, shape_of, with_subcommand}
 use Rattle.clap.specs.declared.builder.command.Command.{Command}
 use Rattle.wb_words.specs.Usages.{Argument, Usage, arguments_in, arguments_named, builder_usages, list_usages}
-use Rattle.wb_words.specs.Usages.{operator_usages, usage_named, usages_in, wb_usages}
+use Rattle.wb_words.specs.Usages.{operator_usages, query_usages, usage_named, usages_in, wb_usages}
 use Rattle.wb_words.specs.Usages.{with_arguments, with_usages}
 use Rattle.wb_words.specs.declared.usage.ArgumentKind.{ArgumentKind}
 
 -- a usage as a table has it
-abbrev Entry : Type 0
+abbrev pub Entry : Type 0
 Entry = Bor Text × Bor (List (Bor Text × ArgumentKind))
 
 -- the usage at a place of a table is the first of those from that place on
@@ -69,16 +69,22 @@ pub arguments_named-table : (name : Text) {table other : List Entry} → table �
     → arguments_named name (usages_in table) ≡ arguments_named name (usages_in other)
 arguments_named-table name = ap (λ (usages : List Entry). arguments_named name (usages_in usages))
 
--- the three tables are all subcommands
-pub arguments_of-tables : {A : Type 0} (f : A → List Argument) (name : Text) (operators builders lists : Option A)
+-- two tables that give these arguments for a name give them as one
+two_tables : {A : Type 0} (f : A → List Argument) (name : Text) (first second : Option A) (usages others : List Usage)
+    → option_map f first ≡ arguments_named name usages → option_map f second ≡ arguments_named name others
+    → option_map f (option_or first second) ≡ arguments_named name (usages ++ others)
+two_tables f name first second usages others h k =
+    option_map-or f first second ∙ ap₂ option_or h k ∙ arguments_named-append name usages others
+
+-- the four tables are all subcommands
+pub arguments_of-tables : {A : Type 0} (f : A → List Argument) (name : Text) (operators builders queries lists : Option A)
     → option_map f operators ≡ arguments_named name operator_usages
     → option_map f builders ≡ arguments_named name builder_usages
+    → option_map f queries ≡ arguments_named name query_usages
     → option_map f lists ≡ arguments_named name list_usages
-    → option_map f (option_or (option_or operators builders) lists) ≡ arguments_named name wb_usages
+    → option_map f (option_or (option_or (option_or operators builders) queries) lists) ≡ arguments_named name wb_usages
 unfolding wb_usages
-arguments_of-tables f name operators builders lists o b l =
-    option_map-or f (option_or operators builders) lists
-    ∙ ap₂ option_or (option_map-or f operators builders ∙ ap₂ option_or o b) l
-    ∙ ap (λ (first : Option (List Argument)). option_or first (arguments_named name list_usages))
-    (arguments_named-append name operator_usages builder_usages)
-    ∙ arguments_named-append name (operator_usages ++ builder_usages) list_usages
+arguments_of-tables f name operators builders queries lists o b q l =
+    let commands = two_tables f name operators builders operator_usages builder_usages o b in
+    let asked = two_tables f name (option_or operators builders) queries (operator_usages ++ builder_usages) query_usages commands q in
+    two_tables f name (option_or (option_or operators builders) queries) lists (operator_usages ++ builder_usages ++ query_usages) list_usages asked l

@@ -1,24 +1,27 @@
 -- What the words after the program's name ask of it, as `clap` reads them.
-use Rattle.std.specs.Prelude.{◌≡◌, ◌≢◌, ◌⊎◌, List, [], ◌∷◌, Bool, true, false, Option, Some, None, codes, option_map, ⊤}
+use Rattle.std.specs.Prelude.{◌≡◌, ◌≢◌, ◌⊎◌, ℕ, List, [], ◌∷◌, Bool, true, false, if◌then◌else◌, drop, map, nat_eq, Option, Some, None, codes, option_map, ⊤}
+use Rattle.std.specs.Borrow.{Bor}
+use Rattle.std.specs.List.{starts_with}
 use Rattle.std.specs.Str.{bytes_eq}
 use Rattle.clap.specs.Words.{App, IsAmong, Kinds, Row, Text, fault_of, first_of, matches_of, new_app, subcommand_of, with_subcommand}
 use Rattle.clap.specs.declared.error.kind.ErrorKind.{ErrorKind}
 use Rattle.clap.specs.declared.error.kind.ErrorKind.TheVariants.{DisplayHelp}
 use Rattle.wb_words.specs.Service.{serve_app, service_named}
-use Rattle.wb_words.specs.Usages.{with_arguments}
+use Rattle.wb_words.specs.Usages.{is_query, with_arguments, with_wb_usages}
 use Rattle.wb_words.specs.declared.usage.ArgumentKind.TheVariants.{NamedWord}
 use Rattle.wb_words.specs.declared.start.Start.{Start}
-use Rattle.wb_words.specs.declared.start.Start.TheVariants.{Run, Serve, Help}
+use Rattle.wb_words.specs.declared.start.Start.TheVariants.{Run, Serve, Ask, CarryOut, Help}
 
--- the program's own command line: the option `--store`, which takes a word, the subcommands `run` and `serve`, and the options `--help` and `-h`
+-- the program's own command line: the option `--store`, which takes a word, the subcommands `run` and `serve` and those of a line, and the options `--help`
+-- and `-h`
 unfoldable pub start_app : App
-start_app = with_subcommand (with_subcommand (with_arguments (record (new_app (codes "wb")) {
+start_app = with_wb_usages (with_subcommand (with_subcommand (with_arguments (record (new_app (codes "wb")) {
   top = record ((new_app (codes "wb")).top) {
     no_binary_name = true;
     disable_help_subcommand = true;
     subcommand_required = true;
   };
-}) ((codes "store", NamedWord) ∷ [])) (new_app (codes "run")).top) serve_app.top
+}) ((codes "store", NamedWord) ∷ [])) (new_app (codes "run")).top) serve_app.top)
 
 -- the first word is `help`
 abbrev pub begins_with_help : List Text → Bool
@@ -37,20 +40,44 @@ store_in words = first_of (codes "store") (matches_of start_app words)
 unfoldable pub subcommand_in : List Text → Option (Text × List Row)
 subcommand_in words = subcommand_of start_app words
 
--- a subcommand with its arguments asks for this, with the records in this file
-abbrev pub Names : Option Text → Text × List Row → Start → Type 0
-Names file named (Run store) = (option_map (λ file. file.now) store ≡ file) × (bytes_eq named.0 (codes "run") ≡ true)
-Names file named (Serve store port requests) = (option_map (λ file. file.now) store ≡ file) × (service_named named ≡ Some (port, requests))
-Names file named Help = ⊥
+-- how many words before the subcommand name the file that keeps the records
+abbrev pub store_words : List Text → ℕ
+store_words [] = 0
+store_words (word ∷ words) = if bytes_eq word (codes "--store") then 2
+    else (if starts_with nat_eq word (codes "--store=") then 1 else 0)
 
--- a subcommand with its arguments asks for nothing
+-- the words of a single command: those from the subcommand on
+abbrev pub single_words : List Text → List Text
+single_words words = drop (store_words words) words
+
+-- the first of these words is a subcommand that asks the office
+abbrev pub begin_with_query : List Text → Bool
+begin_with_query [] = false
+begin_with_query (word ∷ words) = is_query word
+
+-- the words of a single command, as they were borrowed, which do or do not begin with a query, and the subcommand neither runs nor serves
+pub record IsSingle (words : List Text) (named : Text × List Row) (given : List (Bor Text)) (is_asked : Bool) : Type 0 where
+  pub words_are : map (λ word. word.now) given ≡ single_words words
+  pub asks : begin_with_query (single_words words) ≡ is_asked
+  pub no_run : bytes_eq named.0 (codes "run") ≡ false
+  pub no_service : bytes_eq named.0 (codes "serve") ≡ false
+
+-- a subcommand with its arguments asks for this, with the records in this file
+abbrev pub Names : List Text → Option Text → Text × List Row → Start → Type 0
+Names words file named (Run store) = (option_map (λ file. file.now) store ≡ file) × (bytes_eq named.0 (codes "run") ≡ true)
+Names words file named (Serve store port requests) = (option_map (λ file. file.now) store ≡ file) × (service_named named ≡ Some (port, requests))
+Names words file named (Ask store given) = (option_map (λ file. file.now) store ≡ file) × IsSingle words named given.now true
+Names words file named (CarryOut store given) = (option_map (λ file. file.now) store ≡ file) × IsSingle words named given.now false
+Names words file named Help = ⊥
+
+-- a subcommand with its arguments asks for nothing: it serves, and a number is missing or out of range
 abbrev pub NamesNone : Text × List Row → Type 0
-NamesNone named = (bytes_eq named.0 (codes "run") ≡ false) × (service_named named ≡ None)
+NamesNone named = (bytes_eq named.0 (codes "serve") ≡ true) × (service_named named ≡ None)
 
 -- the subcommand, if there is one, asks for this
-abbrev pub Asks : Option Text → Option (Text × List Row) → Start → Type 0
-Asks file None start = ⊥
-Asks file (Some named) start = Names file named start
+abbrev pub Asks : List Text → Option Text → Option (Text × List Row) → Start → Type 0
+Asks words file None start = ⊥
+Asks words file (Some named) start = Names words file named start
 
 -- there is no subcommand, or it asks for nothing
 abbrev pub AsksNone : Option (Text × List Row) → Type 0
@@ -59,12 +86,14 @@ AsksNone (Some named) = NamesNone named
 
 -- the words have no fault, and their subcommand asks for this
 abbrev pub IsRead : List Text → Start → Type 0
-IsRead words start = (begins_with_help words ≡ false) × (start_faults words ≡ []) × Asks (store_in words) (subcommand_in words) start
+IsRead words start = (begins_with_help words ≡ false) × (start_faults words ≡ []) × Asks words (store_in words) (subcommand_in words) start
 
 -- the words ask for this
 abbrev pub Starts : List Text → Start → Type 0
 Starts words (Run store) = IsRead words (Run store)
 Starts words (Serve store port requests) = IsRead words (Serve store port requests)
+Starts words (Ask store given) = IsRead words (Ask store given)
+Starts words (CarryOut store given) = IsRead words (CarryOut store given)
 Starts words Help = (begins_with_help words ≡ true) ⊎ IsAmong DisplayHelp (start_faults words)
 
 -- the words have a fault other than that they ask for help

@@ -1,5 +1,5 @@
 -- The subcommands of the office with their arguments, as `clap` knows them.
-use Rattle.std.specs.Prelude.{List, [], ◌∷◌, ◌++◌, Option, Some, true, codes, find, map, option_map}
+use Rattle.std.specs.Prelude.{Bool, List, [], ◌∷◌, ◌++◌, Option, Some, is_some, true, codes, find, map, option_map}
 use Rattle.std.specs.Borrow.{Bor}
 use Rattle.std.specs.Str.{bytes_eq}
 use Rattle.clap.specs.Lexer.{usize_max}
@@ -62,13 +62,25 @@ builder_usages = (codes "next", arch_and_builder ++ (codes "after", NamedWord) �
     ∷ (codes "attempted", (codes "take", Word) ∷ (codes "reason", AnyWords) ∷ [])
     ∷ []
 
--- the subcommands that read lists of the archive
+-- the subcommands that ask the office
+abbrev pub query_usages : List Usage
+query_usages = (codes "queue", word_arguments (codes "arch" ∷ []))
+    ∷ (codes "summary", word_arguments (codes "arch" ∷ []))
+    ∷ (codes "by-state", word_arguments (codes "arch" ∷ codes "state" ∷ []))
+    ∷ (codes "item", word_arguments (codes "arch" ∷ codes "source" ∷ []))
+    ∷ (codes "depends", word_arguments (codes "arch" ∷ codes "source" ∷ []))
+    ∷ (codes "mine", word_arguments (codes "builder" ∷ []))
+    ∷ []
+
+-- the subcommands that read files
 abbrev pub list_usages : List Usage
-list_usages = (codes "merge", (codes "sources", Word) ∷ (codes "parts", SomeWords) ∷ []) ∷ []
+list_usages = (codes "merge", (codes "sources", Word) ∷ (codes "parts", SomeWords) ∷ [])
+    ∷ (codes "report", word_arguments (codes "arch" ∷ codes "file" ∷ []))
+    ∷ []
 
 -- all subcommands
 unfoldable pub wb_usages : List Usage
-wb_usages = operator_usages ++ builder_usages ++ list_usages
+wb_usages = operator_usages ++ builder_usages ++ query_usages ++ list_usages
 
 -- the first usage of a subcommand
 abbrev pub usage_named : Text → List Usage → Option Usage
@@ -77,6 +89,10 @@ usage_named name usages = find (λ usage. bytes_eq usage.0 name) usages
 -- the arguments of a subcommand
 abbrev pub arguments_named : Text → List Usage → Option (List Argument)
 arguments_named name usages = option_map (λ usage. usage.1) (usage_named name usages)
+
+-- a subcommand of this name asks the office
+abbrev pub is_query : Text → Bool
+is_query name = is_some (arguments_named name query_usages)
 
 -- ---- the command line, as `clap` knows it
 
@@ -110,6 +126,11 @@ with_usages app [] = app
 with_usages app (usage ∷ usages) =
     with_usages (with_subcommand app (subcommand_shape usage)) usages
 
+-- a command with the subcommands of a line
+abbrev pub with_wb_usages : App → App
+with_wb_usages app =
+    with_usages (with_usages (with_usages (with_usages app operator_usages) builder_usages) query_usages) list_usages
+
 -- a command whose first word is a subcommand, and which gives no help
 abbrev pub bare_app : App
 bare_app = record (new_app (codes "wb")) {
@@ -123,7 +144,7 @@ bare_app = record (new_app (codes "wb")) {
 
 -- the command of a line, with all its subcommands
 unfoldable pub wb_app : App
-wb_app = with_usages (with_usages (with_usages bare_app operator_usages) builder_usages) list_usages
+wb_app = with_wb_usages bare_app
 
 -- a command that takes no subcommand and gives no help
 abbrev pub bare_subcommand : Text → App

@@ -1,5 +1,5 @@
 -- What the words of a line ask of the office, as `clap` reads them.
-use Rattle.std.specs.Prelude.{◌==◌, List, [], ◌∷◌, Option, Some, None, codes, if◌then◌else◌}
+use Rattle.std.specs.Prelude.{◌==◌, ℕ, ⊤, List, [], ◌∷◌, Option, Some, None, codes, if◌then◌else◌}
 use Rattle.std.specs.Prelude.{option_and_then, option_map}
 use Prim.Native.Char.{code}
 use Rattle.std.specs.List.{slice_split}
@@ -10,6 +10,8 @@ use Rattle.wb_states.specs.declared.command.Command.{Command}
 use Rattle.wb_states.specs.Forms.{AddArch, AddBuilder, Attempted, BuildPriority, Built, DepWait}
 use Rattle.wb_states.specs.Forms.{Enter, Fail, GiveBack, Next, NotForUs}
 use Rattle.wb_states.specs.Forms.{PutBack, Rebuild, Take, Uploaded, Waits}
+use Rattle.wb_states.specs.declared.query.Query.{Query}
+use Rattle.wb_states.specs.declared.query.Query.TheVariants as query
 use Rattle.wb_words.specs.Arguments.{integer_of, number_of, optional_number_of, parts_of, subject_of, word_of}
 use Rattle.wb_words.specs.Arguments.{words_of}
 use Rattle.wb_words.specs.Usages.{wb_app}
@@ -126,16 +128,45 @@ builder_command name rows = if bytes_eq name (codes "next") then next_of rows
     else (if bytes_eq name (codes "waits") then waits_of rows
     else (if bytes_eq name (codes "attempted") then attempted_of rows else None))))))
 
--- ---- what reads lists
+-- ---- what asks the office
+
+-- the query that a word is asked with
+abbrev pub query_of : (List ℕ → Query) → Text → List Row → Option Query
+query_of asks id rows = option_map asks (word_of id rows)
+
+-- the query that an architecture and another word are asked with
+abbrev pub arch_query_of : (List ℕ → List ℕ → Query) → Text → List Row → Option Query
+arch_query_of asks id rows = option_and_then (λ arch. query_of (asks arch) id rows) (word_of (codes "arch") rows)
+
+-- the query of this name with these arguments
+unfoldable pub query_named : Text → List Row → Option Query
+query_named name rows = if bytes_eq name (codes "queue") then query_of (λ arch. query.Queue arch) (codes "arch") rows
+    else (if bytes_eq name (codes "summary") then query_of (λ arch. query.Summary arch) (codes "arch") rows
+    else (if bytes_eq name (codes "by-state") then arch_query_of (λ arch state. query.ByState arch state) (codes "state") rows
+    else (if bytes_eq name (codes "item") then arch_query_of (λ arch source. query.Item arch source) (codes "source") rows
+    else (if bytes_eq name (codes "depends") then arch_query_of (λ arch source. query.Depends arch source) (codes "source") rows
+    else (if bytes_eq name (codes "mine") then query_of (λ builder. query.Mine builder) (codes "builder") rows else None)))))
+
+-- what the subcommand of this name asks for with these arguments, if it asks the office
+abbrev pub query_invocation : Text → List Row → Option Invocation
+query_invocation name rows = option_map (λ asked. invocation.Query asked) (query_named name rows)
+
+-- ---- what reads files
 
 -- to merge the lists in files
 unfoldable pub merge_of : List Row → Option Invocation
 merge_of rows = option_and_then (λ sources. option_map (λ parts. invocation.Merge sources parts)
     (parts_of (codes "parts") rows)) (word_of (codes "sources") rows)
 
--- what the subcommand of this name, one that reads lists, asks for with these arguments
+-- to carry out the report of an architecture in a file
+unfoldable pub report_of : List Row → Option Invocation
+report_of rows = option_and_then (λ arch. option_map (λ file. invocation.Report arch file)
+    (word_of (codes "file") rows)) (word_of (codes "arch") rows)
+
+-- what the subcommand of this name, one that reads files, asks for with these arguments
 unfoldable pub list_invocation : Text → List Row → Option Invocation
-list_invocation name rows = if bytes_eq name (codes "merge") then merge_of rows else None
+list_invocation name rows = if bytes_eq name (codes "merge") then merge_of rows
+    else (if bytes_eq name (codes "report") then report_of rows else None)
 
 -- ---- what a line asks for
 
@@ -148,9 +179,13 @@ abbrev pub or_asked : Option Command → Option Invocation → Option Invocation
 or_asked (Some command) next = Some (invocation.Command command)
 or_asked None next = next
 
+-- what the subcommand of this name asks for with these arguments, if it is no command
+unfoldable pub other_invocation : Text → List Row → Option Invocation
+other_invocation name rows = option_or (query_invocation name rows) (list_invocation name rows)
+
 -- what the subcommand of this name asks for with these arguments
 unfoldable pub invocation_named : Text × List Row → Option Invocation
-invocation_named named = or_asked (command_named named.0 named.1) (list_invocation named.0 named.1)
+invocation_named named = or_asked (command_named named.0 named.1) (other_invocation named.0 named.1)
 
 -- what is asked for, if the words have no fault
 abbrev pub unless_faulty : Kinds → Option Invocation → Option Invocation
@@ -161,6 +196,13 @@ unless_faulty (kind ∷ kinds) invocation = None
 unfoldable pub invocation_in : List Text → Option Invocation
 invocation_in words = unless_faulty (fault_of wb_app words)
     (option_and_then invocation_named (subcommand_of wb_app words))
+
+-- what is asked for is a query
+abbrev pub IsQuery : Invocation → Type 0
+IsQuery (invocation.Command command) = ⊥
+IsQuery (invocation.Query asked) = ⊤
+IsQuery (invocation.Merge sources parts) = ⊥
+IsQuery (invocation.Report arch file) = ⊥
 
 -- what a text asks for, its words separated by single spaces
 abbrev pub invocation_by : Text → Option Invocation

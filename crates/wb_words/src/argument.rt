@@ -55,7 +55,7 @@ pub(crate) fn words(alloc: Global, arguments: &ArgMatches<'_>, id: &str) -> Resu
 
 /// The whole number from 0 to 2^64 - 1 that the text writes in decimal digits, leading zeros and
 /// one plus sign before them allowed; `None` for any other text.
-fn number_in(text: &str) -> Option<u64>
+pub(crate) fn number_in(text: &str) -> Option<u64>
     ensures value { result ≡ number_in text.now }
 {
     text.parse::<u64>().ok()

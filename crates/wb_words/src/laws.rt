@@ -1,7 +1,8 @@
 //! What lines ask for and what the program is started for, by examples. The functions run nothing:
 //! their contracts are proved.
 ghost use Rattle.std.specs.Prelude.{◌≡◌, ◌∷◌, ◌++◌, [], ℕ, pos, neg_ℤ, List, None, Some, codes};
-ghost use Rattle.std.specs.Prelude.{option_map};
+ghost use Rattle.std.specs.Prelude.{true, map, option_map, IfSome};
+ghost use Rattle.std.specs.Borrow.{Bor};
 ghost use Rattle.clap.specs.Words.{Row, Text};
 ghost use Rattle.wb_states.specs.Commands.{name_of_command};
 ghost use Rattle.wb_states.specs.declared.command.Command.{Command as AnyCommand};
@@ -10,12 +11,13 @@ ghost use Rattle.wb_states.specs.Forms.{DepWait, Enter, Fail};
 ghost use Rattle.wb_states.specs.Forms.{GiveBack, Next, NotForUs};
 ghost use Rattle.wb_states.specs.Forms.{PutBack, Rebuild, Take};
 ghost use Rattle.wb_states.specs.Forms.{Uploaded, Waits};
+ghost use Rattle.wb_states.specs.declared.query.Query.TheVariants as query;
 ghost use Rattle.wb_words.specs.Arguments.{integer_in, joined, number_in, parts_in};
-ghost use Rattle.wb_words.specs.Start.{IsNoStart, Starts, start_faults, store_in};
+ghost use Rattle.wb_words.specs.Start.{IsNoStart, Starts, begin_with_query, single_words, start_faults, store_in};
 ghost use Rattle.wb_words.specs.Usages.{usage_named, wb_usages};
-ghost use Rattle.wb_words.specs.Words.{command_named, invocation_by, invocation_in};
-ghost use Rattle.wb_words.specs.declared.start.Start.TheVariants.{Help, Run, Serve};
-ghost use Rattle.wb_words.specs.declared.words.Invocation.TheVariants.{Command, Merge};
+ghost use Rattle.wb_words.specs.Words.{command_named, invocation_by, invocation_in, IsQuery};
+ghost use Rattle.wb_words.specs.declared.start.Start.TheVariants.{Ask, CarryOut, Help, Run, Serve};
+ghost use Rattle.wb_words.specs.declared.words.Invocation.TheVariants.{Command, Merge, Query, Report};
 
 /// Each subcommand of operators with its arguments is a command.
 pub fn operator_lines_are_commands()
@@ -60,6 +62,33 @@ pub fn builder_lines_are_commands()
         ≡ Some (Command (Attempted 1 [])) }
 {}
 
+/// Each subcommand that asks the office is a query. A state's name is taken as it came: the office refuses
+/// one that no state has.
+pub fn query_lines_are_queries()
+    // of an architecture
+    ensures queue { invocation_by (codes "queue amd64")
+        ≡ Some (Query (query.Queue (codes "amd64"))) }
+    ensures summary { invocation_by (codes "summary amd64")
+        ≡ Some (Query (query.Summary (codes "amd64"))) }
+    ensures by_state { invocation_by (codes "by-state amd64 Needs-Build")
+        ≡ Some (Query (query.ByState (codes "amd64") (codes "Needs-Build"))) }
+    // of a source package
+    ensures item { invocation_by (codes "item amd64 hello")
+        ≡ Some (Query (query.Item (codes "amd64") (codes "hello"))) }
+    ensures depends { invocation_by (codes "depends amd64 hello")
+        ≡ Some (Query (query.Depends (codes "amd64") (codes "hello"))) }
+    // of a builder
+    ensures mine { invocation_by (codes "mine b1") ≡ Some (Query (query.Mine (codes "b1"))) }
+    // words that are lacking, or too many
+    ensures no_arch { invocation_by (codes "queue") ≡ None }
+    ensures no_state { invocation_by (codes "by-state amd64") ≡ None }
+    ensures no_source { invocation_by (codes "depends amd64") ≡ None }
+    ensures no_builder { invocation_by (codes "mine") ≡ None }
+    ensures two { invocation_by (codes "summary amd64 i386") ≡ None }
+    ensures three { invocation_by (codes "item amd64 hello 1.0-1") ≡ None }
+    ensures option { invocation_by (codes "queue -a") ≡ None }
+{}
+
 /// A merge names the file of the Sources list, and then parts. Each part is cut at its first `=`. Its
 /// architecture may be empty here: the office refuses that.
 pub fn merge_lines_name_files()
@@ -72,6 +101,15 @@ pub fn merge_lines_name_files()
         ≡ Some (Merge (codes "S") (record { arch = []; packages = codes "f" } ∷ [])) }
     ensures first { invocation_by (codes "merge S a=b=c")
         ≡ Some (Merge (codes "S") (record { arch = codes "a"; packages = codes "b=c" } ∷ [])) }
+{}
+
+/// A report names its architecture and its file.
+pub fn report_lines_name_a_file()
+    ensures report { invocation_by (codes "report amd64 builds.txt")
+        ≡ Some (Report (codes "amd64") (codes "builds.txt")) }
+    ensures no_file { invocation_by (codes "report amd64") ≡ None }
+    ensures two { invocation_by (codes "report amd64 a b") ≡ None }
+    ensures option { invocation_by (codes "report amd64 -a") ≡ None }
 {}
 
 /// One space joins the words of a last argument. The first `--`, before or between them, is none of
@@ -201,10 +239,25 @@ pub fn any_words_are_arguments()
         ∷ codes "--" ∷ take_number ∷ first ∷ second ∷ [])
         ≡ option_map (λ n. Command (Attempted n (joined (first ∷ second ∷ []))))
         (number_in take_number) }
-    // of lists
+    // of queries
+    ensures queue { (arch : List ℕ) → invocation_in (codes "queue" ∷ codes "--" ∷ arch ∷ [])
+        ≡ Some (Query (query.Queue arch)) }
+    ensures summary { (arch : List ℕ) → invocation_in (codes "summary" ∷ codes "--" ∷ arch ∷ [])
+        ≡ Some (Query (query.Summary arch)) }
+    ensures by_state { (arch state : List ℕ) → invocation_in (codes "by-state" ∷ codes "--" ∷ arch ∷ state
+        ∷ []) ≡ Some (Query (query.ByState arch state)) }
+    ensures item { (arch source : List ℕ) → invocation_in (codes "item" ∷ codes "--" ∷ arch ∷ source
+        ∷ []) ≡ Some (Query (query.Item arch source)) }
+    ensures depends { (arch source : List ℕ) → invocation_in (codes "depends" ∷ codes "--" ∷ arch ∷ source
+        ∷ []) ≡ Some (Query (query.Depends arch source)) }
+    ensures mine { (builder : List ℕ) → invocation_in (codes "mine" ∷ codes "--" ∷ builder ∷ [])
+        ≡ Some (Query (query.Mine builder)) }
+    // of files
     ensures merge { (sources first second : List ℕ) → invocation_in (codes "merge" ∷ codes "--"
         ∷ sources ∷ first ∷ second ∷ [])
         ≡ option_map (λ parts. Merge sources parts) (parts_in (first ∷ second ∷ [])) }
+    ensures report { (arch file : List ℕ) → invocation_in (codes "report" ∷ codes "--" ∷ arch ∷ file ∷ [])
+        ≡ Some (Report arch file) }
 {}
 
 /// These words ask for nothing: no words, an unknown subcommand, help in its three forms, words without
@@ -246,7 +299,7 @@ pub fn other_arguments_are_none()
 
 /// What the program is started for: `run`, help in its three forms, and words that ask for nothing.
 pub fn starts_are_read()
-    // help is wanted, also after `run`
+    // help is wanted, also after `run` and after a command
     ensures run { Starts (codes "run" ∷ []) (Run None) }
     ensures stored { start_faults (codes "--store" ∷ codes "/var/lib/wb" ∷ codes "run" ∷ []) ≡ [] }
     ensures file { store_in (codes "--store" ∷ codes "/var/lib/wb" ∷ codes "run" ∷ []) ≡ Some (codes "/var/lib/wb") }
@@ -254,9 +307,10 @@ pub fn starts_are_read()
     ensures help { Starts (codes "help" ∷ codes "run" ∷ []) Help }
     ensures long_help { Starts (codes "run" ∷ codes "--help" ∷ []) Help }
     ensures short_help { Starts (codes "-h" ∷ []) Help }
-    // no words, a command's words, and a word that `run` does not take
+    ensures command_help { Starts (codes "next" ∷ codes "amd64" ∷ codes "-h" ∷ []) Help }
+    // no words, an unknown subcommand, and a word that `run` does not take
     ensures nothing { IsNoStart [] }
-    ensures command { IsNoStart (codes "next" ∷ codes "amd64" ∷ codes "b1" ∷ []) }
+    ensures unknown { IsNoStart (codes "nexts" ∷ codes "amd64" ∷ codes "b1" ∷ []) }
     ensures many { IsNoStart (codes "run" ∷ codes "now" ∷ codes "-h" ∷ []) }
     // a file that is not named, is named twice, or comes after `run`
     ensures unnamed { IsNoStart (codes "--store" ∷ []) }
@@ -264,22 +318,57 @@ pub fn starts_are_read()
     ensures behind { IsNoStart (codes "run" ∷ codes "--store=a" ∷ []) }
 {}
 
-/// What the program serves: on which port, and how many connections. Both numbers are read as `numbers_are_read`
-/// has it, and stand within their limits.
+/// A single command is asked for by its words, and a query as such: those are the words after the file that keeps the
+/// records. What `clap` tests of them is tested first.
+pub fn single_commands_are_read()
+    ensures asked { (given : Bor (List (Bor Text)))
+        → map (λ word. word.now) given.now ≡ codes "summary" ∷ codes "amd64" ∷ []
+        → Starts (codes "summary" ∷ codes "amd64" ∷ []) (Ask None given) }
+    ensures carried_out { (given : Bor (List (Bor Text)))
+        → map (λ word. word.now) given.now ≡ codes "add-builder" ∷ codes "b1" ∷ codes "" ∷ []
+        → Starts (codes "add-builder" ∷ codes "b1" ∷ codes "" ∷ []) (CarryOut None given) }
+    // after the file, with words that are taken as they are
+    ensures after_file { single_words (codes "--store" ∷ codes "wb.db" ∷ codes "queue" ∷ codes "a b" ∷ [])
+        ≡ codes "queue" ∷ codes "a b" ∷ [] }
+    ensures after_equals { single_words (codes "--store=wb.db" ∷ codes "mine" ∷ codes "b1" ∷ [])
+        ≡ codes "mine" ∷ codes "b1" ∷ [] }
+    ensures stored { start_faults (codes "--store" ∷ codes "wb.db" ∷ codes "fail" ∷ codes "a" ∷ codes "s" ∷ codes "1" ∷ codes "a  b"
+        ∷ codes "" ∷ []) ≡ [] }
+    ensures file { store_in (codes "--store" ∷ codes "wb.db" ∷ codes "item" ∷ codes "a" ∷ codes "s" ∷ []) ≡ Some (codes "wb.db") }
+    // a number and a part are read later
+    ensures number { start_faults (codes "built" ∷ codes "one" ∷ []) ≡ [] }
+    ensures part { start_faults (codes "merge" ∷ codes "S" ∷ codes "amd64" ∷ []) ≡ [] }
+    // a word is lacking, or there is one too many, or an option that there is not
+    ensures lacking { IsNoStart (codes "item" ∷ codes "amd64" ∷ []) }
+    ensures many { IsNoStart (codes "queue" ∷ codes "amd64" ∷ codes "i386" ∷ []) }
+    ensures option { IsNoStart (codes "next" ∷ codes "amd64" ∷ codes "-b1" ∷ []) }
+    ensures behind { IsNoStart (codes "queue" ∷ codes "amd64" ∷ codes "--store=a" ∷ []) }
+    ensures escape { IsNoStart (codes "--" ∷ codes "queue" ∷ codes "amd64" ∷ []) }
+{}
+
+/// Words whose first is the name of a query ask for no command, whatever follows: they ask for a query or for nothing.
+pub fn queries_ask_for_no_command()
+    ensures { (words : List Text) → begin_with_query words ≡ true
+        → IfSome (invocation_in words) IsQuery }
+{}
+
+/// What the program serves: on which port, and how many connections; without their number, all. Both numbers are read as
+/// `numbers_are_read` has it, and stand within their limits.
 pub fn services_are_read()
     ensures serve { Starts (codes "serve" ∷ codes "--port" ∷ codes "8080" ∷ codes "--requests" ∷ codes "10" ∷ [])
-        (Serve None 8080 10) }
-    ensures order { Starts (codes "serve" ∷ codes "--requests=+1" ∷ codes "--port=007" ∷ []) (Serve None 7 1) }
+        (Serve None 8080 (Some 10)) }
+    ensures order { Starts (codes "serve" ∷ codes "--requests=+1" ∷ codes "--port=007" ∷ []) (Serve None 7 (Some 1)) }
     ensures greatest { Starts (codes "serve" ∷ codes "--port=65535" ∷ codes "--requests=1000000" ∷ [])
-        (Serve None 65535 1000000) }
+        (Serve None 65535 (Some 1000000)) }
+    ensures unlimited { Starts (codes "serve" ∷ codes "--port=1" ∷ []) (Serve None 1 None) }
     ensures file { store_in (codes "--store" ∷ codes "wb.db" ∷ codes "serve" ∷ codes "--port=1" ∷ codes "--requests=1"
         ∷ []) ≡ Some (codes "wb.db") }
     ensures help { Starts (codes "serve" ∷ codes "--help" ∷ []) Help }
-    // a number is missing, or there are two
+    // the port is missing, or there are two
     ensures bare { IsNoStart (codes "serve" ∷ []) }
     ensures no_port { IsNoStart (codes "serve" ∷ codes "--requests=1" ∷ []) }
-    ensures no_requests { IsNoStart (codes "serve" ∷ codes "--port=1" ∷ []) }
     ensures twice { IsNoStart (codes "serve" ∷ codes "--port=1" ∷ codes "--port=1" ∷ codes "--requests=1" ∷ []) }
+    ensures both { IsNoStart (codes "serve" ∷ codes "--port=1" ∷ codes "--requests=1" ∷ codes "--requests=1" ∷ []) }
     // a number is out of range, or is none
     ensures port_zero { IsNoStart (codes "serve" ∷ codes "--port=0" ∷ codes "--requests=1" ∷ []) }
     ensures port_above { IsNoStart (codes "serve" ∷ codes "--port=65536" ∷ codes "--requests=1" ∷ []) }
@@ -287,7 +376,7 @@ pub fn services_are_read()
     ensures requests_above { IsNoStart (codes "serve" ∷ codes "--port=1" ∷ codes "--requests=1000001" ∷ []) }
     ensures word { IsNoStart (codes "serve" ∷ codes "--port=http" ∷ codes "--requests=1" ∷ []) }
     // a word too many, and `--store` after the subcommand
-    ensures many { IsNoStart (codes "serve" ∷ codes "--port=1" ∷ codes "--requests=1" ∷ codes "now" ∷ []) }
+    ensures surplus { IsNoStart (codes "serve" ∷ codes "--port=1" ∷ codes "--requests=1" ∷ codes "now" ∷ []) }
     ensures behind { IsNoStart (codes "serve" ∷ codes "--port=1" ∷ codes "--requests=1" ∷ codes "--store=a" ∷ []) }
     // in a line of `run`
     ensures line { invocation_by (codes "serve --port 1 --requests 1") ≡ None }

@@ -9,6 +9,7 @@ pub mod laws;
 mod lists;
 mod message;
 mod operator;
+mod query;
 mod service;
 mod start;
 mod tree;

@@ -1,9 +1,9 @@
-//! The subcommands that read lists of the archive.
+//! The subcommands that read files: lists of the archive, and a report.
 ghost use Rattle.std.specs.Prelude.{map};
 ghost use Rattle.clap.specs.Words.{found_of, rows_of};
 ghost use Rattle.wb_words.specs.Arguments.{part_in, parts_in, parts_of};
 ghost use Rattle.wb_words.specs.Faults.{Reads};
-ghost use Rattle.wb_words.specs.Words.{list_invocation, merge_of};
+ghost use Rattle.wb_words.specs.Words.{list_invocation, merge_of, report_of};
 
 use crate::WordsFault;
 use crate::argument::word;
@@ -14,16 +14,22 @@ use deb_text::{Items, Text};
 use std::alloc::Global;
 
 /// The subcommands with their arguments.
-pub static USAGES: [(&str, &[(&str, ArgumentKind)]); 1] = [(
-    "merge",
-    &[
-        ("sources", ArgumentKind::Word),
-        ("parts", ArgumentKind::SomeWords),
-    ],
-)];
+pub static USAGES: [(&str, &[(&str, ArgumentKind)]); 2] = [
+    (
+        "merge",
+        &[
+            ("sources", ArgumentKind::Word),
+            ("parts", ArgumentKind::SomeWords),
+        ],
+    ),
+    (
+        "report",
+        &[("arch", ArgumentKind::Word), ("file", ArgumentKind::Word)],
+    ),
+];
 
 /// What the subcommand `name` asks for with these arguments. The errors are `NoCommand` if `name` is
-/// no subcommand that reads lists, an argument was not given, or a word names no part; and `Memory`
+/// no subcommand that reads files, an argument was not given, or a word names no part; and `Memory`
 /// if there is no memory for the names.
 #[tactic(auto, unfolding(crate::specs::Words::list_invocation))]
 pub(crate) fn list_invocation(
@@ -35,6 +41,7 @@ pub(crate) fn list_invocation(
 {
     match name {
         "merge" => merge(alloc, arguments),
+        "report" => report(alloc, arguments),
         _ => Err(WordsFault::NoCommand),
     }
 }
@@ -46,6 +53,16 @@ fn merge(alloc: Global, arguments: &ArgMatches<'_>) -> Result<Invocation, WordsF
     Ok(Invocation::Merge {
         sources: word(alloc, arguments, "sources")?,
         parts: parts(alloc, arguments, "parts")?,
+    })
+}
+
+#[tactic(auto, unfolding(crate::specs::Words::report_of))]
+fn report(alloc: Global, arguments: &ArgMatches<'_>) -> Result<Invocation, WordsFault>
+    ensures value { Reads (report_of (rows_of (found_of arguments.now))) result }
+{
+    Ok(Invocation::Report {
+        arch: word(alloc, arguments, "arch")?,
+        file: word(alloc, arguments, "file")?,
     })
 }
 

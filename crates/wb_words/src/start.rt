@@ -1,12 +1,14 @@
 //! What the program is started for.
-ghost use Rattle.std.specs.Prelude.{◌≡◌, ◌≢◌, false, codes, map, option_map, IfErr, IfNone, IfOk, IfSome};
+ghost use Rattle.std.specs.Prelude.{◌≡◌, ◌≢◌, false, if◌then◌else◌, codes, map, option_map, IfErr, IfNone, IfOk, IfSome};
 ghost use Rattle.clap.specs.Words.{app_of, first_of, found_of, kind_of, rows_of, subcommand_rows_of};
 ghost use Rattle.clap.specs.declared.error.kind.ErrorKind.TheVariants.{OutOfMemory};
 ghost use Rattle.wb_words.specs.Start.{Asks, AsksNone, IsNoStart, Names, NamesNone, Starts};
-ghost use Rattle.wb_words.specs.Start.{begins_with_help, start_app};
+ghost use Rattle.wb_words.specs.Start.{begin_with_query, begins_with_help, single_words, start_app, store_words};
+ghost use Rattle.wb_words.specs.declared.start.Start.TheVariants.{Ask, CarryOut};
 
+use crate::query::is_query;
 use crate::service::{serve_command, service_of};
-use crate::tree::with_arguments;
+use crate::tree::{with_arguments, with_line_subcommands};
 use crate::usage::ArgumentKind;
 use clap::error::{Error, ErrorKind};
 use clap::{ArgMatches, Command};
@@ -26,8 +28,22 @@ pub enum Start<'a> {
         store: Option<&'a str>,
         /// The port of TCP on 127.0.0.1, at least 1.
         port: u16,
-        /// How many connections are served, from 1 to 1000000.
-        requests: u32,
+        /// How many connections are served, from 1 to 1000000; without it, all until the program is ended.
+        requests: Option<u32>,
+    },
+    /// To have the office answer a query, which leaves it as it is.
+    Ask {
+        /// The file that keeps the records; without one there are none.
+        store: Option<&'a str>,
+        /// The words of the query, of which the first is the subcommand.
+        words: &'a [&'a str],
+    },
+    /// To have the office carry out a single command.
+    CarryOut {
+        /// The file that keeps the records; without one they end with the program.
+        store: Option<&'a str>,
+        /// The words of the command, of which the first is the subcommand.
+        words: &'a [&'a str],
     },
     /// To show how the program is used.
     Help,
@@ -39,7 +55,9 @@ The central office of an autobuilder network.
 
 Usage:
   wb [--store FILE] run    Answers the commands of its input
-  wb [--store FILE] serve --port P --requests N
+  wb [--store FILE] COMMAND ARGUMENTS..
+                           Answers one command
+  wb [--store FILE] serve --port P [--requests N]
                            Answers HTTP requests of builders on this machine
   wb help                  Prints this text
   wb --version             Prints the version
@@ -49,11 +67,15 @@ with one line of JSON. With --store the records are kept in FILE, which is made
 if it is not there, and each answer is written only once its command is stored.
 Without it the records end with the program.
 
-`wb serve` listens on port P of 127.0.0.1, serves N connections, one after
-another, and ends. P is from 1 to 65535, and N from 1 to 1000000. Each
-connection carries one request. --store keeps the records as with `wb run`.
+`wb COMMAND` answers one command as `wb run` does. Each word is an argument as
+it is, also with spaces. A command that changes nothing leaves FILE as it is.
 
-The commands of `wb run` are:
+`wb serve` listens on port P of 127.0.0.1 and serves connections, one after
+another, until it is ended. With --requests it serves N of them, and ends. P is
+from 1 to 65535, and N from 1 to 1000000. Each connection carries one request.
+--store keeps the records as with `wb run`.
+
+The commands are:
 
   add-arch NAME OS CPU
           Adds an architecture
@@ -93,13 +115,31 @@ The commands of `wb run` are:
   merge SOURCESFILE PART..
           Brings the records in line with the lists of the archive. A PART is
           ARCH=PACKAGESFILE. Give one for each architecture
+  report ARCH FILE
+          Brings the records of an architecture in line with a report of which
+          build dependencies can be installed
+
+and these, which change nothing:
+
+  queue ARCH
+          Shows the queue of an architecture, in the order of building
+  summary ARCH
+          Shows how many source packages are in each state
+  by-state ARCH STATE
+          Shows the source packages in a state, such as Needs-Build
+  item ARCH SOURCE
+          Shows a source package
+  depends ARCH SOURCE
+          Shows what a source package needs to be built
+  mine BUILDER
+          Shows what a builder holds
 
 TAKE is the take number in the answer to next or take. An argument in brackets
 may be left out. An argument that ends in .. takes several words.
 
-Spaces and tabs separate words, and there are no quotes. A word of two or more
-bytes that begins with a hyphen is an option. After the word -- it is an
-argument.
+Spaces and tabs separate the words of a line, and there are no quotes. A word of
+two or more bytes that begins with a hyphen is an option. After the word -- it
+is an argument.
 ";
 
 /// Whether the first word is `help`.
@@ -115,7 +155,7 @@ fn begins_with_help(words: &[&str]) -> bool
 /// The options before the subcommand.
 const OPTIONS: [(&str, ArgumentKind); 1] = [("store", ArgumentKind::NamedWord)];
 
-/// The program's command line: the option `--store`, the subcommands `run` and `serve`, and help.
+/// The program's command line: the option `--store`, the subcommands `run` and `serve` and those of a line, and help.
 #[tactic(auto, unfolding(crate::specs::Start::start_app))]
 fn start_app<'a>(alloc: Global) -> Result<Command<'a>, AllocError>
     ensures value { IfOk result (λ command. app_of command ≡ start_app) }
@@ -124,20 +164,51 @@ fn start_app<'a>(alloc: Global) -> Result<Command<'a>, AllocError>
         .no_binary_name(true)
         .disable_help_subcommand(true)
         .subcommand_required(true);
-    with_arguments(alloc, bare, OPTIONS.as_slice())?
+    let served = with_arguments(alloc, bare, OPTIONS.as_slice())?
         .subcommand(Command::new(alloc, "run"))?
-        .subcommand(serve_command(alloc)?)
+        .subcommand(serve_command(alloc)?)?;
+    with_line_subcommands(alloc, served)
 }
 
-/// What the subcommand `name` with these arguments asks for; none if there is no such subcommand, or if one of
-/// its numbers is missing or out of range.
+/// How many words before the subcommand name the file that keeps the records.
+fn store_words(words: &[&str]) -> usize
+    ensures value { result ≡ store_words (map (λ word. word.now) words.now) }
+{
+    match words {
+        [first, ..] if *first == "--store" => 2,
+        [first, ..] if first.as_bytes().starts_with(b"--store=") => 1,
+        _ => 0,
+    }
+}
+
+/// The words of a single command: those from the subcommand on.
+fn single_words<'a>(words: &'a [&'a str]) -> &'a [&'a str]
+    ensures value { map (λ word. word.now) result.now ≡ single_words (map (λ word. word.now) words.entry.now) }
+{
+    let at = store_words(words).min(words.len());
+    &words[at..]
+}
+
+/// Whether the first of the words is a subcommand that asks the office.
+fn begin_with_query(words: &[&str]) -> bool
+    ensures value { result ≡ begin_with_query (map (λ word. word.now) words.now) }
+{
+    match words {
+        [first, ..] => is_query(first),
+        [] => false,
+    }
+}
+
+/// What the subcommand `name` of these words, with these arguments, asks for; none if it serves and one of its numbers is
+/// missing or out of range.
 fn start_named<'a>(
+    words: &'a [&'a str],
     store: Option<&'a str>,
     name: &str,
     arguments: &ArgMatches<'_>,
 ) -> Option<Start<'a>>
-    ensures some { IfSome result (Names (option_map (λ file. file.now) store.entry)
-        (name.now, rows_of (found_of arguments.now))) }
+    ensures some { IfSome result (Names (map (λ word. word.now) words.entry.now)
+        (option_map (λ file. file.now) store.entry) (name.now, rows_of (found_of arguments.now))) }
     ensures none { IfNone result (NamesNone (name.now, rows_of (found_of arguments.now))) }
 {
     match name {
@@ -150,19 +221,31 @@ fn start_named<'a>(
                 requests,
             })
         }
-        _ => None,
+        _ => Some(single_start(store, single_words(words))),
+    }
+}
+
+/// What the words of a single command ask for: a query or a command.
+fn single_start<'a>(store: Option<&'a str>, words: &'a [&'a str]) -> Start<'a>
+    ensures value { result ≡ (if begin_with_query (map (λ word. word.now) words.entry.now)
+        then Ask store.entry words.entry else CarryOut store.entry words.entry) }
+{
+    if begin_with_query(words) {
+        Start::Ask { store, words }
+    } else {
+        Start::CarryOut { store, words }
     }
 }
 
 /// What the words that were read ask for; none if their subcommand asks for nothing.
-fn start_in<'a>(matches: &ArgMatches<'a>) -> Option<Start<'a>>
-    ensures some { IfSome result (Asks (first_of (codes "store") (rows_of (found_of matches.now)))
-        (subcommand_rows_of matches.now)) }
+fn start_in<'a>(words: &'a [&'a str], matches: &ArgMatches<'a>) -> Option<Start<'a>>
+    ensures some { IfSome result (Asks (map (λ word. word.now) words.entry.now)
+        (first_of (codes "store") (rows_of (found_of matches.now))) (subcommand_rows_of matches.now)) }
     ensures none { IfNone result (AsksNone (subcommand_rows_of matches.now)) }
 {
     let store = matches.get_str("store");
     let (name, arguments) = matches.subcommand()?;
-    start_named(store, name, arguments)
+    start_named(words, store, name, arguments)
 }
 
 /// The fault of words whose subcommand asks for nothing, as `clap` words it.
@@ -175,13 +258,17 @@ fn asks_nothing(alloc: Global) -> Result<Error, AllocError> {
 
 /// What the words that were read ask for. The error is that their subcommand asks for nothing, or that there is
 /// no memory to say so.
-fn started<'a>(alloc: Global, matches: &ArgMatches<'a>) -> Result<Start<'a>, Error>
-    ensures value { IfOk result (Asks (first_of (codes "store") (rows_of (found_of matches.now)))
-        (subcommand_rows_of matches.now)) }
+fn started<'a>(
+    alloc: Global,
+    words: &'a [&'a str],
+    matches: &ArgMatches<'a>,
+) -> Result<Start<'a>, Error>
+    ensures value { IfOk result (Asks (map (λ word. word.now) words.entry.now)
+        (first_of (codes "store") (rows_of (found_of matches.now))) (subcommand_rows_of matches.now)) }
     ensures refused { IfErr result (λ error. kind_of error ≢ OutOfMemory
         → AsksNone (subcommand_rows_of matches.now)) }
 {
-    match start_in(matches) {
+    match start_in(words, matches) {
         Some(start) => Ok(start),
         None => Err(asks_nothing(alloc)?),
     }
@@ -191,10 +278,11 @@ fn started<'a>(alloc: Global, matches: &ArgMatches<'a>) -> Result<Start<'a>, Err
 ///
 /// `help` as the first word asks for help, whatever follows; `--help` and `-h` do if no word before
 /// them is at fault or is `--`. `--store FILE` or `--store=FILE` before the subcommand names the file that keeps
-/// the records. `serve` wants `--port` with a number from 1 to 65535 and `--requests` with one from 1 to 1000000,
-/// each in decimal digits after at most one plus sign. The error is that of `clap`, with a text for the terminal:
-/// the words ask for nothing, or there is no memory to read them, which may come at any words. The grammar is
-/// this project's own.
+/// the records. `serve` wants `--port` with a number from 1 to 65535, and takes `--requests` with one from 1 to 1000000,
+/// each in decimal digits after at most one plus sign. Each subcommand of a line is one here too, with its arguments: what
+/// `clap` does not test of them, numbers and the parts of a merge, is read when the command is carried out. The error is
+/// that of `clap`, with a text for the terminal: the words ask for nothing, or there is no memory to read them, which may
+/// come at any words. The grammar is this project's own.
 pub fn start_of<'a>(alloc: Global, words: &'a [&'a str]) -> Result<Start<'a>, Error>
     ensures value { IfOk result (Starts (map (λ word. word.now) words.entry.now)) }
     ensures refused { IfErr result (λ error. kind_of error ≢ OutOfMemory
@@ -204,7 +292,7 @@ pub fn start_of<'a>(alloc: Global, words: &'a [&'a str]) -> Result<Start<'a>, Er
         return Ok(Start::Help);
     }
     match start_app(alloc)?.try_get_matches_from(words) {
-        Ok(matches) => started(alloc, &matches),
+        Ok(matches) => started(alloc, words, &matches),
         Err(error) => match error.kind() {
             ErrorKind::DisplayHelp => Ok(Start::Help),
             _ => Err(error),

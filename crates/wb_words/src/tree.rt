@@ -4,10 +4,10 @@ ghost use Rattle.clap.specs.Walk.{rule_of};
 ghost use Rattle.clap.specs.Words.{app_of, new_app, with_subcommand};
 ghost use Rattle.clap.specs.declared.builder.command.Command.TheViews.{out-Command};
 ghost use Rattle.wb_words.specs.Usages.{arguments_in, arguments_named, rule_for, subcommand_app};
-ghost use Rattle.wb_words.specs.Usages.{usages_in, wb_app, wb_usages, with_arguments, with_usages};
+ghost use Rattle.wb_words.specs.Usages.{usages_in, wb_app, wb_usages, with_arguments, with_usages, with_wb_usages};
 
 use crate::usage::ArgumentKind;
-use crate::{builder, lists, operator};
+use crate::{builder, lists, operator, query};
 use clap::{Arg, ArgAction, Command};
 use std::alloc::{AllocError, Global};
 
@@ -63,6 +63,21 @@ fn with_subcommands<'a>(
     Ok(made)
 }
 
+/// The command with a subcommand for each that a line may have.
+pub(crate) fn with_line_subcommands<'a>(
+    alloc: Global,
+    command: Command<'a>,
+) -> Result<Command<'a>, AllocError>
+    requires { (out-Command command).has_globals ≡ false }
+    ensures value { IfOk result (λ made. app_of made ≡ with_wb_usages (app_of command.entry)) }
+    ensures local { IfOk result (λ made. (out-Command made).has_globals ≡ false) }
+{
+    let operators = with_subcommands(alloc, command, operator::USAGES.as_slice())?;
+    let builders = with_subcommands(alloc, operators, builder::USAGES.as_slice())?;
+    let queries = with_subcommands(alloc, builders, query::USAGES.as_slice())?;
+    with_subcommands(alloc, queries, lists::USAGES.as_slice())
+}
+
 /// The command of a line: its first word is a subcommand, and there is no help.
 #[tactic(auto, unfolding(crate::specs::Usages::wb_app))]
 pub(crate) fn wb_app<'a>(alloc: Global) -> Result<Command<'a>, AllocError>
@@ -73,9 +88,7 @@ pub(crate) fn wb_app<'a>(alloc: Global) -> Result<Command<'a>, AllocError>
         .disable_help_flag(true)
         .disable_help_subcommand(true)
         .subcommand_required(true);
-    let operators = with_subcommands(alloc, bare, operator::USAGES.as_slice())?;
-    let builders = with_subcommands(alloc, operators, builder::USAGES.as_slice())?;
-    with_subcommands(alloc, builders, lists::USAGES.as_slice())
+    with_line_subcommands(alloc, bare)
 }
 
 /// The command of a line after its first word, which is the subcommand `name` with these arguments.
@@ -95,7 +108,7 @@ pub(crate) fn subcommand_app<'a>(
 }
 
 /// The arguments of the first of `usages` with this name; `None` if there is none.
-fn arguments_among<'a>(
+pub(crate) fn arguments_among<'a>(
     usages: &'a [(&'a str, &'a [(&'a str, ArgumentKind)])],
     name: &str,
 ) -> Option<&'a [(&'a str, ArgumentKind)]>
@@ -117,5 +130,6 @@ pub(crate) fn arguments_of<'a>(name: &str) -> Option<&'a [(&'a str, ArgumentKind
 {
     arguments_among(operator::USAGES.as_slice(), name)
         .or(arguments_among(builder::USAGES.as_slice(), name))
+        .or(arguments_among(query::USAGES.as_slice(), name))
         .or(arguments_among(lists::USAGES.as_slice(), name))
 }

@@ -4,14 +4,15 @@ ghost use Rattle.clap.specs.Words.{found_of, rows_of};
 ghost use Rattle.wb_words.specs.declared.fault.WordsFault.TheVariants.{Memory};
 ghost use Rattle.wb_words.specs.Faults.{Reads};
 ghost use Rattle.wb_words.specs.Words.{command_named, invocation_in, invocation_named};
+ghost use Rattle.wb_words.specs.Words.{other_invocation};
 
 use crate::message::malformed_text;
 use crate::tree::{arguments_of, subcommand_app, wb_app};
-use crate::{WordsFault, builder, lists, operator};
+use crate::{WordsFault, builder, lists, operator, query};
 use clap::ArgMatches;
 use deb_text::{Items, Text};
 use std::alloc::{AllocError, Global};
-use wb_states::Command;
+use wb_states::{Command, Query};
 
 /// A part of a merge as a line names it.
 #[derive(Debug, Drop)]
@@ -29,10 +30,19 @@ pub enum Invocation {
     Command {
         command: Command,
     },
+    /// A query with all its arguments.
+    Query {
+        query: Query,
+    },
     /// A merge of the lists in these files.
     Merge {
         sources: Text,
         parts: Items<PartNames>,
+    },
+    /// A report of an architecture, in the file of this name.
+    Report {
+        arch: Text,
+        file: Text,
     },
 }
 
@@ -53,6 +63,24 @@ fn command_named(
     }
 }
 
+/// What the subcommand `name`, which is no command, asks for with these arguments. The errors are
+/// `NoCommand` if it asks for nothing, or an argument was not given or is malformed; and `Memory` if
+/// there is no memory for its texts.
+#[tactic(auto, unfolding(crate::specs::Words::other_invocation))]
+fn other_invocation(
+    alloc: Global,
+    name: &str,
+    arguments: &ArgMatches<'_>,
+) -> Result<Invocation, WordsFault>
+    ensures value { Reads (other_invocation name.now (rows_of (found_of arguments.now))) result }
+{
+    match query::query_named(alloc, name, arguments) {
+        Ok(query) => Ok(Invocation::Query { query }),
+        Err(WordsFault::NoCommand) => lists::list_invocation(alloc, name, arguments),
+        Err(memory) => Err(memory),
+    }
+}
+
 /// What the subcommand `name` asks for with these arguments. The errors are `NoCommand` if `name` is
 /// no subcommand, or an argument was not given or is malformed; and `Memory` if there is no memory
 /// for its texts.
@@ -66,7 +94,7 @@ fn invocation_named(
 {
     match command_named(alloc, name, arguments) {
         Ok(command) => Ok(Invocation::Command { command }),
-        Err(WordsFault::NoCommand) => lists::list_invocation(alloc, name, arguments),
+        Err(WordsFault::NoCommand) => other_invocation(alloc, name, arguments),
         Err(memory) => Err(memory),
     }
 }

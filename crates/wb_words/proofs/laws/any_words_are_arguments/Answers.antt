@@ -30,5 +30,12 @@ returns c = record {
       builder-invocation (λ n. Waits n (joined (first ∷ second ∷ []))) (number_in take_number);
   attempted = λ take_number first second.
       builder-invocation (λ n. Attempted n (joined (first ∷ second ∷ []))) (number_in take_number);
+  queue = λ arch. refl;
+  summary = λ arch. refl;
+  by_state = λ arch state. refl;
+  item = λ arch source. refl;
+  depends = λ arch source. refl;
+  mine = λ builder. refl;
   merge = λ sources first second. refl;
+  report = λ arch file. refl;
 }
