@@ -4,7 +4,7 @@ use Rattle.wb_states.specs.Commands.{name_of_command}
 use Rattle.wb_states.specs.Machine.{Machine}
 use Rattle.wb_states.specs.declared.command.Command.{Command}
 use Rattle.wb_states.specs.declared.refusal.Refusal.{Refusal}
-use Rattle.wb_states.specs.declared.refusal.Refusal.TheVariants.{UnknownArch, UnknownBuilder, WrongArch, UnknownSource, OtherVersion, WrongState, QueueEmpty, NotHeld, AfterAhead, AlreadyThere, BadName, BadVersion, BadRelations, BadNumber, BadListing, TextTooLong, Spent, RepeatedArch, Closed, Store, Memory}
+use Rattle.wb_states.specs.declared.refusal.Refusal.TheVariants.{UnknownArch, UnknownBuilder, WrongArch, UnknownSource, OtherVersion, WrongState, QueueEmpty, NotHeld, AfterAhead, AlreadyThere, BadName, BadVersion, BadRelations, BadNumber, BadListing, BadReport, TextTooLong, Spent, RepeatedArch, Closed, Store, Memory}
 use Rattle.wb_states.specs.declared.reply.Reply.{Reply}
 use Rattle.wb_step.specs.Offices.{Standing, Open}
 use Rattle.wb_step.specs.Step.{step}
@@ -36,6 +36,7 @@ refusal-not_ok (BadVersion fault) e = cc
 refusal-not_ok (BadRelations fault) e = cc
 refusal-not_ok BadNumber e = cc
 refusal-not_ok (BadListing which paragraph fault) e = cc
+refusal-not_ok (BadReport line) e = cc
 refusal-not_ok TextTooLong e = cc
 refusal-not_ok Spent e = cc
 refusal-not_ok RepeatedArch e = cc

@@ -5,12 +5,12 @@ use Rattle.serde_json.specs.Written.{compact_text, items_text, has_float, items_
 use Rattle.serde_json.proofs.OnLiterals.{serde_json_on_literals}
 use Rattle.wb_states.specs.declared.refusal.ListingFault.TheVariants.{Control, Missing, BadValue}
 use Rattle.wb_states.specs.declared.refusal.Refusal.{Refusal}
-use Rattle.wb_states.specs.declared.refusal.Refusal.TheVariants.{UnknownArch, UnknownBuilder, WrongArch, UnknownSource, OtherVersion, WrongState, QueueEmpty, NotHeld, AfterAhead, AlreadyThere, BadName, BadVersion, BadRelations, BadNumber, BadListing, TextTooLong, Spent, RepeatedArch, Closed, Store, Memory}
+use Rattle.wb_states.specs.declared.refusal.Refusal.TheVariants.{UnknownArch, UnknownBuilder, WrongArch, UnknownSource, OtherVersion, WrongState, QueueEmpty, NotHeld, AfterAhead, AlreadyThere, BadName, BadVersion, BadRelations, BadNumber, BadListing, BadReport, TextTooLong, Spent, RepeatedArch, Closed, Store, Memory}
 use Rattle.wb_states.specs.declared.reply.PartEnd.{PartEnd}
 use Rattle.wb_states.specs.declared.reply.PartEnd.TheVariants.{Merged as part_Merged, Refused}
 use Rattle.wb_states.specs.declared.reply.PartReply.{PartReply}
 use Rattle.wb_states.specs.declared.reply.Reply.{Reply}
-use Rattle.wb_states.specs.declared.reply.Reply.TheVariants.{Done, Job, Again, Merged}
+use Rattle.wb_states.specs.declared.reply.Reply.TheVariants.{Done, Job, Again, Reported, Merged}
 use Rattle.wb_api.specs.Encoding.{reply_text, assignment_text, refusal_members, refusal_text, end_text, part_text, parts_text}
 use Rattle.wb_api.specs.Values.{value_of_reply, value_of_refusal, value_of_end, values_of_parts}
 
@@ -33,6 +33,7 @@ has_float-value_of_refusal BadNumber = refl
 has_float-value_of_refusal (BadListing which paragraph (Control kind)) = refl
 has_float-value_of_refusal (BadListing which paragraph (Missing field)) = refl
 has_float-value_of_refusal (BadListing which paragraph (BadValue field)) = refl
+has_float-value_of_refusal (BadReport line) = refl
 has_float-value_of_refusal TextTooLong = refl
 has_float-value_of_refusal Spent = refl
 has_float-value_of_refusal RepeatedArch = refl
@@ -61,6 +62,7 @@ compact_text-value_of_refusal BadNumber = refl
 compact_text-value_of_refusal (BadListing which paragraph (Control kind)) = refl
 compact_text-value_of_refusal (BadListing which paragraph (Missing field)) = refl
 compact_text-value_of_refusal (BadListing which paragraph (BadValue field)) = refl
+compact_text-value_of_refusal (BadReport line) = refl
 compact_text-value_of_refusal TextTooLong = refl
 compact_text-value_of_refusal Spent = refl
 compact_text-value_of_refusal RepeatedArch = refl
@@ -88,6 +90,7 @@ has_float-value_of_end arch (Refused BadNumber) = refl
 has_float-value_of_end arch (Refused (BadListing which paragraph (Control kind))) = refl
 has_float-value_of_end arch (Refused (BadListing which paragraph (Missing field))) = refl
 has_float-value_of_end arch (Refused (BadListing which paragraph (BadValue field))) = refl
+has_float-value_of_end arch (Refused (BadReport line)) = refl
 has_float-value_of_end arch (Refused TextTooLong) = refl
 has_float-value_of_end arch (Refused Spent) = refl
 has_float-value_of_end arch (Refused RepeatedArch) = refl
@@ -117,6 +120,7 @@ compact_text-value_of_end arch (Refused BadNumber) = refl
 compact_text-value_of_end arch (Refused (BadListing which paragraph (Control kind))) = refl
 compact_text-value_of_end arch (Refused (BadListing which paragraph (Missing field))) = refl
 compact_text-value_of_end arch (Refused (BadListing which paragraph (BadValue field))) = refl
+compact_text-value_of_end arch (Refused (BadReport line)) = refl
 compact_text-value_of_end arch (Refused TextTooLong) = refl
 compact_text-value_of_end arch (Refused Spent) = refl
 compact_text-value_of_end arch (Refused RepeatedArch) = refl
@@ -146,6 +150,7 @@ pub has_float-value_of_reply : (name : List ℕ) (reply : Reply) → has_float (
 has_float-value_of_reply name (Done accepted) = refl
 has_float-value_of_reply name (Job accepted assignment) = refl
 has_float-value_of_reply name (Again accepted assignment) = refl
+has_float-value_of_reply name (Reported accepted changed) = refl
 has_float-value_of_reply name (Merged accepted parts) = rw (items_have_float-values_of_parts parts) refl
 
 -- what a reply's object is printed as
@@ -155,6 +160,7 @@ unfolding serde_json_on_literals reply_text assignment_text
 compact_text-value_of_reply name (Done accepted) = refl
 compact_text-value_of_reply name (Job accepted assignment) = refl
 compact_text-value_of_reply name (Again accepted assignment) = refl
+compact_text-value_of_reply name (Reported accepted changed) = refl
 compact_text-value_of_reply name (Merged accepted parts) =
     ap (λ text. codes "{\"accepted\":" ++ (decimal accepted ++ (codes ",\"ok\":\"merge\",\"parts\":[" ++ (text ++ 125 ∷ []))))
     (items_text-values_of_parts parts)

@@ -16,7 +16,9 @@ use Rattle.wb_step.proofs.CountedLemmas.{step-unchanged}
 use Rattle.wb_states.specs.Machine.{is_unknown_arch, is_unknown_builder}
 use Rattle.wb_step.specs.Checks.{MayWantMemory}
 use Rattle.wb_step.specs.Offices.{Leads, Open, Shut, Standing, Stands}
-use Rattle.wb_states.specs.Queries.{answer_in, answer_of, found_at, has_malformed_name}
+use Rattle.wb_states.specs.State.{state_named}
+use Rattle.wb_states.specs.declared.state.State.{State}
+use Rattle.wb_states.specs.Queries.{answer_in, answer_of, depends_at, found_at, has_malformed_name, records_in}
 use Rattle.wb_states.specs.declared.query.Answer.{Answer as Found}
 use Rattle.wb_step.specs.Step.{step}
 use Rattle.wb_api.proofs.PlainLemmas.{refusal_text-Memory}
@@ -107,7 +109,7 @@ formed-found true bad rest found e = cc
 formed-found false bad rest found e = refl
 
 -- what is found was asked for by names that are well formed
-found-formed : (machine : Machine) (query : Query) (found : Found) → answer_of machine query ≡ Ok found → has_malformed_name query ≡ false
+pub found-formed : (machine : Machine) (query : Query) (found : Found) → answer_of machine query ≡ Ok found → has_malformed_name query ≡ false
 unfolding answer_of
 found-formed machine query found e = formed-found (has_malformed_name query) BadName (answer_in machine query) found e
 
@@ -120,16 +122,29 @@ plain-found : (arch source : List ℕ) (found : Option Record) (refusal : Refusa
 plain-found arch source None refusal e = let same : UnknownSource ≡ refusal = cc e in subst (λ r. is_plain r ≡ true) same refl
 plain-found arch source (Some current) refusal e = cc
 
+plain-depends : (arch source : List ℕ) (found : Option Record) (refusal : Refusal) → depends_at arch source found ≡ Err refusal → is_plain refusal ≡ true
+plain-depends arch source None refusal e = let same : UnknownSource ≡ refusal = cc e in subst (λ r. is_plain r ≡ true) same refl
+plain-depends arch source (Some current) refusal e = cc
+
 plain-held : {X : Type 0} (held : X) (refusal : Refusal) → ◌≡◌ {A = Result X Refusal} (Ok held) (Err refusal) → is_plain refusal ≡ true
 plain-held held refusal e = cc
 
+plain-records : (machine : Machine) (arch : List ℕ) (state : Option State) (refusal : Refusal) → records_in machine arch state ≡ Err refusal → is_plain refusal ≡ true
+plain-records machine arch None refusal e = let same : BadName ≡ refusal = cc e in subst (λ r. is_plain r ≡ true) same refl
+plain-records machine arch (Some state) refusal e = plain-unless (is_unknown_arch machine arch) UnknownArch refusal _ refl (plain-held _ refusal) e
+
 plain-in : (machine : Machine) (query : Query) (refusal : Refusal) → answer_in machine query ≡ Err refusal → is_plain refusal ≡ true
+plain-in machine (query.Queue arch) refusal e = plain-unless (is_unknown_arch machine arch) UnknownArch refusal _ refl (plain-held _ refusal) e
+plain-in machine (query.ByState arch state) refusal e = plain-records machine arch (state_named state) refusal e
 plain-in machine (query.Item arch source) refusal e =
     plain-unless (is_unknown_arch machine arch) UnknownArch refusal _ refl (plain-found arch source (map.get machine.records (arch, source)) refusal) e
 plain-in machine (query.Mine builder) refusal e = plain-unless (is_unknown_builder machine builder) UnknownBuilder refusal _ refl (plain-held _ refusal) e
+plain-in machine (query.Depends arch source) refusal e =
+    plain-unless (is_unknown_arch machine arch) UnknownArch refusal _ refl (plain-depends arch source (map.get machine.records (arch, source)) refusal) e
+plain-in machine (query.Summary arch) refusal e = plain-unless (is_unknown_arch machine arch) UnknownArch refusal _ refl (plain-held _ refusal) e
 
 -- the refusal of a query tells no more than its number and its name
-plain-query : (machine : Machine) (query : Query) (refusal : Refusal) → answer_of machine query ≡ Err refusal → is_plain refusal ≡ true
+pub plain-query : (machine : Machine) (query : Query) (refusal : Refusal) → answer_of machine query ≡ Err refusal → is_plain refusal ≡ true
 unfolding answer_of
 plain-query machine query refusal e = plain-unless (has_malformed_name query) BadName refusal (answer_in machine query) refl (plain-in machine query refusal) e
 

@@ -13,12 +13,12 @@ use Rattle.wb_states.specs.State.{name_of}
 use Rattle.wb_states.specs.StoreFaults.{name_of_store_fault}
 use Rattle.wb_states.specs.declared.refusal.ListingFault.TheVariants.{Control, Missing, BadValue}
 use Rattle.wb_states.specs.declared.refusal.Refusal.{Refusal}
-use Rattle.wb_states.specs.declared.refusal.Refusal.TheVariants.{UnknownArch, UnknownBuilder, WrongArch, UnknownSource, OtherVersion, WrongState, QueueEmpty, NotHeld, AfterAhead, AlreadyThere, BadName, BadVersion, BadRelations, BadNumber, BadListing, TextTooLong, Spent, RepeatedArch, Closed, Store, Memory}
+use Rattle.wb_states.specs.declared.refusal.Refusal.TheVariants.{UnknownArch, UnknownBuilder, WrongArch, UnknownSource, OtherVersion, WrongState, QueueEmpty, NotHeld, AfterAhead, AlreadyThere, BadName, BadVersion, BadRelations, BadNumber, BadListing, BadReport, TextTooLong, Spent, RepeatedArch, Closed, Store, Memory}
 use Rattle.wb_states.specs.declared.reply.PartEnd.{PartEnd}
 use Rattle.wb_states.specs.declared.reply.PartEnd.TheVariants.{Merged as part_Merged, Refused}
 use Rattle.wb_states.specs.declared.reply.PartReply.{PartReply}
 use Rattle.wb_states.specs.declared.reply.Reply.{Reply}
-use Rattle.wb_states.specs.declared.reply.Reply.TheVariants.{Done, Job, Again, Merged}
+use Rattle.wb_states.specs.declared.reply.Reply.TheVariants.{Done, Job, Again, Reported, Merged}
 use Rattle.wb_states.specs.declared.reply.Assignment.{Assignment}
 use Rattle.wb_api.specs.Encoding.{name_of_relations_fault, reply_text, assignment_text, refusal_members, refusal_text, end_text, part_text, parts_text}
 use Rattle.deb_text.proofs.ListLemmas.{IsOneLine-append}
@@ -86,6 +86,7 @@ members-one (BadListing which paragraph (Missing field)) =
 members-one (BadListing which paragraph (BadValue field)) =
     behind (quoted (name_of_field field)) _ (quoted-one (name_of_field field)) ∙ behind (decimal paragraph) _ (decimal-one paragraph)
     ∙ behind (quoted (name_of_list which)) _ (quoted-one (name_of_list which))
+members-one (BadReport line) = behind (decimal line) _ (decimal-one line)
 members-one UnknownArch = refl
 members-one UnknownBuilder = refl
 members-one WrongArch = refl
@@ -125,5 +126,8 @@ unfolding reply_text
 reply_text-one name (Done accepted) = behind (decimal accepted) _ (decimal-one accepted) ∙ behind (quoted name) _ (quoted-one name)
 reply_text-one name (Job accepted given) = assignment_text-one name accepted given
 reply_text-one name (Again accepted given) = assignment_text-one (codes "again") accepted given
+reply_text-one name (Reported accepted changed) =
+    behind (decimal accepted) _ (decimal-one accepted) ∙ behind (decimal changed) _ (decimal-one changed)
+    ∙ behind (quoted name) _ (quoted-one name)
 reply_text-one name (Merged accepted parts) =
     behind (decimal accepted) _ (decimal-one accepted) ∙ behind (parts_text parts) _ (parts_text-one parts)

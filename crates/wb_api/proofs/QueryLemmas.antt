@@ -1,18 +1,18 @@
--- What the objects of records are printed as.
-use Rattle.std.proofs.Common.{◌≡◌, ℕ, List, [], ◌∷◌, ◌++◌, true, false, refl, sym, ap, ◌∙◌, append_assoc}
-use Rattle.std.specs.Prelude.{Bool, Option, None, Some, ℤ, pos, negsuc, codes}
+-- What the objects of records and of counts are printed as.
+use Rattle.std.proofs.Common.{◌≡◌, ◌∙◌, ap, append_assoc, append-nil, ℕ, List, [], ◌++◌, codes, true, false, refl, sym}
+use Rattle.std.specs.Prelude.{Bool, Option, None, Some, ℤ, pos, negsuc}
 use Rattle.std.specs.Fmt.{signed_decimal}
 use Rattle.json.specs.Print.{quoted}
-use Rattle.serde_json.specs.Data.{boolean}
+use Rattle.serde_json.specs.Data.{boolean, string}
 use Rattle.serde_json.specs.Find.{is_float, of_integer}
-use Rattle.serde_json.specs.Written.{compact_text, number_text, items_text, has_float, items_have_float}
+use Rattle.serde_json.specs.Written.{compact_text, number_text, has_float}
 use Rattle.serde_json.proofs.OnLiterals.{serde_json_on_literals}
 use Rattle.wb_states.specs.declared.record.Record.{Record}
 use Rattle.wb_states.specs.declared.keyed.KeyedRecord.{KeyedRecord}
-use Rattle.wb_states.specs.declared.query.Answer.{Answer}
-use Rattle.wb_states.specs.declared.query.Answer.TheVariants.{Item, Mine}
-use Rattle.wb_api.specs.Queries.{truth_text, quoted_or_null, decimal_or_null, fields_text, record_text, records_text, query_text}
-use Rattle.wb_api.specs.QueryValues.{number_or_null, string_or_null, value_of_answer, value_of_fields, value_of_record, values_of_records}
+use Rattle.wb_states.specs.declared.counts.StateCounts.{StateCounts}
+use Rattle.wb_states.specs.declared.query.Answer.TheVariants.{Mine, Depends, Summary}
+use Rattle.wb_api.specs.Queries.{truth_text, quoted_or_null, decimal_or_null, fields_text, record_text, records_text, waiting_text, counts_text, query_text}
+use Rattle.wb_api.specs.QueryValues.{number_or_null, string_or_null, value_of_fields, value_of_record, value_of_waiting, value_of_depends, value_of_counts, value_of_summary}
 
 -- an integer is no float
 is_float-of_integer : (z : ℤ) → is_float (of_integer z) ≡ false
@@ -33,7 +33,7 @@ has_float-value_of_fields arch source current =
     rw (is_float-of_integer current.build_priority) (rw (has_float-string_or_null current.holder)
     (rw (has_float-number_or_null current.take) refl))
 
-has_float-value_of_record : (row : KeyedRecord) → has_float (value_of_record row) ≡ false
+pub has_float-value_of_record : (row : KeyedRecord) → has_float (value_of_record row) ≡ false
 has_float-value_of_record row = has_float-value_of_fields row.arch row.source row.current
 
 -- what the parts of a record are printed as
@@ -61,39 +61,68 @@ compact_text-value_of_fields arch source current =
     rw (sym (number_text-of_integer current.build_priority)) (rw (sym (compact_text-boolean current.earlier))
     (rw (sym (compact_text-string_or_null current.holder)) (rw (sym (compact_text-number_or_null current.take)) refl)))
 
-compact_text-value_of_record : (row : KeyedRecord) → compact_text (value_of_record row) ≡ record_text row
+pub compact_text-value_of_record : (row : KeyedRecord) → compact_text (value_of_record row) ≡ record_text row
 compact_text-value_of_record row = compact_text-value_of_fields row.arch row.source row.current
 
--- no number of the records is a float
-items_have_float-values_of_records : (rows : List KeyedRecord) → items_have_float (values_of_records rows) ≡ false
-items_have_float-values_of_records [] = refl
-items_have_float-values_of_records (row ∷ rows) =
-    rw (has_float-value_of_record row) (items_have_float-values_of_records rows)
+-- what a record of a queue is printed as
+pub has_float-value_of_waiting : (row : KeyedRecord) → has_float (value_of_waiting row) ≡ false
+has_float-value_of_waiting row = refl
 
--- what the records' objects are printed as, with the closing bracket
-items_text-values_of_records : (rows : List KeyedRecord)
-    → items_text false (values_of_records rows) ≡ records_text rows ++ 93 ∷ []
-items_text-values_of_records [] = refl
-items_text-values_of_records (row ∷ []) = ap (λ text. text ++ 93 ∷ []) (compact_text-value_of_record row)
-items_text-values_of_records (row ∷ next ∷ rows) =
-    ap (λ text. text ++ 44 ∷ items_text false (values_of_records (next ∷ rows))) (compact_text-value_of_record row)
-    ∙ ap (λ text. record_text row ++ 44 ∷ text) (items_text-values_of_records (next ∷ rows))
-    ∙ sym (append_assoc (record_text row) (44 ∷ records_text (next ∷ rows)) (93 ∷ []))
+pub compact_text-value_of_waiting : (row : KeyedRecord) → compact_text (value_of_waiting row) ≡ waiting_text row
+unfolding serde_json_on_literals waiting_text
+compact_text-value_of_waiting row = refl
 
--- no number of an answer is a float
-pub has_float-value_of_answer : (answer : Answer) → has_float (value_of_answer answer) ≡ false
-has_float-value_of_answer (Item row) = has_float-value_of_record row
-has_float-value_of_answer (Mine builder rows) = rw (items_have_float-values_of_records rows) refl
+-- what is printed for records
+pub ruleset printing_of_records =
+    (has_float-value_of_record, compact_text-value_of_record, has_float-value_of_waiting, compact_text-value_of_waiting)
 
--- what an answer's object is printed as
-pub compact_text-value_of_answer : (answer : Answer) → compact_text (value_of_answer answer) ≡ query_text answer
+-- what a text is printed as
+pub has_float-string : (text : List ℕ) → has_float (string text) ≡ false
+has_float-string text = refl
+
+pub compact_text-string : (text : List ℕ) → compact_text (string text) ≡ quoted text
+compact_text-string text = refl
+
+-- what is printed for texts
+pub ruleset printing_of_texts = (has_float-string, compact_text-string)
+
+-- what was written piece by piece
+regroup : (a b c d e : List ℕ) → (((a ++ b) ++ c) ++ d) ++ e ≡ a ++ (b ++ (c ++ (d ++ (e ++ []))))
+regroup a b c d e = simp (append_assoc, append-nil)
+
+-- what is written of what a builder holds
+pub mine_written : (builder begun keyed listed ended : List ℕ) (rows : List KeyedRecord) → begun ≡ codes "{\"builder\":" ++ quoted builder
+    → keyed ≡ begun ++ codes ",\"records\":[" → listed ≡ keyed ++ records_text rows → ended ≡ listed ++ codes "]}"
+    → ended ≡ query_text (Mine builder rows)
+unfolding query_text
+mine_written builder begun keyed listed ended rows one two three four =
+    four ∙ ap (λ x. x ++ codes "]}") (three ∙ ap (λ x. x ++ records_text rows) (two ∙ ap (λ x. x ++ codes ",\"records\":[") one))
+    ∙ regroup (codes "{\"builder\":") (quoted builder) (codes ",\"records\":[") (records_text rows) (codes "]}")
+
+-- what the object of what a source package needs is printed as
+pub has_float-value_of_depends : (arch source : List ℕ) (depends : Option (List ℕ)) → has_float (value_of_depends arch source depends) ≡ false
+has_float-value_of_depends arch source depends = rw (has_float-string_or_null depends) refl
+
+pub compact_text-value_of_depends : (arch source : List ℕ) (depends : Option (List ℕ))
+    → compact_text (value_of_depends arch source depends) ≡ query_text (Depends arch source depends)
 unfolding serde_json_on_literals query_text
-compact_text-value_of_answer (Item row) = compact_text-value_of_record row
-compact_text-value_of_answer (Mine builder rows) =
-    ap (λ text. codes "{\"builder\":" ++ (quoted builder ++ (codes ",\"records\":[" ++ (text ++ 125 ∷ []))))
-    (items_text-values_of_records rows)
-    ∙ ap (λ text. codes "{\"builder\":" ++ (quoted builder ++ (codes ",\"records\":[" ++ text)))
-    (append_assoc (records_text rows) (93 ∷ []) (125 ∷ []))
+compact_text-value_of_depends arch source depends = rw (sym (compact_text-string_or_null depends)) refl
 
--- what is printed for the answers to queries
-pub ruleset printing_of_queries = (has_float-value_of_answer, compact_text-value_of_answer)
+-- what is printed for what a source package needs
+pub ruleset printing_of_depends = (has_float-value_of_depends, compact_text-value_of_depends)
+
+-- what the object of the numbers of records is printed as
+pub has_float-value_of_summary : (accepted : ℕ) (arch : List ℕ) (counts : StateCounts) → has_float (value_of_summary accepted arch counts) ≡ false
+has_float-value_of_summary accepted arch counts = refl
+
+compact_text-value_of_counts : (counts : StateCounts) → compact_text (value_of_counts counts) ≡ counts_text counts
+unfolding serde_json_on_literals counts_text
+compact_text-value_of_counts counts = refl
+
+pub compact_text-value_of_summary : (accepted : ℕ) (arch : List ℕ) (counts : StateCounts)
+    → compact_text (value_of_summary accepted arch counts) ≡ query_text (Summary accepted arch counts)
+unfolding serde_json_on_literals query_text
+compact_text-value_of_summary accepted arch counts = rw (sym (compact_text-value_of_counts counts)) refl
+
+-- what is printed for summaries
+pub ruleset printing_of_summaries = (has_float-value_of_summary, compact_text-value_of_summary)

@@ -1,16 +1,18 @@
 -- No answer to a query has a line feed.
-use Rattle.std.proofs.Common.{◌∙◌, refl, ℕ, suc, true, false, List, [], ◌∷◌}
+use Rattle.std.proofs.Common.{◌∙◌, ◌++◌, refl, ℕ, suc, true, false, List, [], ◌∷◌, codes}
 use Rattle.std.specs.Prelude.{Bool, Option, None, Some, ℤ, pos, negsuc, decimal}
 use Rattle.std.specs.Fmt.{signed_decimal}
+use Rattle.std.specs.List.{flat_map}
 use Rattle.json.specs.Print.{quoted}
 use Rattle.deb_text.specs.Lines.{IsOneLine}
 use Rattle.wb_states.specs.Moves.{build_text_of}
 use Rattle.wb_states.specs.State.{name_of}
+use Rattle.wb_states.specs.declared.counts.StateCounts.{StateCounts}
 use Rattle.wb_states.specs.declared.record.Record.{Record}
 use Rattle.wb_states.specs.declared.keyed.KeyedRecord.{KeyedRecord}
 use Rattle.wb_states.specs.declared.query.Answer.{Answer}
-use Rattle.wb_states.specs.declared.query.Answer.TheVariants.{Item, Mine}
-use Rattle.wb_api.specs.Queries.{truth_text, quoted_or_null, decimal_or_null, fields_text, record_text, records_text, query_text}
+use Rattle.wb_states.specs.declared.query.Answer.TheVariants.{Queue, ByState, Item, Mine, Depends, Summary}
+use Rattle.wb_api.specs.Queries.{truth_text, quoted_or_null, decimal_or_null, fields_text, record_text, records_text, waiting_text, queue_text, counts_text, query_text}
 use Rattle.wb_api.proofs.OneLineLemmas.{behind, decimal-one, quoted-one}
 
 signed_decimal-one : (z : ℤ) → IsOneLine (signed_decimal z)
@@ -51,14 +53,55 @@ fields_text-one arch source current =
 record_text-one : (row : KeyedRecord) → IsOneLine (record_text row)
 record_text-one row = fields_text-one row.arch row.source row.current
 
+-- texts of one line with commas between them
+joined-one : (text : KeyedRecord → List ℕ) → ((row : KeyedRecord) → IsOneLine (text row))
+    → (rows : List KeyedRecord) → IsOneLine (flat_map (λ row. codes "," ++ text row) rows)
+joined-one text one [] = refl
+joined-one text one (row ∷ rows) = behind (text row) _ (one row) ∙ joined-one text one rows
+
 records_text-one : (rows : List KeyedRecord) → IsOneLine (records_text rows)
+unfolding records_text
 records_text-one [] = refl
-records_text-one (row ∷ []) = record_text-one row
-records_text-one (row ∷ next ∷ rows) =
-    behind (record_text row) _ (record_text-one row) ∙ records_text-one (next ∷ rows)
+records_text-one (row ∷ rows) = behind (record_text row) _ (record_text-one row) ∙ joined-one record_text record_text-one rows
+
+waiting_text-one : (row : KeyedRecord) → IsOneLine (waiting_text row)
+unfolding waiting_text
+waiting_text-one row =
+    behind (quoted (build_text_of row.current)) _ (quoted-one (build_text_of row.current))
+    ∙ behind (quoted row.source) _ (quoted-one row.source)
+
+queue_text-one : (rows : List KeyedRecord) → IsOneLine (queue_text rows)
+unfolding queue_text
+queue_text-one [] = refl
+queue_text-one (row ∷ rows) = behind (waiting_text row) _ (waiting_text-one row) ∙ joined-one waiting_text waiting_text-one rows
+
+counts_text-one : (counts : StateCounts) → IsOneLine (counts_text counts)
+unfolding counts_text
+counts_text-one counts =
+    behind (decimal counts.bd_uninstallable) _ (decimal-one counts.bd_uninstallable)
+    ∙ behind (decimal counts.build_attempted) _ (decimal-one counts.build_attempted)
+    ∙ behind (decimal counts.building) _ (decimal-one counts.building)
+    ∙ behind (decimal counts.built) _ (decimal-one counts.built)
+    ∙ behind (decimal counts.dep_wait) _ (decimal-one counts.dep_wait)
+    ∙ behind (decimal counts.failed) _ (decimal-one counts.failed)
+    ∙ behind (decimal counts.installed) _ (decimal-one counts.installed)
+    ∙ behind (decimal counts.needs_build) _ (decimal-one counts.needs_build)
+    ∙ behind (decimal counts.not_for_us) _ (decimal-one counts.not_for_us)
+    ∙ behind (decimal counts.uploaded) _ (decimal-one counts.uploaded)
 
 pub query_text-one : (answer : Answer) → IsOneLine (query_text answer)
 unfolding query_text
+query_text-one (Queue arch rows) =
+    behind (quoted arch) _ (quoted-one arch) ∙ behind (queue_text rows) _ (queue_text-one rows)
+query_text-one (ByState arch state rows) =
+    behind (quoted arch) _ (quoted-one arch) ∙ behind (records_text rows) _ (records_text-one rows)
+    ∙ behind (quoted (name_of state)) _ (quoted-one (name_of state))
 query_text-one (Item row) = record_text-one row
 query_text-one (Mine builder rows) =
     behind (quoted builder) _ (quoted-one builder) ∙ behind (records_text rows) _ (records_text-one rows)
+query_text-one (Depends arch source depends) =
+    behind (quoted arch) _ (quoted-one arch) ∙ behind (quoted_or_null depends) _ (quoted_or_null-one depends)
+    ∙ behind (quoted source) _ (quoted-one source)
+query_text-one (Summary accepted arch counts) =
+    behind (decimal accepted) _ (decimal-one accepted) ∙ behind (quoted arch) _ (quoted-one arch)
+    ∙ behind (counts_text counts) _ (counts_text-one counts)

@@ -10,8 +10,8 @@ use Rattle.httparse.proofs.GrammarLemmas.{ReadsRequest-append}
 use Rattle.wb_api.specs.Commands.{command_of}
 use Rattle.wb_streams.specs.Fields.{NameAndValue}
 use Rattle.wb_streams.specs.Heads.{HasManyFields, IsHeadAt, IsMalformed, IsTooLarge, IsUnfinished, head_limit}
-use Rattle.wb_api.specs.Requests.{Answers, IsHead, Means, TakesMemory, WantsOr, asked, body_asked, query_wanted, wanted_by, wanted_of}
-use Rattle.wb_api.specs.Routes.{and_then, command_at, decoded_text, item_query, mine_query}
+use Rattle.wb_api.specs.Requests.{Answers, IsHead, Means, TakesMemory, WantsOr, asked, body_asked, query_wanted, wanted_from, wanted_of}
+use Rattle.wb_api.specs.Routes.{and_then, decoded_text, part_at, query_about, query_of}
 use Rattle.wb_states.specs.declared.query.Query.{Query}
 use Rattle.wb_states.specs.declared.query.Query.TheVariants as query
 use Rattle.wb_api.specs.declared.request.Wanted.TheVariants as wanted
@@ -27,15 +27,17 @@ use Rattle.wb_api.specs.declared.request.Received.TheVariants as received
 use Rattle.wb_api.specs.declared.request.Request.TheVariants as request
 use Rattle.wb_api.specs.declared.request.Wanted.{Wanted}
 use Rattle.wb_api.specs.declared.route.CommandKind.{CommandKind}
+use Rattle.wb_api.specs.declared.route.QueryKind.{QueryKind}
+use Rattle.wb_api.specs.declared.route.QueryKind.TheVariants as query_kind
 
 -- what is wanted by the parts of a head is what the head wants
 pub wanted_same : (result : Result Wanted RequestError) (head other : RequestHead) (method target : List ℕ) (fields : List NameAndValue)
     → head ≡ other → method ≡ other.method → target ≡ other.target → fields ≡ map name_and_value other.fields
-    → WantsOr result (wanted_by (command_at target) method target fields) → WantsOr result (wanted_of head)
+    → WantsOr result (wanted_from method target fields) → WantsOr result (wanted_of head)
 wanted_same result head other method target fields same em et ef h =
-    let one = subst (λ m. WantsOr result (wanted_by (command_at target) m target fields)) em h in
-    let two = subst (λ t. WantsOr result (wanted_by (command_at t) other.method t fields)) et one in
-    let three = subst (λ f. WantsOr result (wanted_by (command_at other.target) other.method other.target f)) ef two in
+    let one = subst (λ m. WantsOr result (wanted_from m target fields)) em h in
+    let two = subst (λ t. WantsOr result (wanted_from other.method t fields)) et one in
+    let three = subst (λ f. WantsOr result (wanted_from other.method other.target f)) ef two in
     subst (λ k. WantsOr result (wanted_of k)) (sym same) three
 
 -- ---- queries
@@ -59,13 +61,19 @@ then-only : {X Y : Type 0} (what : Result X Fault) (next : X → Result Y Fault)
 then-only (Ok x) next first then_ fault e = then_ x fault e
 then-only (Err other) next first then_ fault e = let same : other ≡ fault = cc in sym same ∙ first other refl
 
-item-only : (arch source : List ℕ) → OnlyBadPath (item_query arch source)
-unfolding item_query
-item-only arch source = then-only (decoded_text arch) _ (text_fault arch) (λ a. then-only (decoded_text source) _ (text_fault source) (λ s. ok-only (query.Item a s)))
+about-only : (kind : QueryKind) (first : List ℕ) (second : Result (List ℕ) Fault) → OnlyBadPath second → OnlyBadPath (query_about kind first second)
+about-only query_kind.Queue first second only = ok-only (query.Queue first)
+about-only query_kind.ByState first second only = then-only second _ only (λ state. ok-only (query.ByState first state))
+about-only query_kind.Item first second only = then-only second _ only (λ source. ok-only (query.Item first source))
+about-only query_kind.Mine first second only = ok-only (query.Mine first)
+about-only query_kind.Depends first second only = then-only second _ only (λ source. ok-only (query.Depends first source))
+about-only query_kind.Summary first second only = ok-only (query.Summary first)
 
-mine-only : (builder : List ℕ) → OnlyBadPath (mine_query builder)
-unfolding mine_query
-mine-only builder = then-only (decoded_text builder) _ (text_fault builder) (λ b. ok-only (query.Mine b))
+query-only : (kind : QueryKind) (target : List ℕ) → OnlyBadPath (query_of kind target)
+unfolding query_of
+query-only kind target =
+    then-only (decoded_text (part_at target 3)) _ (text_fault (part_at target 3)) (λ first.
+    about-only kind first (decoded_text (part_at target 4)) (text_fault (part_at target 4)))
 
 -- a query that could not be read is no wish, and memory ran out only while it was decoded
 wants-Err : (what : Result Query Fault) (error : RequestError) → OnlyBadPath what → GivesOr (Err error) what → WantsOr (Err error) (and_then what (λ q. Ok (wanted.Query q)))
@@ -74,17 +82,10 @@ wants-Err (Ok q) error.Memory only gives = tt
 wants-Err (Err other) (error.Fault fault) only gives = let same : other ≡ fault = cc in ap Err same
 wants-Err (Err other) error.Memory only gives = only other refl
 
-wants-method : (what : Result Query Fault) (method : List ℕ) (failed : RequestError) → bytes_eq method (codes "GET") ≡ true
-    → WantsOr (Err failed) (and_then what (λ q. Ok (wanted.Query q))) → WantsOr (Err failed) (query_wanted (Some what) method)
-wants-method what method failed get h = rw get h
-
-pub item_wants : (method arch source : List ℕ) (failed : RequestError) → bytes_eq method (codes "GET") ≡ true
-    → GivesOr (Err failed) (item_query arch source) → WantsOr (Err failed) (query_wanted (Some (item_query arch source)) method)
-item_wants method arch source failed get gives = wants-method (item_query arch source) method failed get (wants-Err (item_query arch source) failed (item-only arch source) gives)
-
-pub mine_wants : (method builder : List ℕ) (failed : RequestError) → bytes_eq method (codes "GET") ≡ true
-    → GivesOr (Err failed) (mine_query builder) → WantsOr (Err failed) (query_wanted (Some (mine_query builder)) method)
-mine_wants method builder failed get gives = wants-method (mine_query builder) method failed get (wants-Err (mine_query builder) failed (mine-only builder) gives)
+pub query_wants : (kind : QueryKind) (method target : List ℕ) (failed : RequestError) → bytes_eq method (codes "GET") ≡ true
+    → GivesOr (Err failed) (query_of kind target) → WantsOr (Err failed) (query_wanted kind method target)
+unfolding query_wanted
+query_wants kind method target failed get gives = rw get (wants-Err (query_of kind target) failed (query-only kind target) gives)
 
 -- ---- bodies
 

@@ -10,7 +10,7 @@ use Rattle.wb_api.specs.declared.command.Subject.{Subject}
 use Rattle.wb_streams.specs.declared.fault.Fault.{Fault}
 use Rattle.wb_streams.specs.declared.fault.Fault.TheVariants.{BadBody}
 use Rattle.wb_api.specs.declared.route.CommandKind.{CommandKind}
-use Rattle.wb_api.specs.declared.route.CommandKind.TheVariants.{Next, Take, Built, Uploaded, Waits, PutBack, Attempted, GiveBack, DepWait, Fail, NotForUs, Rebuild, BuildPriority}
+use Rattle.wb_api.specs.declared.route.CommandKind.TheVariants.{Next, Take, Built, Uploaded, Waits, PutBack, Attempted, GiveBack, DepWait, Fail, NotForUs, Rebuild, BuildPriority, Report}
 
 -- the text under a key
 abbrev pub text_in : List ℕ → Data → Option (List ℕ)
@@ -107,6 +107,11 @@ build_priority_in body = option_and_then (λ subject. option_map (λ value.
     form.BuildPriority subject.arch subject.source subject.version value)
     (integer_in (codes "value") body)) (subject_in body)
 
+-- to report which source packages have what they need to be built
+unfoldable pub report_in : Data → Option Command
+report_in body = option_and_then (λ arch. option_map (λ text. form.Report arch text)
+    (text_in (codes "text") body)) (text_in (codes "arch") body)
+
 -- the command of this kind that a body gives
 abbrev pub command_in : CommandKind → Data → Option Command
 command_in Next body = next_in body
@@ -122,6 +127,7 @@ command_in Fail body = fail_in body
 command_in NotForUs body = not_for_us_in body
 command_in Rebuild body = rebuild_in body
 command_in BuildPriority body = build_priority_in body
+command_in Report body = report_in body
 
 -- the value that bytes write in JSON (RFC 8259), with at most 127 levels
 unfoldable pub json_of : List ℕ → Option Data

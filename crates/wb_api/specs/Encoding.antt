@@ -20,13 +20,13 @@ use Rattle.wb_states.specs.declared.refusal.ListKind.{ListKind}
 use Rattle.wb_states.specs.declared.refusal.ListingFault.{ListingFault}
 use Rattle.wb_states.specs.declared.refusal.ListingFault.TheVariants.{Control, Missing, BadValue}
 use Rattle.wb_states.specs.declared.refusal.Refusal.{Refusal}
-use Rattle.wb_states.specs.declared.refusal.Refusal.TheVariants.{OtherVersion, WrongState, AfterAhead, BadVersion, BadRelations, BadListing, Store}
+use Rattle.wb_states.specs.declared.refusal.Refusal.TheVariants.{OtherVersion, WrongState, AfterAhead, BadVersion, BadRelations, BadListing, BadReport, Store}
 use Rattle.wb_states.specs.declared.reply.Assignment.{Assignment}
 use Rattle.wb_states.specs.declared.reply.PartEnd.{PartEnd}
 use Rattle.wb_states.specs.declared.reply.PartEnd.TheVariants.{Merged as part_Merged, Refused}
 use Rattle.wb_states.specs.declared.reply.PartReply.{PartReply}
 use Rattle.wb_states.specs.declared.reply.Reply.{Reply}
-use Rattle.wb_states.specs.declared.reply.Reply.TheVariants.{Done, Job, Again, Merged}
+use Rattle.wb_states.specs.declared.reply.Reply.TheVariants.{Done, Job, Again, Reported, Merged}
 
 -- the text of an assignment, with this value of `ok`
 unfoldable pub assignment_text : List ℕ → ℕ → Assignment → List ℕ
@@ -72,6 +72,7 @@ refusal_members (BadVersion fault) = concat (codes "\"code\":12,\"fault\":" ∷ 
 refusal_members (BadRelations fault) =
     concat (codes "\"code\":13,\"fault\":" ∷ quoted (name_of_relations_fault fault) ∷ codes ",\"refused\":\"BadRelations\"}" ∷ [])
 refusal_members (BadListing which paragraph fault) = listing_fault_members which paragraph fault
+refusal_members (BadReport line) = concat (codes "\"code\":16,\"line\":" ∷ decimal line ∷ codes ",\"refused\":\"BadReport\"}" ∷ [])
 refusal_members (Store fault) = concat (codes "\"code\":21,\"refused\":\"Store\",\"store\":" ∷ quoted (name_of_store_fault fault) ∷ codes "}" ∷ [])
 refusal_members refusal = concat
     (codes "\"code\":" ∷ decimal (code_of_refusal refusal) ∷
@@ -106,6 +107,10 @@ reply_text name (Done accepted) = concat
     codes ",\"ok\":" ∷ quoted name ∷ codes "}" ∷ [])
 reply_text name (Job accepted assignment) = assignment_text name accepted assignment
 reply_text name (Again accepted assignment) = assignment_text (codes "again") accepted assignment
+reply_text name (Reported accepted changed) = concat
+    (codes "{\"accepted\":" ∷ decimal accepted ∷
+    codes ",\"changed\":" ∷ decimal changed ∷
+    codes ",\"ok\":" ∷ quoted name ∷ codes "}" ∷ [])
 reply_text name (Merged accepted parts) = concat
     (codes "{\"accepted\":" ∷ decimal accepted ∷
     codes ",\"ok\":\"merge\",\"parts\":[" ∷ parts_text parts ∷ codes "]}" ∷ [])
@@ -122,6 +127,7 @@ is_plain (AfterAhead handed) = false
 is_plain (BadVersion fault) = false
 is_plain (BadRelations fault) = false
 is_plain (BadListing which paragraph fault) = false
+is_plain (BadReport line) = false
 is_plain (Store fault) = false
 is_plain refusal = true
 

@@ -6,7 +6,7 @@ use Rattle.wb_states.specs.Commands.{name_of_command}
 use Rattle.wb_states.specs.Machine.{Machine}
 use Rattle.wb_states.specs.declared.command.Command.{Command}
 use Rattle.wb_states.specs.declared.refusal.Refusal.{Refusal}
-use Rattle.wb_states.specs.declared.refusal.Refusal.TheVariants.{UnknownArch, UnknownBuilder, WrongArch, UnknownSource, OtherVersion, WrongState, QueueEmpty, NotHeld, AfterAhead, AlreadyThere, BadName, BadVersion, BadRelations, BadNumber, BadListing, TextTooLong, Spent, RepeatedArch, Closed, Store, Memory}
+use Rattle.wb_states.specs.declared.refusal.Refusal.TheVariants.{UnknownArch, UnknownBuilder, WrongArch, UnknownSource, OtherVersion, WrongState, QueueEmpty, NotHeld, AfterAhead, AlreadyThere, BadName, BadVersion, BadRelations, BadNumber, BadListing, BadReport, TextTooLong, Spent, RepeatedArch, Closed, Store, Memory}
 use Rattle.wb_states.specs.declared.reply.Reply.{Reply}
 use Rattle.wb_states.specs.declared.store_fault.StoreFault.{StoreFault}
 use Rattle.wb_step.specs.Offices.{Accepts, Standing, Open, Shut, InDoubt, Failed}
@@ -61,6 +61,7 @@ status_of_refusal (BadVersion fault) = code.UnprocessableEntity
 status_of_refusal (BadRelations fault) = code.UnprocessableEntity
 status_of_refusal BadNumber = code.UnprocessableEntity
 status_of_refusal (BadListing which paragraph fault) = code.UnprocessableEntity
+status_of_refusal (BadReport line) = code.UnprocessableEntity
 status_of_refusal TextTooLong = code.UnprocessableEntity
 status_of_refusal Spent = code.Conflict
 status_of_refusal RepeatedArch = code.UnprocessableEntity

@@ -1,15 +1,15 @@
 -- The JSON texts of what the office answers to queries (RFC 8259), with their keys in byte order and no space.
-use Rattle.std.specs.Prelude.{ℕ, Bool, true, false, List, ◌∷◌, [], map, Option, None, Some, codes, decimal}
-use Prim.Native.Char.{code}
+use Rattle.std.specs.Prelude.{ℕ, Bool, true, false, List, ◌∷◌, [], Option, None, Some, codes, decimal}
 use Rattle.std.specs.Fmt.{signed_decimal}
-use Rattle.std.specs.List.{concat, join_with_byte}
+use Rattle.std.specs.List.{concat, join_by}
 use Rattle.json.specs.Print.{quoted}
 use Rattle.wb_states.specs.Moves.{build_text_of}
 use Rattle.wb_states.specs.State.{name_of}
+use Rattle.wb_states.specs.declared.counts.StateCounts.{StateCounts}
 use Rattle.wb_states.specs.declared.record.Record.{Record}
 use Rattle.wb_states.specs.declared.keyed.KeyedRecord.{KeyedRecord}
 use Rattle.wb_states.specs.declared.query.Answer.{Answer}
-use Rattle.wb_states.specs.declared.query.Answer.TheVariants.{Item, Mine}
+use Rattle.wb_states.specs.declared.query.Answer.TheVariants.{Queue, ByState, Item, Mine, Depends, Summary}
 
 -- the text of a truth value (RFC 8259, section 3)
 abbrev pub truth_text : Bool → List ℕ
@@ -50,12 +50,52 @@ abbrev pub record_text : KeyedRecord → List ℕ
 record_text row = fields_text row.arch row.source row.current
 
 -- the texts of records, with a comma between each two
-abbrev pub records_text : List KeyedRecord → List ℕ
-records_text rows = join_with_byte (code ",") (map record_text rows)
+unfoldable pub records_text : List KeyedRecord → List ℕ
+records_text = join_by record_text (codes ",")
 
--- the text of the answer to a query: a record, or the records that a builder holds
+-- the text of a record that waits in a queue: the version of the binaries that are to be built, and the source package
+unfoldable pub waiting_text : KeyedRecord → List ℕ
+waiting_text row = concat
+    (codes "{\"build\":" ∷ quoted (build_text_of row.current) ∷
+    codes ",\"source\":" ∷ quoted row.source ∷ codes "}" ∷ [])
+
+-- the texts of the records of a queue, with a comma between each two
+unfoldable pub queue_text : List KeyedRecord → List ℕ
+queue_text = join_by waiting_text (codes ",")
+
+-- the text of the numbers of records, under the names of the states
+unfoldable pub counts_text : StateCounts → List ℕ
+counts_text counts = concat
+    (codes "{\"BD-Uninstallable\":" ∷ decimal counts.bd_uninstallable ∷
+    codes ",\"Build-Attempted\":" ∷ decimal counts.build_attempted ∷
+    codes ",\"Building\":" ∷ decimal counts.building ∷
+    codes ",\"Built\":" ∷ decimal counts.built ∷
+    codes ",\"Dep-Wait\":" ∷ decimal counts.dep_wait ∷
+    codes ",\"Failed\":" ∷ decimal counts.failed ∷
+    codes ",\"Installed\":" ∷ decimal counts.installed ∷
+    codes ",\"Needs-Build\":" ∷ decimal counts.needs_build ∷
+    codes ",\"Not-For-Us\":" ∷ decimal counts.not_for_us ∷
+    codes ",\"Uploaded\":" ∷ decimal counts.uploaded ∷ codes "}" ∷ [])
+
+-- the text of the answer to a query: a queue, the records in a state, a record, the records that a builder holds, what a source package needs to
+-- be built, or how many records are in each state
 unfoldable pub query_text : Answer → List ℕ
+query_text (Queue arch rows) = concat
+    (codes "{\"arch\":" ∷ quoted arch ∷
+    codes ",\"queue\":[" ∷ queue_text rows ∷ codes "]}" ∷ [])
+query_text (ByState arch state rows) = concat
+    (codes "{\"arch\":" ∷ quoted arch ∷
+    codes ",\"records\":[" ∷ records_text rows ∷
+    codes "],\"state\":" ∷ quoted (name_of state) ∷ codes "}" ∷ [])
 query_text (Item row) = record_text row
 query_text (Mine builder rows) = concat
     (codes "{\"builder\":" ∷ quoted builder ∷
     codes ",\"records\":[" ∷ records_text rows ∷ codes "]}" ∷ [])
+query_text (Depends arch source depends) = concat
+    (codes "{\"arch\":" ∷ quoted arch ∷
+    codes ",\"depends\":" ∷ quoted_or_null depends ∷
+    codes ",\"source\":" ∷ quoted source ∷ codes "}" ∷ [])
+query_text (Summary accepted arch counts) = concat
+    (codes "{\"accepted\":" ∷ decimal accepted ∷
+    codes ",\"arch\":" ∷ quoted arch ∷
+    codes ",\"counts\":" ∷ counts_text counts ∷ codes "}" ∷ [])

@@ -1,14 +1,12 @@
--- The JSON values whose text the office answers to queries (RFC 8259), before they are printed.
-use Rattle.std.specs.Prelude.{ℕ, List, map, Option, None, Some, codes}
-use Rattle.serde_json.specs.Data.{Data, Items, null, boolean, number, unsigned, string, array, object, Members, member, no_members, put}
+-- The JSON values of records and of counts, whose texts stand in the answers to queries (RFC 8259), before they are printed.
+use Rattle.std.specs.Prelude.{ℕ, List, Option, None, Some, codes}
+use Rattle.serde_json.specs.Data.{Data, null, boolean, number, unsigned, string, object, Members, member, no_members, put}
 use Rattle.serde_json.specs.Find.{of_integer}
-use Rattle.serde_json.specs.View.{items_of}
 use Rattle.wb_states.specs.Moves.{build_text_of}
 use Rattle.wb_states.specs.State.{name_of}
+use Rattle.wb_states.specs.declared.counts.StateCounts.{StateCounts}
 use Rattle.wb_states.specs.declared.record.Record.{Record}
 use Rattle.wb_states.specs.declared.keyed.KeyedRecord.{KeyedRecord}
-use Rattle.wb_states.specs.declared.query.Answer.{Answer}
-use Rattle.wb_states.specs.declared.query.Answer.TheVariants.{Item, Mine}
 
 -- the value of a text that may be missing (RFC 8259, section 3)
 abbrev pub string_or_null : Option (List ℕ) → Data
@@ -65,17 +63,36 @@ value_of_fields arch source current = object
 abbrev pub value_of_record : KeyedRecord → Data
 value_of_record row = value_of_fields row.arch row.source row.current
 
--- the objects of records, in their order
-abbrev pub values_of_records : List KeyedRecord → Items
-values_of_records rows = items_of (map value_of_record rows)
+-- the object of a record that waits in a queue
+abbrev pub value_of_waiting : KeyedRecord → Data
+value_of_waiting row = object
+    (member (codes "build") (string (build_text_of row.current))
+    (member (codes "source") (string row.source) no_members))
 
--- the object of the records that a builder holds
-abbrev pub value_of_mine : List ℕ → List KeyedRecord → Data
-value_of_mine builder rows = object
-    (member (codes "builder") (string builder)
-    (member (codes "records") (array (values_of_records rows)) no_members))
+-- the object of what a source package needs to be built
+abbrev pub value_of_depends : List ℕ → List ℕ → Option (List ℕ) → Data
+value_of_depends arch source depends = object
+    (member (codes "arch") (string arch)
+    (member (codes "depends") (string_or_null depends)
+    (member (codes "source") (string source) no_members)))
 
--- the object of the answer to a query
-abbrev pub value_of_answer : Answer → Data
-value_of_answer (Item row) = value_of_record row
-value_of_answer (Mine builder rows) = value_of_mine builder rows
+-- the object of the numbers of records, under the names of the states
+abbrev pub value_of_counts : StateCounts → Data
+value_of_counts counts = object
+    (member (codes "BD-Uninstallable") (number (unsigned counts.bd_uninstallable))
+    (member (codes "Build-Attempted") (number (unsigned counts.build_attempted))
+    (member (codes "Building") (number (unsigned counts.building))
+    (member (codes "Built") (number (unsigned counts.built))
+    (member (codes "Dep-Wait") (number (unsigned counts.dep_wait))
+    (member (codes "Failed") (number (unsigned counts.failed))
+    (member (codes "Installed") (number (unsigned counts.installed))
+    (member (codes "Needs-Build") (number (unsigned counts.needs_build))
+    (member (codes "Not-For-Us") (number (unsigned counts.not_for_us))
+    (member (codes "Uploaded") (number (unsigned counts.uploaded)) no_members))))))))))
+
+-- the object of how many records of an architecture are in each state
+abbrev pub value_of_summary : ℕ → List ℕ → StateCounts → Data
+value_of_summary accepted arch counts = object
+    (member (codes "accepted") (number (unsigned accepted))
+    (member (codes "arch") (string arch)
+    (member (codes "counts") (value_of_counts counts) no_members)))

@@ -1,16 +1,15 @@
 -- What the bytes of a connection ask for: one request (RFC 9112, section 2.1), and what follows it is ignored.
 use Rattle.std.specs.Prelude.{◌≡◌, ◌⊎◌, ℕ, ◌<◌, ◌≤◌, Bool, true, false, nat_le, List, [], ◌∷◌, length, take, map, codes, decimal, if◌then◌else◌}
-use Rattle.std.specs.Prelude.{Option, None, Some, option_map, Result, Ok, Err, ⊤}
-use Rattle.std.specs.Option.{option_or}
+use Rattle.std.specs.Prelude.{Option, None, Some, Result, Ok, Err, ⊤}
 use Rattle.std.specs.Str.{bytes_eq}
-use Rattle.httparse.specs.Grammar.{HasNoRequest, NeverHasRequest, ReadsRequest, RequestHead, crlf, print_request}
+use Rattle.httparse.specs.Grammar.{Field, HasNoRequest, NeverHasRequest, ReadsRequest, RequestHead, crlf, print_request}
 use Rattle.httparse.specs.Spans.{name_and_value}
 use Rattle.wb_api.specs.Commands.{command_of}
-use Rattle.wb_streams.specs.Fields.{NameAndValue, content_length, has_field, length_stated, values_of}
+use Rattle.wb_streams.specs.Fields.{NameAndValue, content_length, has_field, is_from_browser, length_stated, values_of}
 use Rattle.wb_streams.specs.Heads.{HasManyFields, IsHeadFront, IsUnfinished, field_limit, head_limit}
-use Rattle.wb_api.specs.Routes.{and_then, command_at, item_at, item_query, mine_at, mine_query}
+use Rattle.wb_api.specs.Routes.{and_then, query_of, route_at}
 use Rattle.wb_streams.specs.declared.fault.Fault.{Fault}
-use Rattle.wb_streams.specs.declared.fault.Fault.TheVariants.{BadHead, BadPath, HeadTooLarge, NoRoute, WrongMethod, NotSupported, BodyCut}
+use Rattle.wb_streams.specs.declared.fault.Fault.TheVariants.{BadHead, BadPath, FromBrowser, HeadTooLarge, NoRoute, WrongMethod, NotSupported, BodyCut}
 use Rattle.wb_api.specs.declared.failure.RequestError.{RequestError}
 use Rattle.wb_api.specs.declared.failure.RequestError.TheVariants as error
 use Rattle.wb_api.specs.declared.request.Received.{Received}
@@ -20,7 +19,9 @@ use Rattle.wb_api.specs.declared.request.Request.TheVariants as request
 use Rattle.wb_api.specs.declared.request.Wanted.{Wanted}
 use Rattle.wb_api.specs.declared.request.Wanted.TheVariants as wanted
 use Rattle.wb_api.specs.declared.route.CommandKind.{CommandKind}
-use Rattle.wb_states.specs.declared.query.Query.{Query}
+use Rattle.wb_api.specs.declared.route.QueryKind.{QueryKind}
+use Rattle.wb_api.specs.declared.route.Route.{Route}
+use Rattle.wb_api.specs.declared.route.Route.TheVariants as route
 
 -- what the head of a command asks for: a body of the length that its fields state (RFC 9112, section 6)
 unfoldable pub command_wanted : CommandKind → List ℕ → List NameAndValue → Result Wanted Fault
@@ -29,23 +30,24 @@ command_wanted kind method fields = if bytes_eq method (codes "POST")
     else and_then (length_stated (values_of content_length fields)) (λ n. Ok (wanted.Body kind n)))
     else Err WrongMethod
 
--- the query that has this target, if there is one
-unfoldable pub query_at : List ℕ → Option (Result Query Fault)
-query_at target = option_or (option_map (λ parts. item_query parts.0 parts.1) (item_at target)) (option_map mine_query (mine_at target))
-
 -- what the head of a query asks for
-abbrev pub query_wanted : Option (Result Query Fault) → List ℕ → Result Wanted Fault
-query_wanted None method = Err NoRoute
-query_wanted (Some query) method = if bytes_eq method (codes "GET") then and_then query (λ q. Ok (wanted.Query q)) else Err WrongMethod
+unfoldable pub query_wanted : QueryKind → List ℕ → List ℕ → Result Wanted Fault
+query_wanted kind method target = if bytes_eq method (codes "GET")
+    then and_then (query_of kind target) (λ query. Ok (wanted.Query query)) else Err WrongMethod
 
--- what a head asks for whose target is that of this command, or of no command
-abbrev pub wanted_by : Option CommandKind → List ℕ → List ℕ → List NameAndValue → Result Wanted Fault
-wanted_by (Some kind) method target fields = command_wanted kind method fields
-wanted_by None method target fields = query_wanted (query_at target) method
+-- what a head asks for whose target is for this, or for nothing
+abbrev pub wanted_by : Option Route → List ℕ → List ℕ → List NameAndValue → Result Wanted Fault
+wanted_by None method target fields = Err NoRoute
+wanted_by (Some (route.Command kind)) method target fields = command_wanted kind method fields
+wanted_by (Some (route.Query kind)) method target fields = query_wanted kind method target
+
+-- what a head of this method, target and fields asks for: nothing, if a web page had it sent
+abbrev pub wanted_from : List ℕ → List ℕ → List NameAndValue → Result Wanted Fault
+wanted_from method target fields = if is_from_browser fields then Err FromBrowser else wanted_by (route_at target) method target fields
 
 -- what a head asks for
 abbrev pub wanted_of : RequestHead → Result Wanted Fault
-wanted_of head = wanted_by (command_at head.target) head.method head.target (map name_and_value head.fields)
+wanted_of head = wanted_from head.method head.target (map name_and_value head.fields)
 
 -- a head for which memory is taken: one without a fault, or one whose path is decoded before its fault is found
 abbrev pub TakesMemory : Result Wanted Fault → Type 0
@@ -72,17 +74,37 @@ asked_by (wanted.Body kind count) rest = body_asked kind count rest
 abbrev pub asked : RequestHead → List ℕ → Result Request Fault
 asked head rest = and_then (wanted_of head) (λ w. asked_by w rest)
 
--- what a POST asks for with this target, this body, and the length of the body as its only field
-abbrev pub posted : List ℕ → List ℕ → Result Request Fault
-posted target body = asked (record {
+-- a field of this name and value, as a client writes it
+abbrev pub field : List ℕ → List ℕ → Field
+field name value = record { name = name; raw = value; end = crlf }
+
+-- what a request asks for with this method, this target, these fields and this body
+abbrev pub sent : List ℕ → List ℕ → List Field → List ℕ → Result Request Fault
+sent method target fields body = asked (record {
   blank = [];
-  method = codes "POST";
+  method = method;
   target = target;
   minor = 1;
   line_end = crlf;
-  fields = record { name = content_length; raw = decimal (length body); end = crlf } ∷ [];
+  fields = fields;
   last = crlf;
 }) body
+
+-- what a POST asks for with this target, this body, and these fields beside the length of the body
+abbrev pub posted_with : List Field → List ℕ → List ℕ → Result Request Fault
+posted_with fields target body = sent (codes "POST") target (field content_length (decimal (length body)) ∷ fields) body
+
+-- what a POST asks for with this target, this body, and the length of the body as its only field
+abbrev pub posted : List ℕ → List ℕ → Result Request Fault
+posted target body = posted_with [] target body
+
+-- what a GET asks for with this target and these fields
+abbrev pub got_with : List Field → List ℕ → Result Request Fault
+got_with fields target = sent (codes "GET") target fields []
+
+-- what a GET asks for with this target and no field
+abbrev pub got : List ℕ → Result Request Fault
+got target = got_with [] target
 
 -- an input begins with this head, which is within the limits
 pub record IsHead (input : List ℕ) (head : RequestHead) (rest : List ℕ) : Type 0 where

@@ -1,14 +1,19 @@
 -- The targets of requests (RFC 9112, section 3.2). A target is compared as it stands.
 use Rattle.std.specs.Prelude.{ℕ, Bool, ◌&&◌, not, ◌==◌, nat_lt, List, length, take, drop, codes, if◌then◌else◌}
-use Rattle.std.specs.Prelude.{Option, None, Some, option_and_then, Result, Ok, Err}
+use Rattle.std.specs.Prelude.{[], false, Option, None, Some, option_map, unwrap_or, Result, Ok, Err}
+use Rattle.std.specs.Option.{option_or}
 use Prim.Native.Char.{code}
-use Rattle.std.specs.List.{after_first, before_first, list_all, position_or_len}
+use Rattle.std.specs.List.{after_first, before_first, list_all, position_or_len, slice_get, slice_split}
 use Rattle.std.specs.Str.{bytes_eq, is_utf8}
 use Rattle.percent_encoding.specs.Percent.{percent_decode}
 use Rattle.wb_streams.specs.declared.fault.Fault.{Fault}
 use Rattle.wb_streams.specs.declared.fault.Fault.TheVariants.{BadPath}
 use Rattle.wb_api.specs.declared.route.CommandKind.{CommandKind}
-use Rattle.wb_api.specs.declared.route.CommandKind.TheVariants.{Next, Take, Built, Uploaded, Waits, PutBack, Attempted, GiveBack, DepWait, Fail, NotForUs, Rebuild, BuildPriority}
+use Rattle.wb_api.specs.declared.route.CommandKind.TheVariants.{Next, Take, Built, Uploaded, Waits, PutBack, Attempted, GiveBack, DepWait, Fail, NotForUs, Rebuild, BuildPriority, Report}
+use Rattle.wb_api.specs.declared.route.QueryKind.{QueryKind}
+use Rattle.wb_api.specs.declared.route.QueryKind.TheVariants as query_kind
+use Rattle.wb_api.specs.declared.route.Route.{Route}
+use Rattle.wb_api.specs.declared.route.Route.TheVariants as route
 use Rattle.wb_states.specs.declared.query.Query.{Query}
 use Rattle.wb_states.specs.declared.query.Query.TheVariants as query
 
@@ -26,7 +31,8 @@ command_at target = if bytes_eq target (codes "/v1/next") then Some Next
     else (if bytes_eq target (codes "/v1/fail") then Some Fail
     else (if bytes_eq target (codes "/v1/not-for-us") then Some NotForUs
     else (if bytes_eq target (codes "/v1/rebuild") then Some Rebuild
-    else (if bytes_eq target (codes "/v1/build-priority") then Some BuildPriority else None))))))))))))
+    else (if bytes_eq target (codes "/v1/build-priority") then Some BuildPriority
+    else (if bytes_eq target (codes "/v1/report") then Some Report else None)))))))))))))
 
 -- what stands after a prefix
 abbrev pub after_prefix : List ℕ → List ℕ → Option (List ℕ)
@@ -46,20 +52,35 @@ cut_at_slash text = if nat_lt (position_or_len is_slash text) (length text)
     then Some (before_first is_slash text, after_first is_slash text) else None
 
 -- two parts, with a slash between them
-unfoldable pub two_parts : List ℕ → Option (List ℕ × List ℕ)
-two_parts text = option_and_then (λ cut. if is_part cut.0 && is_part cut.1 then Some cut else None) (cut_at_slash text)
+unfoldable pub are_two_parts : List ℕ → Bool
+are_two_parts text = unwrap_or (option_map (λ cut. is_part cut.0 && is_part cut.1) (cut_at_slash text)) false
 
--- one part
-unfoldable pub one_part : List ℕ → Option (List ℕ)
-one_part text = if is_part text then Some text else None
+-- a target that is this path and one part more
+abbrev pub has_one_part : List ℕ → List ℕ → Bool
+has_one_part path target = unwrap_or (option_map is_part (after_prefix path target)) false
 
--- the architecture and the source package of the target of an item, as they are written
-abbrev pub item_at : List ℕ → Option (List ℕ × List ℕ)
-item_at target = option_and_then two_parts (after_prefix (codes "/v1/item/") target)
+-- a target that is this path and two parts more
+abbrev pub has_two_parts : List ℕ → List ℕ → Bool
+has_two_parts path target = unwrap_or (option_map are_two_parts (after_prefix path target)) false
 
--- the builder of the target of what a builder holds, as it is written
-abbrev pub mine_at : List ℕ → Option (List ℕ)
-mine_at target = option_and_then one_part (after_prefix (codes "/v1/mine/") target)
+-- the query that has this target
+unfoldable pub query_at : List ℕ → Option QueryKind
+query_at target = if has_one_part (codes "/v1/queue/") target then Some query_kind.Queue
+    else (if has_two_parts (codes "/v1/state/") target then Some query_kind.ByState
+    else (if has_two_parts (codes "/v1/item/") target then Some query_kind.Item
+    else (if has_one_part (codes "/v1/mine/") target then Some query_kind.Mine
+    else (if has_two_parts (codes "/v1/depends/") target then Some query_kind.Depends
+    else (if has_one_part (codes "/v1/summary/") target then Some query_kind.Summary else None)))))
+
+-- what a target is for: a command or a query
+abbrev pub route_at : List ℕ → Option Route
+route_at target = option_or (option_map (λ kind. route.Command kind) (command_at target)) (option_map (λ kind. route.Query kind) (query_at target))
+
+-- ---- the parts of a query
+
+-- the part of a target after so many slashes, as it is written
+abbrev pub part_at : List ℕ → ℕ → List ℕ
+part_at target count = unwrap_or (slice_get (slice_split is_slash target) count) []
 
 -- a part of a path, decoded once (RFC 3986, section 2.1), if it is UTF-8 then
 unfoldable pub decoded_text : List ℕ → Result (List ℕ) Fault
@@ -70,10 +91,15 @@ abbrev pub and_then : {X Y : Type 0} → Result X Fault → (X → Result Y Faul
 and_then (Ok x) next = next x
 and_then (Err fault) next = Err fault
 
--- the query for an item, of parts as they are written
-unfoldable pub item_query : List ℕ → List ℕ → Result Query Fault
-item_query arch source = and_then (decoded_text arch) (λ a. and_then (decoded_text source) (λ s. Ok (query.Item a s)))
+-- the query of this kind about the first part of a path, and about the second if it has one
+abbrev pub query_about : QueryKind → List ℕ → Result (List ℕ) Fault → Result Query Fault
+query_about query_kind.Queue first second = Ok (query.Queue first)
+query_about query_kind.ByState first second = and_then second (λ state. Ok (query.ByState first state))
+query_about query_kind.Item first second = and_then second (λ source. Ok (query.Item first source))
+query_about query_kind.Mine first second = Ok (query.Mine first)
+query_about query_kind.Depends first second = and_then second (λ source. Ok (query.Depends first source))
+query_about query_kind.Summary first second = Ok (query.Summary first)
 
--- the query for what a builder holds, of a part as it is written
-unfoldable pub mine_query : List ℕ → Result Query Fault
-mine_query builder = and_then (decoded_text builder) (λ b. Ok (query.Mine b))
+-- the query of this kind that a target asks: its parts stand after `/v1/` and the query's name
+unfoldable pub query_of : QueryKind → List ℕ → Result Query Fault
+query_of kind target = and_then (decoded_text (part_at target 3)) (λ first. query_about kind first (decoded_text (part_at target 4)))

@@ -11,14 +11,14 @@ use Rattle.wb_states.specs.declared.refusal.ListKind.{ListKind}
 use Rattle.wb_states.specs.declared.refusal.ListingFault.{ListingFault}
 use Rattle.wb_states.specs.declared.refusal.ListingFault.TheVariants.{Control, Missing, BadValue}
 use Rattle.wb_states.specs.declared.refusal.Refusal.{Refusal}
-use Rattle.wb_states.specs.declared.refusal.Refusal.TheVariants.{OtherVersion, WrongState, AfterAhead, BadVersion, BadRelations, BadListing, Store}
+use Rattle.wb_states.specs.declared.refusal.Refusal.TheVariants.{OtherVersion, WrongState, AfterAhead, BadVersion, BadRelations, BadListing, BadReport, Store}
 use Rattle.wb_states.specs.declared.reply.Assignment.{Assignment}
 use Rattle.wb_states.specs.declared.reply.MergeCounts.{MergeCounts}
 use Rattle.wb_states.specs.declared.reply.PartEnd.{PartEnd}
 use Rattle.wb_states.specs.declared.reply.PartEnd.TheVariants.{Merged as part_Merged, Refused}
 use Rattle.wb_states.specs.declared.reply.PartReply.{PartReply}
 use Rattle.wb_states.specs.declared.reply.Reply.{Reply}
-use Rattle.wb_states.specs.declared.reply.Reply.TheVariants.{Done, Job, Again, Merged}
+use Rattle.wb_states.specs.declared.reply.Reply.TheVariants.{Done, Job, Again, Reported, Merged}
 use Rattle.wb_api.specs.Encoding.{name_of_relations_fault}
 
 -- the object of an assignment, with this value of `ok`
@@ -62,6 +62,12 @@ value_with_member refusal key told = object
     (member key told
     (member (codes "refused") (string (name_of_refusal refusal)) no_members)))
 
+-- the object of a refusal that has no more than its number and its name
+abbrev pub value_of_plain : Refusal → Data
+value_of_plain refusal = object
+    (member (codes "code") (number (unsigned (code_of_refusal refusal)))
+    (member (codes "refused") (string (name_of_refusal refusal)) no_members))
+
 -- the object of a refusal
 abbrev pub value_of_refusal : Refusal → Data
 value_of_refusal (OtherVersion have) = value_with_member (OtherVersion have) (codes "have") (string have)
@@ -73,13 +79,12 @@ value_of_refusal (AfterAhead handed) = value_with_member (AfterAhead handed) (co
 value_of_refusal (BadVersion fault) = value_with_member (BadVersion fault) (codes "fault") (string (name_of_fault fault))
 value_of_refusal (BadRelations fault) = value_with_member (BadRelations fault) (codes "fault") (string (name_of_relations_fault fault))
 value_of_refusal (BadListing which paragraph fault) = value_of_listing_fault which paragraph fault
+value_of_refusal (BadReport line) = value_with_member (BadReport line) (codes "line") (number (unsigned line))
 value_of_refusal (Store fault) = object
     (member (codes "code") (number (unsigned 21))
     (member (codes "refused") (string (codes "Store"))
     (member (codes "store") (string (name_of_store_fault fault)) no_members)))
-value_of_refusal refusal = object
-    (member (codes "code") (number (unsigned (code_of_refusal refusal)))
-    (member (codes "refused") (string (name_of_refusal refusal)) no_members))
+value_of_refusal refusal = value_of_plain refusal
 
 -- an object with this architecture among its members; a value of another kind is left as it is
 abbrev pub with_arch : List ℕ → Data → Data
@@ -119,6 +124,10 @@ value_of_reply name (Done accepted) = object
     (member (codes "ok") (string name) no_members))
 value_of_reply name (Job accepted assignment) = value_of_assignment name accepted assignment
 value_of_reply name (Again accepted assignment) = value_of_assignment (codes "again") accepted assignment
+value_of_reply name (Reported accepted changed) = object
+    (member (codes "accepted") (number (unsigned accepted))
+    (member (codes "changed") (number (unsigned changed))
+    (member (codes "ok") (string name) no_members)))
 value_of_reply name (Merged accepted parts) = object
     (member (codes "accepted") (number (unsigned accepted))
     (member (codes "ok") (string (codes "merge"))

@@ -3,7 +3,7 @@ ghost use Rattle.std.specs.Prelude.{◌≡◌, codes, IfOk, option_map};
 ghost use Rattle.serde_json.specs.View.{view};
 ghost use Rattle.wb_api.specs.Commands.{attempted_in, build_priority_in, command_in, command_of, dep_wait_in, fail_in};
 ghost use Rattle.wb_api.specs.Commands.{give_back_in, integer_in, json_of, next_in, not_for_us_in, number_in};
-ghost use Rattle.wb_api.specs.Commands.{number_or_none_in, rebuild_in, subject_in, take_in, text_in, waits_in};
+ghost use Rattle.wb_api.specs.Commands.{number_or_none_in, rebuild_in, report_in, subject_in, take_in, text_in, waits_in};
 ghost use Rattle.wb_api.specs.Outcomes.{GivesOr};
 
 use crate::failure::RequestError;
@@ -269,6 +269,19 @@ fn build_priority_in(alloc: Global, body: &Value) -> Result<Option<Command>, All
     })))
 }
 
+#[tactic(auto, unfolding(crate::specs::Commands::report_in))]
+fn report_in(alloc: Global, body: &Value) -> Result<Option<Command>, AllocError>
+    ensures value { IfOk result (λ command. command ≡ report_in (view body.now)) }
+{
+    let Some(arch) = text_in(alloc, "arch", body)? else {
+        return Ok(None);
+    };
+    let Some(text) = text_in(alloc, "text", body)? else {
+        return Ok(None);
+    };
+    Ok(Some(Command::Report(command::Report { arch, text })))
+}
+
 /// The command of this kind that a body gives; `None` if a key is missing or has another kind of value.
 /// The only error is that memory ran out.
 fn command_in(alloc: Global, kind: CommandKind, body: &Value) -> Result<Option<Command>, AllocError>
@@ -288,6 +301,7 @@ fn command_in(alloc: Global, kind: CommandKind, body: &Value) -> Result<Option<C
         CommandKind::NotForUs => not_for_us_in(alloc, body),
         CommandKind::Rebuild => rebuild_in(alloc, body),
         CommandKind::BuildPriority => build_priority_in(alloc, body),
+        CommandKind::Report => report_in(alloc, body),
     }
 }
 

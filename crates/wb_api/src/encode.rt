@@ -40,6 +40,9 @@ fn value_of_reply(alloc: Global, name: &str, reply: &Reply) -> Result<Value, All
             accepted,
             assignment,
         } => value_of_assignment(alloc, "again", *accepted, assignment),
+        Reply::Reported { accepted, changed } => {
+            json!(in alloc; {"accepted": *accepted, "changed": *changed, "ok": name})
+        }
         Reply::Merged { accepted, parts } => {
             let parts = values_of_parts(alloc, parts.as_slice())?;
             json!(in alloc; {"accepted": *accepted, "ok": "merge", "parts": parts})

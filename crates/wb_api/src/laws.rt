@@ -1,5 +1,5 @@
 //! Laws of the definitions, each on a function with nothing to run.
-ghost use Rattle.std.specs.Prelude.{ℕ, List, ◌≡◌, ◌++◌, pos, neg_ℤ, codes, None, Some, Ok, Err};
+ghost use Rattle.std.specs.Prelude.{ℕ, List, [], ◌∷◌, ◌≡◌, ◌++◌, pos, neg_ℤ, codes, map, true, None, Some, Ok, Err};
 ghost use Rattle.deb_text.specs.Lines.{IsOneLine};
 ghost use Rattle.wb_states.specs.declared.refusal.Refusal.{Refusal as AnyRefusal};
 ghost use Rattle.wb_states.specs.declared.reply.Reply.{Reply as AnyReply};
@@ -7,15 +7,20 @@ ghost use Rattle.wb_states.specs.declared.query.Answer.{Answer};
 ghost use Rattle.wb_api.specs.Queries.{query_text};
 ghost use Rattle.wb_api.specs.Encoding.{reply_text, refusal_text, memory_text, line_fault_text, file_fault_text};
 ghost use Rattle.httparse.specs.Grammar.{RequestHead};
-ghost use Rattle.wb_states.specs.Forms.{Attempted, BuildPriority};
+ghost use Rattle.httparse.specs.Spans.{name_and_value};
+ghost use Rattle.wb_states.specs.Forms.{Attempted, BuildPriority, Report};
 ghost use Rattle.wb_api.specs.Commands.{value_in};
-ghost use Rattle.wb_api.specs.Requests.{Answers, asked, IsHead, Means, posted, TakesMemory, wanted_of};
-ghost use Rattle.wb_streams.specs.declared.fault.Fault.TheVariants.{BadBody, BadHead, BodyCut};
+ghost use Rattle.wb_api.specs.Requests.{Answers, asked, got, IsHead, Means, posted, TakesMemory};
+ghost use Rattle.wb_api.specs.Requests.{field, got_with, posted_with, wanted_of};
+ghost use Rattle.wb_streams.specs.Fields.{is_from_browser};
+ghost use Rattle.wb_streams.specs.declared.fault.Fault.TheVariants.{BadBody, BadHead, BadPath, BodyCut, FromBrowser, NoRoute};
+ghost use Rattle.wb_streams.specs.declared.fault.Fault.TheVariants.{WrongMethod};
 ghost use Rattle.wb_streams.specs.declared.fault.Fault.{Fault as AnyFault};
 ghost use Rattle.wb_api.specs.declared.request.Received.{Received as AnyReceived};
 ghost use Rattle.wb_api.specs.declared.request.Received.TheVariants.{Asked, Memory, Refused};
 ghost use Rattle.wb_api.specs.declared.request.Request.{Request as AnyRequest};
-ghost use Rattle.wb_api.specs.declared.request.Request.TheVariants.{Command};
+ghost use Rattle.wb_api.specs.declared.request.Request.TheVariants.{Command, Query};
+ghost use Rattle.wb_states.specs.declared.query.Query.TheVariants as query;
 ghost use Rattle.wb_states.specs.Machine.{Machine};
 ghost use Rattle.wb_states.specs.declared.command.Command.{Command as AnyCommand};
 ghost use Rattle.wb_step.specs.Offices.{Standing};
@@ -53,7 +58,31 @@ pub fn what_follows_plays_no_part()
         → Means input (Refused fault) → Means (input ++ more) (Refused fault) }
 {}
 
-/// The report of a failed build and a build priority are commands, each with its own path and keys.
+/// A GET of a query's path is that query, about the parts of the path, each decoded once (RFC 3986, section 2.1). A path
+/// with another number of parts is no path of a query, and neither is one with an empty part.
+pub fn gets_are_queries()
+    // lists
+    ensures queue { got (codes "/v1/queue/amd64") ≡ Ok (Query (query.Queue (codes "amd64"))) }
+    ensures state { got (codes "/v1/state/amd64/Dep-Wait")
+        ≡ Ok (Query (query.ByState (codes "amd64") (codes "Dep-Wait"))) }
+    ensures mine { got (codes "/v1/mine/b1") ≡ Ok (Query (query.Mine (codes "b1"))) }
+    // one source package, and counts
+    ensures item { got (codes "/v1/item/amd64/g%2B%2B-13")
+        ≡ Ok (Query (query.Item (codes "amd64") (codes "g++-13"))) }
+    ensures depends { got (codes "/v1/depends/amd64/hello")
+        ≡ Ok (Query (query.Depends (codes "amd64") (codes "hello"))) }
+    ensures summary { got (codes "/v1/summary/amd64") ≡ Ok (Query (query.Summary (codes "amd64"))) }
+    // other requests
+    ensures empty_part { got (codes "/v1/queue/") ≡ Err NoRoute }
+    ensures part_missing { got (codes "/v1/item/amd64") ≡ Err NoRoute }
+    ensures part_over { got (codes "/v1/summary/amd64/hello") ≡ Err NoRoute }
+    ensures not_text { got (codes "/v1/item/amd64/%ff") ≡ Err BadPath }
+    ensures get_of_command { got (codes "/v1/next") ≡ Err WrongMethod }
+    ensures post_of_query { posted (codes "/v1/queue/amd64") (codes "{}") ≡ Err WrongMethod }
+{}
+
+/// The report of a failed build, a build priority and the report of a whole architecture are commands, each with its own
+/// path and keys.
 pub fn posts_are_commands()
     // a take number, and a reason, which may be empty
     ensures attempted { posted (codes "/v1/attempted") (codes "{\"take\":7,\"reason\":\"no -lm\"}")
@@ -67,6 +96,33 @@ pub fn posts_are_commands()
         ≡ Ok (Command (BuildPriority (codes "amd64") (codes "hello") (codes "1.0-1") (neg_ℤ (pos 5)))) }
     ensures no_value { posted (codes "/v1/build-priority")
         (codes "{\"arch\":\"amd64\",\"source\":\"hello\",\"version\":\"1.0-1\"}") ≡ Err BadBody }
+    // an architecture, and the lines of a report, of which there may be none
+    ensures report { posted (codes "/v1/report")
+        (codes "{\"arch\":\"amd64\",\"text\":\"hello 1.0-1 installable\\n\"}")
+        ≡ Ok (Command (Report (codes "amd64") (codes "hello 1.0-1 installable\n"))) }
+    ensures no_lines { posted (codes "/v1/report") (codes "{\"text\":\"\",\"arch\":\"amd64\"}")
+        ≡ Ok (Command (Report (codes "amd64") (codes ""))) }
+    ensures no_text { posted (codes "/v1/report") (codes "{\"arch\":\"amd64\"}") ≡ Err BadBody }
+{}
+
+/// A request that a web page had its browser send asks for nothing, whatever its method, its target and its body are: one
+/// with an `Origin` field (RFC 6454, section 7), or with a `Sec-Fetch-Site` field of another value than `none` (Fetch
+/// Metadata Request Headers, section 2.3). Names of fields compare without case, the value does not.
+pub fn pages_ask_for_nothing()
+    ensures value { (head : RequestHead) (rest : List ℕ)
+        → is_from_browser (map name_and_value head.fields) ≡ true → asked head rest ≡ Err FromBrowser }
+    // a form of a page, and what a page fetches; a fault of the target comes later
+    ensures form { posted_with (field (codes "Origin") (codes "null") ∷ []) (codes "/v1/built")
+        (codes "{\"take\":1}") ≡ Err FromBrowser }
+    ensures fetched { got_with (field (codes "sec-fetch-site") (codes "same-origin") ∷ [])
+        (codes "/v1/summary/amd64") ≡ Err FromBrowser }
+    ensures first { got_with (field (codes "ORIGIN") (codes "http://127.0.0.1") ∷ []) (codes "/")
+        ≡ Err FromBrowser }
+    ensures other_case { got_with (field (codes "Sec-Fetch-Site") (codes "None") ∷ [])
+        (codes "/v1/summary/amd64") ≡ Err FromBrowser }
+    // an address that a person types
+    ensures typed { got_with (field (codes "Sec-Fetch-Site") (codes "none") ∷ [])
+        (codes "/v1/summary/amd64") ≡ Ok (Query (query.Summary (codes "amd64"))) }
 {}
 
 /// The value of a build priority is an integer from -2^63 to 2^63 - 1, in digits alone or after a minus sign. No

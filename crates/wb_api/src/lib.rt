@@ -13,6 +13,7 @@ mod query;
 mod refusal;
 mod request;
 mod route;
+mod row;
 mod serve;
 mod status;
 

@@ -1,177 +1,246 @@
-//! The answers to queries as compact JSON, with the keys of each object in byte order.
-ghost use Rattle.std.specs.Prelude.{◌≡◌, map, IfOk, OnOk};
+//! The answers to queries as compact JSON, with the keys of each object in byte order. The text of a list is written
+//! record by record, so that no more than one of them is there as a value at a time.
+ghost use Rattle.std.specs.Prelude.{◌≡◌, ◌++◌, false, IfOk, OnOk};
 ghost use Rattle.std.specs.String.{string_bytes};
-ghost use Rattle.serde_json.specs.Data.{array, put as with_member, string};
-ghost use Rattle.serde_json.specs.View.{members_view, view};
-ghost use Rattle.wb_api.specs.Queries.{query_text};
-ghost use Rattle.wb_api.specs.QueryValues.{number_or_null, string_or_null, value_of_answer};
-ghost use Rattle.wb_api.specs.QueryValues.{value_of_fields, value_of_mine, value_of_record};
-ghost use Rattle.wb_api.specs.QueryValues.{values_of_records, with_standing, with_texts};
-ghost use Rattle.wb_api.specs.QueryValues.{with_version};
+ghost use Rattle.json.specs.Print.{quoted};
+ghost use Rattle.serde_json.specs.View.{view};
+ghost use Rattle.serde_json.specs.Written.{compact_text, has_float};
+ghost use Rattle.wb_states.specs.declared.query.Answer.TheVariants.{Queue, ByState, Mine, Depends, Summary};
+ghost use Rattle.wb_api.specs.Queries.{query_text, queue_text, record_text, records_text, waiting_text};
+ghost use Rattle.wb_api.specs.QueryValues.{value_of_counts, value_of_depends, value_of_summary};
 
-use crate::encode::array_of;
+use crate::row::{string_or_null, value_of_record, value_of_waiting};
 use deb_text::Text;
-use serde_json::{Map, Value, json, put};
+use serde_json::{Value, json};
 use std::alloc::{AllocError, Global};
-use wb_states::{Answer, KeyedRecord, Record, build_text};
+use wb_states::{Answer, KeyedRecord, State, StateCounts};
 
 /// The answer to a query as one JSON object (RFC 8259), with no space and no line feed.
 ///
 /// The answer to `item` is the record. That to `mine` has the builder and its records, in the order of their
-/// take numbers. A record has under `build` the version of the binaries: the source version, followed by
-/// `+bN` for a binary-only rebuild N. A missing holder or take number is `null`. Texts and numbers stand as
-/// in `reply_json`, and a build priority below 0 after a minus sign. What a source package needs to be built
-/// is left out. The only error is that there is no memory for the text. The keys are this project's own.
-#[tactic(auto, using(crate::proofs::QueryLemmas::printing_of_queries))]
+/// take numbers; that to `by-state` the architecture, the state and its records, in the order of their names;
+/// and that to `queue` the architecture and the records that wait there, the first to be built first. A record
+/// has under `build` the version of the binaries: the source version, followed by `+bN` for a binary-only
+/// rebuild N. A missing holder or take number is `null`. A record of a queue has this version and its source
+/// package alone. The answer to `depends` has what the source package needs to be built, or `null` if it could
+/// not be read; only there is it shown. That to `summary` has the number of records of each state under its
+/// name, and how many commands the office accepted. Texts and numbers stand as in `reply_json`, and a build
+/// priority below 0 after a minus sign. The only error is that there is no memory for the text. The keys are
+/// this project's own.
+#[tactic(auto, unfolding(crate::specs::Queries::query_text))]
 pub fn query_json(alloc: Global, answer: &Answer) -> Result<String, AllocError>
     ensures value { IfOk result (λ text. string_bytes text ≡ query_text answer.now) }
 {
-    let value = value_of_answer(alloc, answer)?;
+    match answer {
+        Answer::Queue { arch, records } => queue_json(alloc, arch.as_str(), records.as_slice()),
+        Answer::ByState {
+            arch,
+            state,
+            records,
+        } => state_json(alloc, arch.as_str(), *state, records.as_slice()),
+        Answer::Item(row) => record_json(alloc, row),
+        Answer::Mine { builder, records } => mine_json(alloc, builder.as_str(), records.as_slice()),
+        Answer::Depends {
+            arch,
+            source,
+            depends,
+        } => depends_json(alloc, arch.as_str(), source.as_str(), depends),
+        Answer::Summary {
+            accepted,
+            arch,
+            counts,
+        } => summary_json(alloc, *accepted, arch.as_str(), counts),
+    }
+}
+
+#[tactic(auto, unfolding(crate::specs::Queries::query_text))]
+fn queue_json(alloc: Global, arch: &str, rows: &[KeyedRecord]) -> Result<String, AllocError>
+    ensures value { IfOk result (λ text. string_bytes text ≡ query_text (Queue arch.now rows.now)) }
+{
+    let mut out = begun_with(alloc, "{\"arch\":", arch)?;
+    out.push_str(",\"queue\":[")?;
+    write_queue(alloc, &mut out, rows)?;
+    out.push_str("]}")?;
+    Ok(out)
+}
+
+#[tactic(auto, unfolding(crate::specs::Queries::query_text))]
+fn state_json(
+    alloc: Global,
+    arch: &str,
+    state: State,
+    rows: &[KeyedRecord],
+) -> Result<String, AllocError>
+    ensures value { IfOk result (λ text.
+        string_bytes text ≡ query_text (ByState arch.now state rows.now)) }
+{
+    let mut out = begun_with(alloc, "{\"arch\":", arch)?;
+    out.push_str(",\"records\":[")?;
+    write_records(alloc, &mut out, rows)?;
+    out.push_str("],\"state\":")?;
+    write_quoted(alloc, &mut out, state.name())?;
+    out.push_str("}")?;
+    Ok(out)
+}
+
+#[tactic(auto, unfolding(crate::specs::Queries::query_text))]
+fn mine_json(alloc: Global, builder: &str, rows: &[KeyedRecord]) -> Result<String, AllocError>
+    ensures value { IfOk result (λ text. string_bytes text ≡ query_text (Mine builder.now rows.now)) }
+{
+    let mut out = begun_with(alloc, "{\"builder\":", builder)?;
+    out.push_str(",\"records\":[")?;
+    write_records(alloc, &mut out, rows)?;
+    out.push_str("]}")?;
+    Ok(out)
+}
+
+/// Appends the objects of records, with a comma between each two.
+#[tactic(auto, unfolding(crate::specs::Queries::records_text))]
+fn write_records(alloc: Global, out: &mut String, rows: &[KeyedRecord]) -> Result<(), AllocError>
+    ensures ok { OnOk result (string_bytes out.new ≡ string_bytes out.old ++ records_text rows.now) }
+{
+    if let [first, others @ ..] = rows {
+        write_record(alloc, out, first)?;
+        for row in others {
+            out.push_str(",")?;
+            write_record(alloc, out, row)?;
+        }
+    }
+    Ok(())
+}
+
+/// Appends the objects of the records of a queue, with a comma between each two.
+#[tactic(auto, unfolding(crate::specs::Queries::queue_text))]
+fn write_queue(alloc: Global, out: &mut String, rows: &[KeyedRecord]) -> Result<(), AllocError>
+    ensures ok { OnOk result (string_bytes out.new ≡ string_bytes out.old ++ queue_text rows.now) }
+{
+    if let [first, others @ ..] = rows {
+        write_waiting(alloc, out, first)?;
+        for row in others {
+            out.push_str(",")?;
+            write_waiting(alloc, out, row)?;
+        }
+    }
+    Ok(())
+}
+
+#[tactic(auto, using(crate::proofs::QueryLemmas::printing_of_records))]
+fn record_json(alloc: Global, row: &KeyedRecord) -> Result<String, AllocError>
+    ensures value { IfOk result (λ text. string_bytes text ≡ record_text row.now) }
+{
+    let value = value_of_record(alloc, row)?;
     value.to_string(alloc)
 }
 
-fn value_of_answer(alloc: Global, answer: &Answer) -> Result<Value, AllocError>
-    ensures { IfOk result (λ value. view value ≡ value_of_answer answer.now) }
+fn write_record(alloc: Global, out: &mut String, row: &KeyedRecord) -> Result<(), AllocError>
+    ensures ok { OnOk result (string_bytes out.new ≡ string_bytes out.old ++ record_text row.now) }
 {
-    match answer {
-        Answer::Item(row) => value_of_record(alloc, row),
-        Answer::Mine { builder, records } => value_of_mine(alloc, builder, records.as_slice()),
-    }
+    let text = record_json(alloc, row)?;
+    out.push_str(text.as_str())
 }
 
-fn value_of_mine(alloc: Global, builder: &Text, rows: &[KeyedRecord]) -> Result<Value, AllocError>
-    ensures { IfOk result (λ value. view value ≡ value_of_mine builder.now rows.now) }
+#[tactic(auto, using(crate::proofs::QueryLemmas::printing_of_records))]
+fn write_waiting(alloc: Global, out: &mut String, row: &KeyedRecord) -> Result<(), AllocError>
+    ensures ok { OnOk result (string_bytes out.new ≡ string_bytes out.old ++ waiting_text row.now) }
 {
-    let records = values_of_records(alloc, rows)?;
-    json!(in alloc; {"builder": builder.as_str(), "records": records})
+    let value = value_of_waiting(alloc, row)?;
+    write_value(alloc, out, &value)
 }
 
-/// The array of the records' objects.
-fn values_of_records(alloc: Global, rows: &[KeyedRecord]) -> Result<Value, AllocError>
-    ensures { IfOk result (λ value. view value ≡ array (values_of_records rows.now)) }
+/// The beginning of an object, up to its first key, and the text under it.
+fn begun_with(alloc: Global, key: &str, text: &str) -> Result<String, AllocError>
+    ensures value { IfOk result (λ out. string_bytes out ≡ key.now ++ quoted text.now) }
 {
-    Ok(array_of(list_of_records(alloc, rows)?))
+    let mut out = String::from_str(alloc, key)?;
+    write_quoted(alloc, &mut out, text)?;
+    Ok(out)
 }
 
-/// The records' objects, in their order.
-fn list_of_records(alloc: Global, rows: &[KeyedRecord]) -> Result<Vec<Value>, AllocError>
-    ensures { IfOk result (λ values. map view values.items ≡ map value_of_record rows.now) }
+/// Appends a text between quotation marks.
+#[tactic(auto, using(crate::proofs::QueryLemmas::printing_of_texts))]
+fn write_quoted(alloc: Global, out: &mut String, text: &str) -> Result<(), AllocError>
+    ensures ok { OnOk result (string_bytes out.new ≡ string_bytes out.old ++ quoted text.now) }
 {
-    let mut values = Vec::new(alloc);
-    for row in rows {
-        values.push(value_of_record(alloc, row)?)?;
-    }
-    Ok(values)
+    let value = Value::try_from_str(alloc, text)?;
+    write_value(alloc, out, &value)
 }
 
-fn value_of_record(alloc: Global, row: &KeyedRecord) -> Result<Value, AllocError>
-    ensures { IfOk result (λ value. view value ≡ value_of_record row.now) }
+/// Appends the text of a value.
+fn write_value(alloc: Global, out: &mut String, value: &Value) -> Result<(), AllocError>
+    ensures ok { OnOk result (has_float (view value.now) ≡ false
+        → string_bytes out.new ≡ string_bytes out.old ++ compact_text (view value.now)) }
 {
-    value_of_fields(alloc, row.arch.as_str(), row.source.as_str(), &row.current)
+    let text = value.to_string(alloc)?;
+    out.push_str(text.as_str())
 }
 
-/// The object of the record of this source package on this architecture.
-fn value_of_fields(
+#[tactic(auto, using(crate::proofs::QueryLemmas::printing_of_depends))]
+fn depends_json(
     alloc: Global,
     arch: &str,
     source: &str,
-    current: &Record,
+    depends: &Option<Text>,
+) -> Result<String, AllocError>
+    ensures value { IfOk result (λ text.
+        string_bytes text ≡ query_text (Depends arch.now source.now depends.now)) }
+{
+    let value = value_of_depends(alloc, arch, source, depends)?;
+    value.to_string(alloc)
+}
+
+fn value_of_depends(
+    alloc: Global,
+    arch: &str,
+    source: &str,
+    depends: &Option<Text>,
 ) -> Result<Value, AllocError>
     ensures { IfOk result (λ value.
-        view value ≡ value_of_fields arch.now source.now current.now) }
+        view value ≡ value_of_depends arch.now source.now depends.now) }
 {
-    let mut members = Map::new(alloc);
-    put_text(alloc, &mut members, "arch", arch)?;
-    put_text(alloc, &mut members, "source", source)?;
-    put_version(alloc, &mut members, current)?;
-    put_standing(alloc, &mut members, current)?;
-    put_texts(alloc, &mut members, current)?;
-    Ok(Value::Object(members))
+    let depends = string_or_null(alloc, depends)?;
+    json!(in alloc; {"arch": arch, "depends": depends, "source": source})
 }
 
-/// Puts what is built of a record, and its build priority.
-fn put_version(
+#[tactic(auto, using(crate::proofs::QueryLemmas::printing_of_summaries))]
+fn summary_json(
     alloc: Global,
-    members: &mut Map<String, Value>,
-    current: &Record,
-) -> Result<(), AllocError>
-    ensures ok { OnOk result (members_view members.new.entries
-        ≡ with_version current.now (members_view members.old.entries)) }
+    accepted: u64,
+    arch: &str,
+    counts: &StateCounts,
+) -> Result<String, AllocError>
+    ensures value { IfOk result (λ text.
+        string_bytes text ≡ query_text (Summary accepted arch.now counts.now)) }
 {
-    let build = build_text(alloc, current)?;
-    put_text(alloc, members, "version", current.version.text())?;
-    put(members, alloc, "number", Value::from(current.number))?;
-    put_text(alloc, members, "build", build.as_str())?;
-    put(
-        members,
-        alloc,
-        "build_priority",
-        Value::from(current.build_priority),
-    )
+    let value = value_of_summary(alloc, accepted, arch, counts)?;
+    value.to_string(alloc)
 }
 
-/// Puts where a record stands, and who holds it.
-fn put_standing(
+fn value_of_summary(
     alloc: Global,
-    members: &mut Map<String, Value>,
-    current: &Record,
-) -> Result<(), AllocError>
-    ensures ok { OnOk result (members_view members.new.entries
-        ≡ with_standing current.now (members_view members.old.entries)) }
+    accepted: u64,
+    arch: &str,
+    counts: &StateCounts,
+) -> Result<Value, AllocError>
+    ensures { IfOk result (λ value. view value ≡ value_of_summary accepted arch.now counts.now) }
 {
-    let holder = string_or_null(alloc, &current.holder)?;
-    put_text(alloc, members, "state", current.state.name())?;
-    put(members, alloc, "earlier", Value::from(current.earlier))?;
-    put(members, alloc, "holder", holder)?;
-    put(members, alloc, "take", number_or_null(current.take))
+    let counts = value_of_counts(alloc, counts)?;
+    json!(in alloc; {"accepted": accepted, "arch": arch, "counts": counts})
 }
 
-/// Puts what is said of a record.
-fn put_texts(
-    alloc: Global,
-    members: &mut Map<String, Value>,
-    current: &Record,
-) -> Result<(), AllocError>
-    ensures ok { OnOk result (members_view members.new.entries
-        ≡ with_texts current.now (members_view members.old.entries)) }
+/// The object of the numbers of records, under the names of the states.
+fn value_of_counts(alloc: Global, counts: &StateCounts) -> Result<Value, AllocError>
+    ensures { IfOk result (λ value. view value ≡ value_of_counts counts.now) }
 {
-    put_text(alloc, members, "priority", current.priority.as_str())?;
-    put_text(alloc, members, "section", current.section.as_str())?;
-    put_text(alloc, members, "waits", current.waits.as_str())?;
-    put_text(alloc, members, "note", current.note.as_str())?;
-    put_text(alloc, members, "message", current.message.as_str())
-}
-
-/// Puts a text at a key.
-fn put_text(
-    alloc: Global,
-    members: &mut Map<String, Value>,
-    key: &str,
-    text: &str,
-) -> Result<(), AllocError>
-    ensures ok { OnOk result (members_view members.new.entries
-        ≡ with_member key.now (string text.now) (members_view members.old.entries)) }
-{
-    let text = Value::try_from_str(alloc, text)?;
-    put(members, alloc, key, text)
-}
-
-/// The text, or `null` if it is missing.
-fn string_or_null(alloc: Global, text: &Option<Text>) -> Result<Value, AllocError>
-    ensures { IfOk result (λ value. view value ≡ string_or_null text.now) }
-{
-    match text {
-        Some(text) => Value::try_from_str(alloc, text.as_str()),
-        None => Ok(Value::Null),
-    }
-}
-
-/// The number, or `null` if it is missing.
-fn number_or_null(number: Option<u64>) -> Value
-    ensures { view result ≡ number_or_null number }
-{
-    match number {
-        Some(number) => Value::from(number),
-        None => Value::Null,
-    }
+    json!(in alloc; {
+        "BD-Uninstallable": counts.bd_uninstallable,
+        "Build-Attempted": counts.build_attempted,
+        "Building": counts.building,
+        "Built": counts.built,
+        "Dep-Wait": counts.dep_wait,
+        "Failed": counts.failed,
+        "Installed": counts.installed,
+        "Needs-Build": counts.needs_build,
+        "Not-For-Us": counts.not_for_us,
+        "Uploaded": counts.uploaded
+    })
 }

@@ -5,16 +5,16 @@ ghost use Rattle.std.specs.Cow.{cow_str_bytes, IsBorrowedStr};
 ghost use Rattle.std.specs.declared.alloc.Global.{Global as AnyGlobal};
 ghost use Rattle.std.specs.declared.borrow.CowStr.{CowStr as AnyCowStr};
 ghost use Rattle.serde_json.specs.View.{view};
-ghost use Rattle.wb_states.specs.declared.refusal.Refusal.TheVariants.{Memory};
+ghost use Rattle.wb_states.specs.declared.refusal.Refusal.TheVariants.{BadReport, Memory, Store};
 ghost use Rattle.wb_api.specs.Encoding.{is_plain, name_of_relations_fault, refusal_text};
 ghost use Rattle.wb_api.specs.Encoding.{IsMemoryText};
-ghost use Rattle.wb_api.specs.Values.{value_of_listing_fault, value_of_refusal};
+ghost use Rattle.wb_api.specs.Values.{value_of_listing_fault, value_of_plain, value_of_refusal};
 
 use deb_relations::RelationFault;
 use serde_json::{Value, json};
 use std::alloc::{AllocError, Global};
 use std::borrow::CowStr;
-use wb_states::{ListKind, ListingFault, Refusal};
+use wb_states::{ListKind, ListingFault, Refusal, StoreFault};
 
 /// The text of the refusal `Memory`, which must not need any memory.
 const MEMORY: &str = r#"{"code":20,"refused":"Memory"}"#;
@@ -45,6 +45,7 @@ fn constant_text(refusal: &Refusal) -> Option<&'static str>
         | Refusal::BadVersion { .. }
         | Refusal::BadRelations { .. }
         | Refusal::BadListing { .. }
+        | Refusal::BadReport { .. }
         | Refusal::Store { .. } => None,
     }
 }
@@ -126,11 +127,31 @@ pub(crate) fn value_of_refusal(alloc: Global, refusal: &Refusal) -> Result<Value
             paragraph,
             fault,
         } => value_of_listing_fault(alloc, *which, *paragraph, *fault),
-        Refusal::Store { fault } => {
-            json!(in alloc; {"code": code, "refused": name, "store": fault.name()})
-        }
-        _ => json!(in alloc; {"code": code, "refused": name}),
+        Refusal::BadReport { line } => value_of_report_fault(alloc, *line),
+        Refusal::Store { fault } => value_of_store_fault(alloc, *fault),
+        _ => value_of_plain(alloc, refusal),
     }
+}
+
+/// The object of a refusal that has no more than its number and its name.
+fn value_of_plain(alloc: Global, refusal: &Refusal) -> Result<Value, AllocError>
+    ensures { IfOk result (λ value. view value ≡ value_of_plain refusal.now) }
+{
+    json!(in alloc; {"code": refusal.code(), "refused": refusal.name()})
+}
+
+/// The object of a fault of the store.
+fn value_of_store_fault(alloc: Global, fault: StoreFault) -> Result<Value, AllocError>
+    ensures { IfOk result (λ value. view value ≡ value_of_refusal (Store fault)) }
+{
+    json!(in alloc; {"code": 21u8, "refused": "Store", "store": fault.name()})
+}
+
+/// The object of a malformed line of a report.
+fn value_of_report_fault(alloc: Global, line: u64) -> Result<Value, AllocError>
+    ensures { IfOk result (λ value. view value ≡ value_of_refusal (BadReport line)) }
+{
+    json!(in alloc; {"code": 16u8, "line": line, "refused": "BadReport"})
 }
 
 /// The object of a fault in a paragraph of a list. It names the field if one is missing or malformed.

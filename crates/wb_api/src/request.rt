@@ -1,5 +1,5 @@
 //! A request (RFC 9112, section 2.1), read from a stream.
-ghost use Rattle.std.specs.Prelude.{◌≡◌, ℕ, ◌≤◌, List, ◌++◌, drop, length, IfSome, map, Some};
+ghost use Rattle.std.specs.Prelude.{◌≡◌, ℕ, ◌≤◌, List, ◌++◌, drop, length, IfSome, map};
 ghost use Rattle.std.specs.Io.KnownBytes.{Consumes};
 ghost use Rattle.httparse.specs.Borrowed.{header_parts};
 ghost use Rattle.httparse.specs.Grammar.{RequestHead};
@@ -8,20 +8,20 @@ ghost use Rattle.wb_streams.specs.Bodies.{TookLess, TookNoMore};
 ghost use Rattle.wb_streams.specs.Heads.{IsHeadAt};
 ghost use Rattle.wb_api.specs.Requests.{Answers, asked, body_asked, body_length, command_wanted};
 ghost use Rattle.wb_api.specs.Requests.{is_failed, IsRequestFront, IsWithinRequest, Means};
-ghost use Rattle.wb_api.specs.Requests.{query_at, query_wanted, TakesMemory, wanted_by, wanted_of, WantsOr};
+ghost use Rattle.wb_api.specs.Requests.{query_wanted, TakesMemory, wanted_by, wanted_from, wanted_of, WantsOr};
 ghost use Rattle.wb_api.specs.declared.request.Received.TheVariants as received;
-ghost use Rattle.wb_api.specs.Routes.{command_at, item_query, mine_query};
+ghost use Rattle.wb_api.specs.Routes.{route_at};
 
 use crate::command::command_of;
 use crate::failure::RequestError;
-use crate::route::{CommandKind, command_at, item, item_at, mine, mine_at};
+use crate::route::{CommandKind, QueryKind, Route, query_of, route_at};
 use httparse::{EMPTY_HEADER, Header, Status};
 use std::alloc::Global;
 use std::io::Read;
 use wb_states::{Command, Query};
 use wb_streams::{
     BodyRead, FIELD_LIMIT, Fault, HEAD_LIMIT, HeadRead, WatchedReader, content_length, has_field,
-    read_body, read_head,
+    is_from_browser, read_body, read_head,
 };
 
 /// What a request asks for.
@@ -75,57 +75,28 @@ fn command_wanted(kind: CommandKind, method: &str, fields: &[Header<'_>]) -> Res
     }
 }
 
-/// What the head of a query for an item asks for, of parts as they are written. The errors are those of its method and
-/// of the parts, and that memory ran out.
-#[tactic(auto, using(crate::proofs::RequestLemmas::item_wants))]
-fn item_wanted(
+/// What the head of a query asks for. The errors are those of its method and of the parts of its path, and that memory
+/// ran out.
+#[tactic(auto, unfolding(crate::specs::Requests::query_wanted), using(crate::proofs::RequestLemmas::query_wants))]
+fn query_wanted(
     alloc: Global,
+    kind: QueryKind,
     method: &str,
-    arch: &[u8],
-    source: &[u8],
+    target: &str,
 ) -> Result<Wanted, RequestError>
-    ensures value { WantsOr result (query_wanted (Some (item_query arch.now source.now)) method.now) }
+    ensures value { WantsOr result (query_wanted kind method.now target.now) }
 {
     if method != "GET" {
         return Err(RequestError::Fault(Fault::WrongMethod));
     }
-    match item(alloc, arch, source) {
+    match query_of(alloc, kind, target) {
         Ok(query) => Ok(Wanted::Query(query)),
         Err(error) => Err(error),
     }
 }
 
-/// What the head of a query for what a builder holds asks for, of a part as it is written. The errors are those of its
-/// method and of the part, and that memory ran out.
-#[tactic(auto, using(crate::proofs::RequestLemmas::mine_wants))]
-fn mine_wanted(alloc: Global, method: &str, builder: &[u8]) -> Result<Wanted, RequestError>
-    ensures value { WantsOr result (query_wanted (Some (mine_query builder.now)) method.now) }
-{
-    if method != "GET" {
-        return Err(RequestError::Fault(Fault::WrongMethod));
-    }
-    match mine(alloc, builder) {
-        Ok(query) => Ok(Wanted::Query(query)),
-        Err(error) => Err(error),
-    }
-}
-
-/// What the head of a query asks for. The errors are that no query has the target, those of its method and
-/// of the parts of its path, and that memory ran out.
-#[tactic(auto, unfolding(crate::specs::Requests::query_at))]
-fn query_wanted(alloc: Global, method: &str, target: &str) -> Result<Wanted, RequestError>
-    ensures value { WantsOr result (query_wanted (query_at target.now) method.now) }
-{
-    match item_at(target.as_bytes()) {
-        Some((arch, source)) => item_wanted(alloc, method, arch, source),
-        None => match mine_at(target.as_bytes()) {
-            Some(builder) => mine_wanted(alloc, method, builder),
-            None => Err(RequestError::Fault(Fault::NoRoute)),
-        },
-    }
-}
-
-/// What a head of this method, target and fields asks for.
+/// What a head of this method, target and fields asks for. The errors are that nothing has the target, those of the
+/// command or the query that has it, and that memory ran out.
 fn wanted_by(
     alloc: Global,
     method: &str,
@@ -133,15 +104,33 @@ fn wanted_by(
     fields: &[Header<'_>],
 ) -> Result<Wanted, RequestError>
     ensures value { WantsOr result
-        (wanted_by (command_at target.now) method.now target.now (map header_parts fields.now)) }
+        (wanted_by (route_at target.now) method.now target.now (map header_parts fields.now)) }
 {
-    match command_at(target) {
-        Some(kind) => match command_wanted(kind, method, fields) {
+    match route_at(target) {
+        Some(Route::Command(kind)) => match command_wanted(kind, method, fields) {
             Ok(wanted) => Ok(wanted),
             Err(fault) => Err(RequestError::Fault(fault)),
         },
-        None => query_wanted(alloc, method, target),
+        Some(Route::Query(kind)) => query_wanted(alloc, kind, method, target),
+        None => Err(RequestError::Fault(Fault::NoRoute)),
     }
+}
+
+/// What a head of this method, target and fields asks for. The errors are that a web page had it sent, and those of its
+/// target.
+fn wanted_from(
+    alloc: Global,
+    method: &str,
+    target: &str,
+    fields: &[Header<'_>],
+) -> Result<Wanted, RequestError>
+    ensures value { WantsOr result
+        (wanted_from method.now target.now (map header_parts fields.now)) }
+{
+    if is_from_browser(fields) {
+        return Err(RequestError::Fault(Fault::FromBrowser));
+    }
+    wanted_by(alloc, method, target, fields)
 }
 
 /// What the head at the front of the bytes asks for.
@@ -155,7 +144,7 @@ fn wanted_of(alloc: Global, bytes: &[u8]) -> Result<Wanted, RequestError>
         return Err(RequestError::Fault(Fault::BadHead));
     };
     match (request.method, request.path) {
-        (Some(method), Some(target)) => wanted_by(alloc, method, target, request.headers),
+        (Some(method), Some(target)) => wanted_from(alloc, method, target, request.headers),
         _ => Err(RequestError::Fault(Fault::BadHead)),
     }
 }
@@ -218,7 +207,7 @@ fn receive_rest<R: Read + Drop>(
 }
 
 /// Reads one request: a head of at most 8192 bytes and 32 fields, and for a command a body of at most
-/// 16777216 bytes. No byte after the request plays a part, and neither does how the bytes are cut into
+/// 16777216 bytes. A request that a web page had its browser send is refused by its head. No byte after the request plays a part, and neither does how the bytes are cut into
 /// reads. A read that fails, also one that is interrupted, ends it, and so does the end of the input. The
 /// memory for a body is taken before the first read of it. There is no read once the request has come, or a
 /// fault of it, since the client waits for its answer then. The reads of a head take at most 8192 bytes, which

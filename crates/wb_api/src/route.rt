@@ -1,6 +1,7 @@
 //! The targets of requests (RFC 9112, section 3.2), and the parts of their paths (RFC 3986, section 3.3).
 ghost use Rattle.std.specs.Prelude.{◌≡◌, option_map};
-ghost use Rattle.wb_api.specs.Routes.{command_at, cut_at_slash, decoded_text, item_at, item_query, is_part, mine_at, mine_query, one_part, two_parts};
+ghost use Rattle.wb_api.specs.Routes.{are_two_parts, command_at, cut_at_slash, decoded_text, has_one_part};
+ghost use Rattle.wb_api.specs.Routes.{has_two_parts, is_part, part_at, query_at, query_of, route_at};
 ghost use Rattle.wb_api.specs.Outcomes.{GivesOr};
 
 use crate::failure::RequestError;
@@ -26,10 +27,29 @@ pub(crate) enum CommandKind {
     NotForUs,
     Rebuild,
     BuildPriority,
+    Report,
+}
+
+/// The queries that may be asked over HTTP, each with its own path.
+#[derive(Clone, Copy, Debug, PartialEq, Eq)]
+pub(crate) enum QueryKind {
+    Queue,
+    ByState,
+    Item,
+    Mine,
+    Depends,
+    Summary,
+}
+
+/// What a target is for.
+#[derive(Clone, Copy, Debug, PartialEq, Eq)]
+pub(crate) enum Route {
+    Command(CommandKind),
+    Query(QueryKind),
 }
 
 /// The command that has this target.
-pub(crate) fn command_at(target: &str) -> Option<CommandKind>
+fn command_at(target: &str) -> Option<CommandKind>
     ensures value { result ≡ command_at target.now }
 {
     match target {
@@ -46,6 +66,7 @@ pub(crate) fn command_at(target: &str) -> Option<CommandKind>
         "/v1/not-for-us" => Some(CommandKind::NotForUs),
         "/v1/rebuild" => Some(CommandKind::Rebuild),
         "/v1/build-priority" => Some(CommandKind::BuildPriority),
+        "/v1/report" => Some(CommandKind::Report),
         _ => None,
     }
 }
@@ -65,47 +86,73 @@ fn cut_at_slash(text: &[u8]) -> Option<(&[u8], &[u8])>
 }
 
 /// Two parts with a slash between them.
-#[tactic(auto, unfolding(crate::specs::Routes::two_parts))]
-fn two_parts(text: &[u8]) -> Option<(&[u8], &[u8])>
-    ensures value { option_map (λ parts. (parts.0.now, parts.1.now)) result ≡ two_parts text.now }
+#[tactic(auto, unfolding(crate::specs::Routes::are_two_parts))]
+fn are_two_parts(text: &[u8]) -> bool
+    ensures value { result ≡ are_two_parts text.now }
 {
     match cut_at_slash(text) {
-        Some((before, after)) => {
-            if is_part(before) && is_part(after) {
-                Some((before, after))
-            } else {
-                None
-            }
-        }
-        None => None,
+        Some((before, after)) => is_part(before) && is_part(after),
+        None => false,
     }
 }
 
-#[tactic(auto, unfolding(crate::specs::Routes::one_part))]
-fn one_part(text: &[u8]) -> Option<&[u8]>
-    ensures value { option_map (λ part. part.now) result ≡ one_part text.now }
+/// Whether a target is this path and one part more.
+fn has_one_part(path: &str, target: &str) -> bool
+    ensures value { result ≡ has_one_part path.now target.now }
 {
-    if is_part(text) { Some(text) } else { None }
-}
-
-/// The architecture and the source package of the target of an item, as they are written.
-pub(crate) fn item_at(target: &[u8]) -> Option<(&[u8], &[u8])>
-    ensures value { option_map (λ parts. (parts.0.now, parts.1.now)) result ≡ item_at target.now }
-{
-    match target.strip_prefix(b"/v1/item/") {
-        Some(parts) => two_parts(parts),
-        None => None,
+    match target.as_bytes().strip_prefix(path.as_bytes()) {
+        Some(part) => is_part(part),
+        None => false,
     }
 }
 
-/// The builder of the target of what a builder holds, as it is written.
-pub(crate) fn mine_at(target: &[u8]) -> Option<&[u8]>
-    ensures value { option_map (λ part. part.now) result ≡ mine_at target.now }
+/// Whether a target is this path and two parts more.
+fn has_two_parts(path: &str, target: &str) -> bool
+    ensures value { result ≡ has_two_parts path.now target.now }
 {
-    match target.strip_prefix(b"/v1/mine/") {
-        Some(part) => one_part(part),
-        None => None,
+    match target.as_bytes().strip_prefix(path.as_bytes()) {
+        Some(parts) => are_two_parts(parts),
+        None => false,
     }
+}
+
+/// The query that has this target.
+#[tactic(auto, unfolding(crate::specs::Routes::query_at))]
+fn query_at(target: &str) -> Option<QueryKind>
+    ensures value { result ≡ query_at target.now }
+{
+    if has_one_part("/v1/queue/", target) {
+        Some(QueryKind::Queue)
+    } else if has_two_parts("/v1/state/", target) {
+        Some(QueryKind::ByState)
+    } else if has_two_parts("/v1/item/", target) {
+        Some(QueryKind::Item)
+    } else if has_one_part("/v1/mine/", target) {
+        Some(QueryKind::Mine)
+    } else if has_two_parts("/v1/depends/", target) {
+        Some(QueryKind::Depends)
+    } else if has_one_part("/v1/summary/", target) {
+        Some(QueryKind::Summary)
+    } else {
+        None
+    }
+}
+
+/// What a target is for.
+pub(crate) fn route_at(target: &str) -> Option<Route>
+    ensures value { result ≡ route_at target.now }
+{
+    match command_at(target) {
+        Some(kind) => Some(Route::Command(kind)),
+        None => query_at(target).map(Route::Query),
+    }
+}
+
+/// The part of a target after so many slashes, as it is written; it is empty if there are not so many.
+fn part_at(target: &str, count: usize) -> &str
+    ensures value { result.now ≡ part_at target.now count }
+{
+    target.split('/').nth(count).unwrap_or("")
 }
 
 /// A part of a path, decoded once. The errors are that it is no UTF-8 then, and that memory ran out.
@@ -119,21 +166,33 @@ fn decoded(alloc: Global, part: &[u8]) -> Result<Text, RequestError>
     }
 }
 
-/// The query for an item, of parts as they are written.
-#[tactic(auto, unfolding(crate::specs::Routes::item_query))]
-pub(crate) fn item(alloc: Global, arch: &[u8], source: &[u8]) -> Result<Query, RequestError>
-    ensures value { GivesOr result (item_query arch.now source.now) }
+/// The query of this kind that a target asks.
+#[tactic(auto, unfolding(crate::specs::Routes::query_of))]
+pub(crate) fn query_of(alloc: Global, kind: QueryKind, target: &str) -> Result<Query, RequestError>
+    ensures value { GivesOr result (query_of kind target.now) }
 {
-    let arch = decoded(alloc, arch)?;
-    let source = decoded(alloc, source)?;
-    Ok(Query::Item { arch, source })
-}
-
-/// The query for what a builder holds, of a part as it is written.
-#[tactic(auto, unfolding(crate::specs::Routes::mine_query))]
-pub(crate) fn mine(alloc: Global, builder: &[u8]) -> Result<Query, RequestError>
-    ensures value { GivesOr result (mine_query builder.now) }
-{
-    let builder = decoded(alloc, builder)?;
-    Ok(Query::Mine { builder })
+    let first = decoded(alloc, part_at(target, 3).as_bytes())?;
+    match kind {
+        QueryKind::Queue => Ok(Query::Queue { arch: first }),
+        QueryKind::ByState => {
+            let state = decoded(alloc, part_at(target, 4).as_bytes())?;
+            Ok(Query::ByState { arch: first, state })
+        }
+        QueryKind::Item => {
+            let source = decoded(alloc, part_at(target, 4).as_bytes())?;
+            Ok(Query::Item {
+                arch: first,
+                source,
+            })
+        }
+        QueryKind::Mine => Ok(Query::Mine { builder: first }),
+        QueryKind::Depends => {
+            let source = decoded(alloc, part_at(target, 4).as_bytes())?;
+            Ok(Query::Depends {
+                arch: first,
+                source,
+            })
+        }
+        QueryKind::Summary => Ok(Query::Summary { arch: first }),
+    }
 }

@@ -27,6 +27,7 @@ pub fn status_of(refusal: &Refusal) -> Status
         | Refusal::BadRelations { .. }
         | Refusal::BadNumber
         | Refusal::BadListing { .. }
+        | Refusal::BadReport { .. }
         | Refusal::TextTooLong
         | Refusal::RepeatedArch => Status::UnprocessableEntity,
         Refusal::Closed | Refusal::Memory | Refusal::Store { .. } => Status::ServiceUnavailable,

@@ -4,7 +4,7 @@ use Rattle.std.specs.Fmt.{decimal}
 use Rattle.std.specs.Io.KnownBytes.{Appends}
 use Rattle.std.specs.List.{concat}
 use Rattle.wb_streams.specs.declared.fault.Fault.{Fault}
-use Rattle.wb_streams.specs.declared.fault.Fault.TheVariants.{HeadTooLarge, BadHead, NoRoute, WrongMethod, BadPath, NotSupported, NoLength, BadLength, BodyTooLarge, BodyCut, BadBody}
+use Rattle.wb_streams.specs.declared.fault.Fault.TheVariants.{HeadTooLarge, BadHead, FromBrowser, NoRoute, WrongMethod, BadPath, NotSupported, NoLength, BadLength, BodyTooLarge, BodyCut, BadBody}
 use Rattle.wb_streams.specs.declared.status.Status.{Status}
 use Rattle.wb_streams.specs.declared.status.Status.TheVariants as status
 
@@ -12,6 +12,7 @@ use Rattle.wb_streams.specs.declared.status.Status.TheVariants as status
 abbrev pub code_and_phrase : Status → List ℕ
 code_and_phrase status.Ok = codes "200 OK"
 code_and_phrase status.BadRequest = codes "400 Bad Request"
+code_and_phrase status.Forbidden = codes "403 Forbidden"
 code_and_phrase status.NotFound = codes "404 Not Found"
 code_and_phrase status.MethodNotAllowed = codes "405 Method Not Allowed"
 code_and_phrase status.Conflict = codes "409 Conflict"
@@ -26,6 +27,7 @@ code_and_phrase status.ServiceUnavailable = codes "503 Service Unavailable"
 abbrev pub code_of : Status → ℕ
 code_of status.Ok = 200
 code_of status.BadRequest = 400
+code_of status.Forbidden = 403
 code_of status.NotFound = 404
 code_of status.MethodNotAllowed = 405
 code_of status.Conflict = 409
@@ -53,6 +55,7 @@ answer_bytes status body = parts_bytes (code_and_phrase status) (decimal (length
 abbrev pub name_of_fault : Fault → List ℕ
 name_of_fault HeadTooLarge = codes "HeadTooLarge"
 name_of_fault BadHead = codes "BadHead"
+name_of_fault FromBrowser = codes "FromBrowser"
 name_of_fault NoRoute = codes "NoRoute"
 name_of_fault WrongMethod = codes "WrongMethod"
 name_of_fault BadPath = codes "BadPath"
@@ -67,6 +70,7 @@ name_of_fault BadBody = codes "BadBody"
 abbrev pub status_of_fault : Fault → Status
 status_of_fault HeadTooLarge = status.RequestHeaderFieldsTooLarge
 status_of_fault BadHead = status.BadRequest
+status_of_fault FromBrowser = status.Forbidden
 status_of_fault NoRoute = status.NotFound
 status_of_fault WrongMethod = status.MethodNotAllowed
 status_of_fault BadPath = status.BadRequest

@@ -24,6 +24,16 @@ is_named name field = bytes_eq (map to_ascii_lowercase field.0) (map to_ascii_lo
 abbrev pub has_field : List ℕ → List NameAndValue → Bool
 has_field name fields = list_any (is_named name) fields
 
+-- whether a field says that a web page had the request sent: it is an Origin (RFC 6454, section 7), or a Sec-Fetch-Site with another value than `none`
+-- (Fetch Metadata Request Headers, section 2.3)
+abbrev pub is_of_page : NameAndValue → Bool
+is_of_page field = is_named (codes "origin") field
+    || (is_named (codes "sec-fetch-site") field && not (bytes_eq field.1 (codes "none")))
+
+-- whether the fields are those of a request that a web page had sent
+abbrev pub is_from_browser : List NameAndValue → Bool
+is_from_browser fields = list_any is_of_page fields
+
 -- the values of the fields of this name
 abbrev pub values_of : List ℕ → List NameAndValue → List (List ℕ)
 values_of name fields = map (λ field. field.1) (filter (is_named name) fields)

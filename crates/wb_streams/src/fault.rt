@@ -12,6 +12,8 @@ pub enum Fault {
     HeadTooLarge,
     /// No head comes: nothing that can follow makes one, or the input ended inside it.
     BadHead,
+    /// A web page had its browser send the request.
+    FromBrowser,
     /// The target is none that this project has.
     NoRoute,
     /// The target has another method.
@@ -41,6 +43,7 @@ impl Fault {
         match self {
             Fault::HeadTooLarge => "HeadTooLarge",
             Fault::BadHead => "BadHead",
+            Fault::FromBrowser => "FromBrowser",
             Fault::NoRoute => "NoRoute",
             Fault::WrongMethod => "WrongMethod",
             Fault::BadPath => "BadPath",
@@ -61,6 +64,7 @@ impl Fault {
         match self {
             Fault::HeadTooLarge => Status::RequestHeaderFieldsTooLarge,
             Fault::BadHead => Status::BadRequest,
+            Fault::FromBrowser => Status::Forbidden,
             Fault::NoRoute => Status::NotFound,
             Fault::WrongMethod => Status::MethodNotAllowed,
             Fault::BadPath => Status::BadRequest,
@@ -81,6 +85,7 @@ impl Fault {
         match self {
             Fault::HeadTooLarge => r#"{"http":"HeadTooLarge"}"#,
             Fault::BadHead => r#"{"http":"BadHead"}"#,
+            Fault::FromBrowser => r#"{"http":"FromBrowser"}"#,
             Fault::NoRoute => r#"{"http":"NoRoute"}"#,
             Fault::WrongMethod => r#"{"http":"WrongMethod"}"#,
             Fault::BadPath => r#"{"http":"BadPath"}"#,

@@ -5,7 +5,7 @@ ghost use Rattle.std.specs.List.{list_all};
 ghost use Rattle.std.specs.Str.Parse.{digits_value};
 ghost use Rattle.httparse.specs.Borrowed.{header_parts};
 ghost use Rattle.deb_text.specs.Lists.{first_of};
-ghost use Rattle.wb_streams.specs.Fields.{agrees, content_length, has_field, is_named, is_number, is_same_number, length_stated};
+ghost use Rattle.wb_streams.specs.Fields.{agrees, content_length, has_field, is_from_browser, is_named, is_number, is_of_page, is_same_number, length_stated};
 ghost use Rattle.wb_streams.specs.Fields.{limited, values_of, without_zeros};
 
 use crate::fault::Fault;
@@ -28,6 +28,23 @@ pub fn has_field(fields: &[Header<'_>], name: &str) -> bool
     ensures value { result ≡ has_field name.now (map header_parts fields.now) }
 {
     fields.iter().any(|field| is_named(field, name))
+}
+
+/// Whether a field says that a web page had the request sent.
+fn is_of_page(field: &Header<'_>) -> bool
+    ensures value { result ≡ is_of_page (header_parts field.now) }
+{
+    is_named(field, "origin")
+        || (is_named(field, "sec-fetch-site") && field.value != b"none".as_slice())
+}
+
+/// Whether the fields say that a web page had its browser send the request: one is an `Origin`, or a `Sec-Fetch-Site`
+/// with another value than `none`. What a person types into a browser has neither, and no program sends them unasked.
+/// Source: RFC 6454, section 7, and Fetch Metadata Request Headers, section 2.3.
+pub fn is_from_browser(fields: &[Header<'_>]) -> bool
+    ensures value { result ≡ is_from_browser (map header_parts fields.now) }
+{
+    fields.iter().any(|field| is_of_page(field))
 }
 
 /// The value of the first field of this name.

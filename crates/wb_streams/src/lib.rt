@@ -15,7 +15,7 @@ mod write;
 pub use answer::write_answer;
 pub use body::{BodyRead, read_body};
 pub use fault::Fault;
-pub use fields::{content_length, has_field};
+pub use fields::{content_length, has_field, is_from_browser};
 pub use head::{FIELD_LIMIT, HEAD_LIMIT, HeadRead, read_head};
 pub use line::{ByteRead, LINE_LIMIT, LineRead, read_byte, read_line, text_of, words_in};
 pub use status::Status;

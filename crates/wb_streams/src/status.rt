@@ -10,6 +10,8 @@ pub enum Status {
     Ok,
     /// 400: the request is malformed.
     BadRequest,
+    /// 403: a web page had its browser send the request.
+    Forbidden,
     /// 404: the target, or what it names, is not there.
     NotFound,
     /// 405: the target has another method.
@@ -39,6 +41,7 @@ impl Status {
         match self {
             Status::Ok => 200,
             Status::BadRequest => 400,
+            Status::Forbidden => 403,
             Status::NotFound => 404,
             Status::MethodNotAllowed => 405,
             Status::Conflict => 409,
@@ -59,6 +62,7 @@ impl Status {
         match self {
             Status::Ok => "200 OK",
             Status::BadRequest => "400 Bad Request",
+            Status::Forbidden => "403 Forbidden",
             Status::NotFound => "404 Not Found",
             Status::MethodNotAllowed => "405 Method Not Allowed",
             Status::Conflict => "409 Conflict",

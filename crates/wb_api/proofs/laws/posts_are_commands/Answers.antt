@@ -12,4 +12,7 @@ returns c = record {
   no_reason = refl;
   build_priority = refl;
   no_value = refl;
+  report = refl;
+  no_lines = refl;
+  no_text = refl;
 }
