@@ -1,9 +1,11 @@
 //! The files of an office as a database: the pages, and the log of the last commits.
 
-ghost use Rattle.std.specs.Prelude.{IfOk};
+ghost use Rattle.std.specs.Prelude.{IfOk, IfSome};
 ghost use Rattle.sqlite.specs.Held.{IsNew};
 
-use sqlite::{Connection, File, FileStore, Options, Unknown};
+use crate::asked::{AskedFile, ReadOnly, asked_files};
+use sqlite::{Connection, File, FileStore, Files, Options, Unknown};
+use sqlite_disk::Memory;
 use sqlite_std_file::OpenError;
 use std::fmt::Display;
 use std::hash::{BuildHasher, RandomState};
@@ -41,18 +43,35 @@ pub(crate) fn connect(
         Ok(state) => state.hash_one(&0u8),
         Err(error) => return Err(refuse_system(rt, file, error)),
     };
-    let options = Options {
-        cache_pages: PAGES_IN_MEMORY,
-        spill_pages: PAGES_IN_MEMORY,
-        checkpoint_frames: PAGES_IN_LOG,
-        seed,
-    };
-    match Connection::open_files_with(rt.alloc(), files, options, true) {
+    match Connection::open_files_with(rt.alloc(), files, options_of(seed), true) {
         Ok(conn) => Ok(conn),
         Err((error, _)) => {
             let fault = opening_fault(error);
             Err(refuse(rt, file, fault, fault))
         }
+    }
+}
+
+/// Opens the database of this name to be asked alone: nothing is written to it or its log. `None` if it cannot be opened so.
+pub(crate) fn connect_to_ask(
+    rt: &HostRuntime,
+    file: &str,
+) -> Option<Connection<FileStore<AskedFile<ReadOnly<File>, Memory>>>>
+    ensures fresh { IfSome result IsNew }
+{
+    let Files { mut log, db } = sqlite_std_file::open(rt, file, Unknown).ok()?;
+    let files = asked_files(rt.alloc(), &mut log, db).ok()?;
+    let seed = RandomState::new(rt).ok()?.hash_one(&0u8);
+    Connection::open_files_with(rt.alloc(), files, options_of(seed), true).ok()
+}
+
+/// How a database is kept, with this number for the salts of its log.
+fn options_of(seed: u64) -> Options {
+    Options {
+        cache_pages: PAGES_IN_MEMORY,
+        spill_pages: PAGES_IN_MEMORY,
+        checkpoint_frames: PAGES_IN_LOG,
+        seed,
     }
 }
 

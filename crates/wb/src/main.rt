@@ -1,6 +1,7 @@
 //! The program `wb`: the central office of an autobuilder network.
 #![tactic(auto)]
 
+mod asked;
 mod connection;
 mod files;
 mod memory;
@@ -15,15 +16,15 @@ use std::process::ExitCode;
 use std::rt::{Env, Files};
 use std::{env, fs};
 use wb_api::line_fault_json;
-use wb_daemon::{Cause, Lists, Message, run_lines, status};
+use wb_daemon::{Cause, Lists, Message, run_lines, run_words, status};
 use wb_office::Office;
 use wb_streams::{WatchedReader, WatchedWriter};
 use wb_words::{HELP, Start, start_of};
 
 /// The program and the kit that it is proved with, for `wb --version`.
-const VERSION: &str = "wb 0.1.0, proved with rattle-kit-13f logic dac8208d650f15bf";
+const VERSION: &str = "wb 0.1.0, proved with rattle-kit-13b logic dac8208d650f15bf";
 
-/// The lists that stand in files, whose names are paths from the working directory. Messages go to standard
+/// The lists and reports that stand in files, whose names are paths from the working directory. Messages go to standard
 /// error.
 struct FileLists<'a, F> {
     rt: &'a F,
@@ -65,10 +66,11 @@ fn say(rt: &impl Eprint, message: Message<'_>) {
     let _ = eprintln!(rt; "wb: {message}");
 }
 
-/// Answers the lines of the input or the requests on a port, or says how the program is used or which it is.
+/// Answers the lines of the input, a single command or the requests on a port, or says how the program is used or which it
+/// is.
 ///
-/// Ends with 0 if all was accepted, if all connections were served, or if help or the version was asked for, with
-/// 1 after a refusal, with 2 if a line or the program's own words are no command, and with 3 if a list cannot be
+/// Ends with 0 if all was accepted or a query was answered, if all connections were served, or if help or the version was
+/// asked for, with 1 after a refusal, with 2 if a line or the program's own words are no command, and with 3 if a file cannot be
 /// read, if the store cannot be opened or failed, if the port cannot be taken, or if reading, writing or memory
 /// failed before the end of the input.
 fn main(rt: HostRuntime) -> ExitCode {
@@ -104,6 +106,8 @@ fn start(rt: &HostRuntime, arguments: &[String]) -> u8 {
             Some(listener) => open_for(rt, store, Work::Serve { listener, requests }),
             None => status::STOPPED,
         },
+        Ok(Start::Ask { store, words }) => open_for(rt, store, Work::Ask { words }),
+        Ok(Start::CarryOut { store, words }) => open_for(rt, store, Work::CarryOut { words }),
         Ok(Start::Help) => said(rt.print(HELP), status::ACCEPTED),
         Err(error) => {
             let _ = rt.eprintln(error);
@@ -114,18 +118,26 @@ fn start(rt: &HostRuntime, arguments: &[String]) -> u8 {
 
 /// What an office is opened for. A port is taken before that, so that no file is made if the port cannot be taken.
 #[derive(Drop)]
-pub(crate) enum Work {
+pub(crate) enum Work<'a> {
     /// To answer the lines of standard input.
     Run,
-    /// To answer this many connections.
+    /// To answer this many connections; without a number, all until the program is ended.
     Serve {
         listener: TcpListener,
-        requests: u32,
+        requests: Option<u32>,
+    },
+    /// To answer the query of these words, which leaves the office as it is.
+    Ask {
+        words: &'a [&'a str],
+    },
+    /// To carry out the command of these words.
+    CarryOut {
+        words: &'a [&'a str],
     },
 }
 
 /// Has an office do its work, over the tables in the file if one is named, and otherwise over tables in memory.
-fn open_for(rt: &HostRuntime, store: Option<&str>, work: Work) -> u8 {
+fn open_for(rt: &HostRuntime, store: Option<&str>, work: Work<'_>) -> u8 {
     match store {
         Some(file) => store::open_for(rt, file, work),
         None => memory::open_for(rt, work),
@@ -133,9 +145,10 @@ fn open_for(rt: &HostRuntime, store: Option<&str>, work: Work) -> u8 {
 }
 
 /// Has the office do this work.
-pub(crate) fn act<S: Alter + Drop>(rt: &HostRuntime, office: &mut Office<S>, work: Work) -> u8 {
+pub(crate) fn act<S: Alter + Drop>(rt: &HostRuntime, office: &mut Office<S>, work: Work<'_>) -> u8 {
     match work {
         Work::Run => run(rt, office),
+        Work::Ask { words } | Work::CarryOut { words } => answer(rt, office, words),
         Work::Serve { listener, requests } => serve::serve(rt, office, &listener, requests),
     }
 }
@@ -164,6 +177,17 @@ fn run<S: Alter + Drop>(rt: &HostRuntime, office: &mut Office<S>) -> u8 {
     let mut writer = WatchedWriter::new(io::writer(rt));
     let mut lists = FileLists { rt };
     run_lines(rt.alloc(), office, &mut reader, &mut writer, &mut lists)
+}
+
+/// Answers a single command on standard output.
+pub(crate) fn answer<S: Alter + Drop>(
+    rt: &HostRuntime,
+    office: &mut Office<S>,
+    words: &[&str],
+) -> u8 {
+    let mut writer = WatchedWriter::new(io::writer(rt));
+    let mut lists = FileLists { rt };
+    run_words(rt.alloc(), office, words, &mut writer, &mut lists)
 }
 
 /// The status after something was printed, or that of a failed write.

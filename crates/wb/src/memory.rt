@@ -18,7 +18,7 @@ const PAGES_IN_LOG: usize = 100;
 const SEED: u64 = 1;
 
 /// Has a new office over tables in memory do its work.
-pub(crate) fn open_for(rt: &HostRuntime, work: Work) -> u8 {
+pub(crate) fn open_for(rt: &HostRuntime, work: Work<'_>) -> u8 {
     let files = Files {
         log: Memory::new(rt.alloc()),
         db: Memory::new(rt.alloc()),

@@ -36,16 +36,20 @@ pub(crate) fn listen(rt: &HostRuntime, port: u16) -> Option<TcpListener> {
 /// files are open, and would be asked again and again.
 const FAILURES: u32 = 100;
 
-/// Serves this many connections, one after another, and ends early if the office is closed then, or if connections cannot be
+/// Serves this many connections, one after another, or without a number all until the program is ended. It ends early if the office is closed then, or if connections cannot be
 /// accepted. Each that cannot is reported on standard error, and counts too.
 pub(crate) fn serve<S: Alter + Drop>(
     rt: &HostRuntime,
     office: &mut Office<S>,
     listener: &TcpListener,
-    requests: u32,
+    requests: Option<u32>,
 ) -> u8 {
+    let limit = match requests {
+        Some(count) => u64::from(count),
+        None => u64::MAX,
+    };
     let mut failures: u32 = 0;
-    for _ in 0..requests {
+    for _ in 0..limit {
         match listener.accept() {
             Ok((stream, _)) => {
                 failures = 0;

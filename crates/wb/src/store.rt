@@ -1,7 +1,7 @@
 //! The office over records that a file keeps.
 
-use crate::files::{connect, names_no_file, refuse};
-use crate::{Work, act, said};
+use crate::files::{connect, connect_to_ask, names_no_file, refuse};
+use crate::{Work, act, answer, said};
 use std::alloc::AllocError;
 use std::fs::{self, File, OpenOptions, TryLockError};
 use std::io::{self, ErrorKind, Read};
@@ -32,7 +32,7 @@ enum LockRefusal {
 }
 
 /// Has the office over the records in the file do its work, or in the file to which a link of this name leads.
-pub(crate) fn open_for(rt: &HostRuntime, name: &str, work: Work) -> u8 {
+pub(crate) fn open_for(rt: &HostRuntime, name: &str, work: Work<'_>) -> u8 {
     if names_no_file(name) {
         return refuse_name(rt, name);
     }
@@ -48,8 +48,9 @@ pub(crate) fn open_for(rt: &HostRuntime, name: &str, work: Work) -> u8 {
 /// Has the office over the records in the file, which is no link, do its work. The file is made if it is not there, with a
 /// sum of each page, unless its log holds commits, which would then be written over. One program at a time has the file: it
 /// holds a lock on the file with this name and `.lock` after it, which its owner alone may open. A new office is reported on standard error: its name may be a slip.
-/// None begins in a database whose pages have no checksums, as another program makes it.
-fn open_file(rt: &HostRuntime, file: &str, work: Work) -> u8 {
+/// None begins in a database whose pages have no checksums, as another program makes it. An office that is only asked leaves
+/// the file and its log as they are.
+fn open_file(rt: &HostRuntime, file: &str, work: Work<'_>) -> u8 {
     let _lock = match lock_of(rt, file) {
         Ok(lock) => lock,
         Err(LockRefusal::InUse) => return refuse_held(rt, file),
@@ -60,6 +61,34 @@ fn open_file(rt: &HostRuntime, file: &str, work: Work) -> u8 {
         Ok(true) => return refuse_lost(rt, file),
         Err(AllocError) => return refuse_fault(rt, file, StoreFault::Memory),
     }
+    let asked = match &work {
+        Work::Ask { words } => ask_file(rt, file, words),
+        _ => None,
+    };
+    match asked {
+        Some(status) => status,
+        None => keep_file(rt, file, work),
+    }
+}
+
+/// Has the office over the records in the file answer the query of these words, and writes nothing to the file or its log.
+/// `None` if the file has no office yet, or cannot be opened so.
+fn ask_file(rt: &HostRuntime, file: &str, words: &[&str]) -> Option<u8> {
+    if size_of(rt, file) == 0 {
+        return None;
+    }
+    let conn = connect_to_ask(rt, file)?;
+    if lacks_office(conn.schema()) {
+        return None;
+    }
+    match Office::adopt(rt.alloc(), conn) {
+        Ok(mut office) => Some(answer(rt, &mut office, words)),
+        Err(fault) => Some(refuse_fault(rt, file, fault)),
+    }
+}
+
+/// Has the office over the records in the file, which is locked, do its work, and keeps them in it.
+fn keep_file(rt: &HostRuntime, file: &str, work: Work<'_>) -> u8 {
     let was_empty = size_of(rt, file) == 0;
     let is_of_others = lacks_sums(rt, file);
     let conn = match connect(rt, file) {

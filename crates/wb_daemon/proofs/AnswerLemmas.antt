@@ -1,5 +1,5 @@
 -- Lemmas on what may be said to a line.
-use Rattle.std.proofs.Common.{◌≡◌, ℕ, Bool, true, false, not, ◌&&◌, cond, List, [], Option, None, Some, Result, Ok, Err, IsTrue, ◌⊎◌, inl, inr, refl, sym, ap, ◌∙◌, subst}
+use Rattle.std.proofs.Common.{◌≡◌, ℕ, Bool, true, false, not, ◌&&◌, cond, List, [], Option, None, Some, Result, Ok, Err, IfOk, IfErr, IfSome, IfNone, IsTrue, ◌⊎◌, inl, inr, refl, sym, ap, ◌∙◌, subst}
 use Rattle.std.proofs.lemmas.Bool.{false≢true}
 use Rattle.std.specs.Cow.{cow_str_bytes, IsBorrowedStr}
 use Rattle.std.specs.declared.alloc.Global.{Global}
@@ -7,6 +7,9 @@ use Rattle.std.specs.declared.borrow.CowStr.{CowStr}
 use Rattle.std.specs.Str.{is_utf8}
 use Rattle.std.specs.Io.KnownBytes.{Appends}
 use Rattle.wb_states.specs.Machine.{Machine}
+use Rattle.wb_states.specs.Queries.{answer_of, has_malformed_name}
+use Rattle.wb_states.specs.declared.query.Answer.{Answer}
+use Rattle.wb_states.specs.declared.query.Query.{Query}
 use Rattle.wb_states.specs.declared.command.Command.{Command}
 use Rattle.wb_states.specs.Commands.{name_of_command}
 use Rattle.wb_states.specs.declared.refusal.Refusal.{Refusal}
@@ -17,23 +20,28 @@ use Rattle.wb_step.specs.Checks.{MayWantMemory}
 use Rattle.wb_step.proofs.CountedLemmas.{step-unchanged}
 use Rattle.wb_step.specs.Step.{step}
 use Rattle.wb_words.specs.Words.{invocation_in}
+use Rattle.wb_words.specs.declared.fault.WordsFault.{WordsFault}
+use Rattle.wb_words.specs.declared.fault.WordsFault.TheVariants.{NoCommand, Memory}
 use Rattle.wb_words.specs.declared.words.Invocation.{Invocation}
-use Rattle.wb_words.specs.declared.words.Invocation.TheVariants.{Command as invocation_Command, Merge as invocation_Merge}
+use Rattle.wb_words.specs.declared.words.Invocation.TheVariants.{Command as invocation_Command, Merge as invocation_Merge, Query as invocation_Query, Report as invocation_Report}
 use Rattle.wb_words.specs.declared.words.PartNames.{PartNames}
 use Rattle.wb_api.specs.Encoding.{line_fault_text, refusal_text, reply_text, is_plain, IsMemoryText}
+use Rattle.wb_api.specs.Queries.{query_text}
+use Rattle.wb_api.proofs.ExchangeLemmas.{found-formed, plain-query}
 use Rattle.deb_text.specs.Lines.{words_in, is_blank_line}
 use Rattle.wb_streams.specs.Line.{is_long, with_line_feed}
-use Rattle.wb_daemon.specs.Lists.{MayRead, MayReadMerge, MayReadLess}
+use Rattle.wb_daemon.specs.Lists.{MayRead, MayReadMerge, MayReadReport, MayReadLess, LacksMerge, LacksReport}
 use Rattle.wb_step.specs.Offices.{Standing, InDoubt, Open, Shut}
-use Rattle.wb_daemon.specs.Run.{LineResponse, IsLineResponse, IsSaidTo, InvokesAs, LineInvokes, IsRefusedByStore, IsResponseOfKind, LineKind, Blank, Fault, Request, answer_response, command_response, kind_of_line, kind_of_invocation, invocation_of_line, line_fault_response, memory_response, needs_memory, refusal_response}
-use Rattle.wb_daemon.specs.Turn.{Answers, IsCommandResponseOrMemory, IsInvocationResponseOrMemory, AnswersInPart, TookEndedLine, TookLastLine, StopsAtLine, StopsTurn, Turns}
+use Rattle.wb_daemon.specs.Run.{Asked, LineResponse, IsInvocationResponse, IsLineResponse, IsRefused, IsResponse, IsSaid, InvokesAs, Invokes, LineInvokes, IsRefusedByStore, IsResponseOfKind, LineKind, Blank, Fault, Request, answer_response, asked_by, command_response, found_response, kind_of_line, kind_of_invocation, invocation_of_line, line_fault_response, memory_response, needs_memory, query_response, refusal_response}
+use Rattle.wb_daemon.specs.Turn.{Answers, IsCommandResponseOrMemory, IsInvocationResponseOrMemory, IsMadeResponse, IsQueryResponseOrMemory, IsReadAs, AnswersInPart, IsWritten, TookEndedLine, TookLastLine, StopsAt, StopsTurn, Turns}
 use Rattle.wb_streams.specs.Streams.{AppendsFront}
+use Rattle.wb_daemon.specs.declared.answer.LineAnswer.{LineAnswer}
 use Rattle.wb_daemon.specs.declared.message.Cause.{Cause}
 use Rattle.wb_daemon.specs.declared.message.Cause.TheVariants as why
 use Rattle.wb_daemon.specs.declared.run.Turn.{Turn}
 use Rattle.wb_daemon.specs.declared.run.Turn.TheVariants.{More, End, Stop}
 use Rattle.wb_streams.proofs.LineLemmas.{Appends-same}
-use Rattle.wb_daemon.proofs.ListLemmas.{MayReadParts-more, LacksMerge-more}
+use Rattle.wb_daemon.proofs.ListLemmas.{MayReadParts-more, LacksMerge-more, LacksReport-more}
 
 -- ---- the kind of a line
 
@@ -84,21 +92,37 @@ utf8-invocation line invocation false u e =
     let differ : Some invocation ≡ None = sym e ∙ none in
     cc
 
--- what may be said to what a line asks for may be said to the line
-pub IsLineResponse-invocation : (may_read : MayRead) (machine : Machine) (line : List ℕ) (invocation : Invocation) (response : LineResponse) → is_long line ≡ false → is_blank_line line ≡ false
-    → invocation_of_line line ≡ Some invocation → IsInvocationResponseOrMemory may_read machine invocation response → IsLineResponse may_read machine line response
-IsLineResponse-invocation may_read machine line invocation response h k e (inl p) =
-    IsLineResponse-kind may_read machine line (Request invocation) response (kind_of_line-read line h k ∙ ap kind_of_invocation e) p
-IsLineResponse-invocation may_read machine line invocation response h k e (inr p) =
-    inr (needs_memory-read line h k (utf8-invocation line invocation (is_utf8 line) refl e), p.1)
+-- what may be said to what was read may be said to what was asked
+pub IsResponse-read : (may_read : MayRead) (machine : Machine) (asked : Asked) (invocation : Invocation) (response : LineResponse) → IsReadAs asked (Ok invocation)
+    → IsInvocationResponseOrMemory may_read machine invocation response → IsResponse may_read machine asked response
+IsResponse-read may_read machine asked invocation response was (inl p) =
+    inl (subst (λ (kind : LineKind). IsResponseOfKind may_read machine kind response) (sym was.0) p)
+IsResponse-read may_read machine asked invocation response was (inr p) = inr (was.1, p.1)
 
-pub IsLineResponse-fault : (may_read : MayRead) (machine : Machine) (line : List ℕ) (response : LineResponse) → is_long line ≡ false → is_blank_line line ≡ false
-    → invocation_of_line line ≡ None → response ≡ line_fault_response machine → IsLineResponse may_read machine line response
-IsLineResponse-fault may_read machine line response h k e p = IsLineResponse-kind may_read machine line Fault response (kind_of_line-read line h k ∙ ap kind_of_invocation e) p
+pub IsResponse-fault : (may_read : MayRead) (machine : Machine) (asked : Asked) (response : LineResponse) → asked.kind ≡ Fault
+    → response ≡ line_fault_response machine → IsResponse may_read machine asked response
+IsResponse-fault may_read machine asked response was p = inl (subst (λ (kind : LineKind). IsResponseOfKind may_read machine kind response) (sym was) p)
 
-pub IsLineResponse-memory : (may_read : MayRead) (machine : Machine) (line : List ℕ) (response : LineResponse) → is_long line ≡ false → is_blank_line line ≡ false
-    → IsTrue (is_utf8 line) → response ≡ memory_response machine → IsLineResponse may_read machine line response
-IsLineResponse-memory may_read machine line response h k u p = inr (needs_memory-read line h k u, p)
+pub IsResponse-memory : (may_read : MayRead) (machine : Machine) (asked : Asked) (response : LineResponse) → IsTrue asked.needs_memory
+    → response ≡ memory_response machine → IsResponse may_read machine asked response
+IsResponse-memory may_read machine asked response was p = inr (was, p)
+
+pub IsResponse-unread : (may_read : MayRead) (machine : Machine) (asked : Asked) (fault : WordsFault) (response : LineResponse) → IsReadAs asked (Err fault)
+    → (fault ≡ NoCommand → response ≡ line_fault_response machine) → (fault ≡ Memory → response ≡ memory_response machine) → IsResponse may_read machine asked response
+IsResponse-unread may_read machine asked NoCommand response read fault memory = IsResponse-fault may_read machine asked response read (fault refl)
+IsResponse-unread may_read machine asked Memory response read fault memory = IsResponse-memory may_read machine asked response read (memory refl)
+
+-- what a line was read as is what was asked by it
+pub IsReadAs-line : (line : List ℕ) (read : Result Invocation WordsFault) → is_long line ≡ false → is_blank_line line ≡ false
+    → IfOk read (λ invocation. invocation_of_line line ≡ Some invocation)
+    → IfErr read (λ fault. (fault ≡ Memory → ⊥) → invocation_of_line line ≡ None)
+    → (read ≡ Err Memory → IsTrue (is_utf8 line)) → IsReadAs (asked_by line) read
+IsReadAs-line line (Ok invocation) h k e none utf8 = (
+  kind_of_line-read line h k ∙ ap kind_of_invocation e,
+  needs_memory-read line h k (utf8-invocation line invocation (is_utf8 line) refl e),
+)
+IsReadAs-line line (Err NoCommand) h k e none utf8 = kind_of_line-read line h k ∙ ap kind_of_invocation (none (λ (same : NoCommand ≡ Memory). cc))
+IsReadAs-line line (Err Memory) h k e none utf8 = needs_memory-read line h k (utf8 refl)
 
 -- ---- lists that gave no more than they might
 
@@ -107,76 +131,110 @@ MayReadMerge-more : (old new : MayRead) → MayReadLess old new → (sources : L
 MayReadMerge-more old new m sources names command g =
     (g.0, g.1, (m.0 sources g.0 g.2.0, g.2.1), MayReadParts-more old new m names g.1 g.3, g.4)
 
+MayReadReport-more : (old new : MayRead) → MayReadLess old new → (arch file : List ℕ) (command : Command)
+    → MayReadReport new arch file command → MayReadReport old arch file command
+MayReadReport-more old new m arch file command g = (g.0, (m.0 file g.0 g.1.0, g.1.1), g.2, g.3)
+
+InvokesAs-more : (old new : MayRead) → MayReadLess old new → (invocation : Invocation) (command : Command) → InvokesAs new invocation command → InvokesAs old invocation command
+InvokesAs-more old new m (invocation_Command invocation) command h = h
+InvokesAs-more old new m (invocation_Query query) command h = h
+InvokesAs-more old new m (invocation_Merge sources parts) command h = MayReadMerge-more old new m sources parts command h
+InvokesAs-more old new m (invocation_Report arch file) command h = MayReadReport-more old new m arch file command h
+
+IsInvocationResponse-more : (old new : MayRead) → MayReadLess old new → (machine : Machine) (invocation : Invocation) (response : LineResponse)
+    → IsInvocationResponse new machine invocation response → IsInvocationResponse old machine invocation response
+IsInvocationResponse-more old new m machine (invocation_Command command) response h = h
+IsInvocationResponse-more old new m machine (invocation_Query query) response h = h
+IsInvocationResponse-more old new m machine (invocation_Merge sources parts) response (inl h) =
+    inl (h.0, MayReadMerge-more old new m sources parts h.0 h.1, h.2)
+IsInvocationResponse-more old new m machine (invocation_Merge sources parts) response (inr h) =
+    inr (LacksMerge-more old new m sources parts h.0, h.1)
+IsInvocationResponse-more old new m machine (invocation_Report arch file) response (inl h) =
+    inl (h.0, MayReadReport-more old new m arch file h.0 h.1, h.2)
+IsInvocationResponse-more old new m machine (invocation_Report arch file) response (inr h) =
+    inr (LacksReport-more old new m file h.0, h.1)
+
 IsResponseOfKind-more : (old new : MayRead) → MayReadLess old new → (machine : Machine) (kind : LineKind) (response : LineResponse)
     → IsResponseOfKind new machine kind response → IsResponseOfKind old machine kind response
 IsResponseOfKind-more old new m machine Blank response h = h
 IsResponseOfKind-more old new m machine Fault response h = h
-IsResponseOfKind-more old new m machine (Request (invocation_Command command)) response h = h
-IsResponseOfKind-more old new m machine (Request (invocation_Merge sources parts)) response (inl h) =
-    inl (h.0, MayReadMerge-more old new m sources parts h.0 h.1, h.2)
-IsResponseOfKind-more old new m machine (Request (invocation_Merge sources parts)) response (inr h) =
-    inr (LacksMerge-more old new m sources parts h.0, h.1)
+IsResponseOfKind-more old new m machine (Request invocation) response h = IsInvocationResponse-more old new m machine invocation response h
 
-IsLineResponse-more : (old new : MayRead) → MayReadLess old new → (machine : Machine) (line : List ℕ) (response : LineResponse)
-    → IsLineResponse new machine line response → IsLineResponse old machine line response
-IsLineResponse-more old new m machine line response (inl h) = inl (IsResponseOfKind-more old new m machine (kind_of_line line) response h)
-IsLineResponse-more old new m machine line response (inr h) = inr h
+IsResponse-more : (old new : MayRead) → MayReadLess old new → (machine : Machine) (asked : Asked) (response : LineResponse)
+    → IsResponse new machine asked response → IsResponse old machine asked response
+IsResponse-more old new m machine asked response (inl h) = inl (IsResponseOfKind-more old new m machine asked.kind response h)
+IsResponse-more old new m machine asked response (inr h) = inr h
 
-Answers-more : (old new : MayRead) → MayReadLess old new → (line : List ℕ) (before after : Machine) (a b : Option (List ℕ)) (status : ℕ)
-    → Answers new line before after a b status → Answers old line before after a b status
-Answers-more old new m line before after a b status h = (h.0, IsLineResponse-more old new m before line _ h.1, h.2)
+pub Answers-more : (old new : MayRead) → MayReadLess old new → (asked : Asked) (before after : Machine) (a b : Option (List ℕ)) (status : ℕ)
+    → Answers new asked before after a b status → Answers old asked before after a b status
+Answers-more old new m asked before after a b status h = (h.0, IsResponse-more old new m before asked _ h.1, h.2)
 
-InvokesAs-more : (old new : MayRead) → MayReadLess old new → (invocation : Invocation) (command : Command) → InvokesAs new invocation command → InvokesAs old invocation command
-InvokesAs-more old new m (invocation_Command invocation) command h = h
-InvokesAs-more old new m (invocation_Merge sources parts) command h = MayReadMerge-more old new m sources parts command h
+Invokes-more : (old new : MayRead) → MayReadLess old new → (asked : Asked) (command : Command) → Invokes new asked command → Invokes old asked command
+Invokes-more old new m asked command h = (h.0, h.1, InvokesAs-more old new m h.0 command h.2)
 
-LineInvokes-more : (old new : MayRead) → MayReadLess old new → (line : List ℕ) (command : Command) → LineInvokes new line command → LineInvokes old line command
-LineInvokes-more old new m line command h = (h.0, h.1, InvokesAs-more old new m h.0 command h.2)
+IsRefused-more : (old new : MayRead) → MayReadLess old new → (machine : Machine) (asked : Asked) (response : LineResponse) (standing : Standing)
+    → IsRefused new machine asked response standing → IsRefused old machine asked response standing
+IsRefused-more old new m machine asked response standing (invocation, is, inl h) = (invocation, is, inl h)
+IsRefused-more old new m machine asked response standing (invocation, is, inr h) =
+    (invocation, is, inr (h.0, InvokesAs-more old new m invocation h.0 h.1, h.2))
 
-IsSaidTo-more : (old new : MayRead) → MayReadLess old new → (machine : Machine) (line : List ℕ) (response : LineResponse) (standing : Standing)
-    → IsSaidTo new machine line response standing → IsSaidTo old machine line response standing
-IsSaidTo-more old new m machine line response standing (inl h) = inl (IsLineResponse-more old new m machine line response h.0, h.1)
-IsSaidTo-more old new m machine line response standing (inr h) = inr (h.0, LineInvokes-more old new m line h.0 h.1, h.2)
+IsSaid-more : (old new : MayRead) → MayReadLess old new → (machine : Machine) (asked : Asked) (response : LineResponse) (standing : Standing)
+    → IsSaid new machine asked response standing → IsSaid old machine asked response standing
+IsSaid-more old new m machine asked response standing (inl h) = inl (IsResponse-more old new m machine asked response h.0, h.1)
+IsSaid-more old new m machine asked response standing (inr h) = inr (IsRefused-more old new m machine asked response standing h)
 
-AnswersInPart-more : (old new : MayRead) → MayReadLess old new → (line : List ℕ) (before after : Machine) (standing : Standing) (a b : Option (List ℕ))
-    → AnswersInPart new line before after standing a b → AnswersInPart old line before after standing a b
-AnswersInPart-more old new m line before after standing a b h = (h.0, IsSaidTo-more old new m before line h.0 standing h.1, h.2, h.3)
+AnswersInPart-more : (old new : MayRead) → MayReadLess old new → (asked : Asked) (before after : Machine) (standing : Standing) (a b : Option (List ℕ))
+    → AnswersInPart new asked before after standing a b → AnswersInPart old asked before after standing a b
+AnswersInPart-more old new m asked before after standing a b h = (h.0, IsSaid-more old new m before asked h.0 standing h.1, h.2, h.3)
 
-StopsAtLine-more : (old new : MayRead) → MayReadLess old new → (line : List ℕ) (before after : Machine) (standing : Standing) (a b : Option (List ℕ)) (cause : Cause)
-    → StopsAtLine new line before after standing a b cause → StopsAtLine old line before after standing a b cause
-StopsAtLine-more old new m line before after standing a b why.Read h = absurd h
-StopsAtLine-more old new m line before after standing a b why.Write h = AnswersInPart-more old new m line before after standing a b h
-StopsAtLine-more old new m line before after standing a b why.Reply h = ((h.0.0, LineInvokes-more old new m line h.0.0 h.0.1, h.0.2, h.0.3), h.1)
-StopsAtLine-more old new m line before after standing a b why.Store h = (h.0, h.1, LineInvokes-more old new m line h.1 h.2, h.3, h.4, h.5)
-StopsAtLine-more old new m line before after standing a b why.Lines h = absurd h
-StopsAtLine-more old new m line before after standing a b why.Room h = absurd h
+pub StopsAt-more : (old new : MayRead) → MayReadLess old new → (asked : Asked) (before after : Machine) (standing : Standing) (a b : Option (List ℕ)) (cause : Cause)
+    → StopsAt new asked before after standing a b cause → StopsAt old asked before after standing a b cause
+StopsAt-more old new m asked before after standing a b why.Read h = absurd h
+StopsAt-more old new m asked before after standing a b why.Write h = AnswersInPart-more old new m asked before after standing a b h
+StopsAt-more old new m asked before after standing a b why.Reply h = ((h.0.0, Invokes-more old new m asked h.0.0 h.0.1, h.0.2, h.0.3), h.1)
+StopsAt-more old new m asked before after standing a b why.Store h = (h.0, IsRefused-more old new m before asked h.0 standing h.1, h.2, h.3)
+StopsAt-more old new m asked before after standing a b why.Lines h = absurd h
+StopsAt-more old new m asked before after standing a b why.Room h = absurd h
 
 StopsTurn-more : (old new : MayRead) → MayReadLess old new → (cause : Cause) (before after : Machine) (standing : Standing) (i j a b : Option (List ℕ))
     → StopsTurn new cause before after standing i j a b → StopsTurn old cause before after standing i j a b
 StopsTurn-more old new m why.Read before after standing i j a b t = t
-StopsTurn-more old new m why.Write before after standing i j a b t = (t.0, t.1, StopsAtLine-more old new m t.0 before after standing a b why.Write t.2)
-StopsTurn-more old new m why.Reply before after standing i j a b t = (t.0, t.1, StopsAtLine-more old new m t.0 before after standing a b why.Reply t.2)
-StopsTurn-more old new m why.Store before after standing i j a b t = (t.0, t.1, StopsAtLine-more old new m t.0 before after standing a b why.Store t.2)
+StopsTurn-more old new m why.Write before after standing i j a b t = (t.0, t.1, StopsAt-more old new m (asked_by t.0) before after standing a b why.Write t.2)
+StopsTurn-more old new m why.Reply before after standing i j a b t = (t.0, t.1, StopsAt-more old new m (asked_by t.0) before after standing a b why.Reply t.2)
+StopsTurn-more old new m why.Store before after standing i j a b t = (t.0, t.1, StopsAt-more old new m (asked_by t.0) before after standing a b why.Store t.2)
 StopsTurn-more old new m why.Lines before after standing i j a b t = absurd t.2
 StopsTurn-more old new m why.Room before after standing i j a b t = absurd t.2
 
 -- what a turn did with lists that gave no more than those of the run's start
 pub Turns-more : (old new : MayRead) → MayReadLess old new → (turn : Turn) (before after : Machine) (standing : Standing) (i j a b : Option (List ℕ))
     → Turns new turn before after standing i j a b → Turns old turn before after standing i j a b
-Turns-more old new m (More status) before after standing i j a b t = (t.0, t.1, Answers-more old new m t.0 before after a b status t.2, t.3)
-Turns-more old new m (End status) before after standing i j a b t = (t.0, t.1, Answers-more old new m t.0 before after a b status t.2, t.3)
+Turns-more old new m (More status) before after standing i j a b t = (t.0, t.1, Answers-more old new m (asked_by t.0) before after a b status t.2, t.3)
+Turns-more old new m (End status) before after standing i j a b t = (t.0, t.1, Answers-more old new m (asked_by t.0) before after a b status t.2, t.3)
 Turns-more old new m (Stop cause) before after standing i j a b t = StopsTurn-more old new m cause before after standing i j a b t
 
 -- ---- what was written
 
--- a line that is neither long nor blank asks for what its words ask for
-pub LineInvokes-invocation : (may_read : MayRead) (line : List ℕ) (invocation : Invocation) (command : Command) → is_long line ≡ false → is_blank_line line ≡ false
-    → invocation_of_line line ≡ Some invocation → InvokesAs may_read invocation command → LineInvokes may_read line command
-LineInvokes-invocation may_read line invocation command h k e a = (invocation, kind_of_line-read line h k ∙ ap kind_of_invocation e, a)
+-- an answer that was written, by its status
+pub written-ok : (P : ℕ → Type 0) (answer : LineAnswer) (old new : Option (List ℕ)) (result : Result ℕ Cause) → IsWritten answer old new result
+    → ((status : ℕ) → (status ≡ answer.status) × (answer.stops ≡ false) × Appends old new (with_line_feed (cow_str_bytes answer.text)) → P status) → IfOk result P
+written-ok P answer old new (Ok status) h f = f status h
+written-ok P answer old new (Err cause) h f = tt
+
+-- an answer that was not written, or after which the run stops
+pub written-err : (P : Cause → Type 0) (answer : LineAnswer) (old new : Option (List ℕ)) (result : Result ℕ Cause) → IsWritten answer old new result
+    → (AppendsFront old new (with_line_feed (cow_str_bytes answer.text)) → P why.Write)
+    → ((answer.stops ≡ true) × Appends old new (with_line_feed (cow_str_bytes answer.text)) → P why.Store) → IfErr result P
+written-err P answer old new (Ok status) h f k = tt
+written-err P answer old new (Err why.Read) h f k = absurd h
+written-err P answer old new (Err why.Write) h f k = f h
+written-err P answer old new (Err why.Reply) h f k = absurd h
+written-err P answer old new (Err why.Store) h f k = k h
+written-err P answer old new (Err why.Lines) h f k = absurd h
+written-err P answer old new (Err why.Room) h f k = absurd h
 
 -- a line that was not answered stops the turn
 pub stops_turn : (may_read : MayRead) (cause : Cause) (line : List ℕ) (before after : Machine) (standing : Standing) (i j a b : Option (List ℕ))
-    → TookEndedLine line i j ⊎ TookLastLine line i j → StopsAtLine may_read line before after standing a b cause → StopsTurn may_read cause before after standing i j a b
+    → TookEndedLine line i j ⊎ TookLastLine line i j → StopsAt may_read (asked_by line) before after standing a b cause → StopsTurn may_read cause before after standing i j a b
 stops_turn may_read why.Read line before after standing i j a b g h = absurd h
 stops_turn may_read why.Write line before after standing i j a b g h = (line, g, h)
 stops_turn may_read why.Reply line before after standing i j a b g h = (line, g, h)
@@ -185,28 +243,56 @@ stops_turn may_read why.Lines line before after standing i j a b g h = absurd h
 stops_turn may_read why.Room line before after standing i j a b g h = absurd h
 
 pub answers-blank : (may_read : MayRead) (machine : Machine) (line : List ℕ) (written : Option (List ℕ)) → is_long line ≡ false → is_blank_line line ≡ true
-    → Answers may_read line machine machine written written 0
+    → Answers may_read (asked_by line) machine machine written written 0
 answers-blank may_read machine line written h k =
     ([], IsLineResponse-kind may_read machine line Blank _ (kind_of_line-blank line h k) refl, Appends-same written)
 
 pub answers-long : (may_read : MayRead) (line : List ℕ) (machine : Machine) (old new : Option (List ℕ)) → is_long line ≡ true
-    → Appends old new (with_line_feed line_fault_text) → Answers may_read line machine machine old new 2
+    → Appends old new (with_line_feed line_fault_text) → Answers may_read (asked_by line) machine machine old new 2
 answers-long may_read line machine old new h p =
     (with_line_feed line_fault_text, IsLineResponse-kind may_read machine line Fault _ (kind_of_line-long line h) refl, p)
 
 pub answers-long_cut : (may_read : MayRead) (line : List ℕ) (machine : Machine) (old new : Option (List ℕ)) → is_long line ≡ true
-    → AppendsFront old new (with_line_feed line_fault_text) → AnswersInPart may_read line machine machine Open old new
+    → AppendsFront old new (with_line_feed line_fault_text) → AnswersInPart may_read (asked_by line) machine machine Open old new
 answers-long_cut may_read line machine old new h p =
     (line_fault_response machine, inl (IsLineResponse-kind may_read machine line Fault _ (kind_of_line-long line h) refl, refl), refl, p)
 
--- what may be said to the command of a merge may be said to the merge
-pub merge-response : (may_read : MayRead) (machine : Machine) (invocation : Invocation) (sources : List ℕ) (parts : List PartNames) (command : Command)
-    (response : LineResponse) → invocation ≡ invocation_Merge sources parts → MayReadMerge may_read sources parts command
-    → IsCommandResponseOrMemory machine command response → IsInvocationResponseOrMemory may_read machine invocation response
-merge-response may_read machine invocation sources parts command response is given (inl same) =
-    subst (λ a. IsInvocationResponseOrMemory may_read machine a response) (sym is) (inl (inl (command, given, same)))
-merge-response may_read machine invocation sources parts command response is given (inr short) =
-    subst (λ a. IsInvocationResponseOrMemory may_read machine a response) (sym is) (inr (tt, short.1))
+-- what may be said to the merge that lists gave, or if one of them is at fault
+pub merge-response : (may_read : MayRead) (machine : Machine) (invocation : Invocation) (sources : List ℕ) (parts : List PartNames) {E : Type 0}
+    (made : Result (Option Command) E) (response : LineResponse) → invocation ≡ invocation_Merge sources parts
+    → IfOk made (λ found. IfSome found (MayReadMerge may_read sources parts)) → IfOk made (λ found. IfNone found (LacksMerge may_read sources parts))
+    → IsMadeResponse made machine response → IsInvocationResponseOrMemory may_read machine invocation response
+merge-response may_read machine invocation sources parts made response is given lacks said =
+    subst (λ a. IsInvocationResponseOrMemory may_read machine a response) (sym is) (go made given lacks said)
+  where
+    go : {E : Type 0} (made : Result (Option Command) E) → IfOk made (λ found. IfSome found (MayReadMerge may_read sources parts))
+        → IfOk made (λ found. IfNone found (LacksMerge may_read sources parts)) → IsMadeResponse made machine response
+        → IsInvocationResponseOrMemory may_read machine (invocation_Merge sources parts) response
+    go (Ok (Some command)) given lacks (inl same) = inl (inl (command, given, same))
+    go (Ok (Some command)) given lacks (inr short) = inr (tt, short.1)
+    go (Ok None) given lacks said = inl (inr (lacks, said))
+    go (Err e) given lacks said = inr (tt, said)
+
+-- what may be said to the report that a file gave, or if it is at fault
+pub report-response : (may_read : MayRead) (machine : Machine) (invocation : Invocation) (arch file : List ℕ) {E : Type 0}
+    (made : Result (Option Command) E) (response : LineResponse) → invocation ≡ invocation_Report arch file
+    → IfOk made (λ found. IfSome found (MayReadReport may_read arch file)) → IfOk made (λ found. IfNone found (LacksReport may_read file))
+    → IsMadeResponse made machine response → IsInvocationResponseOrMemory may_read machine invocation response
+report-response may_read machine invocation arch file made response is given lacks said =
+    subst (λ a. IsInvocationResponseOrMemory may_read machine a response) (sym is) (go made given lacks said)
+  where
+    go : {E : Type 0} (made : Result (Option Command) E) → IfOk made (λ found. IfSome found (MayReadReport may_read arch file))
+        → IfOk made (λ found. IfNone found (LacksReport may_read file)) → IsMadeResponse made machine response
+        → IsInvocationResponseOrMemory may_read machine (invocation_Report arch file) response
+    go (Ok (Some command)) given lacks (inl same) = inl (inl (command, given, same))
+    go (Ok (Some command)) given lacks (inr short) = inr (tt, short.1)
+    go (Ok None) given lacks said = inl (inr (lacks, said))
+    go (Err e) given lacks said = inr (tt, said)
+
+-- the command that files gave
+pub made-command : {X E : Type 0} (May : X → Type 0) (made : Result (Option X) E) (command : X) → IfOk made (λ found. IfSome found May)
+    → made ≡ Ok (Some command) → May command
+made-command May made command given e = subst (λ m. IfOk m (λ found. IfSome found May)) e given
 
 -- ---- what is said to a refused command
 
@@ -242,20 +328,49 @@ reply-said machine command reply text e said =
     ∙ sym (ap (λ (r : Result Reply Refusal). answer_response (name_of_command command) r (step machine command).1) e))
 
 -- the refusal of an office that is closed is said
-pub closed-said : (machine : Machine) (command : Command) (refusal : Refusal) (text : CowStr Global) → refusal ≡ Closed
+pub closed-said : (machine : Machine) (failed : StoreFault → Standing) (refusal : Refusal) (text : CowStr Global) → refusal ≡ Closed
     → (is_plain refusal ≡ true → IsBorrowedStr text × (cow_str_bytes text ≡ refusal_text refusal))
-    → IsRefusedByStore machine command (record { text = with_line_feed (cow_str_bytes text); machine = machine; status = 1 }) Shut
-closed-said machine command refusal text e plain =
+    → IsRefusedByStore machine failed (record { text = with_line_feed (cow_str_bytes text); machine = machine; status = 1 }) Shut
+closed-said machine failed refusal text e plain =
     inl (said-same ((plain (ap is_plain e)).1 ∙ ap refusal_text e), refl)
 
 -- the refusal of an office whose store failed is said, or that there is no memory for it
-pub store-said : (machine : Machine) (command : Command) (refusal : Refusal) (fault : StoreFault) (text : CowStr Global) → refusal ≡ Store fault
+pub store-said : (machine : Machine) (failed : StoreFault → Standing) (refusal : Refusal) (fault : StoreFault) (text : CowStr Global) → refusal ≡ Store fault
     → (cow_str_bytes text ≡ refusal_text refusal) ⊎ IsMemoryText text
-    → IsRefusedByStore machine command (record { text = with_line_feed (cow_str_bytes text); machine = machine; status = 1 }) (InDoubt command fault)
-store-said machine command refusal fault text e (inl same) = inr (fault, inl (said-same (same ∙ ap refusal_text e)), refl)
-store-said machine command refusal fault text e (inr short) = inr (fault, inr (said-same short.1), refl)
+    → IsRefusedByStore machine failed (record { text = with_line_feed (cow_str_bytes text); machine = machine; status = 1 }) (failed fault)
+store-said machine failed refusal fault text e (inl same) = inr (fault, inl (said-same (same ∙ ap refusal_text e)), refl)
+store-said machine failed refusal fault text e (inr short) = inr (fault, inr (said-same short.1), refl)
 
 -- that there is no memory is said to a command that may want some
 pub memory-said : (machine : Machine) (command : Command) (text : CowStr Global) → MayWantMemory command → IsMemoryText text
     → IsCommandResponseOrMemory machine command (record { text = with_line_feed (cow_str_bytes text); machine = machine; status = 1 })
 memory-said machine command text wants short = inr (inl (inl wants), said-same short.1)
+
+-- ---- what is said to a query
+
+-- what was found is said
+pub found-said : (machine : Machine) (query : Query) (found : Answer) (text : List ℕ) → answer_of machine query ≡ Ok found → text ≡ query_text found
+    → IsQueryResponseOrMemory machine query (record { text = with_line_feed text; machine = machine; status = 0 })
+found-said machine query found text e said =
+    inl (ap (λ t. record { text = with_line_feed t; machine = machine; status = 0 }) said ∙ sym (ap (found_response machine) e))
+
+-- that there is no memory for the text of what was found is said
+pub found-unsaid : (machine : Machine) (query : Query) (found : Answer) (response : LineResponse) → answer_of machine query ≡ Ok found
+    → response ≡ memory_response machine → IsQueryResponseOrMemory machine query response
+found-unsaid machine query found response e same = inr (found-formed machine query found e, same)
+
+-- that there is no memory is said to a query whose names are well formed
+pub query-memory-said : (machine : Machine) (query : Query) (response : LineResponse) → has_malformed_name query ≡ false → response ≡ memory_response machine
+    → IsQueryResponseOrMemory machine query response
+query-memory-said machine query response wants same = inr (wants, same)
+
+pub query-short-said : (machine : Machine) (query : Query) (text : CowStr Global) → has_malformed_name query ≡ false → IsMemoryText text
+    → IsQueryResponseOrMemory machine query (record { text = with_line_feed (cow_str_bytes text); machine = machine; status = 1 })
+query-short-said machine query text wants short = inr (wants, said-same short.1)
+
+-- a refusal that a query is answered with is said: it needs no memory, since it tells no more than its number and its name
+pub query-refusal-said : (machine : Machine) (query : Query) (refusal : Refusal) (text : CowStr Global) → answer_of machine query ≡ Err refusal
+    → (cow_str_bytes text ≡ refusal_text refusal) ⊎ IsMemoryText text → (is_plain refusal ≡ true → IsBorrowedStr text × (cow_str_bytes text ≡ refusal_text refusal))
+    → IsQueryResponseOrMemory machine query (record { text = with_line_feed (cow_str_bytes text); machine = machine; status = 1 })
+query-refusal-said machine query refusal text e told plain =
+    inl (said-same (plain (plain-query machine query refusal e)).1 ∙ sym (ap (found_response machine) e))

@@ -4,18 +4,22 @@ use Rattle.std.specs.Str.{is_utf8}
 use Rattle.deb_text.specs.Lines.{IsOneLine, is_blank_line}
 use Rattle.wb_states.specs.Commands.{name_of_command}
 use Rattle.wb_states.specs.Machine.{Machine}
+use Rattle.wb_states.specs.Queries.{answer_of}
 use Rattle.wb_states.specs.declared.command.Command.{Command}
+use Rattle.wb_states.specs.declared.query.Answer.{Answer}
 use Rattle.wb_states.specs.declared.refusal.Refusal.{Refusal}
 use Rattle.wb_states.specs.declared.reply.Reply.{Reply}
 use Rattle.wb_step.specs.Step.{step}
 use Rattle.wb_words.specs.declared.words.Invocation.{Invocation}
-use Rattle.wb_words.specs.declared.words.Invocation.TheVariants.{Command as invocation_Command, Merge as invocation_Merge}
+use Rattle.wb_words.specs.declared.words.Invocation.TheVariants.{Command as invocation_Command, Merge as invocation_Merge, Query as invocation_Query, Report as invocation_Report}
 use Rattle.wb_api.specs.Encoding.{reply_text, refusal_text, memory_text, line_fault_text, file_fault_text}
+use Rattle.wb_api.specs.Queries.{query_text}
 use Rattle.wb_api.proofs.OneLineLemmas.{reply_text-one, refusal_text-one}
+use Rattle.wb_api.proofs.QueryLineLemmas.{query_text-one}
 use Rattle.wb_daemon.specs.Answered.{HasLines, is_answered}
 use Rattle.wb_streams.specs.Line.{is_long, with_line_feed}
-use Rattle.wb_daemon.specs.Lists.{MayRead}
-use Rattle.wb_daemon.specs.Run.{Fault, Runs, LineResponse, IsLineResponse, IsInvocationResponse, IsResponseOfKind, Blank, answer_response, invocation_of_line, command_response, kind_of_line, kind_of_invocation}
+use Rattle.wb_daemon.specs.Lists.{MayRead, MayReadMerge, MayReadReport, LacksMerge, LacksReport}
+use Rattle.wb_daemon.specs.Run.{Fault, Runs, LineResponse, IsLineResponse, IsFilesResponse, IsInvocationResponse, IsResponseOfKind, Blank, answer_response, invocation_of_line, command_response, found_response, query_response, kind_of_line, kind_of_invocation}
 
 -- what is said to a line: nothing where it is not answered, else one line
 abbrev IsResponseTo : Bool → LineResponse → Type 0
@@ -37,10 +41,19 @@ command-one machine command response e =
 fixed-one : (text : List ℕ) (response : LineResponse) → response.text ≡ with_line_feed text → IsOneLine text → IsResponseTo true response
 fixed-one text response e one = (text, e, one)
 
+found-one : (machine : Machine) (found : Result Answer Refusal) → IsResponseTo true (found_response machine found)
+found-one machine (Ok found) = (query_text found, refl, query_text-one found)
+found-one machine (Err refusal) = (refusal_text refusal, refl, refusal_text-one refusal)
+
+files-one : (MayGive : Command → Type 0) (lacks : Type 0) (machine : Machine) (response : LineResponse) → IsFilesResponse MayGive lacks machine response → IsResponseTo true response
+files-one MayGive lacks machine response (inl h) = command-one machine h.0 response h.2
+files-one MayGive lacks machine response (inr h) = fixed-one file_fault_text response (ap (λ (s : LineResponse). s.text) h.1) refl
+
 invocation-one : (may_read : MayRead) (machine : Machine) (invocation : Invocation) (response : LineResponse) → IsInvocationResponse may_read machine invocation response → IsResponseTo true response
 invocation-one may_read machine (invocation_Command command) response e = command-one machine command response e
-invocation-one may_read machine (invocation_Merge sources parts) response (inl h) = command-one machine h.0 response h.2
-invocation-one may_read machine (invocation_Merge sources parts) response (inr h) = fixed-one file_fault_text response (ap (λ (s : LineResponse). s.text) h.1) refl
+invocation-one may_read machine (invocation_Query query) response e = same-one true (query_response machine query) response e (found-one machine (answer_of machine query))
+invocation-one may_read machine (invocation_Merge sources parts) response h = files-one (MayReadMerge may_read sources parts) (LacksMerge may_read sources parts) machine response h
+invocation-one may_read machine (invocation_Report arch file) response h = files-one (MayReadReport may_read arch file) (LacksReport may_read file) machine response h
 
 kind-one : (may_read : MayRead) (machine : Machine) (long blank : Bool) (invocation : Option Invocation) (response : LineResponse)
     → IsResponseOfKind may_read machine (cond long Fault (cond blank Blank (kind_of_invocation invocation))) response → IsResponseTo (long || not blank) response

@@ -3,3 +3,5 @@ pub mod AnsweredLemmas
 pub mod ListLemmas
 pub mod ReplayedLemmas
 pub mod RunLemmas
+pub mod SingleLemmas
+pub mod WordsLemmas

@@ -3,7 +3,7 @@ use Rattle.std.proofs.Common.{ℕ, ◌<◌, inl, inr, List, [], ◌∷◌, lengt
 use Rattle.std.specs.Io.KnownBytes.{Consumes}
 use Rattle.wb_states.specs.declared.command.Part.{Part}
 use Rattle.wb_words.specs.declared.words.PartNames.{PartNames}
-use Rattle.wb_daemon.specs.Lists.{MayRead, MayReadLess, MayReadParts, IsAllOf, LacksList, LacksMerge, LacksPart, list_limit}
+use Rattle.wb_daemon.specs.Lists.{MayRead, MayReadLess, MayReadParts, IsAllOf, LacksList, LacksMerge, LacksPart, LacksReport, list_limit}
 
 pub MayReadLess-then : (a b c : MayRead) → MayReadLess a b → MayReadLess b c → MayReadLess a c
 MayReadLess-then a b c m n = (λ name bytes h. m.0 name bytes (n.0 name bytes h), λ name h. m.1 name (n.1 name h))
@@ -41,6 +41,10 @@ pub LacksMerge-more : (old new : MayRead) → MayReadLess old new → (sources :
 LacksMerge-more old new m sources names (inl h) = inl (LacksList-more old new m sources h)
 LacksMerge-more old new m sources names (inr h) =
     inr (h.0, (m.0 sources h.0 h.1.0, h.1.1), LacksPart-more old new m names h.2)
+
+pub LacksReport-more : (old new : MayRead) → MayReadLess old new → (file : List ℕ) → LacksReport new file → LacksReport old file
+LacksReport-more old new m file (inl h) = inl (LacksList-more old new m file h)
+LacksReport-more old new m file (inr h) = inr (h.0, (m.0 file h.0 h.1.0, h.1.1), h.2)
 
 -- a list of which more bytes were read than a list may have
 pub too_long : (known left : Option (List ℕ)) (bytes : List ℕ) → list_limit < length bytes → Consumes known left bytes

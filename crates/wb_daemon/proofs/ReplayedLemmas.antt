@@ -5,15 +5,19 @@ use Rattle.wb_states.specs.Machine.{Machine}
 use Rattle.wb_states.specs.declared.command.Command.{Command}
 use Rattle.wb_states.specs.declared.refusal.Refusal.{Refusal}
 use Rattle.wb_states.specs.declared.reply.Reply.{Reply}
+use Rattle.wb_states.specs.declared.store_fault.StoreFault.{StoreFault}
 use Rattle.wb_step.specs.Replay.{replay}
 use Rattle.wb_step.specs.Step.{step}
 use Rattle.wb_words.specs.declared.words.Invocation.{Invocation}
-use Rattle.wb_words.specs.declared.words.Invocation.TheVariants.{Command as invocation_Command, Merge as invocation_Merge}
+use Rattle.wb_words.specs.declared.words.Invocation.TheVariants.{Command as invocation_Command, Merge as invocation_Merge, Query as invocation_Query, Report as invocation_Report}
 use Rattle.wb_streams.specs.Line.{ended_in, input_lines}
 use Rattle.wb_daemon.specs.Lists.{MayRead}
-use Rattle.wb_step.specs.Offices.{Standing, Open, IsSoOfEach}
+use Rattle.wb_states.specs.Queries.{answer_of}
+use Rattle.wb_states.specs.declared.query.Answer.{Answer}
+use Rattle.wb_states.specs.declared.query.Query.{Query}
+use Rattle.wb_step.specs.Offices.{Standing, Open, Shut, InDoubt, Failed, IsSoOfEach}
 use Rattle.wb_daemon.specs.Replays.{IsReplay, IsReplayCut, IsReplayRefused, LeavesReplay, IsResponseWithoutReply}
-use Rattle.wb_daemon.specs.Run.{Request, InvokesAs, EndsInput, Fault, LineKind, LineInvokes, Runs, LineResponse, IsLineResponse, IsInvocationResponse, IsRefusedByStore, IsResponseOfKind, IsSaidTo, Blank, RunStopsFor, StopsInLine, answer_response, command_response, followed, kind_of_line, no_response}
+use Rattle.wb_daemon.specs.Run.{Asked, Request, InvokesAs, Invokes, EndsInput, Fault, LineKind, LineInvokes, Runs, LineResponse, IsFilesResponse, IsInvocationResponse, IsLineResponse, IsRefused, IsRefusedByStore, IsResponse, IsResponseOfKind, IsSaid, Blank, RunStopsFor, StopsInLine, answer_response, asked_by, command_response, file_fault_response, followed, found_response, kind_of_line, no_response, query_response}
 use Rattle.wb_daemon.specs.declared.message.Cause.{Cause}
 use Rattle.wb_daemon.specs.declared.message.Cause.TheVariants as why
 use Rattle.wb_daemon.proofs.RunLemmas.{Runs-snoc}
@@ -22,38 +26,119 @@ answer_response-machine : (name : List ℕ) (result : Result Reply Refusal) (aft
 answer_response-machine name (Ok reply) after = refl
 answer_response-machine name (Err refusal) after = refl
 
-command_response-machine : (machine : Machine) (command : Command) → (command_response machine command).machine ≡ (step machine command).1
+pub command_response-machine : (machine : Machine) (command : Command) → (command_response machine command).machine ≡ (step machine command).1
 command_response-machine machine command = answer_response-machine (name_of_command command) (step machine command).0 (step machine command).1
+
+found_response-machine : (machine : Machine) (found : Result Answer Refusal) → (found_response machine found).machine ≡ machine
+found_response-machine machine (Ok found) = refl
+found_response-machine machine (Err refusal) = refl
+
+query_response-machine : (machine : Machine) (query : Query) → (query_response machine query).machine ≡ machine
+query_response-machine machine query = found_response-machine machine (answer_of machine query)
+
+-- ---- what was asked
+
+-- what is said to what is asked for is the answer to a command, or to a query, or a file of it is at fault
+abbrev Carries : MayRead → Machine → Invocation → LineResponse → Type 0
+Carries may_read machine invocation response =
+    ((command : Command) × InvokesAs may_read invocation command × (response ≡ command_response machine command))
+    ⊎ (((query : Query) × (invocation ≡ invocation_Query query) × (response ≡ query_response machine query))
+    ⊎ (response ≡ file_fault_response machine))
+
+invocation-carries : (may_read : MayRead) (machine : Machine) (invocation : Invocation) (response : LineResponse)
+    → IsInvocationResponse may_read machine invocation response → Carries may_read machine invocation response
+invocation-carries may_read machine (invocation_Command command) response h = inl (command, refl, h)
+invocation-carries may_read machine (invocation_Query query) response h = inr (inl (query, refl, h))
+invocation-carries may_read machine (invocation_Merge sources parts) response (inl h) = inl (h.0, h.1, h.2)
+invocation-carries may_read machine (invocation_Merge sources parts) response (inr h) = inr (inr h.1)
+invocation-carries may_read machine (invocation_Report arch file) response (inl h) = inl (h.0, h.1, h.2)
+invocation-carries may_read machine (invocation_Report arch file) response (inr h) = inr (inr h.1)
+
+response-machine : (one response : LineResponse) (machine : Machine) → response ≡ one → one.machine ≡ machine → response.machine ≡ machine
+response-machine one response machine e is = ap (λ (s : LineResponse). s.machine) e ∙ is
+
+-- what is said to what was asked leaves the office as it was, or as its command leaves it
+abbrev LeavesAsked : MayRead → Machine → LineKind → LineResponse → Type 0
+LeavesAsked may_read machine kind response =
+    (response.machine ≡ machine) ⊎ ((command : Command) × ((invocation : Invocation) × (kind ≡ Request invocation) × InvokesAs may_read invocation command)
+    × (response.machine ≡ (step machine command).1))
+
+carries-leaves : (may_read : MayRead) (machine : Machine) (invocation : Invocation) (response : LineResponse) → Carries may_read machine invocation response
+    → LeavesAsked may_read machine (Request invocation) response
+carries-leaves may_read machine invocation response (inl (command, invokes, e)) =
+    inr (command, (invocation, refl, invokes), response-machine _ response _ e (command_response-machine machine command))
+carries-leaves may_read machine invocation response (inr (inl (query, is, e))) = inl (response-machine _ response machine e (query_response-machine machine query))
+carries-leaves may_read machine invocation response (inr (inr e)) = inl (response-machine _ response machine e refl)
+
+kind-leaves : (may_read : MayRead) (machine : Machine) (kind : LineKind) (response : LineResponse) → IsResponseOfKind may_read machine kind response
+    → LeavesAsked may_read machine kind response
+kind-leaves may_read machine Blank response e = inl (response-machine _ response machine e refl)
+kind-leaves may_read machine Fault response e = inl (response-machine _ response machine e refl)
+kind-leaves may_read machine (Request invocation) response h =
+    carries-leaves may_read machine invocation response (invocation-carries may_read machine invocation response h)
+
+pub asked-leaves : (may_read : MayRead) (machine : Machine) (asked : Asked) (response : LineResponse) → IsResponse may_read machine asked response
+    → (response.machine ≡ machine) ⊎ ((command : Command) × Invokes may_read asked command × (response.machine ≡ (step machine command).1))
+asked-leaves may_read machine asked response (inl h) = kind-leaves may_read machine asked.kind response h
+asked-leaves may_read machine asked response (inr h) = inl (response-machine _ response machine h.1 refl)
+
+-- without a command that the store refused, and with it where it is in doubt
+store-leaves : (IsSo : Machine → Type 0) (before after : Machine) (failed : StoreFault → Standing) (response : LineResponse) (standing : Standing)
+    → IsRefusedByStore before failed response standing → after ≡ response.machine → IsSo before
+    → ((fault : StoreFault) → IsSo before → IsSoOfEach IsSo before (failed fault)) → IsSoOfEach IsSo after standing
+store-leaves IsSo before after failed response standing (inl (e, shut)) is so each =
+    subst (λ s. IsSoOfEach IsSo after s) (sym shut) (subst IsSo (sym (is ∙ ap (λ (s : LineResponse). s.machine) e)) so)
+store-leaves IsSo before after failed response standing (inr (fault, inl e, stands)) is so each =
+    subst (λ s. IsSoOfEach IsSo after s) (sym stands)
+    (subst (λ m. IsSoOfEach IsSo m (failed fault)) (sym (is ∙ ap (λ (s : LineResponse). s.machine) e)) (each fault so))
+store-leaves IsSo before after failed response standing (inr (fault, inr e, stands)) is so each =
+    subst (λ s. IsSoOfEach IsSo after s) (sym stands)
+    (subst (λ m. IsSoOfEach IsSo m (failed fault)) (sym (is ∙ ap (λ (s : LineResponse). s.machine) e)) (each fault so))
+
+-- what is left if the store refused what was asked
+pub refused-leaves_each : (may_read : MayRead) (IsSo : Machine → Type 0) (before after : Machine) (asked : Asked) (response : LineResponse) (standing : Standing)
+    → IsRefused may_read before asked response standing → after ≡ response.machine → IsSo before
+    → ((command : Command) → Invokes may_read asked command → IsSo (step before command).1) → IsSoOfEach IsSo after standing
+refused-leaves_each may_read IsSo before after asked response standing (invocation, kind, inl (query, asks, store)) is so carried =
+    store-leaves IsSo before after (λ fault. Failed fault) response standing store is so (λ fault so. so)
+refused-leaves_each may_read IsSo before after asked response standing (invocation, kind, inr (command, invokes, store)) is so carried =
+    store-leaves IsSo before after (λ fault. InDoubt command fault) response standing store is so
+    (λ fault so. (so, carried command (invocation, kind, invokes)))
 
 -- ---- one line
 
 -- what is said to a line is the answer to a command that it asks for, or nothing was carried out
-abbrev Carries : MayRead → Machine → List ℕ → LineResponse → Type 0
-Carries may_read machine line response =
-    IsResponseWithoutReply machine response ⊎ ((command : Command) × LineInvokes may_read line command × (response ≡ command_response machine command))
+abbrev LineCarries : MayRead → Machine → List ℕ → LineResponse → Type 0
+LineCarries may_read machine line response =
+    IsResponseWithoutReply machine line response ⊎ ((command : Command) × LineInvokes may_read line command × (response ≡ command_response machine command))
 
 kind-carries : (may_read : MayRead) (machine : Machine) (line : List ℕ) (response : LineResponse) (kind : LineKind) → kind_of_line line ≡ kind
-    → IsResponseOfKind may_read machine kind response → Carries may_read machine line response
+    → IsResponseOfKind may_read machine kind response → LineCarries may_read machine line response
 kind-carries may_read machine line response Blank e h = inl (inl (inl h))
 kind-carries may_read machine line response Fault e h = inl (inl (inr h))
-kind-carries may_read machine line response (Request (invocation_Command command)) e h = inr (command, (invocation_Command command, e, refl), h)
-kind-carries may_read machine line response (Request (invocation_Merge sources parts)) e (inl h) = inr (h.0, (invocation_Merge sources parts, e, h.1), h.2)
-kind-carries may_read machine line response (Request (invocation_Merge sources parts)) e (inr h) = inl (inr (inl h.1))
+kind-carries may_read machine line response (Request invocation) e h =
+    elim (invocation-carries may_read machine invocation response h) [
+      | inl (command, invokes, same) ↦ inr (command, (invocation, e, invokes), same)
+      | inr (inl (query, is, same)) ↦ inl (inr (inr (inr (query, e ∙ ap Request is, same))))
+      | inr (inr same) ↦ inl (inr (inl same))
+    ]
 
-IsLineResponse-carries : (may_read : MayRead) (machine : Machine) (line : List ℕ) (response : LineResponse) → IsLineResponse may_read machine line response → Carries may_read machine line response
+IsLineResponse-carries : (may_read : MayRead) (machine : Machine) (line : List ℕ) (response : LineResponse) → IsLineResponse may_read machine line response
+    → LineCarries may_read machine line response
 IsLineResponse-carries may_read machine line response (inl h) = kind-carries may_read machine line response (kind_of_line line) refl h
-IsLineResponse-carries may_read machine line response (inr h) = inl (inr (inr h.1))
+IsLineResponse-carries may_read machine line response (inr h) = inl (inr (inr (inl h.1)))
 
-unmoved : (machine : Machine) (response : LineResponse) → IsResponseWithoutReply machine response → response.machine ≡ machine
-unmoved machine response (inl (inl e)) = ap (λ (s : LineResponse). s.machine) e
-unmoved machine response (inl (inr e)) = ap (λ (s : LineResponse). s.machine) e
-unmoved machine response (inr (inl e)) = ap (λ (s : LineResponse). s.machine) e
-unmoved machine response (inr (inr e)) = ap (λ (s : LineResponse). s.machine) e
+unmoved : (machine : Machine) (line : List ℕ) (response : LineResponse) → IsResponseWithoutReply machine line response → response.machine ≡ machine
+unmoved machine line response (inl (inl e)) = response-machine _ response machine e refl
+unmoved machine line response (inl (inr e)) = response-machine _ response machine e refl
+unmoved machine line response (inr (inl e)) = response-machine _ response machine e refl
+unmoved machine line response (inr (inr (inl e))) = response-machine _ response machine e refl
+unmoved machine line response (inr (inr (inr (query, is, e)))) = response-machine _ response machine e (query_response-machine machine query)
 
 -- ---- lines in their order
 
 no_command_more : (may_read : MayRead) (machine : Machine) (line : List ℕ) (lines : List (List ℕ)) (whole response later : LineResponse) → whole ≡ followed response later
-    → IsResponseWithoutReply machine response → IsReplay may_read machine lines later → IsReplay may_read machine (line ∷ lines) whole
+    → IsResponseWithoutReply machine line response → IsReplay may_read machine lines later → IsReplay may_read machine (line ∷ lines) whole
 no_command_more may_read machine line lines whole response later e none rest =
     (rest.0, (response, later, e, inl (none, rest.1)), ap (λ (s : LineResponse). s.machine) e ∙ rest.2)
 
@@ -72,7 +157,7 @@ pub Runs-replay : (may_read : MayRead) (lines : List (List ℕ)) (machine : Mach
 Runs-replay may_read [] machine whole h = ([], (h, refl), ap (λ (s : LineResponse). s.machine) h)
 Runs-replay may_read (line ∷ lines) machine whole h = elim (IsLineResponse-carries may_read machine line h.0 h.2) [
   | inl none ↦ no_command_more may_read machine line lines whole h.0 h.1 h.4 none
-      (Runs-replay may_read lines machine h.1 (subst (λ m. Runs may_read m lines h.1) (unmoved machine h.0 none) h.3))
+      (Runs-replay may_read lines machine h.1 (subst (λ m. Runs may_read m lines h.1) (unmoved machine line h.0 none) h.3))
   | inr k ↦ command_more may_read machine line lines whole h.0 h.1 h.4 k.0 k.1 k.2 (Runs-replay may_read lines h.0.machine h.1 h.3)
 ]
 
@@ -81,7 +166,9 @@ Runs-replay may_read (line ∷ lines) machine whole h = elim (IsLineResponse-car
 IsInvocationResponse-command : (may_read : MayRead) (machine : Machine) (invocation : Invocation) (command : Command) → InvokesAs may_read invocation command
     → IsInvocationResponse may_read machine invocation (command_response machine command)
 IsInvocationResponse-command may_read machine (invocation_Command invocation) command h = ap (command_response machine) h
+IsInvocationResponse-command may_read machine (invocation_Query query) command h = absurd h
 IsInvocationResponse-command may_read machine (invocation_Merge sources parts) command h = inl (command, h, refl)
+IsInvocationResponse-command may_read machine (invocation_Report arch file) command h = inl (command, h, refl)
 
 LineInvokes-responds : (may_read : MayRead) (machine : Machine) (line : List ℕ) (command : Command) → LineInvokes may_read line command
     → IsLineResponse may_read machine line (command_response machine command)
@@ -97,12 +184,12 @@ snoc-replay may_read lines earlier last machine answered response e runs respond
 
 -- what is said to the last of the lines that were acted on
 said-replay : (may_read : MayRead) (lines earlier : List (List ℕ)) (last : List ℕ) (machine : Machine) (answered response : LineResponse) (standing : Standing)
-    → lines ≡ earlier ++ last ∷ [] → Runs may_read machine earlier answered → IsSaidTo may_read answered.machine last response standing
+    → lines ≡ earlier ++ last ∷ [] → Runs may_read machine earlier answered → IsSaid may_read answered.machine (asked_by last) response standing
     → (IsReplay may_read machine lines (followed answered response) × (standing ≡ Open)) ⊎ IsReplayRefused may_read machine lines (followed answered response) standing
 said-replay may_read lines earlier last machine answered response standing e runs (inl said) =
     inl (snoc-replay may_read lines earlier last machine answered response e runs said.0, said.1)
 said-replay may_read lines earlier last machine answered response standing e runs (inr refused) =
-    inr (earlier, last, answered, response, refused.0, e, Runs-replay may_read earlier machine answered runs, refused.1, refused.2, refl)
+    inr (earlier, last, answered, response, e, Runs-replay may_read earlier machine answered runs, refused, refl)
 
 pub StopsInLine-replay : (may_read : MayRead) (seen : List ℕ) (left : Option (List ℕ)) (machine : Machine) (text : List ℕ) (after : Machine) (standing : Standing)
     → StopsInLine may_read seen left machine text after standing → IsReplayCut may_read seen left machine text after standing
@@ -132,7 +219,7 @@ StopsInLine-replay may_read seen left machine text after standing (inr (inr (lin
   followed s.answered s.response,
   [],
   acted,
-  said-replay may_read lines s.earlier s.last machine s.answered s.response standing s.parts s.runs (inr (s.command, s.invokes, s.refused)),
+  said-replay may_read lines s.earlier s.last machine s.answered s.response standing s.parts s.runs (inr s.refused),
   s.office,
   sym s.written ∙ sym (append-nil text),
 )
@@ -147,43 +234,28 @@ pub EndsInput-leaves : (may_read : MayRead) (known old new : Option (List ℕ)) 
     → EndsInput may_read known old new before after status → LeavesReplay may_read before after
 EndsInput-leaves may_read known old new before after status h = Runs-leaves may_read before after (input_lines h.0) h.3.0 status h.3.1
 
-refused-unmoved : (before : Machine) (command : Command) (response : LineResponse) (standing : Standing) → IsRefusedByStore before command response standing → response.machine ≡ before
-refused-unmoved before command response standing (inl h) = ap (λ (s : LineResponse). s.machine) h.0
-refused-unmoved before command response standing (inr (fault, inl e, is)) = ap (λ (s : LineResponse). s.machine) e
-refused-unmoved before command response standing (inr (fault, inr e, is)) = ap (λ (s : LineResponse). s.machine) e
-
--- without the command that was refused, and with it where it is in doubt
-each-left : (may_read : MayRead) (before after : Machine) (command : Command) (inner : Machine) (response : LineResponse) (standing : Standing) → LeavesReplay may_read before after
-    → LeavesReplay may_read before (step after command).1 → IsRefusedByStore inner command response standing → IsSoOfEach (LeavesReplay may_read before) after standing
-each-left may_read before after command inner response standing without with_it (inl h) =
-    subst (λ s. IsSoOfEach (LeavesReplay may_read before) after s) (sym h.1) without
-each-left may_read before after command inner response standing without with_it (inr h) =
-    subst (λ s. IsSoOfEach (LeavesReplay may_read before) after s) (sym h.2) (without, with_it)
-
-refused-leaves : (may_read : MayRead) (earlier : List (List ℕ)) (last : List ℕ) (before after : Machine) (answered response : LineResponse) (command : Command) (standing : Standing)
-    → Runs may_read before earlier answered → LineInvokes may_read last command → IsRefusedByStore answered.machine command response standing → after ≡ response.machine
+refused-leaves : (may_read : MayRead) (earlier : List (List ℕ)) (last : List ℕ) (before after : Machine) (answered response : LineResponse) (standing : Standing)
+    → Runs may_read before earlier answered → IsRefused may_read answered.machine (asked_by last) response standing → after ≡ response.machine
     → IsSoOfEach (LeavesReplay may_read before) after standing
-refused-leaves may_read earlier last before after answered response command standing runs invokes refused is =
-    let same = is ∙ refused-unmoved answered.machine command response standing refused in
-    let reply = command_response answered.machine command in
-    each-left may_read before after command answered.machine response standing
-    (earlier, answered, Runs-replay may_read earlier before answered runs, same) (
+refused-leaves may_read earlier last before after answered response standing runs refused is =
+    refused-leaves_each may_read (LeavesReplay may_read before) answered.machine after (asked_by last) response standing refused is
+    (earlier, answered, Runs-replay may_read earlier before answered runs, refl)
+    (λ command invokes. let reply = command_response answered.machine command in (
       earlier ++ last ∷ [],
       followed answered reply,
       snoc-replay may_read (earlier ++ last ∷ []) earlier last before answered reply refl runs (LineInvokes-responds may_read answered.machine last command invokes),
-      ap (λ m. (step m command).1) same ∙ sym (command_response-machine answered.machine command),
-    )
-    refused
+      sym (command_response-machine answered.machine command),
+    ))
 
 -- what is left by a run that stopped within or after the answer to a line
 said-leaves : (may_read : MayRead) (lines earlier : List (List ℕ)) (last : List ℕ) (before after : Machine) (answered response : LineResponse) (standing : Standing)
-    → lines ≡ earlier ++ last ∷ [] → Runs may_read before earlier answered → IsSaidTo may_read answered.machine last response standing → after ≡ response.machine
+    → lines ≡ earlier ++ last ∷ [] → Runs may_read before earlier answered → IsSaid may_read answered.machine (asked_by last) response standing → after ≡ response.machine
     → IsSoOfEach (LeavesReplay may_read before) after standing
 said-leaves may_read lines earlier last before after answered response standing e runs (inl said) is =
     subst (λ s. IsSoOfEach (LeavesReplay may_read before) after s) (sym said.1)
     (lines, followed answered response, snoc-replay may_read lines earlier last before answered response e runs said.0, is)
 said-leaves may_read lines earlier last before after answered response standing e runs (inr refused) is =
-    refused-leaves may_read earlier last before after answered response refused.0 standing runs refused.1 refused.2 is
+    refused-leaves may_read earlier last before after answered response standing runs refused is
 
 -- what a run leaves that stopped, for whatever cause
 pub RunStopsFor-leaves : (may_read : MayRead) (cause : Cause) (input left old new : Option (List ℕ)) (before after : Machine) (standing : Standing)
@@ -198,7 +270,7 @@ RunStopsFor-leaves may_read why.Reply input left old new before after standing (
     (inl (LineInvokes-responds may_read s.answered.machine s.last s.command s.invokes, still))
     (s.accepted.1 ∙ sym (command_response-machine s.answered.machine s.command))
 RunStopsFor-leaves may_read why.Store input left old new before after standing (seen, text, read, wrote, (lines, acted, s)) =
-    refused-leaves may_read s.earlier s.last before after s.answered s.response s.command standing s.runs s.invokes s.refused s.office
+    refused-leaves may_read s.earlier s.last before after s.answered s.response standing s.runs s.refused s.office
 RunStopsFor-leaves may_read why.Lines input left old new before after standing h =
     subst (λ s. IsSoOfEach (LeavesReplay may_read before) after s) (sym h.4.1) (Runs-leaves may_read before after (ended_in h.4.0.0) h.1 h.4.0.4.0 h.4.0.4.1)
 RunStopsFor-leaves may_read why.Room input left old new before after standing h =

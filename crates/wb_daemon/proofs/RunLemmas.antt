@@ -15,9 +15,9 @@ use Rattle.wb_streams.specs.Line.{ended_in, is_long, input_lines, line_limit, th
 use Rattle.wb_daemon.specs.Limits.{lines_limit, AreWithinLimit}
 use Rattle.wb_daemon.specs.Lists.{MayRead, IsAllOf}
 use Rattle.wb_step.specs.Offices.{Standing, Open}
-use Rattle.wb_daemon.specs.Run.{LineResponse, IsLineResponse, Runs, EndsInput, FailsFor, StopsAfter, StopsBeforeReply, StopsBetween, RunStopsFor, StopsWithin, WereActedOn, followed, no_response}
+use Rattle.wb_daemon.specs.Run.{LineResponse, IsLineResponse, Runs, EndsInput, FailsFor, StopsAfter, StopsBeforeReply, StopsBetween, RunStopsFor, StopsWithin, WereActedOn, asked_by, followed, no_response}
 use Rattle.wb_streams.specs.Streams.{Flags, Stream}
-use Rattle.wb_daemon.specs.Turn.{Answers, AnswersInPart, AnswersLast, IsCauseAtLine, TookEndedLine, TookLastLine, StopsAtLine, LacksReply, StopsTurn, fails_to_write}
+use Rattle.wb_daemon.specs.Turn.{Answers, AnswersInPart, AnswersLast, IsCauseAtLine, TookEndedLine, TookLastLine, StopsAt, LacksReply, StopsTurn, fails_to_write}
 use Rattle.wb_daemon.specs.declared.message.Cause.{Cause}
 use Rattle.wb_daemon.specs.declared.message.Cause.TheVariants.{Read, Write, Reply, Store, Lines, Room}
 use Rattle.wb_streams.proofs.LineLemmas.{Appends-same, Appends-then, Consumes-then}
@@ -161,7 +161,7 @@ module _ {may_read : MayRead} {input now old new : Option (List ℕ)} {before af
       subst (Consumes input left) (sym (with_line_feeds-snoc far.lines line)) (Consumes-then input now left (with_line_feeds far.lines) (with_line_feed line) far.taken p)
 
   pub so_far-line : (line : List ℕ) (left written : Option (List ℕ)) (next : Machine) (more : ℕ)
-      → TookEndedLine line now left → Answers may_read line after next new written more
+      → TookEndedLine line now left → Answers may_read (asked_by line) after next new written more
       → SoFar may_read input left old written before next (max status more) (count + 1)
   so_far-line line left written next more g a = record {
     lines = far.lines ++ line ∷ [];
@@ -208,7 +208,7 @@ some_long lines line h =
 module _ {may_read : MayRead} {input now old new : Option (List ℕ)} {before after : Machine} {status count : ℕ} (far : SoFar may_read input now old new before after status count) where
   ended : (bytes last : List ℕ) (written : Option (List ℕ)) (next : Machine) (more : ℕ)
       → IsAllOf input bytes → input_lines bytes ≡ far.lines ++ last ∷ [] → AreWithinLimit (far.lines ++ last ∷ [])
-      → Answers may_read last after next new written more → EndsInput may_read input old written before next (max status more)
+      → Answers may_read (asked_by last) after next new written more → EndsInput may_read input old written before next (max status more)
   ended bytes last written next more p same few a = (
     bytes,
     p,
@@ -223,7 +223,7 @@ module _ {may_read : MayRead} {input now old new : Option (List ℕ)} {before af
 
   -- the last line was answered
   pub ends-line : (line : List ℕ) (left written : Option (List ℕ)) (next : Machine) (more greatest : ℕ) → count < lines_limit → greatest ≡ max status more
-      → TookLastLine line now left → Answers may_read line after next new written more → EndsInput may_read input old written before next greatest
+      → TookLastLine line now left → Answers may_read (asked_by line) after next new written more → EndsInput may_read input old written before next greatest
   ends-line line left written next more greatest few e g a =
       let whole = whole_input (is_long line ≡ true) input now left (with_line_feeds far.lines) line far.taken g.1 g.2 in
       let last = last_lines may_read far.lines line whole.0 far.are g.0 whole.2 in
@@ -273,7 +273,7 @@ module _ {may_read : MayRead} {input now old new : Option (List ℕ)} {before af
         ),
       )
 
-  within : (line : List ℕ) (written : Option (List ℕ)) (next : Machine) (standing : Standing) → (a : AnswersInPart may_read line after next standing new written)
+  within : (line : List ℕ) (written : Option (List ℕ)) (next : Machine) (standing : Standing) → (a : AnswersInPart may_read (asked_by line) after next standing new written)
       → StopsWithin may_read (far.lines ++ line ∷ []) before (far.text ++ take a.3.0 a.0.text) next standing
   within line written next standing a = record {
     earlier = far.lines;
@@ -293,7 +293,7 @@ module _ {may_read : MayRead} {input now old new : Option (List ℕ)} {before af
   at_last line left (inl h) = inl h
   at_last line left (inr h) = inr (some_long far.lines line h)
 
-  before_reply : (line : List ℕ) (written : Option (List ℕ)) (next : Machine) → LacksReply may_read line after next new written
+  before_reply : (line : List ℕ) (written : Option (List ℕ)) (next : Machine) → LacksReply may_read (asked_by line) after next new written
       → StopsBeforeReply may_read (far.lines ++ line ∷ []) before far.text next
   before_reply line written next a = record {
     earlier = far.lines;
@@ -307,20 +307,18 @@ module _ {may_read : MayRead} {input now old new : Option (List ℕ)} {before af
     unwritten = refl;
   }
 
-  after_answer : (line : List ℕ) (written : Option (List ℕ)) (next : Machine) (standing : Standing) → (a : AnswersLast may_read line after next standing new written)
+  after_answer : (line : List ℕ) (written : Option (List ℕ)) (next : Machine) (standing : Standing) → (a : AnswersLast may_read (asked_by line) after next standing new written)
       → StopsAfter may_read (far.lines ++ line ∷ []) before (far.text ++ a.0.text) next standing
   after_answer line written next standing a = record {
     earlier = far.lines;
     last = line;
     answered = record { text = far.text; machine = after; status = status };
     response = a.0;
-    command = a.1;
     parts = refl;
     runs = far.runs;
-    invokes = a.2;
-    refused = a.3;
+    refused = a.1;
     written = refl;
-    office = a.4;
+    office = a.2;
   }
 
   -- the bytes of the lines that were acted on
@@ -339,7 +337,7 @@ module _ {may_read : MayRead} {input now old new : Option (List ℕ)} {before af
   )
 
   stops-line : (cause : Cause) (line : List ℕ) (left written : Option (List ℕ)) (next : Machine) (standing : Standing)
-      → TookEndedLine line now left ⊎ TookLastLine line now left → StopsAtLine may_read line after next standing new written cause
+      → TookEndedLine line now left ⊎ TookLastLine line now left → StopsAt may_read (asked_by line) after next standing new written cause
       → RunStopsFor may_read cause input left old written before next standing
   stops-line Read line left written next standing g a = absurd a
   stops-line Write line left written next standing g a =
@@ -350,7 +348,7 @@ module _ {may_read : MayRead} {input now old new : Option (List ℕ)} {before af
       (h.0, far.text, h.1, subst (λ w. Appends old w far.text) (sym a.0.3) far.written, (far.lines ++ line ∷ [], h.2, before_reply line written next a.0, a.1))
   stops-line Store line left written next standing g a =
       let h = acted_on line left g in
-      (h.0, far.text ++ a.0.text, h.1, Appends-then old new written far.text _ far.written a.5, (far.lines ++ line ∷ [], h.2, after_answer line written next standing a))
+      (h.0, far.text ++ a.0.text, h.1, Appends-then old new written far.text _ far.written a.3, (far.lines ++ line ∷ [], h.2, after_answer line written next standing a))
   stops-line Lines line left written next standing g a = absurd a
   stops-line Room line left written next standing g a = absurd a
 
@@ -374,7 +372,7 @@ stops-at_once may_read input old machine = ([], [], Consumes-same input, Appends
 -- the run goes on, or ends, with the greater of two statuses
 pub so_far-next : {may_read : MayRead} {input now old new : Option (List ℕ)} {before after : Machine} {status count : ℕ} (far : SoFar may_read input now old new before after status count)
     (line : List ℕ) (left written : Option (List ℕ)) (next : Machine) (more greatest : ℕ)
-    → TookEndedLine line now left → Answers may_read line after next new written more → greatest ≡ max status more
+    → TookEndedLine line now left → Answers may_read (asked_by line) after next new written more → greatest ≡ max status more
     → SoFar may_read input left old written before next greatest (count + 1)
 so_far-next {may_read} {input} {old} {before} {count} far line left written next more greatest g a e =
     subst (λ n. SoFar may_read input left old written before next n (count + 1)) (sym e) (so_far-line far line left written next more g a)

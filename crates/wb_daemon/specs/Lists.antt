@@ -1,8 +1,9 @@
--- The lists that a merge names, and the bytes that they are read as.
+-- The files that a command names, and the bytes that they are read as: the lists of a merge, and a report.
 use Rattle.std.specs.Prelude.{◌≡◌, ◌⊎◌, ℕ, ◌<◌, ◌≤◌, ⊤, List, ◌∷◌, ◌++◌, length, Option, IfSome}
 use Rattle.std.specs.List.{AllZip}
+use Rattle.std.specs.Str.{IsUtf8}
 use Rattle.wb_states.specs.declared.command.Command.{Command}
-use Rattle.wb_states.specs.Forms.{Merge}
+use Rattle.wb_states.specs.Forms.{Merge, Report}
 use Rattle.wb_states.specs.declared.command.Part.{Part}
 use Rattle.wb_words.specs.declared.words.PartNames.{PartNames}
 use Rattle.wb_daemon.specs.declared.lists.ListRead.{ListRead}
@@ -27,7 +28,7 @@ IsAllOf known bytes = IfSome known (λ left. bytes ≡ left)
 
 -- what a read of a list gave: all its bytes, or there are more than a list may have, or a read failed of a list that may fail
 abbrev pub ReadsList : Type 0 → Option (List ℕ) → ListRead → Type 0
-ReadsList breaks known (Whole bytes) = IsAllOf known bytes × (length bytes ≤ list_limit)
+ReadsList breaks known (Whole list) = IsAllOf known list.items × (length list.items ≤ list_limit)
 ReadsList breaks known TooLong = (bytes : List ℕ) × IsAllOf known bytes × (list_limit < length bytes)
 ReadsList breaks known (Failed error) = breaks
 
@@ -77,3 +78,13 @@ pub record LacksPart (may_read : MayRead) (names : List PartNames) : Type 0 wher
 abbrev pub LacksMerge : MayRead → List ℕ → List PartNames → Type 0
 LacksMerge may_read sources names =
     LacksList may_read sources ⊎ ((bytes : List ℕ) × MayReadList may_read sources bytes × LacksPart may_read names)
+
+-- the report of an architecture, with the text that its file may be read as, which is UTF-8
+abbrev pub MayReadReport : MayRead → List ℕ → List ℕ → Command → Type 0
+MayReadReport may_read arch file command =
+    (text : List ℕ) × MayReadList may_read file text × IsUtf8 text × (command ≡ Report arch text)
+
+-- the file of a report is at fault, or is not UTF-8
+abbrev pub LacksReport : MayRead → List ℕ → Type 0
+LacksReport may_read file =
+    LacksList may_read file ⊎ ((bytes : List ℕ) × MayReadList may_read file bytes × (¬ IsUtf8 bytes))

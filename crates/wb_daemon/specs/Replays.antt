@@ -5,20 +5,23 @@ use Rattle.wb_states.specs.declared.command.Command.{Command}
 use Rattle.wb_step.specs.Replay.{replay}
 use Rattle.wb_daemon.specs.Lists.{MayRead}
 use Rattle.wb_step.specs.Offices.{Standing, Open}
-use Rattle.wb_daemon.specs.Run.{LineResponse, LineInvokes, IsRefusedByStore, WereActedOn, command_response, line_fault_response, file_fault_response, followed, memory_response, no_response}
+use Rattle.wb_states.specs.declared.query.Query.{Query}
+use Rattle.wb_daemon.specs.Run.{LineResponse, LineInvokes, IsRefused, WereActedOn, Request, asked_by, command_response, line_fault_response, file_fault_response, followed, kind_of_line, memory_response, no_response, query_response}
+use Rattle.wb_words.specs.declared.words.Invocation.TheVariants.{Query as invocation_Query}
 
--- nothing is carried out for a line: it is blank, or at fault, or a list of it cannot be read, or there is no memory for it
-abbrev pub IsResponseWithoutReply : Machine → LineResponse → Type 0
-IsResponseWithoutReply machine response =
+-- nothing is carried out for a line: it is blank, or at fault, or a list of it cannot be read, or there is no memory for it, or it asks a query
+abbrev pub IsResponseWithoutReply : Machine → List ℕ → LineResponse → Type 0
+IsResponseWithoutReply machine line response =
     ((response ≡ no_response machine) ⊎ (response ≡ line_fault_response machine))
-    ⊎ ((response ≡ file_fault_response machine) ⊎ (response ≡ memory_response machine))
+    ⊎ ((response ≡ file_fault_response machine) ⊎ ((response ≡ memory_response machine)
+    ⊎ ((query : Query) × (kind_of_line line ≡ Request (invocation_Query query)) × (response ≡ query_response machine query))))
 
 -- the commands that lines have the office carry out, in their order: a line gives one, or none
 abbrev pub CarriesOut : MayRead → Machine → List (List ℕ) → LineResponse → List Command → Type 0
 CarriesOut may_read machine [] whole commands = (whole ≡ no_response machine) × (commands ≡ [])
 CarriesOut may_read machine (line ∷ lines) whole commands =
     (response later : LineResponse) × (whole ≡ followed response later)
-    × ((IsResponseWithoutReply machine response × CarriesOut may_read machine lines later commands)
+    × ((IsResponseWithoutReply machine line response × CarriesOut may_read machine lines later commands)
     ⊎ ((command : Command) × (others : List Command) × (commands ≡ command ∷ others)
     × LineInvokes may_read line command × (response ≡ command_response machine command)
     × CarriesOut may_read response.machine lines later others))
@@ -33,12 +36,12 @@ abbrev pub LeavesReplay : MayRead → Machine → Machine → Type 0
 LeavesReplay may_read before after =
     (lines : List (List ℕ)) × (whole : LineResponse) × IsReplay may_read before lines whole × (after ≡ whole.machine)
 
--- the last of these lines asks for a command that was refused by the store: before it is what the commands of the other lines leave
+-- what the last of these lines asks for was refused by the store: before it is what the commands of the other lines leave
 abbrev pub IsReplayRefused : MayRead → Machine → List (List ℕ) → LineResponse → Standing → Type 0
 IsReplayRefused may_read machine lines whole standing =
-    (earlier : List (List ℕ)) × (last : List ℕ) × (answered response : LineResponse) × (command : Command)
-    × (lines ≡ earlier ++ last ∷ []) × IsReplay may_read machine earlier answered × LineInvokes may_read last command
-    × IsRefusedByStore answered.machine command response standing × (whole ≡ followed answered response)
+    (earlier : List (List ℕ)) × (last : List ℕ) × (answered response : LineResponse)
+    × (lines ≡ earlier ++ last ∷ []) × IsReplay may_read machine earlier answered
+    × IsRefused may_read answered.machine (asked_by last) response standing × (whole ≡ followed answered response)
 
 -- a run that was cut off left what the lines that it acted on leave, and wrote a front of what is said to them
 abbrev pub IsReplayCut : MayRead → List ℕ → Option (List ℕ) → Machine → List ℕ → Machine → Standing → Type 0

@@ -5,7 +5,10 @@ use Rattle.std.specs.Str.{is_utf8}
 use Rattle.std.specs.Io.KnownBytes.{Appends, Consumes, IsAtEnd}
 use Rattle.wb_states.specs.Commands.{name_of_command}
 use Rattle.wb_states.specs.Machine.{Machine}
+use Rattle.wb_states.specs.Queries.{answer_of}
 use Rattle.wb_states.specs.declared.command.Command.{Command}
+use Rattle.wb_states.specs.declared.query.Answer.{Answer}
+use Rattle.wb_states.specs.declared.query.Query.{Query}
 use Rattle.wb_states.specs.declared.refusal.Refusal.{Refusal}
 use Rattle.wb_states.specs.declared.refusal.Refusal.TheVariants.{Closed, Store}
 use Rattle.wb_states.specs.declared.reply.Reply.{Reply}
@@ -13,14 +16,15 @@ use Rattle.wb_states.specs.declared.store_fault.StoreFault.{StoreFault}
 use Rattle.wb_step.specs.Step.{step}
 use Rattle.wb_words.specs.Words.{invocation_in}
 use Rattle.wb_words.specs.declared.words.Invocation.{Invocation}
-use Rattle.wb_words.specs.declared.words.Invocation.TheVariants.{Command as invocation_Command, Merge as invocation_Merge}
+use Rattle.wb_words.specs.declared.words.Invocation.TheVariants.{Command as invocation_Command, Merge as invocation_Merge, Query as invocation_Query, Report as invocation_Report}
 use Rattle.wb_words.specs.declared.words.PartNames.{PartNames}
 use Rattle.wb_api.specs.Encoding.{reply_text, refusal_text, memory_text, line_fault_text, file_fault_text}
+use Rattle.wb_api.specs.Queries.{query_text}
 use Rattle.deb_text.specs.Lines.{words_in, is_blank_line}
 use Rattle.wb_streams.specs.Line.{is_long, input_lines, ended_in, with_line_feed}
 use Rattle.wb_daemon.specs.Limits.{lines_limit, AreWithinLimit}
-use Rattle.wb_daemon.specs.Lists.{MayRead, MayReadMerge, IsAllOf, LacksMerge}
-use Rattle.wb_step.specs.Offices.{Accepts, Standing, Open, Shut, InDoubt}
+use Rattle.wb_daemon.specs.Lists.{MayRead, MayReadMerge, MayReadReport, IsAllOf, LacksMerge, LacksReport}
+use Rattle.wb_step.specs.Offices.{Accepts, Standing, Open, Shut, InDoubt, Failed}
 use Rattle.wb_streams.specs.Streams.{Stream}
 use Rattle.wb_daemon.specs.declared.message.Cause.{Cause}
 use Rattle.wb_daemon.specs.declared.message.Cause.TheVariants as why
@@ -57,6 +61,19 @@ abbrev pub command_response : Machine → Command → LineResponse
 command_response machine command =
     answer_response (name_of_command command) (step machine command).0 (step machine command).1
 
+-- a refusal is what is said, which changes nothing that is known of the office
+abbrev pub refusal_response : Machine → Refusal → LineResponse
+refusal_response machine refusal = record { text = with_line_feed (refusal_text refusal); machine = machine; status = 1 }
+
+-- what was found is said, or the refusal
+abbrev pub found_response : Machine → Result Answer Refusal → LineResponse
+found_response machine (Ok found) = record { text = with_line_feed (query_text found); machine = machine; status = 0 }
+found_response machine (Err refusal) = refusal_response machine refusal
+
+-- what is said to a query, which leaves the office as it was
+abbrev pub query_response : Machine → Query → LineResponse
+query_response machine query = found_response machine (answer_of machine query)
+
 -- what a line asks for: the line is UTF-8, and its words ask for it
 unfoldable pub invocation_of_line : List ℕ → Option Invocation
 invocation_of_line line = if is_utf8 line then invocation_in (words_in line) else None
@@ -78,36 +95,40 @@ kind_of_line line =
     if is_long line then Fault
     else (if is_blank_line line then Blank else kind_of_invocation (invocation_of_line line))
 
--- what a line asks for is this command, or the merge of what its lists may be read as
+-- what is asked for is this command, or the merge or the report that its files may be read as
 abbrev pub InvokesAs : MayRead → Invocation → Command → Type 0
 InvokesAs may_read (invocation_Command invocation) command = command ≡ invocation
+InvokesAs may_read (invocation_Query query) command = ⊥
 InvokesAs may_read (invocation_Merge sources parts) command = MayReadMerge may_read sources parts command
+InvokesAs may_read (invocation_Report arch file) command = MayReadReport may_read arch file command
 
--- a line asks for a command
-abbrev pub LineInvokes : MayRead → List ℕ → Command → Type 0
-LineInvokes may_read line command = (invocation : Invocation) × (kind_of_line line ≡ Request invocation) × InvokesAs may_read invocation command
-
--- a refusal is what is said, which changes nothing that is known of the office
-abbrev pub refusal_response : Machine → Refusal → LineResponse
-refusal_response machine refusal = record { text = with_line_feed (refusal_text refusal); machine = machine; status = 1 }
-
--- a command is refused since the office is closed, or since its store failed with the fault that is told, which leaves the command in doubt: what is said,
--- and how the office then stands
-abbrev pub IsRefusedByStore : Machine → Command → LineResponse → Standing → Type 0
-IsRefusedByStore before command response standing =
+-- it is refused since the office is closed, or since its store failed with the fault that is told, and the office then stands so: what is said, and how the office
+-- then stands
+abbrev pub IsRefusedByStore : Machine → (StoreFault → Standing) → LineResponse → Standing → Type 0
+IsRefusedByStore before failed response standing =
     ((response ≡ refusal_response before Closed) × (standing ≡ Shut))
-    ⊎ ((fault : StoreFault) × ((response ≡ refusal_response before (Store fault)) ⊎ (response ≡ memory_response before)) × (standing ≡ InDoubt command fault))
+    ⊎ ((fault : StoreFault) × ((response ≡ refusal_response before (Store fault)) ⊎ (response ≡ memory_response before)) × (standing ≡ failed fault))
 
--- what may be said to a merge of these lists: what is said to the command with what the lists gave, or that one of them is at fault
-abbrev pub IsMergeResponse : MayRead → Machine → List ℕ → List PartNames → LineResponse → Type 0
-IsMergeResponse may_read machine sources parts response =
-    ((command : Command) × MayReadMerge may_read sources parts command × (response ≡ command_response machine command))
-    ⊎ (LacksMerge may_read sources parts × (response ≡ file_fault_response machine))
+-- what is asked for is refused by the store: a query, or a command, which is then in doubt
+abbrev pub IsInvocationRefused : MayRead → Machine → Invocation → LineResponse → Standing → Type 0
+IsInvocationRefused may_read before invocation response standing =
+    ((query : Query) × (invocation ≡ invocation_Query query) × IsRefusedByStore before Failed response standing)
+    ⊎ ((command : Command) × InvokesAs may_read invocation command × IsRefusedByStore before (InDoubt command) response standing)
+
+-- what may be said if files are read for a command: what is said to the command that they gave, or that one of them is at fault
+abbrev pub IsFilesResponse : (Command → Type 0) → Type 0 → Machine → LineResponse → Type 0
+IsFilesResponse MayGive lacks machine response =
+    ((command : Command) × MayGive command × (response ≡ command_response machine command))
+    ⊎ (lacks × (response ≡ file_fault_response machine))
 
 -- what may be said to what a line asks for
 abbrev pub IsInvocationResponse : MayRead → Machine → Invocation → LineResponse → Type 0
 IsInvocationResponse may_read machine (invocation_Command command) response = response ≡ command_response machine command
-IsInvocationResponse may_read machine (invocation_Merge sources parts) response = IsMergeResponse may_read machine sources parts response
+IsInvocationResponse may_read machine (invocation_Query query) response = response ≡ query_response machine query
+IsInvocationResponse may_read machine (invocation_Merge sources parts) response =
+    IsFilesResponse (MayReadMerge may_read sources parts) (LacksMerge may_read sources parts) machine response
+IsInvocationResponse may_read machine (invocation_Report arch file) response =
+    IsFilesResponse (MayReadReport may_read arch file) (LacksReport may_read file) machine response
 
 -- what may be said to a line of this kind
 abbrev pub IsResponseOfKind : MayRead → Machine → LineKind → LineResponse → Type 0
@@ -119,16 +140,41 @@ IsResponseOfKind may_read machine (Request invocation) response = IsInvocationRe
 abbrev pub needs_memory : List ℕ → Bool
 needs_memory line = not (is_long line) && (not (is_blank_line line) && is_utf8 line)
 
+-- what was asked: of which kind it is, and whether its words need memory
+pub record Asked : Type 0 where
+  pub kind : LineKind
+  pub needs_memory : Bool
+
+-- what a line asked
+abbrev pub asked_by : List ℕ → Asked
+asked_by line = record { kind = kind_of_line line; needs_memory = needs_memory line }
+
+-- what may be said to what was asked: that there is no memory for it is possible if its words need some
+abbrev pub IsResponse : MayRead → Machine → Asked → LineResponse → Type 0
+IsResponse may_read machine asked response =
+    IsResponseOfKind may_read machine asked.kind response ⊎ (IsTrue asked.needs_memory × (response ≡ memory_response machine))
+
+-- what was asked is a command
+abbrev pub Invokes : MayRead → Asked → Command → Type 0
+Invokes may_read asked command = (invocation : Invocation) × (asked.kind ≡ Request invocation) × InvokesAs may_read invocation command
+
+-- what was asked is refused by the store
+abbrev pub IsRefused : MayRead → Machine → Asked → LineResponse → Standing → Type 0
+IsRefused may_read machine asked response standing =
+    (invocation : Invocation) × (asked.kind ≡ Request invocation) × IsInvocationRefused may_read machine invocation response standing
+
+-- what is said to what was asked, and how the office then stands: it goes on, or the store refused what was asked
+abbrev pub IsSaid : MayRead → Machine → Asked → LineResponse → Standing → Type 0
+IsSaid may_read machine asked response standing =
+    (IsResponse may_read machine asked response × (standing ≡ Open)) ⊎ IsRefused may_read machine asked response standing
+
 -- what may be said to a line: that there is no memory for it is possible at each line with words
 abbrev pub IsLineResponse : MayRead → Machine → List ℕ → LineResponse → Type 0
-IsLineResponse may_read machine line response =
-    IsResponseOfKind may_read machine (kind_of_line line) response ⊎ (IsTrue (needs_memory line) × (response ≡ memory_response machine))
+IsLineResponse may_read machine line response = IsResponse may_read machine (asked_by line) response
 
--- what is said to a line, and how the office then stands: it answers further lines, or the command of the line was refused by the store
-abbrev pub IsSaidTo : MayRead → Machine → List ℕ → LineResponse → Standing → Type 0
-IsSaidTo may_read machine line response standing =
-    (IsLineResponse may_read machine line response × (standing ≡ Open))
-    ⊎ ((command : Command) × LineInvokes may_read line command × IsRefusedByStore machine command response standing)
+-- a line asks for a command
+abbrev pub LineInvokes : MayRead → List ℕ → Command → Type 0
+LineInvokes may_read line command = Invokes may_read (asked_by line) command
 
 -- one thing is said, and then another; the greater status is that of both
 abbrev pub followed : LineResponse → LineResponse → LineResponse
@@ -186,7 +232,7 @@ pub record StopsWithin (may_read : MayRead) (lines : List (List ℕ)) (before : 
   pub written : ℕ
   pub parts : lines ≡ earlier ++ last ∷ []
   pub runs : Runs may_read before earlier answered
-  pub responds : IsSaidTo may_read answered.machine last response standing
+  pub responds : IsSaid may_read answered.machine (asked_by last) response standing
   pub cut : written < length response.text
   pub front : text ≡ answered.text ++ take written response.text
   pub office : after ≡ response.machine
@@ -203,17 +249,15 @@ pub record StopsBeforeReply (may_read : MayRead) (lines : List (List ℕ)) (befo
   pub accepted : Accepts answered.machine command after
   pub unwritten : text ≡ answered.text
 
--- a run that stopped after the last of these lines, each of which was answered: its command was refused since the store failed or the office is closed
+-- a run that stopped after the last of these lines, each of which was answered: what it asked was refused since the store failed or the office is closed
 pub record StopsAfter (may_read : MayRead) (lines : List (List ℕ)) (before : Machine) (text : List ℕ) (after : Machine) (standing : Standing) : Type 0 where
   pub earlier : List (List ℕ)
   pub last : List ℕ
   pub answered : LineResponse
   pub response : LineResponse
-  pub command : Command
   pub parts : lines ≡ earlier ++ last ∷ []
   pub runs : Runs may_read before earlier answered
-  pub invokes : LineInvokes may_read last command
-  pub refused : IsRefusedByStore answered.machine command response standing
+  pub refused : IsRefused may_read answered.machine (asked_by last) response standing
   pub written : text ≡ answered.text ++ response.text
   pub office : after ≡ response.machine
 

@@ -1,20 +1,24 @@
 -- What one turn of a run does: it reads a line and answers it.
-use Rattle.std.specs.Prelude.{◌≡◌, ℕ, Bool, ◌<◌, ◌≤◌, false, true, ◌⊎◌, List, length, take, ⊤, IsOk, Option, None, Some, Result, Ok, Err}
+use Rattle.std.specs.Prelude.{◌≡◌, ℕ, Bool, ◌<◌, ◌≤◌, false, true, ◌⊎◌, List, length, take, ⊤, IsOk, IsTrue, Option, None, Some, Result, Ok, Err}
 use Rattle.std.specs.Cow.{cow_str_bytes}
 use Rattle.std.specs.Io.KnownBytes.{Appends, Consumes, IsAtEnd}
 use Rattle.wb_states.specs.Machine.{Machine}
 use Rattle.wb_states.specs.declared.command.Command.{Command}
+use Rattle.wb_states.specs.declared.query.Query.{Query}
+use Rattle.wb_states.specs.Queries.{has_malformed_name}
 use Rattle.wb_states.specs.declared.refusal.Refusal.{Refusal}
 use Rattle.wb_step.specs.Step.{step}
+use Rattle.wb_words.specs.declared.fault.WordsFault.{WordsFault}
+use Rattle.wb_words.specs.declared.fault.WordsFault.TheVariants.{NoCommand, Memory}
 use Rattle.wb_words.specs.declared.words.Invocation.{Invocation}
-use Rattle.wb_words.specs.declared.words.Invocation.TheVariants.{Command as invocation_Command, Merge as invocation_Merge}
+use Rattle.wb_words.specs.declared.words.Invocation.TheVariants.{Command as invocation_Command, Merge as invocation_Merge, Query as invocation_Query, Report as invocation_Report}
 use Rattle.wb_api.specs.Memory.{MayLackMemory}
 use Rattle.deb_text.specs.Lines.{IsOneLine}
 use Rattle.wb_streams.specs.Line.{is_long, with_line_feed}
 use Rattle.wb_streams.specs.Streams.{AppendsFront}
 use Rattle.wb_daemon.specs.Lists.{MayRead}
 use Rattle.wb_step.specs.Offices.{Accepts, Standing, Open}
-use Rattle.wb_daemon.specs.Run.{LineResponse, IsLineResponse, IsInvocationResponse, command_response, memory_response, EndsInput, IsRefusedByStore, IsSaidTo, LineInvokes, RunStopsFor}
+use Rattle.wb_daemon.specs.Run.{Asked, Fault, LineResponse, Request, file_fault_response, IsInvocationResponse, IsRefused, IsResponse, IsSaid, Invokes, asked_by, command_response, memory_response, query_response, EndsInput, RunStopsFor}
 use Rattle.wb_daemon.specs.declared.answer.LineAnswer.{LineAnswer}
 use Rattle.wb_daemon.specs.declared.message.Cause.{Cause}
 use Rattle.wb_daemon.specs.declared.message.Cause.TheVariants.{Read, Write, Reply, Store, Lines, Room}
@@ -32,43 +36,61 @@ abbrev pub IsCommandResponseOrMemory : Machine → Command → LineResponse → 
 IsCommandResponseOrMemory machine command response =
     (response ≡ command_response machine command) ⊎ (MayLackMemory machine command × (response ≡ memory_response machine))
 
--- why the answer to what a line asks for may be that memory ran out: a command as above, and the lists of a merge are read into memory
+-- what may be said to a query: that there is no memory for it is possible too, if no name in it is malformed
+abbrev pub IsQueryResponseOrMemory : Machine → Query → LineResponse → Type 0
+IsQueryResponseOrMemory machine query response =
+    (response ≡ query_response machine query) ⊎ ((has_malformed_name query ≡ false) × (response ≡ memory_response machine))
+
+-- why the answer to what a line asks for may be that memory ran out: a command or a query as above, and files are read into memory
 abbrev pub MayLackMemoryFor : Machine → Invocation → Type 0
 MayLackMemoryFor machine (invocation_Command command) = MayLackMemory machine command
+MayLackMemoryFor machine (invocation_Query query) = has_malformed_name query ≡ false
 MayLackMemoryFor machine (invocation_Merge sources parts) = ⊤
+MayLackMemoryFor machine (invocation_Report arch file) = ⊤
 
 -- what may be said to what a line asks for: that there is no memory for it is possible too
 abbrev pub IsInvocationResponseOrMemory : MayRead → Machine → Invocation → LineResponse → Type 0
 IsInvocationResponseOrMemory may_read machine invocation response =
     IsInvocationResponse may_read machine invocation response ⊎ (MayLackMemoryFor machine invocation × (response ≡ memory_response machine))
 
--- a line was answered: what is said to it was written
-abbrev pub Answers : MayRead → List ℕ → Machine → Machine → Option (List ℕ) → Option (List ℕ) → ℕ → Type 0
-Answers may_read line before after old new status =
-    (text : List ℕ) × IsLineResponse may_read before line (record { text = text; machine = after; status = status }) × Appends old new text
+-- what may be said to a command that files were read for: they gave it, or one of them is at fault, or there is no memory for them
+abbrev pub IsMadeResponse : {E : Type 0} → Result (Option Command) E → Machine → LineResponse → Type 0
+IsMadeResponse (Ok (Some command)) machine response = IsCommandResponseOrMemory machine command response
+IsMadeResponse (Ok None) machine response = response ≡ file_fault_response machine
+IsMadeResponse (Err lack) machine response = response ≡ memory_response machine
 
--- a line was acted on, but what is said to it was not written whole
-abbrev pub AnswersInPart : MayRead → List ℕ → Machine → Machine → Standing → Option (List ℕ) → Option (List ℕ) → Type 0
-AnswersInPart may_read line before after standing old new =
-    (response : LineResponse) × IsSaidTo may_read before line response standing × (after ≡ response.machine) × AppendsFront old new response.text
+-- what words were read as: they ask for this, or for nothing that there is, or there was no memory to read them
+abbrev pub IsReadAs : Asked → Result Invocation WordsFault → Type 0
+IsReadAs asked (Ok invocation) = (asked.kind ≡ Request invocation) × IsTrue asked.needs_memory
+IsReadAs asked (Err NoCommand) = asked.kind ≡ Fault
+IsReadAs asked (Err Memory) = IsTrue asked.needs_memory
 
--- a line was acted on and its command accepted, but nothing of the reply was written
-abbrev pub LacksReply : MayRead → List ℕ → Machine → Machine → Option (List ℕ) → Option (List ℕ) → Type 0
-LacksReply may_read line before after old new =
-    (command : Command) × LineInvokes may_read line command × Accepts before command after × (new ≡ old)
+-- what was asked was answered: what is said to it was written
+abbrev pub Answers : MayRead → Asked → Machine → Machine → Option (List ℕ) → Option (List ℕ) → ℕ → Type 0
+Answers may_read asked before after old new status =
+    (text : List ℕ) × IsResponse may_read before asked (record { text = text; machine = after; status = status }) × Appends old new text
 
--- a line was answered, and its command was refused since the store failed or the office is closed
-abbrev pub AnswersLast : MayRead → List ℕ → Machine → Machine → Standing → Option (List ℕ) → Option (List ℕ) → Type 0
-AnswersLast may_read line before after standing old new =
-    (response : LineResponse) × (command : Command) × LineInvokes may_read line command
-    × IsRefusedByStore before command response standing × (after ≡ response.machine) × Appends old new response.text
+-- what was asked was acted on, but what is said to it was not written whole
+abbrev pub AnswersInPart : MayRead → Asked → Machine → Machine → Standing → Option (List ℕ) → Option (List ℕ) → Type 0
+AnswersInPart may_read asked before after standing old new =
+    (response : LineResponse) × IsSaid may_read before asked response standing × (after ≡ response.machine) × AppendsFront old new response.text
 
--- why a run stops at a line that was acted on: a write failed, or there is no memory for the reply, or the store failed
-abbrev pub StopsAtLine : MayRead → List ℕ → Machine → Machine → Standing → Option (List ℕ) → Option (List ℕ) → Cause → Type 0
-StopsAtLine may_read line before after standing old new Write = AnswersInPart may_read line before after standing old new
-StopsAtLine may_read line before after standing old new Reply = LacksReply may_read line before after old new × (standing ≡ Open)
-StopsAtLine may_read line before after standing old new Store = AnswersLast may_read line before after standing old new
-StopsAtLine may_read line before after standing old new cause = ⊥
+-- a command was asked for and accepted, but nothing of the reply was written
+abbrev pub LacksReply : MayRead → Asked → Machine → Machine → Option (List ℕ) → Option (List ℕ) → Type 0
+LacksReply may_read asked before after old new =
+    (command : Command) × Invokes may_read asked command × Accepts before command after × (new ≡ old)
+
+-- what was asked was answered: it was refused since the store failed or the office is closed
+abbrev pub AnswersLast : MayRead → Asked → Machine → Machine → Standing → Option (List ℕ) → Option (List ℕ) → Type 0
+AnswersLast may_read asked before after standing old new =
+    (response : LineResponse) × IsRefused may_read before asked response standing × (after ≡ response.machine) × Appends old new response.text
+
+-- why a run stops at what was asked: a write failed, or there is no memory for the reply, or the store failed
+abbrev pub StopsAt : MayRead → Asked → Machine → Machine → Standing → Option (List ℕ) → Option (List ℕ) → Cause → Type 0
+StopsAt may_read asked before after standing old new Write = AnswersInPart may_read asked before after standing old new
+StopsAt may_read asked before after standing old new Reply = LacksReply may_read asked before after old new × (standing ≡ Open)
+StopsAt may_read asked before after standing old new Store = AnswersLast may_read asked before after standing old new
+StopsAt may_read asked before after standing old new cause = ⊥
 
 -- a run stops for this cause at a line that it read
 abbrev pub IsCauseAtLine : Cause → Type 0
@@ -76,6 +98,14 @@ IsCauseAtLine Write = ⊤
 IsCauseAtLine Reply = ⊤
 IsCauseAtLine Store = ⊤
 IsCauseAtLine cause = ⊥
+
+-- what became of an answer: it was written whole, and the run goes on, or stops since the store failed; or a front of it was written
+abbrev pub IsWritten : LineAnswer → Option (List ℕ) → Option (List ℕ) → Result ℕ Cause → Type 0
+IsWritten answer old new (Ok status) =
+    (status ≡ answer.status) × (answer.stops ≡ false) × Appends old new (with_line_feed (cow_str_bytes answer.text))
+IsWritten answer old new (Err Write) = AppendsFront old new (with_line_feed (cow_str_bytes answer.text))
+IsWritten answer old new (Err Store) = (answer.stops ≡ true) × Appends old new (with_line_feed (cow_str_bytes answer.text))
+IsWritten answer old new (Err cause) = ⊥
 
 -- a line and its line feed were taken from the reader
 abbrev pub TookEndedLine : List ℕ → Option (List ℕ) → Option (List ℕ) → Type 0
@@ -91,14 +121,14 @@ StopsTurn may_read Read before after standing old_input new_input old new =
     (line : List ℕ) × IsOneLine line × Consumes old_input new_input line × (after ≡ before) × (new ≡ old) × (standing ≡ Open)
 StopsTurn may_read cause before after standing old_input new_input old new =
     (line : List ℕ) × (TookEndedLine line old_input new_input ⊎ TookLastLine line old_input new_input)
-    × StopsAtLine may_read line before after standing old new cause
+    × StopsAt may_read (asked_by line) before after standing old new cause
 
 -- what a turn did: a line was answered and more may follow, or the last line was answered, or the run stops
 abbrev pub Turns : MayRead → Turn → Machine → Machine → Standing → Option (List ℕ) → Option (List ℕ) → Option (List ℕ) → Option (List ℕ) → Type 0
 Turns may_read (More status) before after standing old_input new_input old new =
-    (line : List ℕ) × TookEndedLine line old_input new_input × Answers may_read line before after old new status × (standing ≡ Open)
+    (line : List ℕ) × TookEndedLine line old_input new_input × Answers may_read (asked_by line) before after old new status × (standing ≡ Open)
 Turns may_read (End status) before after standing old_input new_input old new =
-    (line : List ℕ) × TookLastLine line old_input new_input × Answers may_read line before after old new status × (standing ≡ Open)
+    (line : List ℕ) × TookLastLine line old_input new_input × Answers may_read (asked_by line) before after old new status × (standing ≡ Open)
 Turns may_read (Stop cause) before after standing old_input new_input old new =
     StopsTurn may_read cause before after standing old_input new_input old new
 

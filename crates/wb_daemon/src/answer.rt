@@ -1,51 +1,31 @@
-//! The answer to one line.
-ghost use Rattle.std.specs.Prelude.{◌≡◌, ◌≢◌, ◌≤◌, IfOk, IfErr, IfSome, IsTrue, Some, None, Err, false, true};
-ghost use Rattle.std.specs.Str.{is_utf8};
-ghost use Rattle.wb_words.specs.declared.fault.WordsFault.TheVariants.{Memory};
-ghost use Rattle.wb_streams.specs.Line.{is_long};
-ghost use Rattle.deb_text.specs.Lines.{is_blank_line};
+//! The answer to what was asked, before it is written.
+ghost use Rattle.std.specs.Prelude.{◌≡◌, ◌≤◌, IfSome, None, Some, Ok, false, true};
 ghost use Rattle.wb_daemon.specs.Lists.{MayReadLess};
-ghost use Rattle.wb_step.specs.Offices.{Accepts, Leads, Reaches};
-ghost use Rattle.wb_daemon.specs.Run.{invocation_of_line, file_fault_response, memory_response, InvokesAs, IsLineResponse, IsRefusedByStore, LineInvokes};
+ghost use Rattle.wb_step.specs.Offices.{Accepts, Failed, InDoubt, Leads, Reaches};
+ghost use Rattle.wb_daemon.specs.Run.{file_fault_response, line_fault_response, memory_response, Asked, Invokes, InvokesAs, IsInvocationRefused};
+ghost use Rattle.wb_daemon.specs.Run.{IsRefused, IsRefusedByStore, IsResponse};
 ghost use Rattle.wb_states.specs.Machine.{Machine};
 ghost use Rattle.wb_states.specs.declared.command.Command.{Command};
 ghost use Rattle.wb_daemon.specs.Turn.{response_of_answer, IsInvocationResponseOrMemory, IsCommandResponseOrMemory};
+ghost use Rattle.wb_daemon.specs.Turn.{IsMadeResponse, IsQueryResponseOrMemory, IsReadAs};
+ghost use Rattle.wb_words.specs.declared.fault.WordsFault.TheVariants.{NoCommand, Memory};
 
-use crate::lists::{Lists, merge_of};
-use crate::message::Message;
+use crate::lists::{Lists, merge_of, report_of};
 use crate::status::{ACCEPTED, FILE_FAULT, LINE_FAULT, REFUSED};
-use std::alloc::Global;
+use std::alloc::{AllocError, Global};
 use std::borrow::CowStr;
-use wb_api::{file_fault_json, line_fault_json, refusal_json, reply_json};
-use wb_states::{Command, Refusal};
+use wb_api::{file_fault_json, line_fault_json, query_json, refusal_json, reply_json};
+use wb_states::{Command, Query, Refusal};
 use wb_step::CarryOut;
-use wb_streams::{text_of, words_in};
-use wb_words::{Invocation, WordsFault, fault_of, invocation_of};
+use wb_words::{Invocation, WordsFault};
 
-/// What is written to a line, without its line feed, the status of the line, and whether the run stops after
-/// it, since the store failed or the office is closed.
+/// What is said to what was asked, without its line feed, its status, and whether the run stops after it, since
+/// the store failed or the office is closed.
 #[derive(Drop)]
 pub(crate) struct LineAnswer {
     pub(crate) text: CowStr<'static>,
     pub(crate) status: u8,
     pub(crate) stops: bool,
-}
-
-/// What the words of a line ask for. The errors are `NoCommand` if the line is not UTF-8 or its words
-/// ask for nothing that there is, and `Memory`, which may come at any line that is UTF-8.
-#[tactic(auto, unfolding(crate::specs::Run::invocation_of_line))]
-fn invocation_of_line(alloc: Global, line: &[u8]) -> Result<Invocation, WordsFault>
-    ensures value { IfOk result (λ invocation. invocation_of_line line.now ≡ Some invocation) }
-    ensures refused { IfErr result (λ fault. fault ≢ Memory → invocation_of_line line.now ≡ None) }
-    ensures memory { result ≡ Err Memory → IsTrue (is_utf8 line.now) }
-{
-    let Some(text) = text_of(line) else {
-        return Err(WordsFault::NoCommand);
-    };
-    let Ok(words) = words_in(alloc, text) else {
-        return Err(WordsFault::Memory);
-    };
-    invocation_of(alloc, &words)
 }
 
 /// The reply or the refusal of the office to a command, with its status. It is `None` if the command was
@@ -60,7 +40,7 @@ fn answer_to<O: CarryOut>(alloc: Global, office: &mut O, command: &Command) -> O
         Accepts before command.now after) }
     ensures stops { IfSome result (λ answer. answer.stops ≡ true
         → Leads O.is_clean O.is_closed O.stands_at O.leaves office.old office.new (λ before after standing.
-        IsRefusedByStore before command.now (response_of_answer answer after) standing)) }
+        IsRefusedByStore before (InDoubt command.now) (response_of_answer answer after) standing)) }
 {
     let accepted = office.accepted_count();
     match office.carry_out(command) {
@@ -79,6 +59,36 @@ fn answer_to<O: CarryOut>(alloc: Global, office: &mut O, command: &Command) -> O
             status: REFUSED,
             stops: refusal.is_of_store(),
         }),
+    }
+}
+
+/// What the office found for a query, or its refusal, with its status. If there is no memory for its text, it says so: the
+/// office is as it was.
+fn answer_query<O: CarryOut>(alloc: Global, office: &mut O, query: &Query) -> LineAnswer
+    ensures clean { O.is_clean office.new → O.is_clean office.old }
+    ensures status { result.status ≤ 3 }
+    ensures value { result.stops ≡ false
+        → Reaches O.is_clean O.stands_at office.old office.new (λ before after.
+        IsQueryResponseOrMemory before query.now (response_of_answer result after)) }
+    ensures stops { result.stops ≡ true
+        → Leads O.is_clean O.is_closed O.stands_at O.leaves office.old office.new (λ before after standing.
+        IsRefusedByStore before Failed (response_of_answer result after) standing) }
+{
+    match office.ask(query) {
+        Ok(found) => match query_json(alloc, &found) {
+            Ok(text) => LineAnswer {
+                text: CowStr::Owned(text),
+                status: ACCEPTED,
+                stops: false,
+            },
+            Err(_) => memory_answer(alloc),
+        },
+        Err(Refusal::Memory) => memory_answer(alloc),
+        Err(refusal) => LineAnswer {
+            text: refusal_json(alloc, &refusal),
+            status: REFUSED,
+            stops: refusal.is_of_store(),
+        },
     }
 }
 
@@ -108,7 +118,46 @@ fn file_answer() -> LineAnswer
     }
 }
 
-/// The answer to what a line asks for. The lists of a merge are read first, and nothing is asked of the
+/// The answer if words ask for nothing that there is.
+fn fault_answer() -> LineAnswer
+    ensures value { (machine : Machine) → response_of_answer result machine ≡ line_fault_response machine }
+    ensures status { result.status ≤ 3 }
+    ensures stops { result.stops ≡ false }
+{
+    LineAnswer {
+        text: CowStr::Borrowed(line_fault_json()),
+        status: LINE_FAULT,
+        stops: false,
+    }
+}
+
+/// The answer to a command that files were read for: it is a file fault if one of them is at fault, and out of memory if
+/// there is none for them. It is `None` if the command was accepted and there is no memory for the reply.
+fn answer_made<O: CarryOut>(
+    alloc: Global,
+    office: &mut O,
+    made: Result<Option<Command>, AllocError>,
+) -> Option<LineAnswer>
+    ensures clean { O.is_clean office.new → O.is_clean office.old }
+    ensures status { IfSome result (λ answer. answer.status ≤ 3) }
+    ensures value { IfSome result (λ answer. answer.stops ≡ false
+        → Reaches O.is_clean O.stands_at office.old office.new (λ before after.
+        IsMadeResponse made before (response_of_answer answer after))) }
+    ensures memory { result ≡ None → Reaches O.is_clean O.stands_at office.old office.new (λ before after.
+        (command : Command) × (made ≡ Ok (Some command)) × Accepts before command after) }
+    ensures stops { IfSome result (λ answer. answer.stops ≡ true
+        → Leads O.is_clean O.is_closed O.stands_at O.leaves office.old office.new (λ before after standing.
+        (command : Command) × (made ≡ Ok (Some command))
+        × IsRefusedByStore before (InDoubt command) (response_of_answer answer after) standing)) }
+{
+    match made {
+        Ok(Some(command)) => answer_to(alloc, office, &command),
+        Ok(None) => Some(file_answer()),
+        Err(_) => Some(memory_answer(alloc)),
+    }
+}
+
+/// The answer to what words ask for. The files that they name are read first, and nothing is asked of the
 /// office if one of them is at fault. It is `None` if the command was accepted and there is no memory
 /// for the reply.
 fn answer_invocation<O: CarryOut, L: Lists>(
@@ -127,78 +176,65 @@ fn answer_invocation<O: CarryOut, L: Lists>(
         (command : Command) × InvokesAs (L.may_read lists.old) invocation.now command × Accepts before command after) }
     ensures stops { IfSome result (λ answer. answer.stops ≡ true
         → Leads O.is_clean O.is_closed O.stands_at O.leaves office.old office.new (λ before after standing.
-        (command : Command) × InvokesAs (L.may_read lists.old) invocation.now command
-        × IsRefusedByStore before command (response_of_answer answer after) standing)) }
+        IsInvocationRefused (L.may_read lists.old) before invocation.now (response_of_answer answer after) standing)) }
     // what is left of the lists and the office
     ensures kept { MayReadLess (L.may_read lists.old) (L.may_read lists.new) }
     ensures clean { O.is_clean office.new → O.is_clean office.old }
 {
     match invocation {
         Invocation::Command { command } => answer_to(alloc, office, command),
+        Invocation::Query { query } => Some(answer_query(alloc, office, query)),
         Invocation::Merge { sources, parts } => {
-            match merge_of(alloc, lists, sources, parts.as_slice()) {
-                Ok(Some(command)) => answer_to(alloc, office, &command),
-                Ok(None) => Some(file_answer()),
-                Err(_) => Some(memory_answer(alloc)),
-            }
+            let made = merge_of(alloc, lists, sources, parts.as_slice());
+            answer_made(alloc, office, made)
+        }
+        Invocation::Report { arch, file } => {
+            let made = report_of(alloc, lists, arch, file);
+            answer_made(alloc, office, made)
         }
     }
 }
 
-/// The answer to a line that is neither blank nor too long, with its status. It is `None` if the
-/// command of the line was accepted and there is no memory for the reply.
-pub(crate) fn answer_of<O: CarryOut, L: Lists>(
+/// The answer to words that were not read as anything.
+fn unread_answer(alloc: Global, fault: &WordsFault) -> LineAnswer
+    ensures fault { fault.now ≡ NoCommand → (machine : Machine)
+        → response_of_answer result machine ≡ line_fault_response machine }
+    ensures memory { fault.now ≡ Memory → (machine : Machine)
+        → response_of_answer result machine ≡ memory_response machine }
+    ensures status { result.status ≤ 3 }
+    ensures stops { result.stops ≡ false }
+{
+    match fault {
+        WordsFault::NoCommand => fault_answer(),
+        WordsFault::Memory => memory_answer(alloc),
+    }
+}
+
+/// The answer to words, by what they were read as. It is `None` if they asked for a command that was accepted and there is
+/// no memory for the reply.
+pub(crate) fn answer_read<O: CarryOut, L: Lists>(
     alloc: Global,
     office: &mut O,
     lists: &mut L,
-    line: &[u8],
+    read: &Result<Invocation, WordsFault>,
 ) -> Option<LineAnswer>
-    // a line that is read as words
-    requires short { is_long line.now ≡ false }
-    requires words { is_blank_line line.now ≡ false }
-    // what is said to it
+    // what is said
     ensures status { IfSome result (λ answer. answer.status ≤ 3) }
-    ensures value { IfSome result (λ answer. answer.stops ≡ false
+    ensures value { IfSome result (λ answer. (asked : Asked) → IsReadAs asked read.now → answer.stops ≡ false
         → Reaches O.is_clean O.stands_at office.old office.new (λ before after.
-        IsLineResponse (L.may_read lists.old) before line.now (response_of_answer answer after))) }
-    ensures memory { result ≡ None → Reaches O.is_clean O.stands_at office.old office.new (λ before after.
-        (command : Command) × LineInvokes (L.may_read lists.old) line.now command × Accepts before command after) }
-    ensures stops { IfSome result (λ answer. answer.stops ≡ true
+        IsResponse (L.may_read lists.old) before asked (response_of_answer answer after))) }
+    ensures memory { (asked : Asked) → IsReadAs asked read.now → result ≡ None
+        → Reaches O.is_clean O.stands_at office.old office.new (λ before after.
+        (command : Command) × Invokes (L.may_read lists.old) asked command × Accepts before command after) }
+    ensures stops { IfSome result (λ answer. (asked : Asked) → IsReadAs asked read.now → answer.stops ≡ true
         → Leads O.is_clean O.is_closed O.stands_at O.leaves office.old office.new (λ before after standing.
-        (command : Command) × LineInvokes (L.may_read lists.old) line.now command
-        × IsRefusedByStore before command (response_of_answer answer after) standing)) }
+        IsRefused (L.may_read lists.old) before asked (response_of_answer answer after) standing)) }
     // what is left of the lists and the office
     ensures kept { MayReadLess (L.may_read lists.old) (L.may_read lists.new) }
     ensures clean { O.is_clean office.new → O.is_clean office.old }
 {
-    match invocation_of_line(alloc, line) {
-        Ok(invocation) => answer_invocation(alloc, office, lists, &invocation),
-        Err(WordsFault::NoCommand) => Some(LineAnswer {
-            text: CowStr::Borrowed(line_fault_json()),
-            status: LINE_FAULT,
-            stops: false,
-        }),
-        Err(WordsFault::Memory) => Some(memory_answer(alloc)),
-    }
-}
-
-/// Reports why the line of this number is a line fault; nothing if there is no memory for that.
-pub(crate) fn report_fault<L: Lists>(alloc: Global, lists: &mut L, number: u64, line: &[u8])
-    ensures kept { MayReadLess (L.may_read lists.old) (L.may_read lists.new) }
-{
-    let Some(text) = text_of(line) else {
-        return lists.report(Message::LineFault {
-            line: number,
-            reason: "it is not UTF-8",
-        });
-    };
-    let Ok(words) = words_in(alloc, text) else {
-        return;
-    };
-    if let Ok(reason) = fault_of(alloc, &words) {
-        lists.report(Message::LineFault {
-            line: number,
-            reason: reason.as_str(),
-        });
+    match read {
+        Ok(invocation) => answer_invocation(alloc, office, lists, invocation),
+        Err(fault) => Some(unread_answer(alloc, fault)),
     }
 }

@@ -1,13 +1,16 @@
-//! The run over the lines of an input, each of which is answered with one line of JSON.
+//! The run over the lines of an input, each of which is answered with one line of JSON; and that of a single command.
 #![tactic(auto)]
 
 mod answer;
 pub mod laws;
 mod lists;
 mod message;
+mod read;
 mod run;
+mod single;
 pub mod status;
 
 pub use lists::Lists;
 pub use message::{Cause, Message};
 pub use run::run_lines;
+pub use single::run_words;

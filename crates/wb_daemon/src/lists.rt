@@ -1,9 +1,10 @@
-//! The lists that a merge names, each read whole.
+//! The files that a command names, each read whole: the lists of a merge, and a report.
 ghost use Rattle.std.specs.Prelude.{◌≡◌, ⊤, IfErr, IfNone, IfOk, IfSome, OnErr};
 ghost use Rattle.std.specs.Io.{ReadsAtMost};
 ghost use Rattle.std.specs.Io.KnownBytes.{ReadConsumes};
 ghost use Rattle.wb_daemon.specs.Lists.{any_lists, MayRead, MayReadList, MayReadMerge, MayReadLess, MayReadPart};
-ghost use Rattle.wb_daemon.specs.Lists.{MayReadParts, LacksList, LacksMerge, LacksPart, OpensList, ReadsList};
+ghost use Rattle.wb_daemon.specs.Lists.{MayReadParts, MayReadReport, LacksList, LacksMerge, LacksPart, LacksReport};
+ghost use Rattle.wb_daemon.specs.Lists.{OpensList, ReadsList};
 
 use crate::message::Message;
 use deb_text::{Items, Text};
@@ -54,7 +55,7 @@ pub trait Lists {
 #[derive(Drop)]
 enum ListRead {
     /// All its bytes.
-    Whole(Items<u8>),
+    Whole(Vec<u8>),
     /// There are more bytes than a list may have.
     TooLong,
     /// A read failed, or was interrupted.
@@ -69,7 +70,7 @@ fn read_list<L: Lists>(alloc: Global, list: &mut L::List) -> Result<ListRead, Al
     let mut bytes: Vec<u8> = Vec::new(alloc);
     while bytes.len() <= LIST_LIMIT {
         match L::read(list, &mut room) {
-            Ok(0) => return Ok(ListRead::Whole(Items::from(bytes))),
+            Ok(0) => return Ok(ListRead::Whole(bytes)),
             Ok(count) => bytes.extend_from_slice(&room[..count])?,
             Err(error) => return Ok(ListRead::Failed(error)),
         }
@@ -82,9 +83,9 @@ fn list_of<L: Lists>(
     alloc: Global,
     lists: &mut L,
     name: &Text,
-) -> Result<Option<Items<u8>>, AllocError>
+) -> Result<Option<Vec<u8>>, AllocError>
     ensures value { IfOk result (λ found. IfSome found (λ bytes.
-        MayReadList (L.may_read lists.old) name.now bytes)) }
+        MayReadList (L.may_read lists.old) name.now bytes.items)) }
     ensures refused { IfOk result (λ found. IfNone found (LacksList (L.may_read lists.old) name.now)) }
     ensures kept { MayReadLess (L.may_read lists.old) (L.may_read lists.new) }
 {
@@ -120,7 +121,7 @@ fn part_of<L: Lists>(
     };
     Ok(Some(Part {
         arch: names.arch.clone()?,
-        packages,
+        packages: Items::from(packages),
     }))
 }
 
@@ -166,5 +167,36 @@ pub(crate) fn merge_of<L: Lists>(
     let Some(parts) = parts_of(alloc, lists, parts)? else {
         return Ok(None);
     };
-    Ok(Some(Command::Merge(command::Merge { sources, parts })))
+    Ok(Some(Command::Merge(command::Merge {
+        sources: Items::from(sources),
+        parts,
+    })))
+}
+
+/// The report of an architecture that the file of this name has; none if that cannot be opened or read, is too
+/// long, or is not UTF-8. The error is that there is no memory for it.
+pub(crate) fn report_of<L: Lists>(
+    alloc: Global,
+    lists: &mut L,
+    arch: &Text,
+    file: &Text,
+) -> Result<Option<Command>, AllocError>
+    ensures value { IfOk result (λ found. IfSome found (λ command.
+        MayReadReport (L.may_read lists.old) arch.now file.now command)) }
+    ensures refused { IfOk result (λ found. IfNone found (LacksReport (L.may_read lists.old) file.now)) }
+    ensures kept { MayReadLess (L.may_read lists.old) (L.may_read lists.new) }
+{
+    let Some(bytes) = list_of(alloc, lists, file)? else {
+        return Ok(None);
+    };
+    let Ok(text) = String::from_utf8(bytes) else {
+        lists.report(Message::ListNotText {
+            name: file.as_str(),
+        });
+        return Ok(None);
+    };
+    Ok(Some(Command::Report(command::Report {
+        arch: arch.clone()?,
+        text: Text::from(text),
+    })))
 }

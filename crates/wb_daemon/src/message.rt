@@ -36,10 +36,14 @@ impl fmt::Display for Cause {
 pub enum Message<'a> {
     /// The line of this number, the first being 1, is a line fault for this reason.
     LineFault { line: u64, reason: &'a str },
+    /// The words of a single command are a line fault for this reason.
+    WordsFault { reason: &'a str },
     /// A read of the list of this name failed.
     ListFailed { name: &'a str, error: &'a io::Error },
     /// The list of this name is longer than a list may be.
     ListTooLong { name: &'a str },
+    /// The file of this name, which is to be a report, is not UTF-8.
+    ListNotText { name: &'a str },
     /// The run stopped.
     Stopped { cause: Cause },
 }
@@ -48,8 +52,10 @@ impl<'a> fmt::Display for Message<'a> {
     fn fmt<W: fmt::Write>(&self, f: &mut fmt::Formatter<W>) -> fmt::Result {
         match self {
             Message::LineFault { line, reason } => write!(f, "line {line}: {}", reason.trim_end()),
+            Message::WordsFault { reason } => f.write_str(reason.trim_end()),
             Message::ListFailed { name, error } => write!(f, "{name}: {error}"),
-            Message::ListTooLong { name } => write!(f, "{name}: a list is at most 2 GiB long"),
+            Message::ListTooLong { name } => write!(f, "{name}: a file is at most 2 GiB long"),
+            Message::ListNotText { name } => write!(f, "{name}: it is not UTF-8"),
             Message::Stopped { cause } => write!(f, "stopped: {cause}"),
         }
     }

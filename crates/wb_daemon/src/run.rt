@@ -4,14 +4,15 @@ ghost use Rattle.wb_streams.specs.Line.{is_long, line_limit};
 ghost use Rattle.wb_daemon.specs.Lists.{MayReadLess};
 ghost use Rattle.wb_step.specs.Offices.{IsSoOfEach, Leads, Open, Reaches};
 ghost use Rattle.wb_daemon.specs.Replays.{LeavesReplay};
-ghost use Rattle.wb_daemon.specs.Run.{FailsFor, RunEndsWell, RunStops};
+ghost use Rattle.wb_daemon.specs.Run.{Asked, FailsFor, RunEndsWell, RunStops, asked_by};
 ghost use Rattle.wb_streams.specs.Streams.{Flags};
-ghost use Rattle.wb_daemon.specs.Turn.{Answers, HasRunStatus, HasTurnStatus, IsCauseAtLine, StopsAtLine, Ran, Turns};
-ghost use Rattle.wb_daemon.specs.Turn.{cause_of_end, cause_of_turn, fails_to_write};
+ghost use Rattle.wb_daemon.specs.Turn.{Answers, HasRunStatus, HasTurnStatus, IsCauseAtLine, IsReadAs, IsWritten};
+ghost use Rattle.wb_daemon.specs.Turn.{StopsAt, Ran, Turns, cause_of_end, cause_of_turn, fails_to_write};
 
-use crate::answer::{LineAnswer, answer_of, report_fault};
+use crate::answer::{LineAnswer, answer_read};
 use crate::lists::Lists;
 use crate::message::{Cause, Message};
+use crate::read::{invocation_of_line, report_fault};
 use crate::status::{ACCEPTED, LINE_FAULT, STOPPED};
 use deb_text::is_blank_line;
 use std::alloc::Global;
@@ -21,6 +22,7 @@ use wb_step::CarryOut;
 use wb_streams::{
     ByteRead, LINE_LIMIT, LineRead, WatchedReader, WatchedWriter, read_byte, read_line, write_line,
 };
+use wb_words::{Invocation, WordsFault};
 
 /// The greatest number of line feeds that a run reads.
 const LINES_LIMIT: u64 = 1_000_000_000;
@@ -45,6 +47,56 @@ pub(crate) enum RunEnd {
     Stopped(Cause),
 }
 
+/// Writes an answer, with its line feed. Answers its status. The errors are `Write` and, after the answer was written,
+/// `Store`.
+fn write_answer<W: Write + Drop>(
+    alloc: Global,
+    writer: &mut WatchedWriter<W>,
+    answer: &LineAnswer,
+) -> Result<u8, Cause>
+    ensures value { IsWritten answer.now writer.old.bytes writer.new.bytes result }
+    ensures failed { Flags (fails_to_write result) writer.old writer.new }
+    ensures cause { IfErr result IsCauseAtLine }
+{
+    if !write_line(alloc, writer, answer.text.as_str()) {
+        return Err(Cause::Write);
+    }
+    if answer.stops {
+        return Err(Cause::Store);
+    }
+    Ok(answer.status)
+}
+
+/// Acts on what words were read as, and writes what is said to it. Answers its status. The errors are `Reply`, `Write` and,
+/// after the answer was written, `Store`; a run stops there.
+pub(crate) fn answer_words<O: CarryOut, W: Write + Drop, L: Lists>(
+    alloc: Global,
+    office: &mut O,
+    read: &Result<Invocation, WordsFault>,
+    writer: &mut WatchedWriter<W>,
+    lists: &mut L,
+) -> Result<u8, Cause>
+    // what is written
+    ensures status { IfOk result (λ status. status ≤ 3) }
+    ensures value { IfOk result (λ status. (asked : Asked) → IsReadAs asked read.now
+        → Reaches O.is_clean O.stands_at office.old office.new (λ before after.
+        Answers (L.may_read lists.old) asked before after writer.old.bytes writer.new.bytes status)) }
+    ensures err { IfErr result (λ cause. (asked : Asked) → IsReadAs asked read.now
+        → Leads O.is_clean O.is_closed O.stands_at O.leaves office.old office.new
+        (λ before after standing. StopsAt (L.may_read lists.old) asked before after standing
+        writer.old.bytes writer.new.bytes cause)) }
+    // what failed, and what is left of the lists and the office
+    ensures failed { Flags (fails_to_write result) writer.old writer.new }
+    ensures cause { IfErr result IsCauseAtLine }
+    ensures kept { MayReadLess (L.may_read lists.old) (L.may_read lists.new) }
+    ensures clean { O.is_clean office.new → O.is_clean office.old }
+{
+    match answer_read(alloc, office, lists, read) {
+        Some(answer) => write_answer(alloc, writer, &answer),
+        None => Err(Cause::Reply),
+    }
+}
+
 /// Acts on the line of this number and writes what is said to it. Answers the status of the line. The errors
 /// are `Reply`, `Write` and, after the answer was written, `Store`; the run stops there.
 fn answer_line<O: CarryOut, W: Write + Drop, L: Lists>(
@@ -59,9 +111,9 @@ fn answer_line<O: CarryOut, W: Write + Drop, L: Lists>(
     // what is written
     ensures status { IfOk result (λ status. status ≤ 3) }
     ensures value { IfOk result (λ status. Reaches O.is_clean O.stands_at office.old office.new (λ before after.
-        Answers (L.may_read lists.old) line.now before after writer.old.bytes writer.new.bytes status)) }
+        Answers (L.may_read lists.old) (asked_by line.now) before after writer.old.bytes writer.new.bytes status)) }
     ensures err { IfErr result (λ cause. Leads O.is_clean O.is_closed O.stands_at O.leaves office.old office.new
-        (λ before after standing. StopsAtLine (L.may_read lists.old) line.now before after standing
+        (λ before after standing. StopsAt (L.may_read lists.old) (asked_by line.now) before after standing
         writer.old.bytes writer.new.bytes cause)) }
     // what failed, and what is left of the lists and the office
     ensures failed { Flags (fails_to_write result) writer.old writer.new }
@@ -72,24 +124,9 @@ fn answer_line<O: CarryOut, W: Write + Drop, L: Lists>(
     if is_blank_line(line) {
         return Ok(ACCEPTED);
     }
-    let Some(answer) = answer_of(alloc, office, lists, line) else {
-        return Err(Cause::Reply);
-    };
-    let LineAnswer {
-        text,
-        status,
-        stops,
-    } = answer;
-    if status == LINE_FAULT {
-        report_fault(alloc, lists, number, line);
-    }
-    if !write_line(alloc, writer, text.as_str()) {
-        return Err(Cause::Write);
-    }
-    if stops {
-        return Err(Cause::Store);
-    }
-    Ok(status)
+    let read = invocation_of_line(alloc, line);
+    report_fault(alloc, lists, number, line, &read);
+    answer_words(alloc, office, &read, writer, lists)
 }
 
 /// Reads the line of this number into the room and answers it.
@@ -200,10 +237,10 @@ fn run_in_room<O: CarryOut, R: Read + Drop, W: Write + Drop, L: Lists>(
 ///
 /// A line ends at a line feed, which the last may lack; its words are separated by spaces and tabs, without
 /// quoting. A line without words is not answered. A line that is not UTF-8, whose words ask for nothing that
-/// there is, or that is longer than 65536 bytes is a line fault; one that is too long is the last. The lists
-/// that a merge names are read whole, in the order of the words, before the office is asked: one that cannot
-/// be opened, whose reading fails, or that is longer than 2147483648 bytes is a file fault, which changes
-/// nothing, and the run goes on. A line for which there is no memory is answered as a refusal: out of
+/// there is, or that is longer than 65536 bytes is a line fault; one that is too long is the last. The files
+/// that a merge or a report names are read whole, in the order of the words, before the office is asked: one that
+/// cannot be opened, whose reading fails, that is longer than 2147483648 bytes, or a report's that is not UTF-8 is
+/// a file fault, which changes nothing, and the run goes on. A line for which there is no memory is answered as a refusal: out of
 /// memory. The status is the greatest of the lines': 0 accepted, 1 refused, 2 a line fault, 3 a file fault.
 ///
 /// Status 3 says as well that the run stopped: a read of the input failed, and the line that it cut off was

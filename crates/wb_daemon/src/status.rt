@@ -1,9 +1,9 @@
 //! The exit statuses of a line and of a run (this project's own): a run has the greatest of its lines.
 
-/// The office accepted the line's command, or the line is blank.
+/// The office accepted the line's command or answered its query, or the line is blank.
 pub const ACCEPTED: u8 = 0;
 
-/// The office refused the line's command.
+/// The office refused the line's command or query.
 pub const REFUSED: u8 = 1;
 
 /// The line is no command, or the program's own words are none.

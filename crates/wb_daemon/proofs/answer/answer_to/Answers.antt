@@ -61,12 +61,12 @@ returns-clause-stops g c = λ stops before clean stands. elim (is_of_store-cases
     before,
     Shut,
     c.in-Err.ensures.closed before clean stands (ap Err is),
-    closed-said before c.args.command.now c.in-Err.refusal _ is c.refusal_json.ensures.plain,
+    closed-said before (λ fault. InDoubt c.args.command.now fault) c.in-Err.refusal _ is c.refusal_json.ensures.plain,
   )
   | inr failed ↦ (
     before,
     InDoubt c.args.command.now failed.0,
     c.in-Err.ensures.store before clean stands failed.0 (ap Err failed.1),
-    store-said before c.args.command.now c.in-Err.refusal failed.0 _ failed.1 c.refusal_json.ensures.value,
+    store-said before (λ fault. InDoubt c.args.command.now fault) c.in-Err.refusal failed.0 _ failed.1 c.refusal_json.ensures.value,
   )
 ]

@@ -4,7 +4,8 @@ use Rattle.std.specs.Io.KnownBytes.{Appends}
 use Rattle.wb_streams.specs.Line.{with_line_feed}
 use Rattle.wb_step.specs.Offices.{Open}
 use Rattle.wb_streams.specs.Streams.{Flags}
-use Rattle.wb_daemon.specs.Turn.{Answers, StopsAtLine}
+use Rattle.wb_daemon.specs.Run.{asked_by}
+use Rattle.wb_daemon.specs.Turn.{Answers, StopsAt}
 use Rattle.wb_streams.specs.Streams.{AppendsFront}
 use Rattle.wb_daemon.proofs.AnswerLemmas.{answers-long, answers-long_cut, stops_turn}
 use Rattle.wb_daemon.proofs.RunLemmas.{FailsFor-answer, short_line}
@@ -15,7 +16,7 @@ returns-in-Ok-clause-value g c = λ before clean stands.
     let took = c.in-Ended.ensures.value in
     let line = take c.in-Ended.len c.read_line.new.room in
     let did = c.in-Ok.ensures.value before clean stands in
-    let answers = subst (λ l. Answers (g.L.Lists.may_read c.args.lists.now) l before did.0 c.args.writer.now.bytes c.answer_line.new.writer.bytes c.in-Ok.status)
+    let answers = subst (λ l. Answers (g.L.Lists.may_read c.args.lists.now) (asked_by l) before did.0 c.args.writer.now.bytes c.answer_line.new.writer.bytes c.in-Ok.status)
     {y = line} c.split_at.ensures.front did.2 in
     (did.0, Open, did.1, (line, (short_line c.read_line.new.room c.in-Ended.len took.0, took.1, took.2), answers, refl))
 
@@ -24,7 +25,7 @@ returns-in-Err-clause-value g c = λ before clean stands.
     let took = c.in-Ended.ensures.value in
     let line = take c.in-Ended.len c.read_line.new.room in
     let did = c.in-Err.ensures.err before clean stands in
-    let stops = subst (λ l. StopsAtLine (g.L.Lists.may_read c.args.lists.now) l before did.0 did.1 c.args.writer.now.bytes c.answer_line.new.writer.bytes c.in-Err.cause)
+    let stops = subst (λ l. StopsAt (g.L.Lists.may_read c.args.lists.now) (asked_by l) before did.0 did.1 c.args.writer.now.bytes c.answer_line.new.writer.bytes c.in-Err.cause)
     {y = line} c.split_at.ensures.front did.3 in (
       did.0,
       did.1,
@@ -39,7 +40,7 @@ returns-in-Ok-answer_line-clause-value g c = λ before clean stands.
     let took = c.in-Last.ensures.value in
     let line = take c.in-Last.len c.read_line.new.room in
     let did = c.in-Ok-answer_line.ensures.value before clean stands in
-    let answers = subst (λ l. Answers (g.L.Lists.may_read c.args.lists.now) l before did.0 c.args.writer.now.bytes c.answer_line-in-Last.new.writer.bytes c.in-Ok-answer_line.status)
+    let answers = subst (λ l. Answers (g.L.Lists.may_read c.args.lists.now) (asked_by l) before did.0 c.args.writer.now.bytes c.answer_line-in-Last.new.writer.bytes c.in-Ok-answer_line.status)
     {y = line} c.split_at-in-Last.ensures.front did.2 in
     (did.0, Open, did.1, (line, (took.1, took.2, inl took.3), answers, refl))
 
@@ -48,7 +49,7 @@ returns-in-Err-answer_line-clause-value g c = λ before clean stands.
     let took = c.in-Last.ensures.value in
     let line = take c.in-Last.len c.read_line.new.room in
     let did = c.in-Err-answer_line.ensures.err before clean stands in
-    let stops = subst (λ l. StopsAtLine (g.L.Lists.may_read c.args.lists.now) l before did.0 did.1
+    let stops = subst (λ l. StopsAt (g.L.Lists.may_read c.args.lists.now) (asked_by l) before did.0 did.1
     c.args.writer.now.bytes c.answer_line-in-Last.new.writer.bytes c.in-Err-answer_line.cause)
     {y = line} c.split_at-in-Last.ensures.front did.3 in (
       did.0,
