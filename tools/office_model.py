@@ -12,6 +12,7 @@ BUILDERS = {"b1": {"amd64"}, "b2": {"arm64"}, "b3": {"amd64", "arm64"}}
 PRIORITIES = "required important standard optional extra".split()
 SECTIONS = "libs base devel kernel shells perl python admin utils text net web mail database editors interpreters graphics sound video x11 gnome kde"
 SECTIONS = (SECTIONS + " science math doc misc oldlibs games").split()
+STATES = "BD-Uninstallable Build-Attempted Building Built Dep-Wait Failed Installed Needs-Build Not-For-Us Uploaded".split()
 
 # Relations that are read, with how they are printed for both architectures; None if nothing of them is left.
 RELATIONS = {text: text for text in ("libz", "debhelper (>= 13)", "liba (>= 2), libb", "gcc-13 | clang", "libc6 (<< 2:3.1~rc1-2)")}
@@ -19,10 +20,10 @@ RELATIONS |= {"libz [armhf]": None, "liba [!amd64 !arm64] | libb [s390x]": None}
 RELATION_FAULTS = {"BadName", "BadOperator", "BadVersion", "Mixed", "Unclosed", "EmptyAlternative", "Stray"}
 
 CODES = {"UnknownArch": 1, "UnknownBuilder": 2, "WrongArch": 3, "UnknownSource": 4, "OtherVersion": 5, "WrongState": 6, "QueueEmpty": 7}
-CODES |= {"NotHeld": 8, "AfterAhead": 9, "BadName": 11, "BadVersion": 12, "BadRelations": 13, "BadNumber": 14, "TextTooLong": 17}
+CODES |= {"NotHeld": 8, "AfterAhead": 9, "BadName": 11, "BadVersion": 12, "BadRelations": 13, "BadNumber": 14, "BadReport": 16, "TextTooLong": 17}
 STATUSES = dict.fromkeys(("UnknownArch", "UnknownBuilder", "UnknownSource"), 404)
 STATUSES |= dict.fromkeys(("WrongArch", "OtherVersion", "WrongState", "QueueEmpty", "NotHeld", "AfterAhead"), 409)
-STATUSES |= dict.fromkeys(("BadName", "BadVersion", "BadRelations", "BadNumber", "TextTooLong"), 422)
+STATUSES |= dict.fromkeys(("BadName", "BadVersion", "BadRelations", "BadNumber", "BadReport", "TextTooLong"), 422)
 
 # The states from which each command moves a record, and the state into which it moves.
 MOVES = {
@@ -100,6 +101,35 @@ def are_equal(one, other):
     return [one[0]] + [order_of(part) for part in one[1:]] == [other[0]] + [order_of(part) for part in other[1:]]
 
 
+# ---- reports
+
+REPORT_LINE = re.compile(r"[ \t]*([^ \t]+)[ \t]+([^ \t]+)[ \t]+([^ \t]+)(.*)", re.DOTALL)
+
+
+def lines_of(report):
+    """What the lines of a report say: for each source its version, in parts, and why it cannot be built; None if it can."""
+    found = {}
+    for number, line in enumerate(report.split("\n"), 1):
+        if line.strip(" \t"):
+            source, *said = line_of(line, number)
+            check(source not in found, "BadReport", line=number)
+            found[source] = said
+    return found
+
+
+def line_of(line, number):
+    match = REPORT_LINE.fullmatch(line)
+    check(match and FORMS["source"].match(match[1]), "BadReport", line=number)
+    try:
+        version = parts_of(match[2])
+    except Refused:
+        raise Refused("BadReport", line=number) from None
+    reason = match[4].strip(" \t")
+    is_good = match[3] == "installable" and not reason or match[3] == "uninstallable" and len(reason.encode()) <= 1000
+    check(is_good, "BadReport", line=number)
+    return match[1], version, reason if match[3] == "uninstallable" else None
+
+
 # ---- records and the office
 
 
@@ -118,6 +148,7 @@ class Record:
     holder: str = None
     take: int = None
     waits: str = ""  # None if an answer has still to show it
+    depends: str = ""  # None if they cannot be read
 
     @property
     def earlier(self):
@@ -133,6 +164,16 @@ class Record:
         section = self.section.partition("/")[2] if "/" in self.section else self.section
         section = SECTIONS.index(section) if section in SECTIONS else len(SECTIONS)
         return -self.build_priority, not self.earlier, priority, section, self.source.encode()
+
+    def report(self, version, reason):
+        """Takes in what a report says of a version, and answers whether anything changed."""
+        before = self.state, self.note
+        if are_equal(parts_of(self.version), version) and self.state in ("BD-Uninstallable", "Needs-Build"):
+            if reason is not None:
+                self.state, self.note = "BD-Uninstallable", reason
+            elif self.state == "BD-Uninstallable":
+                self.state, self.note = "Needs-Build", ""
+        return (self.state, self.note) != before
 
     def shown(self):
         keys = "arch build build_priority earlier holder message note number priority section source state take version waits".split()
@@ -196,7 +237,10 @@ class Office:
         check("value" not in body or -1000 <= body["value"] <= 1000, "BadNumber")
         text = next((body[key] for key in ("note", "reason", "message") if key in body), "")
         check(len(text.encode()) <= 1000, "TextTooLong")
+        report = lines_of(body["text"]) if "text" in body else {}
         check("arch" not in body or body["arch"] in ARCHS, "UnknownArch")
+        if name == "report":
+            return self.take_report(body["arch"], report)
         if "builder" in body:
             self.check_builder(body)
         if name == "next":
@@ -238,6 +282,10 @@ class Office:
         record.holder, record.take = builder, self.handed
         return self.accept(name, **assignment(record))
 
+    def take_report(self, arch, lines):
+        named = [(self.records.get((arch, source)), said) for source, said in lines.items()]
+        return self.accept("report", changed=sum(record.report(*said) for record, said in named if record))
+
     def hand_out_next(self, body):
         after = body["after"]
         if after is not None:
@@ -253,25 +301,57 @@ class Office:
     # -- queries
 
     def query(self, name, parts, said):
+        """The status and the object that are answered to a query, by the word of its path. What was answered shows waits that are not known."""
+        self.said = said
         try:
-            return 200, self.item(*parts, said) if name == "item" else self.mine(*parts, said)
+            return 200, getattr(self, f"query_{name}")(*parts)
         except Refused as why:
             return STATUSES[why.name], {"code": CODES[why.name], "refused": why.name, **why.more}
 
-    def item(self, arch, source, said):
-        check(FORMS["arch"].match(arch) and FORMS["source"].match(source), "BadName")
+    def check_subject(self, arch, source=None):
+        check(FORMS["arch"].match(arch) and (source is None or FORMS["source"].match(source)), "BadName")
         check(arch in ARCHS, "UnknownArch")
-        record = self.records.get((arch, source))
-        check(record, "UnknownSource")
-        if record.waits is None and isinstance(said, dict) and isinstance(said.get("waits"), str):
-            record.waits = said["waits"]
+        check(source is None or (arch, source) in self.records, "UnknownSource")
+
+    def shown(self, records):
+        """The records as they are shown; what was answered of each stands in the same place."""
+        met = self.said.get("records") if isinstance(self.said, dict) else None
+        met = met if isinstance(met, list) and len(met) == len(records) else [None] * len(records)
+        return [self.shown_as(record, one) for record, one in zip(records, met)]
+
+    def shown_as(self, record, met):
+        if record.waits is None and isinstance(met, dict) and isinstance(met.get("waits"), str):
+            record.waits = met["waits"]
         return record.shown()
 
-    def mine(self, builder, _said):
+    def query_item(self, arch, source):
+        self.check_subject(arch, source)
+        return self.shown_as(self.records[arch, source], self.said)
+
+    def query_mine(self, builder):
         check(FORMS["builder"].match(builder), "BadName")
         check(builder in BUILDERS, "UnknownBuilder")
         held = sorted((record for record in self.records.values() if record.holder == builder), key=lambda record: record.take)
-        return {"builder": builder, "records": [record.shown() for record in held]}
+        return {"builder": builder, "records": self.shown(held)}
+
+    def query_queue(self, arch):
+        self.check_subject(arch)
+        waiting = sorted(self.of_state(arch, "Needs-Build"), key=Record.place)
+        return {"arch": arch, "queue": [{"build": record.build, "source": record.source} for record in waiting]}
+
+    def query_state(self, arch, state):
+        check(state in STATES, "BadName")
+        self.check_subject(arch)
+        found = sorted(self.of_state(arch, state), key=lambda record: record.source.encode())
+        return {"arch": arch, "records": self.shown(found), "state": state}
+
+    def query_depends(self, arch, source):
+        self.check_subject(arch, source)
+        return {"arch": arch, "depends": self.records[arch, source].depends, "source": source}
+
+    def query_summary(self, arch):
+        self.check_subject(arch)
+        return {"accepted": self.accepted, "arch": arch, "counts": {state: len(self.of_state(arch, state)) for state in STATES}}
 
 
 def assignment(record):

@@ -3,6 +3,7 @@ tools/test_store, tools/test_store_files and tools/test_serve.
 
 From the environment: WB is the program, ./wb of this repository where it is not set, and SEED is added to the number of each random choice.
 """
+import concurrent.futures
 import contextlib
 import json
 import os
@@ -177,19 +178,30 @@ def filled(folder):
     return 41
 
 
-def test_all(tests, names, kind="store"):
-    """Runs the tests, or those of these names, each in an empty folder, and prints what they are of before their names. Gives the status."""
+def test_all(tests, names, kind="store", at_once=1):
+    """Runs the tests, or those of these names, each in an empty folder, so many at once, and prints what they are of before their names. Gives the
+    status."""
     chosen = [test for test in tests if not names or test.__name__ in names]
-    failed = 0
-    for test in chosen:
-        name = f"{kind}_{test.__name__}"
-        with tempfile.TemporaryDirectory() as folder:
-            try:
-                more = test(Path(folder))
-                print(f"ok {name}" + (f"\n    {more}" if more else ""), flush=True)
-            except Exception as why:  # whatever it is, the other tests are run
-                failed += 1
-                type_of = "" if isinstance(why, Failure) else f"{type(why).__name__}: "
-                print(f"failed {name}: {type_of}{why}", flush=True)
+    with concurrent.futures.ThreadPoolExecutor(at_once) as threads:
+        each = map if at_once == 1 else threads.map  # alone a test has the main thread, which hears signals
+        passed = [shown(*found) for found in each(lambda test: tried(test, kind), chosen)]
+    failed = passed.count(False)
     print(f"{len(chosen) - failed} passed, {failed} failed")
     return 1 if failed or not chosen else 0
+
+
+def tried(test, kind):
+    """Whether a test passed, and what is printed of it."""
+    name = f"{kind}_{test.__name__}"
+    with tempfile.TemporaryDirectory() as folder:
+        try:
+            more = test(Path(folder))
+            return True, f"ok {name}" + (f"\n    {more}" if more else "")
+        except Exception as why:  # whatever it is, the other tests are run
+            type_of = "" if isinstance(why, Failure) else f"{type(why).__name__}: "
+            return False, f"failed {name}: {type_of}{why}"
+
+
+def shown(passed, text):
+    print(text, flush=True)
+    return passed
