@@ -5,34 +5,43 @@ ghost use Rattle.deb_version.specs.Faults.{fault_name};
 ghost use Rattle.deb_version.specs.declared.fault.VersionFault.TheVariants.{Memory};
 
 use std::alloc::{AllocError, AllocFailed};
-use std::error::Error;
-use std::fmt;
+use thiserror::Error;
 
 /// What is wrong with the text of a version: the first fault in the order of the checks
 /// (`Empty`, `TooLong`, the epoch, the upstream version, the revision). A place is the
 /// byte offset of the first bad byte, counted from 0 at the start of the whole text.
 /// Source: Debian Policy 5.6.12; the two limits are this project's own.
-#[derive(Clone, Copy, PartialEq, Eq, Debug)]
+#[derive(Clone, Copy, PartialEq, Eq, Debug, Error)]
 pub enum VersionFault {
     /// There is no text.
+    #[error("the version is empty")]
     Empty,
     /// Nothing stands before the first colon.
+    #[error("the epoch before the colon is empty")]
     EpochEmpty,
     /// A character other than a digit stands before the first colon.
+    #[error("the epoch is no number")]
     EpochNotNumber,
     /// The epoch is above 2147483647.
+    #[error("the epoch is above 2147483647")]
     EpochTooLarge,
     /// Nothing stands between the epoch and the revision.
+    #[error("the upstream version is empty")]
     UpstreamEmpty,
     /// The byte at this place may not stand in an upstream version.
+    #[error("byte {0} may not stand in an upstream version")]
     UpstreamBad(usize),
     /// Nothing follows the last hyphen.
+    #[error("the revision after the hyphen is empty")]
     RevisionEmpty,
     /// The byte at this place may not stand in a revision.
+    #[error("byte {0} may not stand in a revision")]
     RevisionBad(usize),
     /// The text has more than 1000 bytes.
+    #[error("the version has more than 1000 bytes")]
     TooLong,
     /// Memory ran out.
+    #[error("out of memory")]
     Memory,
 }
 
@@ -56,34 +65,6 @@ impl VersionFault {
         }
     }
 }
-
-impl fmt::Display for VersionFault {
-    ghost use Rattle.std.specs.Prelude.{Some};
-    ghost use Rattle.deb_version.specs.Faults.{fault_text};
-
-    ghost output = { λ fault. Some (fault_text fault) };
-
-    fn fmt<W: fmt::Write>(&self, f: &mut fmt::Formatter<W>) -> fmt::Result {
-        match self {
-            VersionFault::Empty => write!(f, "the version is empty"),
-            VersionFault::EpochEmpty => write!(f, "the epoch before the colon is empty"),
-            VersionFault::EpochNotNumber => write!(f, "the epoch is no number"),
-            VersionFault::EpochTooLarge => write!(f, "the epoch is above 2147483647"),
-            VersionFault::UpstreamEmpty => write!(f, "the upstream version is empty"),
-            VersionFault::UpstreamBad(place) => {
-                write!(f, "byte {place} may not stand in an upstream version")
-            }
-            VersionFault::RevisionEmpty => write!(f, "the revision after the hyphen is empty"),
-            VersionFault::RevisionBad(place) => {
-                write!(f, "byte {place} may not stand in a revision")
-            }
-            VersionFault::TooLong => write!(f, "the version has more than 1000 bytes"),
-            VersionFault::Memory => write!(f, "out of memory"),
-        }
-    }
-}
-
-impl Error for VersionFault {}
 
 impl From<AllocError> for VersionFault {
     ghost from_gives = { λ _ fault. fault ≡ Memory };
