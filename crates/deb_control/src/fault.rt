@@ -3,14 +3,14 @@ ghost use Rattle.std.specs.Prelude.{◌≡◌};
 ghost use Rattle.deb_control.specs.declared.fault.ControlFaultKind.TheVariants.{Memory};
 
 use std::alloc::{AllocError, AllocFailed};
-use std::error::Error;
-use std::fmt;
+use thiserror::Error;
 
 /// What is wrong with a paragraph, or why none was read. A paragraph has the
 /// first fault of `TooLarge`, `NotUtf8`, and the fault of its first bad line.
 /// Of a line the faults come in the order `Orphan`, `NoColon`, `BadName`,
 /// `Duplicate`. The order is this project's own.
-#[derive(Clone, Copy, Debug, PartialEq, Eq)]
+#[derive(Clone, Copy, Debug, PartialEq, Eq, Error)]
+#[error("{}", self.name())]
 pub enum ControlFaultKind {
     /// The paragraph has more than 4194304 bytes, line feeds included.
     TooLarge,
@@ -66,19 +66,9 @@ impl<T: Drop> From<AllocFailed<T>> for ControlFaultKind {
     }
 }
 
-impl fmt::Display for ControlFaultKind {
-    ghost use Rattle.std.specs.Prelude.{Some};
-    ghost use Rattle.deb_control.specs.Faults.{fault_name};
-
-    ghost output = { λ kind. Some (fault_name kind) };
-
-    fn fmt<W: fmt::Write>(&self, f: &mut fmt::Formatter<W>) -> fmt::Result {
-        f.write_str(self.name())
-    }
-}
-
 /// A fault and the paragraph in which it stands.
-#[derive(Clone, Copy, Debug, PartialEq, Eq)]
+#[derive(Clone, Copy, Debug, PartialEq, Eq, Error)]
+#[error("{kind} in paragraph {paragraph}")]
 pub struct ControlFault {
     /// The number of the paragraph, counted from 1; at `Ended` the number
     /// that the fault before it had.
@@ -97,16 +87,3 @@ impl ControlFault {
         self.kind.name()
     }
 }
-
-impl fmt::Display for ControlFault {
-    ghost use Rattle.std.specs.Prelude.{Some};
-    ghost use Rattle.deb_control.specs.Faults.{fault_text};
-
-    ghost output = { λ fault. Some (fault_text fault) };
-
-    fn fmt<W: fmt::Write>(&self, f: &mut fmt::Formatter<W>) -> fmt::Result {
-        write!(f, "{} in paragraph {}", self.kind.name(), self.paragraph)
-    }
-}
-
-impl Error for ControlFault {}
