@@ -1,6 +1,5 @@
--- The faults of relations: their names, and what they say of the text.
-use Rattle.std.specs.Prelude.{ℕ, List, ◌++◌, codes, decimal}
-use Rattle.deb_version.specs.Faults.{fault_text as version_fault_text}
+-- The faults of relations: their names, and what a fault of a version becomes.
+use Rattle.std.specs.Prelude.{ℕ, List, codes}
 use Rattle.deb_version.specs.declared.fault.VersionFault.{VersionFault}
 use Rattle.deb_version.specs.declared.fault.VersionFault.TheVariants as version
 use Rattle.deb_relations.specs.declared.fault.RelationFault.{RelationFault}
@@ -22,15 +21,3 @@ fault_name Memory = codes "Memory"
 abbrev pub fault_from_version : VersionFault → RelationFault
 fault_from_version version.Memory = Memory
 fault_from_version fault = BadVersion fault
-
--- what is printed of a fault, for a person to read
-abbrev pub fault_text : RelationFault → List ℕ
-fault_text BadName = codes "a name is missing or bad"
-fault_text BadOperator = codes "an operator is missing or bad"
-fault_text (BadVersion fault) = version_fault_text fault
-fault_text Mixed = codes "some architectures of a list are negated"
-fault_text Unclosed = codes "a bracket is not closed"
-fault_text EmptyAlternative = codes "an alternative is empty"
-fault_text (Stray place) = codes "byte " ++ (decimal place ++ codes " belongs to no alternative")
-fault_text TooLong = codes "the relations have more than 65536 bytes"
-fault_text Memory = codes "out of memory"
