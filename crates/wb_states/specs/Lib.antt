@@ -5,7 +5,6 @@ pub mod Holds
 pub mod Limits
 pub mod Lookups
 pub mod Machine
-pub mod Messages
 pub mod Moves
 pub mod Names
 pub mod Queries

@@ -1,5 +1,5 @@
--- The numbers, the names and the messages of the store's faults.
-use Rattle.std.specs.Prelude.{ℕ, List, ◌++◌, codes, decimal}
+-- The numbers and the names of the store's faults.
+use Rattle.std.specs.Prelude.{ℕ, List, codes}
 use Rattle.wb_states.specs.declared.store_fault.StoreFault.{StoreFault}
 use Rattle.wb_states.specs.declared.store_fault.StoreFault.TheVariants.{NotOffice, NewerSchema, Damaged, Memory, Device}
 use Rattle.wb_states.specs.declared.store_fault.Table.{Table}
@@ -29,11 +29,3 @@ name_of_store_fault NewerSchema = codes "NewerSchema"
 name_of_store_fault (Damaged table row) = codes "Damaged"
 name_of_store_fault Memory = codes "Memory"
 name_of_store_fault Device = codes "Device"
-
--- the message of a fault, for a person to read
-abbrev pub message_of_store_fault : StoreFault → List ℕ
-message_of_store_fault NotOffice = codes "it is not the database of an office"
-message_of_store_fault NewerSchema = codes "its format is newer than this program"
-message_of_store_fault (Damaged table row) = name_of_table table ++ (codes " is damaged in row " ++ decimal row)
-message_of_store_fault Memory = codes "out of memory"
-message_of_store_fault Device = codes "the disk failed or is full, or another program has the file open"

@@ -8,8 +8,8 @@ use deb_relations::RelationFault;
 use deb_text::Text;
 use deb_version::VersionFault;
 use std::alloc::{AllocError, AllocFailed};
-use std::error::Error;
 use std::fmt;
+use thiserror::Error;
 
 /// Which of the archive's lists a fault is in.
 #[derive(Clone, Copy, Debug, PartialEq, Eq)]
@@ -66,7 +66,8 @@ impl ListField {
 }
 
 /// What is wrong with a paragraph of a list.
-#[derive(Clone, Copy, Debug, PartialEq, Eq)]
+#[derive(Clone, Copy, Debug, PartialEq, Eq, Error)]
+#[error("{}", self.name())]
 pub enum ListingFault {
     /// The paragraph is no control data (Debian Policy 5.1).
     Control { kind: ControlFaultKind },
@@ -89,16 +90,6 @@ impl ListingFault {
     }
 }
 
-impl fmt::Display for ListingFault {
-    ghost use Rattle.std.specs.Prelude.{Some};
-
-    ghost output = { λ fault. Some (name_of_listing_fault fault) };
-
-    fn fmt<W: fmt::Write>(&self, f: &mut fmt::Formatter<W>) -> fmt::Result {
-        f.write_str(self.name())
-    }
-}
-
 /// Why a command was refused. After a refusal the office is as it was.
 ///
 /// If several apply to a command, the first is answered, in this order. `Closed`. The forms of its texts:
@@ -109,71 +100,104 @@ impl fmt::Display for ListingFault {
 /// nothing or to too much, `BadNumber` for a number that is not above the record's, `Spent`. `Memory` and,
 /// after the texts, `Store` may come at any point. The order, the numbers and the names are this project's
 /// own.
-#[derive(Debug, Drop)]
+#[derive(Debug, Drop, Error)]
 pub enum Refusal {
     /// The architecture was never added, or a merge has no part.
+    #[error("the architecture was never added")]
     UnknownArch,
     /// The builder was added for no architecture.
+    #[error("the builder was never added")]
     UnknownBuilder,
     /// The builder was added for other architectures alone.
+    #[error("the builder was added for other architectures")]
     WrongArch,
     /// The source package has no record on the architecture.
+    #[error("the source package has no record")]
     UnknownSource,
     /// The record is of this version, which is not the command's in the order of versions.
+    #[error("the record is of version {have}")]
     OtherVersion {
         have: Text,
     },
     /// The record is in this state, from which the command does not move it.
+    #[error("the source package is in the state {}", .state.name())]
     WrongState {
         state: State,
     },
     /// No source package of the architecture waits for a builder.
+    #[error("no source package waits for a builder")]
     QueueEmpty,
     /// No record is held under the take number: the hold ended, or there never was one.
+    #[error("nothing is held under the take number")]
     NotHeld,
     /// The take number after which the builder asks was not given yet: the last was `handed`.
+    #[error("the last take number is {handed}")]
     AfterAhead {
         handed: u64,
     },
     /// The architecture, the builder on the architecture, or the record is there already.
+    #[error("it is there already")]
     AlreadyThere,
     /// A name, a word, a priority or a section is malformed.
+    #[error("a name, a word, a priority or a section is malformed")]
     BadName,
     /// The version has this fault.
+    #[error("the version is malformed: {fault}")]
     BadVersion {
         fault: VersionFault,
     },
     /// The relations have this fault, or, if there is none, nothing of them is left for the architecture.
+    #[error(fmt = print_refused_relations)]
     BadRelations {
         fault: Option<RelationFault>,
     },
     /// The number of the rebuild is 0, above 999, or not above the record's; or the build priority is out of
     /// its range.
+    #[error("the number is out of range, or the rebuild number is not above the current one")]
     BadNumber,
     /// A list has this fault in the paragraph of this number, counted from 1.
+    #[error("{fault} in paragraph {paragraph} of {}", .which.name())]
     BadListing {
         which: ListKind,
         paragraph: u64,
         fault: ListingFault,
     },
     /// The line of this number, counted from 1, of a report is malformed, or it names a source package again.
+    #[error("line {line} is malformed, or names a source package again")]
     BadReport {
         line: u64,
     },
     /// A note, a reason or a message has more than 1000 bytes.
+    #[error("a note, a reason or a message has more than 1000 bytes")]
     TextTooLong,
     /// There is no count left: a count of the office is at its limit of 10^12.
+    #[error("a count of the office is at its limit")]
     Spent,
     /// Two parts of the merge are for one architecture.
+    #[error("two parts are for one architecture")]
     RepeatedArch,
     /// The store failed before, and the office answers nothing until it is opened again.
+    #[error("the office is closed until it is opened again")]
     Closed,
     /// The store has this fault, other than being out of memory.
+    #[error("the store failed: {fault}")]
     Store {
         fault: StoreFault,
     },
     /// It is out of memory now.
+    #[error("out of memory")]
     Memory,
+}
+
+/// Prints that relations are refused: for their fault, or since nothing of them is left.
+fn print_refused_relations<W: fmt::Write>(
+    fault: &Option<RelationFault>,
+    f: &mut fmt::Formatter<W>,
+) -> fmt::Result {
+    match fault {
+        Some(fault) => write!(f, "the relations are refused: {fault}"),
+        None => f.write_str("nothing of the relations is left for the architecture"),
+    }
 }
 
 impl Refusal {
@@ -245,71 +269,6 @@ impl Refusal {
         }
     }
 }
-
-impl fmt::Display for Refusal {
-    ghost use Rattle.std.specs.Prelude.{Some};
-    ghost use Rattle.wb_states.specs.Messages.{message_of_refusal};
-
-    ghost output = { λ refusal. Some (message_of_refusal refusal) };
-
-    fn fmt<W: fmt::Write>(&self, f: &mut fmt::Formatter<W>) -> fmt::Result {
-        match self {
-            Refusal::UnknownArch => f.write_str("the architecture was never added"),
-            Refusal::UnknownBuilder => f.write_str("the builder was never added"),
-            Refusal::WrongArch => f.write_str("the builder was added for other architectures"),
-            Refusal::UnknownSource => f.write_str("the source package has no record"),
-            Refusal::OtherVersion { have } => write!(f, "the record is of version {have}"),
-            Refusal::WrongState { state } => {
-                let name = state.name();
-                write!(f, "the source package is in the state {name}")
-            }
-            Refusal::QueueEmpty => f.write_str("no source package waits for a builder"),
-            Refusal::NotHeld => f.write_str("nothing is held under the take number"),
-            Refusal::AfterAhead { handed } => write!(f, "the last take number is {handed}"),
-            Refusal::AlreadyThere => f.write_str("it is there already"),
-            Refusal::BadName => {
-                f.write_str("a name, a word, a priority or a section is malformed")
-            }
-            Refusal::BadVersion { fault } => write!(f, "the version is malformed: {fault}"),
-            Refusal::BadRelations { fault: Some(fault) } => write!(
-                f,
-                "the relations are refused: {fault}"
-            ),
-            Refusal::BadRelations { fault: None } => {
-                f.write_str("nothing of the relations is left for the architecture")
-            }
-            Refusal::BadNumber => f.write_str(
-                "the number is out of range, or the rebuild number is not above the current one",
-            ),
-            Refusal::BadListing {
-                which: ListKind::Sources,
-                paragraph,
-                fault,
-            } => write!(f, "{fault} in paragraph {paragraph} of Sources"),
-            Refusal::BadListing {
-                which: ListKind::Packages,
-                paragraph,
-                fault,
-            } => write!(f, "{fault} in paragraph {paragraph} of Packages"),
-            Refusal::BadReport { line } => {
-                write!(
-                    f,
-                    "line {line} is malformed, or names a source package again"
-                )
-            }
-            Refusal::TextTooLong => f.write_str(
-                "a note, a reason or a message has more than 1000 bytes",
-            ),
-            Refusal::Spent => f.write_str("a count of the office is at its limit"),
-            Refusal::Closed => f.write_str("the office is closed until it is opened again"),
-            Refusal::Memory => f.write_str("out of memory"),
-            Refusal::Store { fault } => write!(f, "the store failed: {fault}"),
-            Refusal::RepeatedArch => f.write_str("two parts are for one architecture"),
-        }
-    }
-}
-
-impl Error for Refusal {}
 
 impl From<AllocError> for Refusal {
     ghost use Rattle.wb_states.specs.declared.refusal.Refusal.TheVariants.{Memory};

@@ -3,8 +3,7 @@ ghost use Rattle.std.specs.Prelude.{◌≡◌};
 ghost use Rattle.wb_states.specs.StoreFaults.{code_of_store_fault, name_of_store_fault, name_of_table};
 
 use std::alloc::{AllocError, AllocFailed};
-use std::error::Error;
-use std::fmt;
+use thiserror::Error;
 
 /// A table of the office.
 #[derive(Clone, Copy, Debug, PartialEq, Eq)]
@@ -41,18 +40,23 @@ impl Table {
 
 /// Why the store of the office cannot be opened, read or written. The numbers and the names are this
 /// project's own.
-#[derive(Clone, Copy, Debug, PartialEq, Eq)]
+#[derive(Clone, Copy, Debug, PartialEq, Eq, Error)]
 pub enum StoreFault {
     /// It is no database, or not that of an office.
+    #[error("it is not the database of an office")]
     NotOffice,
     /// It was written in a format that is newer than this program.
+    #[error("its format is newer than this program")]
     NewerSchema,
     /// A row of a table is not what an office keeps: its number, counted from 1 in the order of keys, or 0
     /// if the database itself refused a statement on the table.
+    #[error("{} is damaged in row {row}", .table.name())]
     Damaged { table: Table, row: u64 },
     /// It is out of memory now.
+    #[error("out of memory")]
     Memory,
     /// A read or a write of the disk failed, or the disk is full.
+    #[error("the disk failed or is full, or another program has the file open")]
     Device,
 }
 
@@ -83,30 +87,6 @@ impl StoreFault {
         }
     }
 }
-
-impl fmt::Display for StoreFault {
-    ghost use Rattle.std.specs.Prelude.{Some};
-    ghost use Rattle.wb_states.specs.StoreFaults.{message_of_store_fault};
-
-    ghost output = { λ fault. Some (message_of_store_fault fault) };
-
-    fn fmt<W: fmt::Write>(&self, f: &mut fmt::Formatter<W>) -> fmt::Result {
-        match self {
-            StoreFault::NotOffice => f.write_str("it is not the database of an office"),
-            StoreFault::NewerSchema => f.write_str("its format is newer than this program"),
-            StoreFault::Damaged { table, row } => {
-                let name = table.name();
-                write!(f, "{name} is damaged in row {row}")
-            }
-            StoreFault::Memory => f.write_str("out of memory"),
-            StoreFault::Device => f.write_str(
-                "the disk failed or is full, or another program has the file open",
-            ),
-        }
-    }
-}
-
-impl Error for StoreFault {}
 
 impl From<AllocError> for StoreFault {
     ghost use Rattle.wb_states.specs.declared.store_fault.StoreFault.TheVariants.{Memory};
