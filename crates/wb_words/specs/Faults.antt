@@ -1,12 +1,7 @@
--- Why words are not read, and what is printed of it for a person.
+-- Why words are not read.
 use Rattle.std.specs.Prelude.{◌≡◌, ◌≢◌, ℕ, List, MatchResult, None, Option, Result, Some, codes}
 use Rattle.wb_words.specs.declared.fault.WordsFault.{WordsFault}
 use Rattle.wb_words.specs.declared.fault.WordsFault.TheVariants.{NoCommand, Memory}
-
--- what is printed of a fault
-abbrev pub fault_text : WordsFault → List ℕ
-fault_text NoCommand = codes "the words are no command"
-fault_text Memory = codes "there is no memory for it now"
 
 -- a reading of words: its value, or a fault that is out of memory or says that there is no value
 abbrev pub Reads : {X : Type 0} → Option X → Result X WordsFault → Type 0

@@ -3,35 +3,20 @@ ghost use Rattle.std.specs.Prelude.{◌≡◌};
 
 use clap::error::ErrorKind;
 use std::alloc::{AllocError, AllocFailed};
-use std::error::Error;
-use std::fmt;
+use thiserror::Error;
 
 /// Why the words of a line gave no command.
-#[derive(Clone, Copy, Debug, PartialEq, Eq)]
+#[derive(Clone, Copy, Debug, PartialEq, Eq, Error)]
 pub enum WordsFault {
     /// The words are no command. The subcommand is missing or unknown, or is help; an argument is
     /// missing, or is malformed as a number or as a part; or there is a word too many, an unknown
     /// option, or `--after` twice or without its number.
+    #[error("the words are no command")]
     NoCommand,
     /// There is no memory to read them now.
+    #[error("there is no memory for it now")]
     Memory,
 }
-
-impl fmt::Display for WordsFault {
-    ghost use Rattle.std.specs.Prelude.{Some};
-    ghost use Rattle.wb_words.specs.Faults.{fault_text};
-
-    ghost output = { λ fault. Some (fault_text fault) };
-
-    fn fmt<W: fmt::Write>(&self, f: &mut fmt::Formatter<W>) -> fmt::Result {
-        match self {
-            WordsFault::NoCommand => f.write_str("the words are no command"),
-            WordsFault::Memory => f.write_str("there is no memory for it now"),
-        }
-    }
-}
-
-impl Error for WordsFault {}
 
 impl From<AllocError> for WordsFault {
     ghost use Rattle.wb_words.specs.declared.fault.WordsFault.TheVariants.{Memory};
