@@ -12,15 +12,18 @@ use deb_version::Version;
 use std::alloc::{AllocError, AllocFailed, Global};
 use std::collections::BTreeMap;
 use std::marker::Model;
+use thiserror::Error;
 use wb_states::Refusal;
 
 /// Why a text is no report.
 /// Source: this project's own.
-#[derive(Clone, Copy, PartialEq, Eq, Debug)]
+#[derive(Clone, Copy, PartialEq, Eq, Debug, Error)]
 pub enum ReportFault {
     /// The line of this number, counted from 1, cannot be read, or it names a source package again.
+    #[error("line {line} is malformed, or names a source package again")]
     BadReport { line: u64 },
     /// It is out of memory now.
+    #[error("out of memory")]
     Memory,
 }
 

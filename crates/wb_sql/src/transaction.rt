@@ -12,14 +12,16 @@ use sqlite::{Alter, Connection, Error, ErrorCode};
 use std::mem::ManuallyDrop;
 
 /// Why a commit is not known to be made.
-#[derive(Debug, Drop)]
+#[derive(Debug, Drop, thiserror::Error)]
 pub enum CommitError {
     /// COMMIT failed, since memory ran out. Nothing is committed: the transaction is as it was before the call, or it is
     /// taken back, and a crash leaves no more than before.
+    #[error("nothing is committed: out of memory")]
     Memory,
     /// COMMIT failed with this error. The transaction is as it was before the call, or it is taken back, and a connection
     /// that is still open keeps the commit that it had. But a crash may leave what the transaction wrote, or what it
     /// could leave before.
+    #[error("whether it is committed is not known: {0}")]
     InDoubt(Error),
 }
 
