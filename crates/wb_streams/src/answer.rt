@@ -2,12 +2,12 @@
 ghost use Rattle.std.specs.Prelude.{◌≡◌, not, map, true, false};
 ghost use Rattle.std.specs.Io.KnownBytes.{Appends};
 ghost use Rattle.std.specs.List.{concat};
-ghost use Rattle.wb_streams.specs.Answers.{answer_bytes, parts_bytes};
+ghost use Rattle.wb_streams.specs.Answers.{answer_bytes, parts_bytes, phrase_of};
 ghost use Rattle.wb_streams.specs.Streams.{AppendsFront, Flags};
 
 use crate::WatchedWriter;
-use crate::status::Status;
 use crate::write::write_bytes;
+use http::StatusCode;
 use itoa::Buffer;
 use std::io::Write;
 
@@ -29,23 +29,38 @@ fn write_texts<W: Write + Drop>(writer: &mut WatchedWriter<W>, texts: &[&str]) -
     true
 }
 
-/// Writes an answer with this status, length and body.
+/// The phrase of a status, empty if it has none.
+/// Source: RFC 9110, section 15, and RFC 6585, section 5; a phrase may be empty by RFC 9112, section 4.
+#[tactic(auto, unfolding(crate::specs::Answers::phrase_of))]
+fn phrase_of(status: StatusCode) -> &'static str
+    ensures value { result.now ≡ phrase_of status }
+{
+    match status.canonical_reason() {
+        Some(phrase) => phrase,
+        None => "",
+    }
+}
+
+/// Writes an answer with this code, phrase, length and body.
 #[tactic(auto, unfolding(crate::specs::Answers::parts_bytes))]
 fn write_parts<'a, W: Write + Drop>(
     writer: &mut WatchedWriter<W>,
-    status: &'a str,
+    code: &'a str,
+    phrase: &'a str,
     length: &'a str,
     body: &'a str,
 ) -> bool
-    ensures value { result ≡ true
-        → Appends writer.old.bytes writer.new.bytes (parts_bytes status.now length.now body.now) }
-    ensures err { result ≡ false
-        → AppendsFront writer.old.bytes writer.new.bytes (parts_bytes status.now length.now body.now) }
+    ensures value { result ≡ true → Appends writer.old.bytes writer.new.bytes
+        (parts_bytes code.now phrase.now length.now body.now) }
+    ensures err { result ≡ false → AppendsFront writer.old.bytes writer.new.bytes
+        (parts_bytes code.now phrase.now length.now body.now) }
     ensures failed { Flags (not result) writer.old writer.new }
 {
-    let texts: [&'a str; 6] = [
+    let texts: [&'a str; 8] = [
         "HTTP/1.1 ",
-        status,
+        code,
+        " ",
+        phrase,
         "\r\nContent-Type: application/json\r\nContent-Length: ",
         length,
         "\r\nConnection: close\r\n\r\n",
@@ -57,11 +72,12 @@ fn write_parts<'a, W: Write + Drop>(
 /// Writes an answer with a body in JSON, after which the connection is closed. Takes no memory. Gives
 /// whether all of it was written. If not, the writer failed, was interrupted or took no byte, and a front of
 /// the answer was written.
-/// Source: RFC 9112, section 4; the fields are this project's own.
+/// Source: RFC 9112, section 4, and for the phrase RFC 9110, section 15, and RFC 6585, section 5; the fields are this
+/// project's own.
 #[tactic(auto, unfolding(crate::specs::Answers::answer_bytes))]
 pub fn write_answer<W: Write + Drop>(
     writer: &mut WatchedWriter<W>,
-    status: Status,
+    status: StatusCode,
     body: &str,
 ) -> bool
     ensures value { result ≡ true
@@ -72,5 +88,5 @@ pub fn write_answer<W: Write + Drop>(
 {
     let mut digits = Buffer::new();
     let length = digits.format(body.len());
-    write_parts(writer, status.code_and_phrase(), length, body)
+    write_parts(writer, status.as_str(), phrase_of(status), length, body)
 }

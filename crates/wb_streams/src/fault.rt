@@ -2,7 +2,7 @@
 ghost use Rattle.std.specs.Prelude.{◌≡◌};
 ghost use Rattle.wb_streams.specs.Answers.{fault_text, name_of_fault, status_of_fault};
 
-use crate::status::Status;
+use http::StatusCode;
 
 /// Why a request is not carried out. They are tested in this order.
 /// Source: this project's own.
@@ -57,23 +57,23 @@ impl Fault {
     }
 
     /// The status of the answer to it.
-    /// Source: RFC 9110, sections 15.5 and 15.6.
-    pub fn status(self) -> Status
+    /// Source: RFC 9110, sections 15.5 and 15.6, and RFC 6585, section 5, for 431.
+    pub fn status(self) -> StatusCode
         ensures value { result ≡ status_of_fault self }
     {
         match self {
-            Fault::HeadTooLarge => Status::RequestHeaderFieldsTooLarge,
-            Fault::BadHead => Status::BadRequest,
-            Fault::FromBrowser => Status::Forbidden,
-            Fault::NoRoute => Status::NotFound,
-            Fault::WrongMethod => Status::MethodNotAllowed,
-            Fault::BadPath => Status::BadRequest,
-            Fault::NotSupported => Status::NotImplemented,
-            Fault::NoLength => Status::LengthRequired,
-            Fault::BadLength => Status::BadRequest,
-            Fault::BodyTooLarge => Status::PayloadTooLarge,
-            Fault::BodyCut => Status::BadRequest,
-            Fault::BadBody => Status::BadRequest,
+            Fault::HeadTooLarge => StatusCode::REQUEST_HEADER_FIELDS_TOO_LARGE,
+            Fault::BadHead => StatusCode::BAD_REQUEST,
+            Fault::FromBrowser => StatusCode::FORBIDDEN,
+            Fault::NoRoute => StatusCode::NOT_FOUND,
+            Fault::WrongMethod => StatusCode::METHOD_NOT_ALLOWED,
+            Fault::BadPath => StatusCode::BAD_REQUEST,
+            Fault::NotSupported => StatusCode::NOT_IMPLEMENTED,
+            Fault::NoLength => StatusCode::LENGTH_REQUIRED,
+            Fault::BadLength => StatusCode::BAD_REQUEST,
+            Fault::BodyTooLarge => StatusCode::PAYLOAD_TOO_LARGE,
+            Fault::BodyCut => StatusCode::BAD_REQUEST,
+            Fault::BadBody => StatusCode::BAD_REQUEST,
         }
     }
 

@@ -8,7 +8,6 @@ mod fault;
 mod fields;
 mod head;
 mod line;
-mod status;
 mod watched;
 mod write;
 
@@ -18,6 +17,5 @@ pub use fault::Fault;
 pub use fields::{content_length, has_field, is_from_browser};
 pub use head::{FIELD_LIMIT, HEAD_LIMIT, HeadRead, read_head};
 pub use line::{ByteRead, LINE_LIMIT, LineRead, read_byte, read_line, text_of, words_in};
-pub use status::Status;
 pub use watched::{WatchedReader, WatchedWriter};
 pub use write::write_line;
