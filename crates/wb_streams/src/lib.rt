@@ -7,6 +7,7 @@ mod body;
 mod fault;
 mod fields;
 mod head;
+pub mod laws;
 mod line;
 mod watched;
 mod write;
