@@ -3,34 +3,47 @@ ghost use Rattle.std.specs.Prelude.{◌≡◌};
 ghost use Rattle.wb_streams.specs.Answers.{fault_text, name_of_fault, status_of_fault};
 
 use http::StatusCode;
+use thiserror::Error;
 
 /// Why a request is not carried out. They are tested in this order.
 /// Source: this project's own.
-#[derive(Clone, Copy, Debug, PartialEq, Eq)]
+#[derive(Clone, Copy, Debug, PartialEq, Eq, Error)]
 pub enum Fault {
     /// The head is longer, or has more fields, than a head may have.
+    #[error("the head is too large")]
     HeadTooLarge,
     /// No head comes: nothing that can follow makes one, or the input ended inside it.
+    #[error("the head is malformed")]
     BadHead,
     /// A web page had its browser send the request.
+    #[error("a web page had its browser send the request")]
     FromBrowser,
     /// The target is none that this project has.
+    #[error("the target is none that is served")]
     NoRoute,
     /// The target has another method.
+    #[error("the target has another method")]
     WrongMethod,
     /// A part of the path is not UTF-8 once it is decoded.
+    #[error("a part of the path is not UTF-8 once it is decoded")]
     BadPath,
     /// The body has a transfer coding.
+    #[error("the body has a transfer coding")]
     NotSupported,
     /// The length of the body is not stated.
+    #[error("the length of the body is not stated")]
     NoLength,
     /// The length of the body is no number, or two numbers are stated.
+    #[error("the length of the body is malformed")]
     BadLength,
     /// The body is longer than a body may be.
+    #[error("the body is too large")]
     BodyTooLarge,
     /// The input ended before the body did.
+    #[error("the input ended before the body did")]
     BodyCut,
     /// The body is not of the command's form.
+    #[error("the body is not of the command's form")]
     BadBody,
 }
 
