@@ -1,7 +1,7 @@
 -- Why words are not read.
-use Rattle.std.specs.Prelude.{◌≡◌, ◌≢◌, ℕ, List, MatchResult, None, Option, Result, Some, codes}
+use Rattle.std.specs.Prelude.{◌≡◌, ◌≢◌, MatchResult, None, Option, Result, Some}
 use Rattle.wb_words.specs.declared.fault.WordsFault.{WordsFault}
-use Rattle.wb_words.specs.declared.fault.WordsFault.TheVariants.{NoCommand, Memory}
+use Rattle.wb_words.specs.declared.fault.WordsFault.TheVariants.{Memory}
 
 -- a reading of words: its value, or a fault that is out of memory or says that there is no value
 abbrev pub Reads : {X : Type 0} → Option X → Result X WordsFault → Type 0
