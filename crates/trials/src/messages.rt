@@ -15,6 +15,9 @@ pub(crate) fn show_all<W: Write>(alloc: Global, output: &mut W) -> Result<()> {
     below::show_control(output)?;
     below::show_relations(output)?;
     below::show_words(output)?;
+    below::show_reports(output)?;
+    below::show_commits(output)?;
+    below::show_requests(output)?;
     refusals::show_lists(output)?;
     refusals::show_stores(output)?;
     refusals::show_plain(output)?;

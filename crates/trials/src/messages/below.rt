@@ -1,11 +1,15 @@
-//! The faults of versions, control data, relations and words.
+//! The faults of versions, control data, relations, words, reports and requests, and the errors of commits.
 
 use crate::messages::show;
 use anyhow::Result;
 use deb_control::{ControlFault, ControlFaultKind};
 use deb_relations::RelationFault;
 use deb_version::VersionFault;
+use sqlite::{Error, ErrorCode};
 use std::io::Write;
+use wb_merge::ReportFault;
+use wb_sql::CommitError;
+use wb_streams::Fault;
 use wb_words::WordsFault;
 
 pub(crate) fn show_versions<W: Write>(output: &mut W) -> Result<()> {
@@ -73,4 +77,35 @@ pub(crate) fn show_words<W: Write>(output: &mut W) -> Result<()> {
         &[WordsFault::NoCommand, WordsFault::Memory],
         output,
     )
+}
+
+pub(crate) fn show_reports<W: Write>(output: &mut W) -> Result<()> {
+    let faults = [ReportFault::BadReport { line: 7 }, ReportFault::Memory];
+    show("ReportFault", &faults, output)
+}
+
+pub(crate) fn show_commits<W: Write>(output: &mut W) -> Result<()> {
+    let errors = [
+        CommitError::Memory,
+        CommitError::InDoubt(Error::SqliteFailure(ErrorCode::DiskFull)),
+    ];
+    show("CommitError", &errors, output)
+}
+
+pub(crate) fn show_requests<W: Write>(output: &mut W) -> Result<()> {
+    let faults = [
+        Fault::HeadTooLarge,
+        Fault::BadHead,
+        Fault::FromBrowser,
+        Fault::NoRoute,
+        Fault::WrongMethod,
+        Fault::BadPath,
+        Fault::NotSupported,
+        Fault::NoLength,
+        Fault::BadLength,
+        Fault::BodyTooLarge,
+        Fault::BodyCut,
+        Fault::BadBody,
+    ];
+    show("Fault", &faults, output)
 }
