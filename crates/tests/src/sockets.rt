@@ -10,7 +10,7 @@ use std::net::{Net, Shutdown, TcpListener, TcpStream};
 use std::process::Abort;
 use std::test::Fail;
 use std::time::Duration;
-use wb_api::{Served, serve_one};
+use wb_api::{Routes, Served, serve_one};
 use wb_office::Office;
 use wb_states::Command;
 use wb_states::command::{AddArch, AddBuilder, Enter};
@@ -120,9 +120,12 @@ fn served(
     let limit = Some(Duration::from_millis(milliseconds));
     server.set_read_timeout(limit)?;
     server.set_write_timeout(limit)?;
+    let Ok(routes) = Routes::new(alloc) else {
+        return Err(io::ErrorKind::OutOfMemory.into());
+    };
     let mut reader = WatchedReader::new(server);
     let mut writer = WatchedWriter::new(server);
-    let ended = serve_one(alloc, office, &mut reader, &mut writer);
+    let ended = serve_one(alloc, &routes, office, &mut reader, &mut writer);
     Ok(ended)
 }
 

@@ -17,7 +17,7 @@ use opening::MemoryOffice;
 use reader::CutReader;
 use std::alloc::Global;
 use std::io::{BufRead, Write};
-use wb_api::{Served, serve_one};
+use wb_api::{Routes, Served, serve_one};
 use wb_streams::{WatchedReader, WatchedWriter};
 use writer::CutWriter;
 
@@ -29,8 +29,9 @@ pub(crate) fn answer_all<R: BufRead + Drop, W: Write + Drop>(
 ) -> Result<()> {
     match frames::next(alloc, input)? {
         Some(sources) => {
+            let routes = Routes::new(alloc)?;
             let mut office = begun(alloc, input, sources.bytes)?;
-            answer_each(alloc, &mut office, input, output)
+            answer_each(alloc, &routes, &mut office, input, output)
         }
         None => Ok(()),
     }
@@ -50,6 +51,7 @@ fn begun<R: BufRead + Drop>(
 /// Answers each request of the input. Each answer is written before the next request is read.
 fn answer_each<R: BufRead + Drop, W: Write + Drop>(
     alloc: Global,
+    routes: &Routes,
     office: &mut MemoryOffice,
     input: &mut R,
     output: &mut W,
@@ -58,7 +60,7 @@ fn answer_each<R: BufRead + Drop, W: Write + Drop>(
         let Some(request) = frames::next(alloc, input)? else {
             break;
         };
-        let (served, answer) = answered(alloc, office, &request);
+        let (served, answer) = answered(alloc, routes, office, &request);
         let (word, status) = word_of(served);
         writeln!(output, "{word} {status} {}", answer.len())?;
         output.write_all(&answer)?;
@@ -68,11 +70,16 @@ fn answer_each<R: BufRead + Drop, W: Write + Drop>(
 }
 
 /// How the exchange for this request ended, and what was answered.
-fn answered(alloc: Global, office: &mut MemoryOffice, request: &Frame) -> (Served, Vec<u8>) {
+fn answered(
+    alloc: Global,
+    routes: &Routes,
+    office: &mut MemoryOffice,
+    request: &Frame,
+) -> (Served, Vec<u8>) {
     let mut answer = CutWriter::new(alloc, request);
     let mut reader = WatchedReader::new(CutReader::new(request));
     let mut writer = WatchedWriter::new(&mut answer);
-    let served = serve_one(alloc, office, &mut reader, &mut writer);
+    let served = serve_one(alloc, routes, office, &mut reader, &mut writer);
     drop(writer);
     (served, answer.taken())
 }

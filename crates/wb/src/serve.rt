@@ -6,7 +6,7 @@ use sqlite::Alter;
 use std::io::{self, Read};
 use std::net::{Ipv4Addr, Shutdown, SocketAddr, TcpListener, TcpStream};
 use std::time::Duration;
-use wb_api::{Served, serve_one};
+use wb_api::{Routes, Served, serve_one};
 use wb_daemon::{Cause, Message, status};
 use wb_office::Office;
 use wb_streams::{WatchedReader, WatchedWriter};
@@ -36,10 +36,29 @@ pub(crate) fn listen(rt: &HostRuntime, port: u16) -> Option<TcpListener> {
 /// files are open, and would be asked again and again.
 const FAILURES: u32 = 100;
 
-/// Serves this many connections, one after another, or without a number all until the program is ended. It ends early if the office is closed then, or if connections cannot be
-/// accepted. Each that cannot is reported on standard error, and counts too.
+/// Serves this many connections, one after another, or without a number all until the program is ended. The paths are read
+/// once, before the first.
 pub(crate) fn serve<S: Alter + Drop>(
     rt: &HostRuntime,
+    office: &mut Office<S>,
+    listener: &TcpListener,
+    requests: Option<u32>,
+) -> u8 {
+    match Routes::new(rt.alloc()) {
+        Ok(routes) => serve_routes(rt, &routes, office, listener, requests),
+        Err(error) => {
+            let _ = eprintln!(rt; "wb: nothing can be served: {error}");
+            status::STOPPED
+        }
+    }
+}
+
+/// Serves this many connections, one after another, or without a number all until the program is ended. It ends early if the
+/// office is closed then, or if connections cannot be accepted. Each that cannot is reported on standard error, and counts
+/// too.
+fn serve_routes<S: Alter + Drop>(
+    rt: &HostRuntime,
+    routes: &Routes,
     office: &mut Office<S>,
     listener: &TcpListener,
     requests: Option<u32>,
@@ -53,7 +72,7 @@ pub(crate) fn serve<S: Alter + Drop>(
         match listener.accept() {
             Ok((stream, _)) => {
                 failures = 0;
-                report(rt, serve_stream(rt, office, &stream));
+                report(rt, serve_stream(rt, routes, office, &stream));
             }
             Err(error) => {
                 failures = failures.saturating_add(1);
@@ -80,13 +99,14 @@ pub(crate) fn serve<S: Alter + Drop>(
 /// Answers the request of one connection, closes the connection, and says how that ended.
 fn serve_stream<S: Alter + Drop>(
     rt: &HostRuntime,
+    routes: &Routes,
     office: &mut Office<S>,
     stream: &TcpStream,
 ) -> io::Result<Served> {
     let timed = TimedStream::new(rt, stream, Duration::from_secs(LIMIT_SECONDS))?;
     let mut reader = WatchedReader::new(timed.same());
     let mut writer = WatchedWriter::new(timed);
-    let served = serve_one(rt.alloc(), office, &mut reader, &mut writer);
+    let served = serve_one(rt.alloc(), routes, office, &mut reader, &mut writer);
     let _ = close(rt, stream);
     Ok(served)
 }

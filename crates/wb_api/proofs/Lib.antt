@@ -9,6 +9,6 @@ pub mod QueryLemmas
 pub mod QueryLineLemmas
 pub mod ReadLemmas
 pub mod RequestLemmas
-pub mod RouteLemmas
+pub mod RouterLemmas
 pub mod RunLemmas
 pub mod Utf8Lemmas

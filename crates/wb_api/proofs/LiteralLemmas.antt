@@ -6,9 +6,9 @@ use Rattle.wb_api.specs.Commands.{attempted_in, build_priority_in, command_of, j
 use Rattle.wb_streams.specs.Fields.{is_same_number, length_stated, limited}
 use Rattle.percent_encoding.specs.Percent.{percent_decode}
 use Rattle.wb_api.specs.Requests.{body_asked, command_wanted, query_wanted}
-use Rattle.wb_api.specs.Routes.{are_two_parts, cut_at_slash, decoded_text, query_at, query_of}
+use Rattle.wb_api.specs.Routes.{decoded_text, query_of, route_at}
 
 unfoldable pub http_on_literals : ⊤
 unfolding digits chars is_utf8 attempted_in build_priority_in command_of json_of report_in subject_in is_same_number length_stated limited body_asked command_wanted query_wanted
-    percent_decode are_two_parts cut_at_slash decoded_text query_at query_of
+    percent_decode decoded_text query_of route_at
 http_on_literals = tt

@@ -1,10 +1,16 @@
 -- The targets of requests (RFC 9112, section 3.2). A target is compared as it stands.
-use Rattle.std.specs.Prelude.{ℕ, Bool, ◌&&◌, not, ◌==◌, nat_lt, List, length, take, drop, codes, if◌then◌else◌}
-use Rattle.std.specs.Prelude.{[], false, Option, None, Some, option_map, unwrap_or, Result, Ok, Err}
-use Rattle.std.specs.Option.{option_or}
+use Rattle.std.specs.Prelude.{ℕ, zero, suc, Bool, true, false, ◌==◌, ◌&&◌, List, [], ◌∷◌, codes, if◌then◌else◌}
+use Rattle.std.specs.Prelude.{Option, None, Some, unwrap_or, is_none, Result, Ok, Err}
+use Rattle.std.specs.Borrow.{Bor}
 use Prim.Native.Char.{code}
-use Rattle.std.specs.List.{after_first, before_first, list_all, position_or_len, slice_get, slice_split}
-use Rattle.std.specs.Str.{bytes_eq, is_utf8}
+use Rattle.std.specs.List.{slice_get, slice_split}
+use Rattle.std.specs.Str.{is_utf8}
+use Rattle.matchit.specs.Rows.{RowsOf}
+use Rattle.matchit.specs.Order.{placed}
+use Rattle.matchit.specs.Route.{Scan, parse_route}
+use Rattle.matchit.specs.Router.{RouteOf, map_key, nearest, route_from}
+use Rattle.matchit.specs.Seek.{first}
+use Rattle.matchit.specs.declared.error.InsertError.{InsertError}
 use Rattle.percent_encoding.specs.Percent.{percent_decode}
 use Rattle.wb_streams.specs.declared.fault.Fault.{Fault}
 use Rattle.wb_streams.specs.declared.fault.Fault.TheVariants.{BadPath}
@@ -17,64 +23,148 @@ use Rattle.wb_api.specs.declared.route.Route.TheVariants as route
 use Rattle.wb_states.specs.declared.query.Query.{Query}
 use Rattle.wb_states.specs.declared.query.Query.TheVariants as query
 
--- the command that has this target
-abbrev pub command_at : List ℕ → Option CommandKind
-command_at target = if bytes_eq target (codes "/v1/next") then Some Next
-    else (if bytes_eq target (codes "/v1/take") then Some Take
-    else (if bytes_eq target (codes "/v1/built") then Some Built
-    else (if bytes_eq target (codes "/v1/uploaded") then Some Uploaded
-    else (if bytes_eq target (codes "/v1/waits") then Some Waits
-    else (if bytes_eq target (codes "/v1/put-back") then Some PutBack
-    else (if bytes_eq target (codes "/v1/attempted") then Some Attempted
-    else (if bytes_eq target (codes "/v1/give-back") then Some GiveBack
-    else (if bytes_eq target (codes "/v1/dep-wait") then Some DepWait
-    else (if bytes_eq target (codes "/v1/fail") then Some Fail
-    else (if bytes_eq target (codes "/v1/not-for-us") then Some NotForUs
-    else (if bytes_eq target (codes "/v1/rebuild") then Some Rebuild
-    else (if bytes_eq target (codes "/v1/build-priority") then Some BuildPriority
-    else (if bytes_eq target (codes "/v1/report") then Some Report else None)))))))))))))
+-- a path that is served: what its targets begin with, how many parts follow, and what it is for
+pub record Path : Type 0 where
+  pub front : List ℕ
+  pub parts : ℕ
+  pub route : Route
 
--- what stands after a prefix
-abbrev pub after_prefix : List ℕ → List ℕ → Option (List ℕ)
-after_prefix prefix text = if bytes_eq (take (length prefix) text) prefix then Some (drop (length prefix) text) else None
+-- the path of a command, after which nothing follows
+abbrev pub command_path : List ℕ → CommandKind → Path
+command_path front kind = record { front = front; parts = 0; route = route.Command kind }
+
+-- the path of a query, after which so many parts follow
+abbrev pub query_path : List ℕ → ℕ → QueryKind → Path
+query_path front parts kind = record { front = front; parts = parts; route = route.Query kind }
+
+-- the paths that are served
+abbrev pub paths : List Path
+paths = command_path (codes "/v1/attempted") Attempted
+    ∷ command_path (codes "/v1/build-priority") BuildPriority
+    ∷ command_path (codes "/v1/built") Built
+    ∷ command_path (codes "/v1/dep-wait") DepWait
+    ∷ query_path (codes "/v1/depends/") 2 query_kind.Depends
+    ∷ command_path (codes "/v1/fail") Fail
+    ∷ command_path (codes "/v1/give-back") GiveBack
+    ∷ query_path (codes "/v1/item/") 2 query_kind.Item
+    ∷ query_path (codes "/v1/mine/") 1 query_kind.Mine
+    ∷ command_path (codes "/v1/next") Next
+    ∷ command_path (codes "/v1/not-for-us") NotForUs
+    ∷ command_path (codes "/v1/put-back") PutBack
+    ∷ query_path (codes "/v1/queue/") 1 query_kind.Queue
+    ∷ command_path (codes "/v1/rebuild") Rebuild
+    ∷ command_path (codes "/v1/report") Report
+    ∷ query_path (codes "/v1/state/") 2 query_kind.ByState
+    ∷ query_path (codes "/v1/summary/") 1 query_kind.Summary
+    ∷ command_path (codes "/v1/take") Take
+    ∷ command_path (codes "/v1/uploaded") Uploaded
+    ∷ command_path (codes "/v1/waits") Waits
+    ∷ []
 
 -- a slash
 abbrev pub is_slash : ℕ → Bool
 is_slash byte = byte == code "/"
 
--- a part of a path: one byte or more, and no slash (RFC 3986, section 3.3)
-abbrev pub is_part : List ℕ → Bool
-is_part text = nat_lt 0 (length text) && list_all (λ byte. not (is_slash byte)) text
+-- so many texts, none of them empty
+abbrev pub are_parts : ℕ → List (List ℕ) → Bool
+are_parts zero [] = true
+are_parts zero (text ∷ rest) = false
+are_parts (suc count) [] = false
+are_parts (suc count) ([] ∷ rest) = false
+are_parts (suc count) ((byte ∷ text) ∷ rest) = are_parts count rest
 
--- what stands before the first slash, and what stands after it
-unfoldable pub cut_at_slash : List ℕ → Option (List ℕ × List ℕ)
-cut_at_slash text = if nat_lt (position_or_len is_slash text) (length text)
-    then Some (before_first is_slash text, after_first is_slash text) else None
+-- what follows a path: nothing, or so many parts with slashes between them, none of them empty (RFC 3986, section 3.3)
+abbrev pub follows : ℕ → List ℕ → Bool
+follows zero [] = true
+follows zero (byte ∷ text) = false
+follows (suc count) text = are_parts (suc count) (slice_split is_slash text)
 
--- two parts, with a slash between them
-unfoldable pub are_two_parts : List ℕ → Bool
-are_two_parts text = unwrap_or (option_map (λ cut. is_part cut.0 && is_part cut.1) (cut_at_slash text)) false
+-- what follows this front of a text
+abbrev pub after_front : List ℕ → List ℕ → Option (List ℕ)
+after_front [] text = Some text
+after_front (byte ∷ front) [] = None
+after_front (byte ∷ front) (other ∷ text) = if byte == other then after_front front text else None
 
--- a target that is this path and one part more
-abbrev pub has_one_part : List ℕ → List ℕ → Bool
-has_one_part path target = unwrap_or (option_map is_part (after_prefix path target)) false
+-- what follows a front has so many parts
+abbrev pub has_parts : ℕ → Option (List ℕ) → Bool
+has_parts count None = false
+has_parts count (Some rest) = follows count rest
 
--- a target that is this path and two parts more
-abbrev pub has_two_parts : List ℕ → List ℕ → Bool
-has_two_parts path target = unwrap_or (option_map are_two_parts (after_prefix path target)) false
+-- a target has this path
+abbrev pub has_path : Path → List ℕ → Bool
+has_path path target = has_parts path.parts (after_front path.front target)
 
--- the query that has this target
-unfoldable pub query_at : List ℕ → Option QueryKind
-query_at target = if has_one_part (codes "/v1/queue/") target then Some query_kind.Queue
-    else (if has_two_parts (codes "/v1/state/") target then Some query_kind.ByState
-    else (if has_two_parts (codes "/v1/item/") target then Some query_kind.Item
-    else (if has_one_part (codes "/v1/mine/") target then Some query_kind.Mine
-    else (if has_two_parts (codes "/v1/depends/") target then Some query_kind.Depends
-    else (if has_one_part (codes "/v1/summary/") target then Some query_kind.Summary else None)))))
+-- what a target is for that has one of these paths
+abbrev pub route_among : List Path → List ℕ → Option Route
+route_among [] target = None
+route_among (path ∷ rest) target = if has_path path target then Some path.route else route_among rest target
 
 -- what a target is for: a command or a query
-abbrev pub route_at : List ℕ → Option Route
-route_at target = option_or (option_map (λ kind. route.Command kind) (command_at target)) (option_map (λ kind. route.Query kind) (query_at target))
+unfoldable pub route_at : List ℕ → Option Route
+route_at target = route_among paths target
+
+-- ---- the paths as `matchit` reads them
+
+-- a path and what it is for
+abbrev pub row_of : Bor (List ℕ) × Route → List ℕ × Route
+row_of row = (row.0.now, row.1)
+
+-- the routes with one more, if its path can be read
+abbrev pub with_read : Result Scan InsertError → Route → RowsOf (RouteOf Route) → RowsOf (RouteOf Route)
+with_read (Ok scan) route rows = placed (scan.pattern, route_from scan route) rows
+with_read (Err error) route rows = rows
+
+-- the routes with those of a table
+abbrev pub with_all : RowsOf (RouteOf Route) → List (List ℕ × Route) → RowsOf (RouteOf Route)
+with_all rows [] = rows
+with_all rows ((path, route) ∷ rest) = with_all (with_read (parse_route path) route rows) rest
+
+-- a path that can be read and conflicts with none of the routes
+abbrev pub fits : RowsOf (RouteOf Route) → Result Scan InsertError → Bool
+fits rows (Ok scan) = is_none (nearest scan.pattern rows)
+fits rows (Err error) = false
+
+-- each path of a table can be read and conflicts with none before it
+abbrev pub all_fit : RowsOf (RouteOf Route) → List (List ℕ × Route) → Bool
+all_fit rows [] = true
+all_fit rows ((path, route) ∷ rest) = fits rows (parse_route path) && all_fit (with_read (parse_route path) route rows) rest
+
+-- the paths and what each is for
+abbrev pub table : List (List ℕ × Route)
+table =
+    (codes "/v1/next", route.Command Next)
+    ∷ (codes "/v1/take", route.Command Take)
+    ∷ (codes "/v1/built", route.Command Built)
+    ∷ (codes "/v1/uploaded", route.Command Uploaded)
+    ∷ (codes "/v1/waits", route.Command Waits)
+    ∷ (codes "/v1/put-back", route.Command PutBack)
+    ∷ (codes "/v1/attempted", route.Command Attempted)
+    ∷ (codes "/v1/give-back", route.Command GiveBack)
+    ∷ (codes "/v1/dep-wait", route.Command DepWait)
+    ∷ (codes "/v1/fail", route.Command Fail)
+    ∷ (codes "/v1/not-for-us", route.Command NotForUs)
+    ∷ (codes "/v1/rebuild", route.Command Rebuild)
+    ∷ (codes "/v1/build-priority", route.Command BuildPriority)
+    ∷ (codes "/v1/report", route.Command Report)
+    ∷ (codes "/v1/queue/{arch}", route.Query query_kind.Queue)
+    ∷ (codes "/v1/state/{arch}/{state}", route.Query query_kind.ByState)
+    ∷ (codes "/v1/item/{arch}/{source}", route.Query query_kind.Item)
+    ∷ (codes "/v1/mine/{builder}", route.Query query_kind.Mine)
+    ∷ (codes "/v1/depends/{arch}/{source}", route.Query query_kind.Depends)
+    ∷ (codes "/v1/summary/{arch}", route.Query query_kind.Summary)
+    ∷ []
+
+-- the routes of the table
+unfoldable pub routes : RowsOf (RouteOf Route)
+routes = with_all [] table
+
+-- the value of a route
+abbrev pub value_of : RouteOf Route → Route
+value_of found = found.value
+
+-- what the router of the table finds for a target
+abbrev pub routed : List ℕ → Option Route
+routed target = map_key value_of (first routes target)
 
 -- ---- the parts of a query
 

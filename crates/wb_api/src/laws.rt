@@ -1,5 +1,5 @@
 //! Laws of the definitions, each on a function with nothing to run.
-ghost use Rattle.std.specs.Prelude.{ℕ, List, [], ◌∷◌, ◌≡◌, ◌++◌, pos, neg_ℤ, codes, map, true, None, Some, Ok, Err};
+ghost use Rattle.std.specs.Prelude.{ℕ, ◌<◌, List, [], ◌∷◌, get_or, ◌≡◌, ◌++◌, pos, neg_ℤ, codes, map, true, None, Some, Ok, Err};
 ghost use Rattle.deb_text.specs.Lines.{IsOneLine};
 ghost use Rattle.wb_states.specs.declared.refusal.Refusal.{Refusal as AnyRefusal};
 ghost use Rattle.wb_states.specs.declared.reply.Reply.{Reply as AnyReply};
@@ -25,6 +25,7 @@ ghost use Rattle.wb_states.specs.Machine.{Machine};
 ghost use Rattle.wb_states.specs.declared.command.Command.{Command as AnyCommand};
 ghost use Rattle.wb_step.specs.Offices.{Standing};
 ghost use Rattle.wb_step.specs.Replay.{replay};
+ghost use Rattle.wb_api.specs.Routes.{route_at, routed};
 ghost use Rattle.wb_api.specs.Runs.{AreAccepted, Exchange, Serves};
 
 use wb_step::CarryOut;
@@ -56,6 +57,13 @@ pub fn what_follows_plays_no_part()
         → Means input (Asked request) → Means (input ++ more) (Asked request) }
     ensures refused { (input more : List ℕ) (fault : AnyFault) → ¬ (fault ≡ BodyCut) → ¬ (fault ≡ BadHead)
         → Means input (Refused fault) → Means (input ++ more) (Refused fault) }
+{}
+
+/// The router finds for each target what the target is for: a path alone, or a path and as many parts as it has, with slashes
+/// between them and none of them empty (RFC 3986, section 3.3). It finds nothing for any other target.
+pub fn the_router_finds_each_target()
+    ensures value { (target : List ℕ) → ((i : ℕ) → get_or target i 0 < 256)
+        → routed target ≡ route_at target }
 {}
 
 /// A GET of a query's path is that query, about the parts of the path, each decoded once (RFC 3986, section 2.1). A path

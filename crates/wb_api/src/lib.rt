@@ -22,5 +22,6 @@ pub use fault::{file_fault_json, line_fault_json};
 pub use query::query_json;
 pub use refusal::{refusal_json, try_refusal_json};
 pub use request::{Received, Request, read_request};
+pub use route::Routes;
 pub use serve::{Served, serve_one};
 pub use status::status_of;

@@ -14,7 +14,8 @@ ghost use Rattle.wb_api.specs.Routes.{route_at};
 
 use crate::command::command_of;
 use crate::failure::RequestError;
-use crate::route::{CommandKind, QueryKind, Route, query_of, route_at};
+use crate::route::{CommandKind, QueryKind, Route, Routes, query_of};
+use http::Method;
 use httparse::{EMPTY_HEADER, Header, Status};
 use std::alloc::Global;
 use std::io::Read;
@@ -63,7 +64,7 @@ pub enum Received {
 fn command_wanted(kind: CommandKind, method: &str, fields: &[Header<'_>]) -> Result<Wanted, Fault>
     ensures value { result ≡ command_wanted kind method.now (map header_parts fields.now) }
 {
-    if method != "POST" {
+    if method != Method::POST.as_str() {
         return Err(Fault::WrongMethod);
     }
     if has_field(fields, "transfer-encoding") {
@@ -86,7 +87,7 @@ fn query_wanted(
 ) -> Result<Wanted, RequestError>
     ensures value { WantsOr result (query_wanted kind method.now target.now) }
 {
-    if method != "GET" {
+    if method != Method::GET.as_str() {
         return Err(RequestError::Fault(Fault::WrongMethod));
     }
     match query_of(alloc, kind, target) {
@@ -99,6 +100,7 @@ fn query_wanted(
 /// command or the query that has it, and that memory ran out.
 fn wanted_by(
     alloc: Global,
+    routes: &Routes,
     method: &str,
     target: &str,
     fields: &[Header<'_>],
@@ -106,7 +108,7 @@ fn wanted_by(
     ensures value { WantsOr result
         (wanted_by (route_at target.now) method.now target.now (map header_parts fields.now)) }
 {
-    match route_at(target) {
+    match routes.at(target) {
         Some(Route::Command(kind)) => match command_wanted(kind, method, fields) {
             Ok(wanted) => Ok(wanted),
             Err(fault) => Err(RequestError::Fault(fault)),
@@ -120,6 +122,7 @@ fn wanted_by(
 /// target.
 fn wanted_from(
     alloc: Global,
+    routes: &Routes,
     method: &str,
     target: &str,
     fields: &[Header<'_>],
@@ -130,11 +133,11 @@ fn wanted_from(
     if is_from_browser(fields) {
         return Err(RequestError::Fault(Fault::FromBrowser));
     }
-    wanted_by(alloc, method, target, fields)
+    wanted_by(alloc, routes, method, target, fields)
 }
 
 /// What the head at the front of the bytes asks for.
-fn wanted_of(alloc: Global, bytes: &[u8]) -> Result<Wanted, RequestError>
+fn wanted_of(alloc: Global, routes: &Routes, bytes: &[u8]) -> Result<Wanted, RequestError>
     ensures value { (count : ℕ) (head : RequestHead) → IsHeadAt bytes.now count head
         → WantsOr result (wanted_of head) }
 {
@@ -144,7 +147,7 @@ fn wanted_of(alloc: Global, bytes: &[u8]) -> Result<Wanted, RequestError>
         return Err(RequestError::Fault(Fault::BadHead));
     };
     match (request.method, request.path) {
-        (Some(method), Some(target)) => wanted_from(alloc, method, target, request.headers),
+        (Some(method), Some(target)) => wanted_from(alloc, routes, method, target, request.headers),
         _ => Err(RequestError::Fault(Fault::BadHead)),
     }
 }
@@ -179,6 +182,7 @@ fn receive_body<R: Read + Drop>(
 /// Reads what follows a head of `count` bytes, which stands at the front of what came already.
 fn receive_rest<R: Read + Drop>(
     alloc: Global,
+    routes: &Routes,
     reader: &mut WatchedReader<R>,
     already: &[u8],
     count: usize,
@@ -196,7 +200,7 @@ fn receive_rest<R: Read + Drop>(
         → TookNoMore (drop count already.now) (body_length (wanted_of head))
         reader.old.bytes reader.new.bytes }
 {
-    match wanted_of(alloc, already) {
+    match wanted_of(alloc, routes, already) {
         Ok(Wanted::Query(query)) => Received::Asked(Request::Query(query)),
         Ok(Wanted::Body { kind, length }) => {
             receive_body(alloc, reader, &already[count..], kind, length)
@@ -213,7 +217,11 @@ fn receive_rest<R: Read + Drop>(
 /// fault of it, since the client waits for its answer then. The reads of a head take at most 8192 bytes, which
 /// may include bytes after the request; those of a body take none after it.
 /// Source: RFC 9112; the limits, the paths and the keys are this project's own.
-pub fn read_request<R: Read + Drop>(alloc: Global, reader: &mut WatchedReader<R>) -> Received
+pub fn read_request<R: Read + Drop>(
+    alloc: Global,
+    routes: &Routes,
+    reader: &mut WatchedReader<R>,
+) -> Received
     ensures value { IfSome reader.old.bytes (λ input. Means input result) }
     ensures failed { Flags (is_failed result) reader.old reader.new }
     ensures front { result ≡ received.Failed → (seen : List ℕ)
@@ -223,7 +231,9 @@ pub fn read_request<R: Read + Drop>(alloc: Global, reader: &mut WatchedReader<R>
 {
     let mut room = [0u8; HEAD_LIMIT];
     match read_head(reader, &mut room) {
-        HeadRead::Whole { count, filled } => receive_rest(alloc, reader, &room[..filled], count),
+        HeadRead::Whole { count, filled } => {
+            receive_rest(alloc, routes, reader, &room[..filled], count)
+        }
         HeadRead::Nothing => Received::Nothing,
         HeadRead::Malformed => Received::Refused(Fault::BadHead),
         HeadRead::TooLarge => Received::Refused(Fault::HeadTooLarge),

@@ -1,13 +1,15 @@
 //! The targets of requests (RFC 9112, section 3.2), and the parts of their paths (RFC 3986, section 3.3).
-ghost use Rattle.std.specs.Prelude.{◌≡◌, option_map};
-ghost use Rattle.wb_api.specs.Routes.{are_two_parts, command_at, cut_at_slash, decoded_text, has_one_part};
-ghost use Rattle.wb_api.specs.Routes.{has_two_parts, is_part, part_at, query_at, query_of, route_at};
+ghost use Rattle.std.specs.Prelude.{◌≡◌, true, OnOk, IfErr, map};
+ghost use Rattle.wb_api.specs.Routes.{all_fit, decoded_text, part_at, query_of, route_at, row_of, with_all};
+ghost use Rattle.matchit.specs.declared.error.InsertError.TheVariants.{OutOfMemory};
 ghost use Rattle.wb_api.specs.Outcomes.{GivesOr};
 
 use crate::failure::RequestError;
 use deb_text::Text;
+use matchit::{InsertError, Router};
 use percent_encoding::{DecodeError, percent_decode};
 use std::alloc::Global;
+use std::marker::Model;
 use wb_states::Query;
 use wb_streams::Fault;
 
@@ -48,103 +50,88 @@ pub(crate) enum Route {
     Query(QueryKind),
 }
 
-/// The command that has this target.
-fn command_at(target: &str) -> Option<CommandKind>
-    ensures value { result ≡ command_at target.now }
+/// The paths, as `matchit` reads them, and what each is for.
+static TABLE: [(&str, Route); 20] = [
+    ("/v1/next", Route::Command(CommandKind::Next)),
+    ("/v1/take", Route::Command(CommandKind::Take)),
+    ("/v1/built", Route::Command(CommandKind::Built)),
+    ("/v1/uploaded", Route::Command(CommandKind::Uploaded)),
+    ("/v1/waits", Route::Command(CommandKind::Waits)),
+    ("/v1/put-back", Route::Command(CommandKind::PutBack)),
+    ("/v1/attempted", Route::Command(CommandKind::Attempted)),
+    ("/v1/give-back", Route::Command(CommandKind::GiveBack)),
+    ("/v1/dep-wait", Route::Command(CommandKind::DepWait)),
+    ("/v1/fail", Route::Command(CommandKind::Fail)),
+    ("/v1/not-for-us", Route::Command(CommandKind::NotForUs)),
+    ("/v1/rebuild", Route::Command(CommandKind::Rebuild)),
+    ("/v1/build-priority", Route::Command(CommandKind::BuildPriority)),
+    ("/v1/report", Route::Command(CommandKind::Report)),
+    ("/v1/queue/{arch}", Route::Query(QueryKind::Queue)),
+    ("/v1/state/{arch}/{state}", Route::Query(QueryKind::ByState)),
+    ("/v1/item/{arch}/{source}", Route::Query(QueryKind::Item)),
+    ("/v1/mine/{builder}", Route::Query(QueryKind::Mine)),
+    ("/v1/depends/{arch}/{source}", Route::Query(QueryKind::Depends)),
+    ("/v1/summary/{arch}", Route::Query(QueryKind::Summary)),
+];
+
+/// Adds the paths of a table to a router. The errors are those of `matchit` for a path that cannot be read or conflicts with
+/// another, and that there is no memory.
+fn insert_all(router: &mut Router<Route>, table: &[(&str, Route)]) -> Result<(), InsertError>
+    ensures value { OnOk result (router.new ≡ with_all router.old (map row_of table.now)) }
+    ensures err { all_fit router.old (map row_of table.now) ≡ true → IfErr result (λ error. error ≡ OutOfMemory) }
 {
-    match target {
-        "/v1/next" => Some(CommandKind::Next),
-        "/v1/take" => Some(CommandKind::Take),
-        "/v1/built" => Some(CommandKind::Built),
-        "/v1/uploaded" => Some(CommandKind::Uploaded),
-        "/v1/waits" => Some(CommandKind::Waits),
-        "/v1/put-back" => Some(CommandKind::PutBack),
-        "/v1/attempted" => Some(CommandKind::Attempted),
-        "/v1/give-back" => Some(CommandKind::GiveBack),
-        "/v1/dep-wait" => Some(CommandKind::DepWait),
-        "/v1/fail" => Some(CommandKind::Fail),
-        "/v1/not-for-us" => Some(CommandKind::NotForUs),
-        "/v1/rebuild" => Some(CommandKind::Rebuild),
-        "/v1/build-priority" => Some(CommandKind::BuildPriority),
-        "/v1/report" => Some(CommandKind::Report),
-        _ => None,
+    match table {
+        [] => Ok(()),
+        [(path, route), rest @ ..] => {
+            router.insert(path, *route)?;
+            insert_all(router, rest)
+        }
     }
 }
 
-fn is_part(text: &[u8]) -> bool
-    ensures value { result ≡ is_part text.now }
-{
-    !text.is_empty() && text.iter().all(|byte| *byte != b'/')
+/// The paths that are served and what each is for, as one router. It is made once and lent to each exchange, so that no
+/// request needs memory to find what it is for.
+/// Source: this project's own.
+#[derive(Drop)]
+pub struct Routes {
+    router: Router<Route>,
 }
 
-/// What stands before the first slash, and what stands after it.
-fn cut_at_slash(text: &[u8]) -> Option<(&[u8], &[u8])>
-    ensures value { option_map (λ cut. (cut.0.now, cut.1.now)) result ≡ cut_at_slash text.now }
-{
-    let slash = text.iter().position(|byte| *byte == b'/')?;
-    Some((&text[..slash], &text[slash + 1..]))
+impl Model for Routes {
+    ghost use Rattle.std.specs.Prelude.{◌≡◌};
+    ghost use Rattle.wb_api.specs.Routes.{routes};
+    ghost use Rattle.matchit.specs.Rows.{RowsOf};
+    ghost use Rattle.matchit.specs.Router.{RouteOf};
+    ghost use Rattle.wb_api.specs.declared.route.Route.{Route as AnyRoute};
+
+    ghost Value = { RowsOf (RouteOf AnyRoute) };
+
+    ghost view = { λ r. r.router };
+
+    ghost invariant = { λ r. r.router ≡ routes };
 }
 
-/// Two parts with a slash between them.
-#[tactic(auto, unfolding(crate::specs::Routes::are_two_parts))]
-fn are_two_parts(text: &[u8]) -> bool
-    ensures value { result ≡ are_two_parts text.now }
-{
-    match cut_at_slash(text) {
-        Some((before, after)) => is_part(before) && is_part(after),
-        None => false,
+impl Routes {
+    /// The router of all paths. The only error is that there is no memory for it.
+    /// Source: this project's own.
+    pub fn new(alloc: Global) -> Result<Routes, InsertError>
+        ensures err { IfErr result (λ error. error ≡ OutOfMemory) }
+    {
+        let mut router = Router::new(alloc);
+        match insert_all(&mut router, &TABLE) {
+            Ok(()) => Ok(Routes { router }),
+            Err(error) => Err(error),
+        }
     }
-}
 
-/// Whether a target is this path and one part more.
-fn has_one_part(path: &str, target: &str) -> bool
-    ensures value { result ≡ has_one_part path.now target.now }
-{
-    match target.as_bytes().strip_prefix(path.as_bytes()) {
-        Some(part) => is_part(part),
-        None => false,
-    }
-}
-
-/// Whether a target is this path and two parts more.
-fn has_two_parts(path: &str, target: &str) -> bool
-    ensures value { result ≡ has_two_parts path.now target.now }
-{
-    match target.as_bytes().strip_prefix(path.as_bytes()) {
-        Some(parts) => are_two_parts(parts),
-        None => false,
-    }
-}
-
-/// The query that has this target.
-#[tactic(auto, unfolding(crate::specs::Routes::query_at))]
-fn query_at(target: &str) -> Option<QueryKind>
-    ensures value { result ≡ query_at target.now }
-{
-    if has_one_part("/v1/queue/", target) {
-        Some(QueryKind::Queue)
-    } else if has_two_parts("/v1/state/", target) {
-        Some(QueryKind::ByState)
-    } else if has_two_parts("/v1/item/", target) {
-        Some(QueryKind::Item)
-    } else if has_one_part("/v1/mine/", target) {
-        Some(QueryKind::Mine)
-    } else if has_two_parts("/v1/depends/", target) {
-        Some(QueryKind::Depends)
-    } else if has_one_part("/v1/summary/", target) {
-        Some(QueryKind::Summary)
-    } else {
-        None
-    }
-}
-
-/// What a target is for.
-pub(crate) fn route_at(target: &str) -> Option<Route>
-    ensures value { result ≡ route_at target.now }
-{
-    match command_at(target) {
-        Some(kind) => Some(Route::Command(kind)),
-        None => query_at(target).map(Route::Query),
+    /// What a target is for: `None` if it is none that is served. Takes no memory.
+    pub(crate) fn at(&self, target: &str) -> Option<Route>
+        ensures value { result ≡ route_at target.now }
+    {
+        match self.router.at(target) {
+            Ok(found) => Some(*found.value),
+            Err(_) => None,
+        }
     }
 }
 

@@ -14,6 +14,7 @@ ghost use Rattle.wb_api.specs.Exchange.{Exchanges, fails_to_write, is_asked, IsA
 
 use crate::answer::{HttpAnswer, answer_command, fault_answer, memory_answer};
 use crate::ask::answer_query;
+use crate::route::Routes;
 use crate::{Received, Request, read_request};
 use std::alloc::Global;
 use std::io::{Read, Write};
@@ -100,6 +101,7 @@ fn respond<O: CarryOut, W: Write + Drop>(
 /// Reads one request, has the office carry it out, and writes the answer.
 fn exchange<O: CarryOut, R: Read + Drop, W: Write + Drop>(
     alloc: Global,
+    routes: &Routes,
     office: &mut O,
     reader: &mut WatchedReader<R>,
     writer: &mut WatchedWriter<W>,
@@ -113,7 +115,7 @@ fn exchange<O: CarryOut, R: Read + Drop, W: Write + Drop>(
     ensures silent { is_silent result ≡ true → writer.new.bytes ≡ writer.old.bytes }
     ensures failed { Flags (fails_to_write result) writer.old writer.new }
 {
-    match read_request(alloc, reader) {
+    match read_request(alloc, routes, reader) {
         Received::Nothing => Served::Nothing,
         Received::Failed => Served::ReadFailed,
         Received::Memory => send(writer, &memory_answer(alloc)),
@@ -134,6 +136,7 @@ fn exchange<O: CarryOut, R: Read + Drop, W: Write + Drop>(
 /// Source: RFC 9112, section 9.3, for one exchange; the rest is this project's own.
 pub fn serve_one<O: CarryOut, R: Read + Drop, W: Write + Drop>(
     alloc: Global,
+    routes: &Routes,
     office: &mut O,
     reader: &mut WatchedReader<R>,
     writer: &mut WatchedWriter<W>,
@@ -154,5 +157,5 @@ pub fn serve_one<O: CarryOut, R: Read + Drop, W: Write + Drop>(
     ensures silent { is_silent result ≡ true → writer.new.bytes ≡ writer.old.bytes }
     ensures failed { Flags (fails_to_write result) writer.old writer.new }
 {
-    exchange(alloc, office, reader, writer)
+    exchange(alloc, routes, office, reader, writer)
 }
