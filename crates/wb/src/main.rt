@@ -103,7 +103,10 @@ fn start(rt: &HostRuntime, arguments: &[String]) -> u8 {
                 requests,
             },
         ) => match serve::listen(rt, port) {
-            Some(listener) => open_for(rt, store, Work::Serve { listener, requests }),
+            Some(listener) => {
+                let listener = &listener;
+                open_for(rt, store, Work::Serve { listener, requests })
+            }
             None => status::STOPPED,
         },
         Ok(Start::Ask { store, words }) => open_for(rt, store, Work::Ask { words }),
@@ -117,13 +120,13 @@ fn start(rt: &HostRuntime, arguments: &[String]) -> u8 {
 }
 
 /// What an office is opened for. A port is taken before that, so that no file is made if the port cannot be taken.
-#[derive(Drop)]
+#[derive(Clone, Copy)]
 pub(crate) enum Work<'a> {
     /// To answer the lines of standard input.
     Run,
     /// To answer this many connections; without a number, all until the program is ended.
     Serve {
-        listener: TcpListener,
+        listener: &'a TcpListener,
         requests: Option<u32>,
     },
     /// To answer the query of these words, which leaves the office as it is.
@@ -149,7 +152,7 @@ pub(crate) fn act<S: Alter + Drop>(rt: &HostRuntime, office: &mut Office<S>, wor
     match work {
         Work::Run => run(rt, office),
         Work::Ask { words } | Work::CarryOut { words } => answer(rt, office, words),
-        Work::Serve { listener, requests } => serve::serve(rt, office, &listener, requests),
+        Work::Serve { listener, requests } => serve::serve(rt, office, listener, requests),
     }
 }
 

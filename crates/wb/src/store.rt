@@ -1,9 +1,12 @@
 //! The office over records that a file keeps.
 
+ghost use Rattle.sqlite.specs.Held.{IsNew};
+
 use crate::files::{connect, connect_to_ask, names_no_file, refuse};
 use crate::{Work, act, answer, said};
+use sqlite::{Connection, File, FileStore};
 use std::alloc::AllocError;
-use std::fs::{self, File, OpenOptions, TryLockError};
+use std::fs::{self, OpenOptions, TryLockError};
 use std::io::{self, ErrorKind, Read};
 use std::os::unix::fs::OpenOptionsExt;
 use wb_daemon::status;
@@ -51,17 +54,21 @@ pub(crate) fn open_for(rt: &HostRuntime, name: &str, work: Work<'_>) -> u8 {
 /// None begins in a database whose pages have no checksums, as another program makes it. An office that is only asked leaves
 /// the file and its log as they are.
 fn open_file(rt: &HostRuntime, file: &str, work: Work<'_>) -> u8 {
-    let _lock = match lock_of(rt, file) {
-        Ok(lock) => lock,
-        Err(LockRefusal::InUse) => return refuse_held(rt, file),
-        Err(LockRefusal::Fault(fault)) => return said_store(rt, fault.name()),
-    };
+    match lock_of(rt, file) {
+        Ok(_lock) => open_locked(rt, file, work),
+        Err(LockRefusal::InUse) => refuse_held(rt, file),
+        Err(LockRefusal::Fault(fault)) => said_store(rt, fault.name()),
+    }
+}
+
+/// Has the office over the records in the file, which is locked, do its work.
+fn open_locked(rt: &HostRuntime, file: &str, work: Work<'_>) -> u8 {
     match is_lost_beside_its_log(rt, file) {
         Ok(false) => {}
         Ok(true) => return refuse_lost(rt, file),
         Err(AllocError) => return refuse_fault(rt, file, StoreFault::Memory),
     }
-    let asked = match &work {
+    let asked = match work {
         Work::Ask { words } => ask_file(rt, file, words),
         _ => None,
     };
@@ -89,30 +96,56 @@ fn ask_file(rt: &HostRuntime, file: &str, words: &[&str]) -> Option<u8> {
 
 /// Has the office over the records in the file, which is locked, do its work, and keeps them in it.
 fn keep_file(rt: &HostRuntime, file: &str, work: Work<'_>) -> u8 {
-    let was_empty = size_of(rt, file) == 0;
-    let is_of_others = lacks_sums(rt, file);
-    let conn = match connect(rt, file) {
-        Ok(conn) => conn,
-        Err(fault) => return said_store(rt, fault.name()),
+    let found = Found {
+        was_empty: size_of(rt, file) == 0,
+        is_of_others: lacks_sums(rt, file),
     };
+    match connect(rt, file) {
+        Ok(conn) => keep_in(rt, file, found, conn, work),
+        Err(fault) => said_store(rt, fault.name()),
+    }
+}
+
+/// What stood in a file before it was opened as a database.
+#[derive(Clone, Copy)]
+struct Found {
+    /// It was empty or not there.
+    was_empty: bool,
+    /// It is a database whose pages have no room for checksums.
+    is_of_others: bool,
+}
+
+/// Has the office in a database do its work. It begins there if the database has none.
+fn keep_in(
+    rt: &HostRuntime,
+    file: &str,
+    found: Found,
+    conn: Connection<FileStore<File>>,
+    work: Work<'_>,
+) -> u8
+    requires fresh { IsNew conn }
+{
     let is_new = lacks_office(conn.schema());
-    if is_new && is_of_others {
+    if is_new && found.is_of_others {
         return refuse_other(rt, file);
     }
-    let mut office = match Office::adopt(rt.alloc(), conn) {
-        Ok(office) => office,
-        Err(fault) => return refuse_fault(rt, file, fault),
-    };
-    if is_new {
-        report_new(rt, file, was_empty);
-    }
-    let status = act(rt, &mut office, work);
-    match office.close() {
-        Ok(_) => status,
-        Err(fault) => {
-            let _ = eprintln!(rt; "wb: {file} was not closed: {fault}");
+    match Office::adopt(rt.alloc(), conn) {
+        Ok(mut office) => {
+            if is_new {
+                report_new(rt, file, found.was_empty);
+            }
+            let status = act(rt, &mut office, work);
+            close(rt, file, office);
             status
         }
+        Err(fault) => refuse_fault(rt, file, fault),
+    }
+}
+
+/// Closes the office in a file. What was committed stays if that fails, which is reported on standard error.
+fn close(rt: &HostRuntime, file: &str, office: Office<FileStore<File>>) {
+    if let Err(fault) = office.close() {
+        let _ = eprintln!(rt; "wb: {file} was not closed: {fault}");
     }
 }
 
@@ -139,7 +172,7 @@ fn lacks_sums(rt: &HostRuntime, file: &str) -> bool {
         return false;
     }
     let mut header = [0u8; RESERVED_AT + 1];
-    match File::open(rt, file) {
+    match fs::File::open(rt, file) {
         Ok(mut data) => {
             data.read_exact(&mut header).is_ok()
                 && header.starts_with(MAGIC)
@@ -174,7 +207,7 @@ fn size_of(rt: &HostRuntime, name: &str) -> u64 {
 }
 
 /// The lock of a program on the file of an office, which ends with the program.
-fn lock_of(rt: &HostRuntime, file: &str) -> Result<File, LockRefusal> {
+fn lock_of(rt: &HostRuntime, file: &str) -> Result<fs::File, LockRefusal> {
     let Ok(name) = format!(in rt.alloc(); "{file}.lock") else {
         let fault = StoreFault::Memory;
         return Err(LockRefusal::Fault(refuse(rt, file, fault, fault)));
