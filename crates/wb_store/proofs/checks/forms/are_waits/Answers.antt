@@ -11,8 +11,8 @@ returns-in_ok-text-in-Some c =
     let waits = c.args.waits.now in
     let reads : Reads waits c.in-Some.relations = subst (λ found. IfSome found (Reads waits)) c.in-Some.is c.in_ok-relations.ensures.value in
     record {
-      value = are_waits (with_words c.args.name.now c.args.words.now) waits c.requires.within.within c.eq.result c.as_str.result.now c.in-Some.relations
-          (c.eq.ensures ∙ ap (bytes_eq c.as_str.result.now) c.as_str-in-Some.ensures) (c.as_str.ensures.value ∙ c.in_ok-text-in-Some.ensures.value) reads;
+      value = are_waits (with_words c.args.name.now c.args.words.now) waits c.requires.within.within c.eq.result c.as_str-in-Some.result.now c.in-Some.relations
+          (c.eq.ensures ∙ ap (bytes_eq c.as_str-in-Some.result.now) c.as_str-in-Some-2.ensures) (c.as_str-in-Some.ensures.value ∙ c.in_ok-text-in-Some.ensures.value) reads;
     }
 
 pub returns-in-None : goal.returns-in-None
