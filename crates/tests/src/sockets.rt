@@ -2,6 +2,7 @@
 //! them until it is read, and so is an answer.
 
 use deb_text::Text;
+use http::StatusCode;
 use sqlite::{FileStore, Files, Options};
 use sqlite_disk::Memory;
 use std::alloc::{AllocError, Global};
@@ -15,7 +16,7 @@ use wb_office::Office;
 use wb_states::Command;
 use wb_states::command::{AddArch, AddBuilder, Enter};
 use wb_step::CarryOut;
-use wb_streams::{Status, WatchedReader, WatchedWriter};
+use wb_streams::{WatchedReader, WatchedWriter};
 
 type MemoryOffice = Office<FileStore<Memory>>;
 
@@ -167,7 +168,7 @@ fn a_cut_body_is_answered_over_a_socket(rt: HostRuntime) -> Result<(), Fail> {
     assert_eq!(rt;
         ended,
         Served::Answered {
-            status: Status::BadRequest
+            status: StatusCode::BAD_REQUEST
         }
     );
     assert_eq!(rt; office.accepted_count(), 3);
@@ -187,7 +188,7 @@ fn a_client_that_leaves_within_a_body_asks_for_nothing(rt: HostRuntime) -> Resul
     let (client, server) = connected(&rt)?;
     (&client).write_all(&NEXT.as_bytes()[..78])?;
     drop(client);
-    let status = Status::BadRequest;
+    let status = StatusCode::BAD_REQUEST;
     match served(rt.alloc(), &mut office, &server, AMPLE)? {
         Served::Answered { status: met } | Served::WriteFailed { status: met } => {
             assert_eq!(rt; met, status);
@@ -258,7 +259,7 @@ fn a_write_to_a_connection_that_was_shut_down_fails(rt: HostRuntime) -> Result<(
     (&client).write_all(NEXT.as_bytes())?;
     server.shutdown(Shutdown::Write)?;
     let ended = served(rt.alloc(), &mut office, &server, AMPLE)?;
-    assert_eq!(rt; ended, Served::WriteFailed { status: Status::Ok });
+    assert_eq!(rt; ended, Served::WriteFailed { status: StatusCode::OK });
     drop(server);
     assert!(rt; io::read_to_string(rt.alloc(), client)?.is_empty());
     assert_again(&rt, rt.alloc(), &mut office)
@@ -272,7 +273,7 @@ fn a_client_that_resets_the_connection_loses_its_answer(rt: HostRuntime) -> Resu
     let (client, server) = connected(&rt)?;
     (&client).write_all(NEXT.as_bytes())?;
     reset(client, &server)?;
-    let status = Status::Ok;
+    let status = StatusCode::OK;
     match served(rt.alloc(), &mut office, &server, AMPLE)? {
         Served::Answered { status: met } | Served::WriteFailed { status: met } => {
             assert_eq!(rt; met, status);

@@ -89,8 +89,8 @@ fn word_of(served: Served) -> (&'static str, u16) {
     match served {
         Served::Nothing => ("nothing", 0),
         Served::ReadFailed => ("read-failed", 0),
-        Served::Answered { status } => ("answered", status.code()),
-        Served::WriteFailed { status } => ("write-failed", status.code()),
+        Served::Answered { status } => ("answered", status.as_u16()),
+        Served::WriteFailed { status } => ("write-failed", status.as_u16()),
         Served::Mute => ("mute", 0),
     }
 }

@@ -119,7 +119,7 @@ fn report(rt: &HostRuntime, ended: io::Result<Served>) {
             eprintln!(rt; "wb: a request was not read to its end, and nothing was done for it")
         }
         Ok(Served::WriteFailed { status }) => {
-            let code = status.code();
+            let code = status.as_u16();
             eprintln!(rt; "wb: an answer of status {code} was not written to its end")
         }
         Ok(Served::Mute) => {

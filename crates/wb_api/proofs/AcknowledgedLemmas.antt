@@ -1,5 +1,5 @@
 -- What a status of 200 says of the office.
-use Rattle.std.proofs.Common.{◌≡◌, ℕ, List, Option, Result, Ok, Err, IsOk, inl, inr, refl, sym, ap, ◌∙◌, subst}
+use Rattle.std.proofs.Common.{◌≡◌, ◌<◌, ℕ, List, Option, Result, Ok, Err, IsOk, inl, inr, refl, sym, ap, ◌∙◌, subst, arith}
 use Rattle.wb_states.specs.Commands.{name_of_command}
 use Rattle.wb_states.specs.Machine.{Machine}
 use Rattle.wb_states.specs.declared.command.Command.{Command}
@@ -14,51 +14,53 @@ use Rattle.wb_api.specs.declared.request.Received.{Received}
 use Rattle.wb_api.specs.declared.request.Received.TheVariants as received
 use Rattle.wb_api.specs.declared.request.Request.{Request}
 use Rattle.wb_api.specs.declared.request.Request.TheVariants as request
-use Rattle.wb_streams.specs.declared.status.Status.TheVariants as code
 use Rattle.wb_api.specs.Exchange.{Exchanges, IsAnswer, IsRefusal, Response, Responds, Sends, TellsOk, memory_response, reply_response, status_of_refusal}
 use Rattle.wb_api.specs.declared.serve.Served.{Served}
 use Rattle.wb_api.specs.declared.serve.Served.TheVariants as served
 
--- no refusal is told with 200
-pub refusal-not_ok : (refusal : Refusal) → ¬ (status_of_refusal refusal ≡ code.Ok)
-refusal-not_ok UnknownArch e = cc
-refusal-not_ok UnknownBuilder e = cc
-refusal-not_ok WrongArch e = cc
-refusal-not_ok UnknownSource e = cc
-refusal-not_ok (OtherVersion have) e = cc
-refusal-not_ok (WrongState state) e = cc
-refusal-not_ok QueueEmpty e = cc
-refusal-not_ok NotHeld e = cc
-refusal-not_ok (AfterAhead handed) e = cc
-refusal-not_ok AlreadyThere e = cc
-refusal-not_ok BadName e = cc
-refusal-not_ok (BadVersion fault) e = cc
-refusal-not_ok (BadRelations fault) e = cc
-refusal-not_ok BadNumber e = cc
-refusal-not_ok (BadListing which paragraph fault) e = cc
-refusal-not_ok (BadReport line) e = cc
-refusal-not_ok TextTooLong e = cc
-refusal-not_ok Spent e = cc
-refusal-not_ok RepeatedArch e = cc
-refusal-not_ok Closed e = cc
-refusal-not_ok Memory e = cc
-refusal-not_ok (Store fault) e = cc
+not-200 : (n : ℕ) → 200 < n → ¬ (n ≡ 200)
+not-200 n more e = omega (arith, e, more)
 
-pub memory-not_ok : (machine : Machine) (response : Response) → response ≡ memory_response machine → ¬ (response.status ≡ code.Ok)
+-- no refusal is told with 200
+pub refusal-not_ok : (refusal : Refusal) → ¬ (status_of_refusal refusal ≡ 200)
+refusal-not_ok UnknownArch = not-200 404 (omega arith)
+refusal-not_ok UnknownBuilder = not-200 404 (omega arith)
+refusal-not_ok WrongArch = not-200 409 (omega arith)
+refusal-not_ok UnknownSource = not-200 404 (omega arith)
+refusal-not_ok (OtherVersion have) = not-200 409 (omega arith)
+refusal-not_ok (WrongState state) = not-200 409 (omega arith)
+refusal-not_ok QueueEmpty = not-200 409 (omega arith)
+refusal-not_ok NotHeld = not-200 409 (omega arith)
+refusal-not_ok (AfterAhead handed) = not-200 409 (omega arith)
+refusal-not_ok AlreadyThere = not-200 409 (omega arith)
+refusal-not_ok BadName = not-200 422 (omega arith)
+refusal-not_ok (BadVersion fault) = not-200 422 (omega arith)
+refusal-not_ok (BadRelations fault) = not-200 422 (omega arith)
+refusal-not_ok BadNumber = not-200 422 (omega arith)
+refusal-not_ok (BadListing which paragraph fault) = not-200 422 (omega arith)
+refusal-not_ok (BadReport line) = not-200 422 (omega arith)
+refusal-not_ok TextTooLong = not-200 422 (omega arith)
+refusal-not_ok Spent = not-200 409 (omega arith)
+refusal-not_ok RepeatedArch = not-200 422 (omega arith)
+refusal-not_ok Closed = not-200 503 (omega arith)
+refusal-not_ok Memory = not-200 503 (omega arith)
+refusal-not_ok (Store fault) = not-200 503 (omega arith)
+
+pub memory-not_ok : (machine : Machine) (response : Response) → response ≡ memory_response machine → ¬ (response.status ≡ 200)
 memory-not_ok machine response same e = refusal-not_ok Memory (sym (ap (λ (r : Response). r.status) same) ∙ e)
 
-pub is_refusal-not_ok : (machine : Machine) (refusal : Refusal) (response : Response) → IsRefusal machine refusal response → ¬ (response.status ≡ code.Ok)
+pub is_refusal-not_ok : (machine : Machine) (refusal : Refusal) (response : Response) → IsRefusal machine refusal response → ¬ (response.status ≡ 200)
 is_refusal-not_ok machine refusal response (inl same) e = refusal-not_ok refusal (sym (ap (λ (r : Response). r.status) same) ∙ e)
 is_refusal-not_ok machine refusal response (inr (long, same)) e = memory-not_ok machine response same e
 
 -- a command that is answered with 200 was replied to
-reply-ok : (name : List ℕ) (result : Result Reply Refusal) (after : Machine) → (reply_response name result after).status ≡ code.Ok
+reply-ok : (name : List ℕ) (result : Result Reply Refusal) (after : Machine) → (reply_response name result after).status ≡ 200
     → IsOk result × ((reply_response name result after).machine ≡ after)
 reply-ok name (Ok reply) after e = (refl, refl)
 reply-ok name (Err refusal) after e = absurd (refusal-not_ok refusal e)
 
 -- what was written with 200 is an answer with that status
-pub sends-ok : (response : Response) (old new : Option (List ℕ)) (result : Served) → Sends response old new result → TellsOk result → response.status ≡ code.Ok
+pub sends-ok : (response : Response) (old new : Option (List ℕ)) (result : Served) → Sends response old new result → TellsOk result → response.status ≡ 200
 sends-ok response old new result sent (inl e) = let told = subst (λ r. Sends response old new r) e sent in sym told.0
 sends-ok response old new result sent (inr e) = let told = subst (λ r. Sends response old new r) e sent in sym told.0
 
@@ -80,7 +82,7 @@ IsDone before after standing command =
     IsOk (step before command).0 × (after ≡ (step before command).1) × (standing ≡ Open)
 
 answer-done : (before after : Machine) (standing : Standing) (command : Command) (response : Response)
-    → IsAnswer before (request.Command command) response standing → after ≡ response.machine → response.status ≡ code.Ok
+    → IsAnswer before (request.Command command) response standing → after ≡ response.machine → response.status ≡ 200
     → IsDone before after standing command
 answer-done before after standing command response (inl (inl same, open_still)) is ok =
     let done = reply-ok (name_of_command command) (step before command).0 (step before command).1 (sym (ap (λ (r : Response). r.status) same) ∙ ok) in

@@ -26,7 +26,6 @@ use Rattle.wb_api.specs.Encoding.{is_plain, reply_text}
 use Rattle.wb_api.specs.Queries.{query_text}
 use Rattle.wb_states.specs.declared.query.Query.{Query}
 use Rattle.wb_states.specs.declared.query.Query.TheVariants as query
-use Rattle.wb_streams.specs.declared.status.Status.TheVariants as code
 use Rattle.wb_api.specs.Exchange.{IsCommandAnswer, IsQueryAnswer, IsRefusal, Response, command_response, found_response, memory_response, refusal_response, reply_response}
 
 -- ---- where a refusal leads
@@ -70,10 +69,10 @@ refused-response machine command refusal e =
 -- the reply to a command is answered
 pub reply-answered : (machine : Machine) (command : Command) (reply : Reply) (text : List ℕ)
     → (step machine command).0 ≡ Ok reply → text ≡ reply_text (name_of_command command) reply
-    → IsCommandAnswer machine command (record { status = code.Ok; body = text; machine = (step machine command).1 }) Open
+    → IsCommandAnswer machine command (record { status = 200; body = text; machine = (step machine command).1 }) Open
 reply-answered machine command reply text e said =
     inl (
-      inl (ap (λ t. record { status = code.Ok; body = t; machine = (step machine command).1 }) said
+      inl (ap (λ t. record { status = 200; body = t; machine = (step machine command).1 }) said
           ∙ sym (ap (λ (r : Result Reply Refusal). reply_response (name_of_command command) r (step machine command).1) e)),
       refl,
     )
@@ -87,7 +86,7 @@ refusal-answered machine command refusal response e (inr (long, same)) = inl (in
 -- the text of the refusal for want of memory is a constant
 pub memory-refusal : (machine : Machine) (response : Response) → IsRefusal machine Memory response → response ≡ memory_response machine
 memory-refusal machine response (inl same) =
-    same ∙ ap (λ t. record { status = code.ServiceUnavailable; body = t; machine = machine }) refusal_text-Memory
+    same ∙ ap (λ t. record { status = 503; body = t; machine = machine }) refusal_text-Memory
 memory-refusal machine response (inr (long, same)) = same
 
 -- that there is no memory is answered to a command that may want some
@@ -150,9 +149,9 @@ plain-query machine query refusal e = plain-unless (has_malformed_name query) Ba
 
 -- what was found is answered
 pub found-answered : (machine : Machine) (query : Query) (found : Found) (text : List ℕ) → answer_of machine query ≡ Ok found → text ≡ query_text found
-    → IsQueryAnswer machine query (record { status = code.Ok; body = text; machine = machine }) Open
+    → IsQueryAnswer machine query (record { status = 200; body = text; machine = machine }) Open
 found-answered machine query found text e said =
-    inl (inl (ap (λ t. record { status = code.Ok; body = t; machine = machine }) said ∙ sym (ap (found_response machine) e)), refl)
+    inl (inl (ap (λ t. record { status = 200; body = t; machine = machine }) said ∙ sym (ap (found_response machine) e)), refl)
 
 -- there is no memory for the text of what was found
 pub found-unsaid : (machine : Machine) (query : Query) (found : Found) (response : Response) → answer_of machine query ≡ Ok found

@@ -25,8 +25,6 @@ use Rattle.wb_api.specs.declared.request.Received.TheVariants as received
 use Rattle.wb_api.specs.declared.request.Request.{Request}
 use Rattle.wb_api.specs.declared.request.Request.TheVariants as request
 use Rattle.wb_states.specs.declared.query.Query.{Query}
-use Rattle.wb_streams.specs.declared.status.Status.{Status}
-use Rattle.wb_streams.specs.declared.status.Status.TheVariants as code
 use Rattle.wb_streams.specs.Streams.{Flags, Stream}
 use Rattle.wb_api.specs.declared.answer.HttpAnswer.{HttpAnswer}
 use Rattle.wb_api.specs.declared.serve.Served.{Served}
@@ -34,7 +32,7 @@ use Rattle.wb_api.specs.declared.serve.Served.TheVariants as served
 
 -- what is answered to a request: the status, the body, and the state of the office after it
 pub record Response : Type 0 where
-  pub status : Status
+  pub status : ℕ
   pub body : List ℕ
   pub machine : Machine
 
@@ -45,29 +43,29 @@ response_of_answer answer after = record { status = answer.status; body = cow_st
 -- ---- what is answered
 
 -- the status of the answer to a refusal (RFC 9110, sections 15.5 and 15.6)
-abbrev pub status_of_refusal : Refusal → Status
-status_of_refusal UnknownArch = code.NotFound
-status_of_refusal UnknownBuilder = code.NotFound
-status_of_refusal WrongArch = code.Conflict
-status_of_refusal UnknownSource = code.NotFound
-status_of_refusal (OtherVersion have) = code.Conflict
-status_of_refusal (WrongState state) = code.Conflict
-status_of_refusal QueueEmpty = code.Conflict
-status_of_refusal NotHeld = code.Conflict
-status_of_refusal (AfterAhead handed) = code.Conflict
-status_of_refusal AlreadyThere = code.Conflict
-status_of_refusal BadName = code.UnprocessableEntity
-status_of_refusal (BadVersion fault) = code.UnprocessableEntity
-status_of_refusal (BadRelations fault) = code.UnprocessableEntity
-status_of_refusal BadNumber = code.UnprocessableEntity
-status_of_refusal (BadListing which paragraph fault) = code.UnprocessableEntity
-status_of_refusal (BadReport line) = code.UnprocessableEntity
-status_of_refusal TextTooLong = code.UnprocessableEntity
-status_of_refusal Spent = code.Conflict
-status_of_refusal RepeatedArch = code.UnprocessableEntity
-status_of_refusal Closed = code.ServiceUnavailable
-status_of_refusal Memory = code.ServiceUnavailable
-status_of_refusal (Store fault) = code.ServiceUnavailable
+abbrev pub status_of_refusal : Refusal → ℕ
+status_of_refusal UnknownArch = 404
+status_of_refusal UnknownBuilder = 404
+status_of_refusal WrongArch = 409
+status_of_refusal UnknownSource = 404
+status_of_refusal (OtherVersion have) = 409
+status_of_refusal (WrongState state) = 409
+status_of_refusal QueueEmpty = 409
+status_of_refusal NotHeld = 409
+status_of_refusal (AfterAhead handed) = 409
+status_of_refusal AlreadyThere = 409
+status_of_refusal BadName = 422
+status_of_refusal (BadVersion fault) = 422
+status_of_refusal (BadRelations fault) = 422
+status_of_refusal BadNumber = 422
+status_of_refusal (BadListing which paragraph fault) = 422
+status_of_refusal (BadReport line) = 422
+status_of_refusal TextTooLong = 422
+status_of_refusal Spent = 409
+status_of_refusal RepeatedArch = 422
+status_of_refusal Closed = 503
+status_of_refusal Memory = 503
+status_of_refusal (Store fault) = 503
 
 -- a refusal, which leaves the office as it was
 abbrev pub refusal_response : Machine → Refusal → Response
@@ -75,7 +73,7 @@ refusal_response machine refusal = record { status = status_of_refusal refusal; 
 
 -- there is no memory for the request or its answer, which leaves the office as it was
 abbrev pub memory_response : Machine → Response
-memory_response machine = record { status = code.ServiceUnavailable; body = memory_text; machine = machine }
+memory_response machine = record { status = 503; body = memory_text; machine = machine }
 
 -- a fault of the request, about which the office is not asked
 abbrev pub fault_response : Machine → Fault → Response
@@ -83,7 +81,7 @@ fault_response machine fault = record { status = status_of_fault fault; body = f
 
 -- the office answers a command of this name, and is then in this state
 abbrev pub reply_response : List ℕ → Result Reply Refusal → Machine → Response
-reply_response name (Ok reply) after = record { status = code.Ok; body = reply_text name reply; machine = after }
+reply_response name (Ok reply) after = record { status = 200; body = reply_text name reply; machine = after }
 reply_response name (Err refusal) after = record { status = status_of_refusal refusal; body = refusal_text refusal; machine = after }
 
 -- what is answered to a command
@@ -93,7 +91,7 @@ command_response machine command =
 
 -- what was found is answered, or the refusal
 abbrev pub found_response : Machine → Result Found Refusal → Response
-found_response machine (Ok found) = record { status = code.Ok; body = query_text found; machine = machine }
+found_response machine (Ok found) = record { status = 200; body = query_text found; machine = machine }
 found_response machine (Err refusal) = refusal_response machine refusal
 
 -- what is answered to a query, which leaves the office as it was
@@ -186,7 +184,7 @@ is_silent served.Mute = true
 
 -- an answer with status 200 was written, or a front of it
 abbrev pub TellsOk : Served → Type 0
-TellsOk result = (result ≡ served.Answered code.Ok) ⊎ (result ≡ served.WriteFailed code.Ok)
+TellsOk result = (result ≡ served.Answered 200) ⊎ (result ≡ served.WriteFailed 200)
 
 -- whether the writer failed
 abbrev pub fails_to_write : Served → Bool

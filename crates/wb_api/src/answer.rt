@@ -7,16 +7,17 @@ ghost use Rattle.wb_api.specs.Exchange.{fault_response, IsCommandAnswer, IsRefus
 use crate::encode::reply_json;
 use crate::refusal::{refusal_json, try_refusal_json};
 use crate::status::status_of;
+use http::StatusCode;
 use std::alloc::Global;
 use std::borrow::CowStr;
 use wb_states::{Command, Refusal};
 use wb_step::CarryOut;
-use wb_streams::{Fault, Status};
+use wb_streams::Fault;
 
 /// The status of an answer, and its body.
 #[derive(Drop)]
 pub(crate) struct HttpAnswer {
-    pub(crate) status: Status,
+    pub(crate) status: StatusCode,
     pub(crate) text: CowStr<'static>,
 }
 
@@ -25,7 +26,7 @@ pub(crate) fn memory_answer(alloc: Global) -> HttpAnswer
     ensures value { (machine : Machine) → response_of_answer result machine ≡ memory_response machine }
 {
     HttpAnswer {
-        status: Status::ServiceUnavailable,
+        status: StatusCode::SERVICE_UNAVAILABLE,
         text: refusal_json(alloc, &Refusal::Memory),
     }
 }
@@ -72,7 +73,7 @@ pub(crate) fn answer_command<O: CarryOut>(
     match office.carry_out(command) {
         Ok(reply) => match reply_json(alloc, command.name(), &reply) {
             Ok(text) => Some(HttpAnswer {
-                status: Status::Ok,
+                status: StatusCode::OK,
                 text: CowStr::Owned(text),
             }),
             Err(_) if office.accepted_count() == accepted => Some(memory_answer(alloc)),

@@ -5,11 +5,11 @@ ghost use Rattle.wb_api.specs.Exchange.{IsQueryAnswer, response_of_answer};
 
 use crate::answer::{HttpAnswer, memory_answer, refusal_answer};
 use crate::query::query_json;
+use http::StatusCode;
 use std::alloc::Global;
 use std::borrow::CowStr;
 use wb_states::Query;
 use wb_step::CarryOut;
-use wb_streams::Status;
 
 /// The answer of the office to a query.
 pub(crate) fn answer_query<O: CarryOut>(alloc: Global, office: &mut O, query: &Query) -> HttpAnswer
@@ -20,7 +20,7 @@ pub(crate) fn answer_query<O: CarryOut>(alloc: Global, office: &mut O, query: &Q
     match office.ask(query) {
         Ok(found) => match query_json(alloc, &found) {
             Ok(text) => HttpAnswer {
-                status: Status::Ok,
+                status: StatusCode::OK,
                 text: CowStr::Owned(text),
             },
             Err(_) => memory_answer(alloc),

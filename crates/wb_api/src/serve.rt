@@ -16,10 +16,11 @@ use crate::answer::{HttpAnswer, answer_command, fault_answer, memory_answer};
 use crate::ask::answer_query;
 use crate::route::Routes;
 use crate::{Received, Request, read_request};
+use http::StatusCode;
 use std::alloc::Global;
 use std::io::{Read, Write};
 use wb_step::CarryOut;
-use wb_streams::{Status, WatchedReader, WatchedWriter, write_answer};
+use wb_streams::{WatchedReader, WatchedWriter, write_answer};
 
 /// How an exchange ended.
 /// Source: this project's own.
@@ -32,12 +33,12 @@ pub enum Served {
     /// An answer with this status was written.
     Answered {
         /// The status.
-        status: Status,
+        status: StatusCode,
     },
     /// The writer failed, and of an answer with this status a front was written.
     WriteFailed {
         /// The status.
-        status: Status,
+        status: StatusCode,
     },
     /// A command was accepted, and there is no memory for the reply. Nothing was written.
     Mute,

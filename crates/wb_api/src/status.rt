@@ -2,18 +2,20 @@
 ghost use Rattle.std.specs.Prelude.{◌≡◌};
 ghost use Rattle.wb_api.specs.Exchange.{status_of_refusal};
 
+use http::StatusCode;
 use wb_states::Refusal;
-use wb_streams::Status;
 
-/// The status of the answer to a refusal: `NotFound` if what is named is not there, `Conflict` if the state of the
-/// office does not allow it, `UnprocessableEntity` if what is asked for is malformed, and `ServiceUnavailable` if the
-/// office is closed, its store failed or memory ran out. Takes no memory.
+/// The status of the answer to a refusal: 404 if what is named is not there, 409 if the state of the office does not
+/// allow it, 422 if what is asked for is malformed, and 503 if the office is closed, its store failed or memory ran out.
+/// Takes no memory.
 /// Source: RFC 9110, sections 15.5 and 15.6; which refusal has which status is this project's own.
-pub fn status_of(refusal: &Refusal) -> Status
+pub fn status_of(refusal: &Refusal) -> StatusCode
     ensures value { result ≡ status_of_refusal refusal.now }
 {
     match refusal {
-        Refusal::UnknownArch | Refusal::UnknownBuilder | Refusal::UnknownSource => Status::NotFound,
+        Refusal::UnknownArch | Refusal::UnknownBuilder | Refusal::UnknownSource => {
+            StatusCode::NOT_FOUND
+        }
         Refusal::WrongArch
         | Refusal::OtherVersion { .. }
         | Refusal::WrongState { .. }
@@ -21,7 +23,7 @@ pub fn status_of(refusal: &Refusal) -> Status
         | Refusal::NotHeld
         | Refusal::AfterAhead { .. }
         | Refusal::AlreadyThere
-        | Refusal::Spent => Status::Conflict,
+        | Refusal::Spent => StatusCode::CONFLICT,
         Refusal::BadName
         | Refusal::BadVersion { .. }
         | Refusal::BadRelations { .. }
@@ -29,7 +31,9 @@ pub fn status_of(refusal: &Refusal) -> Status
         | Refusal::BadListing { .. }
         | Refusal::BadReport { .. }
         | Refusal::TextTooLong
-        | Refusal::RepeatedArch => Status::UnprocessableEntity,
-        Refusal::Closed | Refusal::Memory | Refusal::Store { .. } => Status::ServiceUnavailable,
+        | Refusal::RepeatedArch => StatusCode::UNPROCESSABLE_ENTITY,
+        Refusal::Closed | Refusal::Memory | Refusal::Store { .. } => {
+            StatusCode::SERVICE_UNAVAILABLE
+        }
     }
 }
