@@ -259,7 +259,12 @@ fn a_write_to_a_connection_that_was_shut_down_fails(rt: HostRuntime) -> Result<(
     (&client).write_all(NEXT.as_bytes())?;
     server.shutdown(Shutdown::Write)?;
     let ended = served(rt.alloc(), &mut office, &server, AMPLE)?;
-    assert_eq!(rt; ended, Served::WriteFailed { status: StatusCode::OK });
+    assert_eq!(rt;
+        ended,
+        Served::WriteFailed {
+            status: StatusCode::OK
+        }
+    );
     drop(server);
     assert!(rt; io::read_to_string(rt.alloc(), client)?.is_empty());
     assert_again(&rt, rt.alloc(), &mut office)

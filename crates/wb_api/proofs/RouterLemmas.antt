@@ -365,7 +365,6 @@ module _ {K : Type 0} where
           ∙ seek-all ((47 ∷ tokens (suc n), k) ∷ []) b path
           ∙ rw ((cut-none (b ∷ path) v).1) refl
 
-
 -- ---- all paths
 
 -- the row of a path

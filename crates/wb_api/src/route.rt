@@ -64,13 +64,19 @@ static TABLE: [(&str, Route); 20] = [
     ("/v1/fail", Route::Command(CommandKind::Fail)),
     ("/v1/not-for-us", Route::Command(CommandKind::NotForUs)),
     ("/v1/rebuild", Route::Command(CommandKind::Rebuild)),
-    ("/v1/build-priority", Route::Command(CommandKind::BuildPriority)),
+    (
+        "/v1/build-priority",
+        Route::Command(CommandKind::BuildPriority),
+    ),
     ("/v1/report", Route::Command(CommandKind::Report)),
     ("/v1/queue/{arch}", Route::Query(QueryKind::Queue)),
     ("/v1/state/{arch}/{state}", Route::Query(QueryKind::ByState)),
     ("/v1/item/{arch}/{source}", Route::Query(QueryKind::Item)),
     ("/v1/mine/{builder}", Route::Query(QueryKind::Mine)),
-    ("/v1/depends/{arch}/{source}", Route::Query(QueryKind::Depends)),
+    (
+        "/v1/depends/{arch}/{source}",
+        Route::Query(QueryKind::Depends),
+    ),
     ("/v1/summary/{arch}", Route::Query(QueryKind::Summary)),
 ];
 
