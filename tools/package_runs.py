@@ -1,4 +1,5 @@
-"""Calls of the tools around the program, and offices with a service, for tools/test_package, tools/test_office and tools/test_merge_archive.
+"""Calls of the tools around the program, and offices with a service, for tools/test_package, tools/test_office and tools/test_merge_archive; and
+the program that is tried, for tools/test_wanna_build too.
 
 From the environment: WB is the program, crates/wb/out/wb of this repository where it is not set.
 """

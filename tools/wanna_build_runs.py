@@ -1,13 +1,11 @@
 """Calls of tools/wanna-build, and the office behind them, for tools/test_wanna_build.
 
-The office is the program, served over a file. `served` has the one switch: as long as the program answers no lists over HTTP, a stand-in serves in
-its place. A gate stands between the calls and the office: it writes down each request, and loses requests and answers where a test asks for it.
+The office is the program, served over a file. A gate stands between the calls and the office: it writes down each request, and loses requests and
+answers where a test asks for it. From the environment: WB is the program, crates/wb/out/wb of this repository where it is not set.
 """
 import contextlib
-import functools
 import http.client
 import json
-import os
 import random
 import re
 import signal
@@ -15,9 +13,8 @@ import socket
 import subprocess
 import threading
 import time
-from pathlib import Path
 
-from office_stand_in import StandIn
+from package_runs import program
 from store_runs import ROOT, WAIT, Failure, expect
 
 COMMAND = ROOT / "tools/wanna-build"
@@ -120,30 +117,6 @@ class Program:
         self.start()
 
 
-@functools.cache
-def program_with_lists():
-    """The program, if there is one and it answers lists over HTTP."""
-    wb = Path(os.environ.get("WB", ROOT / "crates/wb/out/wb")).absolute()
-    if not os.access(wb, os.X_OK):
-        return None
-    port = free_port()
-    with subprocess.Popen([wb, "serve", "--port", str(port), "--requests", "1"], stdin=subprocess.DEVNULL, stdout=subprocess.DEVNULL) as process:
-        end = time.monotonic() + WAIT
-        said = None
-        while said is None and process.poll() is None and time.monotonic() < end:
-            with contextlib.suppress(OSError):
-                said = ask(port, "GET", "/v1/queue/amd64")
-            time.sleep(0.01)
-        process.kill()
-    return wb if said and "http" not in said else None
-
-
-def served(folder, port, listed):
-    """The office that serves on a port: the program, or, as long as that answers no lists, the stand-in."""
-    wb = program_with_lists()
-    return Program(wb, folder / "office", port, listed) if wb else StandIn(port, listed)
-
-
 # ---- the gate
 
 
@@ -205,7 +178,7 @@ class Network:
 
     def __init__(self, folder, listed=None, **settings):
         self.folder = folder
-        self.office = served(folder, free_port(), listed or LISTED)
+        self.office = Program(program(), folder / "office", free_port(), listed or LISTED)
         self.gate = Gate(self.office)
         self.state = folder / "a state"
         self.settings = {"SUITES": f"sid={self.gate.port}", "STATE": self.state, "LOG": folder / "log", "TRY": "1", "ANSWER": "5", **settings}
