@@ -113,20 +113,31 @@ fn serve_stream<S: Alter + Drop>(
 
 /// Reports on standard error that a client was not answered, or not to the end.
 fn report(rt: &HostRuntime, ended: io::Result<Served>) {
-    let _ = match ended {
-        Ok(Served::Nothing | Served::Answered { .. }) => Ok(()),
-        Ok(Served::ReadFailed) => {
+    match ended {
+        Ok(served) => report_served(rt, served),
+        Err(error) => {
+            let _ = eprintln!(rt; "wb: a connection was not served: {error}");
+        }
+    }
+}
+
+/// Reports on standard error that an exchange ended without an answer, or before its end.
+fn report_served(rt: &HostRuntime, served: Served) {
+    let _ = match served {
+        Served::Nothing | Served::Answered { .. } => Ok(()),
+        Served::ReadFailed => {
             eprintln!(rt; "wb: a request was not read to its end, and nothing was done for it")
         }
-        Ok(Served::WriteFailed { status }) => {
-            let code = status.as_u16();
-            eprintln!(rt; "wb: an answer of status {code} was not written to its end")
-        }
-        Ok(Served::Mute) => {
+        Served::WriteFailed { status } => report_cut(rt, status.as_u16()),
+        Served::Mute => {
             eprintln!(rt; "wb: a command was accepted, and not answered for want of memory")
         }
-        Err(error) => eprintln!(rt; "wb: a connection was not served: {error}"),
     };
+}
+
+/// Reports on standard error that an answer with a status of this code was not written to its end.
+fn report_cut(rt: &HostRuntime, code: u16) -> io::Result<()> {
+    eprintln!(rt; "wb: an answer of status {code} was not written to its end")
 }
 
 /// Closes the connection in stages, so that a client which is still sending gets its answer (RFC 9112, section 9.6).
