@@ -22,7 +22,7 @@ use wb_streams::{WatchedReader, WatchedWriter};
 use wb_words::{HELP, Start, start_of};
 
 /// The program and the kit that it is proved with, for `wb --version`.
-const VERSION: &str = "wb 0.1.0, proved with rattle-kit-13b logic dac8208d650f15bf";
+const VERSION: &str = "wb 0.1.0, proved with rattle-kit-13f logic dac8208d650f15bf";
 
 /// The lists and reports that stand in files, whose names are paths from the working directory. Messages go to standard
 /// error.
