@@ -1,0 +1,395 @@
+"""The audit of tools/soak: whether the file of an office holds what its answers said. All commands of a life of the program that were answered are
+carried out anew by tools/office_model.py, in the order of their counts, with those among them that were not answered and may stand; then the rows
+that sqlite3 finds have to be those of that office, record by record. It shares nothing with the program.
+"""
+import copy
+import random
+from dataclasses import dataclass, field
+from pathlib import Path
+from typing import Any
+
+from office_model import ARCHS, BUILDERS, Office, Record, Refused, order_of, parts_of
+from store_runs import copied_database
+
+# The states by their numbers in the file.
+STATES = "Needs-Build Building Built Uploaded Installed Dep-Wait BD-Uninstallable Failed Not-For-Us Build-Attempted".split()
+COLUMNS = "arch source state version priority section earlier number holder take waits depends note message build_priority".split()
+STEPS = 50000  # how many orders of commands without an answer are tried at most
+
+# When what a package waits for is available, of the versions that lists of this trial have; waits for others are never met.
+MET = {
+    "libz": lambda has: "libz" in has,
+    "debhelper (>= 13)": lambda has: has.get("debhelper", 0) >= 13,
+    "liba (>= 2), libb": lambda has: has.get("liba", 0) >= 2 and "libb" in has,
+    "gcc-13 | clang": lambda has: "gcc-13" in has or "clang" in has,
+}
+ARCHIVE = {"libz": (1, 2), "debhelper": (12, 13, 14), "liba": (1, 2), "libb": (1,), "gcc-13": (13,), "clang": (19,)}
+
+
+@dataclass
+class Kept(Record):
+    """A record that remembers whether anything of it was ever built, which a merge may find out."""
+
+    was_built: bool = False
+
+    @property
+    def earlier(self) -> bool:
+        return self.was_built
+
+
+def order(version: str) -> list[Any]:
+    epoch, upstream, revision = parts_of(version)
+    return [epoch, order_of(upstream), order_of(revision)]
+
+
+# ---- merges
+
+
+@dataclass
+class Lists:
+    """What an archive lists: the version, the priority and the section of each source package; for each architecture what is built of it, as a
+    version and the number of a rebuild; and the packages that others wait for."""
+
+    sources: dict[str, tuple[str, str, str]]
+    built: dict[str, dict[str, tuple[str, int]]]
+    available: dict[str, int]
+
+    def write(self, folder: Path) -> None:
+        text = "".join(
+            f"Package: {name}\nVersion: {version}\nArchitecture: any\nPriority: {priority}\nSection: {section}\n\n"
+            for name, (version, priority, section) in self.sources.items()
+        )
+        (folder / "Sources").write_text(text)
+        for arch in ARCHS:
+            rows = [f"Package: {name}\nVersion: {version}\nArchitecture: all\n\n" for name, version in self.available.items()]
+            for name, (version, number) in self.built[arch].items():
+                binary = f"{version}+b{number}" if number else version
+                rows.append(f"Package: {name}-bin\nSource: {name} ({version})\nVersion: {binary}\nArchitecture: {arch}\n\n")
+            (folder / f"Packages-{arch}").write_text("".join(rows))
+
+
+def next_lists(office: "Soaked", names: list[str], chance: random.Random) -> Lists:
+    """Lists of an archive after a while: most of what was uploaded is there, some packages are new, newer, gone, or built elsewhere."""
+    sources, built = {}, {arch: {} for arch in ARCHS}
+    for name in names:
+        found = [office.records.get((arch, name)) for arch in ARCHS]
+        version = max((one.version for one in found if one), key=order, default=f"{chance.randrange(1, 4)}.0-1")
+        if chance.random() < 0.06:
+            version = f"{int(version.split('.')[0]) + 1}.0-{chance.randrange(1, 4)}"
+        if chance.random() < 0.95:
+            priority = chance.choice(["optional", "optional", "required", "extra", "other"])
+            sources[name] = (version, priority, chance.choice(["devel", "libs", "contrib/net", "misc", "zz"]))
+        for arch, one in zip(ARCHS, found):
+            if one and chance.random() < {"Uploaded": 0.8, "Installed": 0.97}.get(one.state, 0.04):
+                built[arch][name] = (one.version, max(0, one.number - (chance.random() < 0.1)))
+    available = {name: chance.choice(versions) for name, versions in ARCHIVE.items() if chance.random() < 0.5}
+    return Lists(sources, built, available)
+
+
+class Soaked(Office):
+    """The office of the model, with merges."""
+
+    def __init__(self) -> None:
+        super().__init__([])
+        self.accepted = 6  # two architectures and four pairs of a builder and an architecture
+
+    def twin(self) -> "Soaked":
+        other = copy.copy(self)
+        other.records = {key: copy.copy(record) for key, record in self.records.items()}
+        return other
+
+    def merge(self, lists: Lists) -> dict[str, Any]:
+        """The answer to a merge of all architectures, which is carried out by the table of docs/PROTOCOL.md."""
+        parts = []
+        for arch in ARCHS:
+            counts = {"added": 0, "arch": arch, "changed": 0, "kept": 0, "removed": 0}
+            for name in sorted({key[1] for key in self.records if key[0] == arch} | set(lists.sources)):
+                old = self.records.get((arch, name))
+                new = merged(arch, name, old, lists)
+                if new:
+                    self.records[arch, name] = new
+                elif old:
+                    del self.records[arch, name]
+                if old or new:
+                    counts["added" if not old else "removed" if not new else "kept" if old == new else "changed"] += 1
+            parts.append(counts)
+        self.accepted += 1
+        return {"accepted": self.accepted, "ok": "merge", "parts": parts}
+
+
+def merged(arch: str, name: str, old: Record | None, lists: Lists) -> Record | None:
+    """The record after a merge, none if the package is not listed."""
+    if name not in lists.sources:
+        return None
+    version, priority, section = lists.sources[name]
+    built = lists.built[arch].get(name)
+    is_built = built is not None and order(built[0]) >= order(version)
+    number = built[1] if built and order(built[0]) == order(version) else 0
+    if old is None:
+        new = Kept(arch, name, version, priority, section, "Installed" if is_built else "Needs-Build", number if is_built else 0)
+        new.was_built = built is not None
+        return new
+    if order(old.version) > order(version):
+        return copy.copy(old)
+    new = copy.copy(old)
+    new.priority, new.section = priority, section
+    if order(old.version) < order(version):
+        new.version, new.message, new.holder, new.take, new.number = version, "", None, None, 0
+        if old.state != "Not-For-Us":
+            new.state = "Installed" if is_built else "Needs-Build"
+    elif old.state != "Not-For-Us":
+        new.state = state_of_equal(old, built, lists)
+    if new.state == "Installed" and built and order(built[0]) == order(version):
+        new.number = built[1]
+    if new.state not in ("Building", "Built", "Uploaded"):
+        new.holder = new.take = None
+    new.waits = new.waits if new.state == "Dep-Wait" else ""
+    new.note = new.note if new.state == old.state else ""
+    new.was_built = bool(getattr(old, "was_built", False) or built is not None or new.state == "Installed")
+    return new
+
+
+def state_of_equal(old: Record, built: tuple[str, int] | None, lists: Lists) -> str:
+    """The state of a record whose version is the list's."""
+    if built and (order(built[0]) > order(old.version) or (order(built[0]) == order(old.version) and built[1] >= old.number)):
+        return "Installed"
+    if old.state == "Installed" or (old.state == "Dep-Wait" and MET.get(old.waits, lambda _: False)(lists.available)):
+        return "Needs-Build"
+    return old.state
+
+
+# ---- what was sent and answered
+
+
+@dataclass
+class Sent:
+    """A request: what it asked for, the greatest count that anybody had seen when it was sent, and what was answered: a status and an object, or
+    nothing. `before` is a count that the office had not passed when it answered."""
+
+    name: str
+    body: dict[str, Any] | list[str]
+    after: int
+    status: int | None = None
+    said: dict[str, Any] | None = None
+    before: int | None = None
+
+    @property
+    def is_command(self) -> bool:
+        return isinstance(self.body, dict)
+
+    @property
+    def accepted(self) -> int | None:
+        """The count of an accepted command; one that repeats an assignment is not one."""
+        if self.is_command and self.status == 200 and self.said and self.said.get("ok") != "again":
+            return self.said.get("accepted")
+        return None
+
+    @property
+    def is_doubtful(self) -> bool:
+        """Whether it is a command that may stand although it was not answered."""
+        return self.is_command and (self.said is None or self.said.get("refused") == "Store")
+
+    def __str__(self) -> str:
+        return f"{self.name} {self.body} is answered {self.status} {self.said}"
+
+
+@dataclass
+class Audit:
+    """What an audit found: the office as it stands, what is amiss, and how many commands without an answer stand."""
+
+    office: Soaked
+    faults: list[str] = field(default_factory=list)
+    stood: int = 0
+
+
+class Wrong(Exception):
+    """What cannot be so."""
+
+
+def asked(office: Office, one: Sent) -> tuple[int, dict[str, Any]]:
+    """What the model answers; it may change the office."""
+    if isinstance(one.body, dict):
+        return office.command(one.name, {"after": None, **one.body} if one.name == "next" else one.body, one.said)
+    return office.query(one.name, one.body, one.said)
+
+
+def would_answer(office: Office, one: Sent) -> tuple[int, dict[str, Any]]:
+    """What the model answers, without a change of the office."""
+    if not isinstance(one.body, dict):
+        return asked(office, one)
+    if one.name == "report":
+        return asked(office.twin(), one)  # type: ignore[attr-defined]
+    keys = [key for key, record in office.records.items() if touches(one, record)]
+    saved, counts = {key: copy.copy(office.records[key]) for key in keys}, (office.accepted, office.handed)
+    answer = asked(office, one)
+    office.records.update(saved)
+    office.accepted, office.handed = counts
+    return answer
+
+
+def touches(one: Sent, record: Record) -> bool:
+    """Whether a command may change a record."""
+    body = one.body
+    assert isinstance(body, dict)
+    if one.name == "next":
+        return record.arch == body["arch"] and record.state == "Needs-Build"
+    return record.take == body["take"] if "take" in body else (record.arch, record.source) == (body.get("arch"), body.get("source"))
+
+
+class History:
+    """The commands of one life of the program, which are put into the order of their counts."""
+
+    def __init__(self, sent: list[Sent], rows: "Rows") -> None:
+        self.rows, self.steps, self.furthest, self.why = rows, 0, -1, ""
+        self.answered: dict[int, Sent] = {}
+        for one in sent:
+            count = one.accepted
+            if count is not None:
+                if count in self.answered:
+                    raise Wrong(f"two commands have one count: {one}; {self.answered[count]}")
+                if count <= one.after or count > rows.accepted:
+                    raise Wrong(f"acknowledged and lost, or counted before it was sent ({one.after}, the file has {rows.accepted}): {one}")
+                self.answered[count] = one
+        self.doubtful = [one for one in sent if one.is_doubtful]
+
+    def fail(self, at: int, why: str) -> None:
+        """Keeps why there is no order, of those that were tried the first that went furthest."""
+        if at > self.furthest:
+            self.furthest, self.why = at, why
+
+    def order(self, office: Soaked, at: int, left: list[Sent]) -> list[Sent] | None:
+        """The commands after so many, in their order, that lead from this office to the rows; none if there are none."""
+        found: list[Sent] = []
+        while at < self.rows.accepted:
+            at += 1
+            one = self.answered.get(at)
+            if one is None:
+                rest = self.choose(office, at, left)
+                return None if rest is None else found + rest
+            wanted = asked(office, one)
+            if wanted != (one.status, one.said):
+                self.fail(at, f"{one}, and the model has {wanted}")
+                return None
+            found.append(one)
+        differences = self.rows.differences(office)
+        if differences:
+            self.fail(at + 1, "; ".join(differences[:3]))
+            return None
+        return found
+
+    def choose(self, office: Soaked, at: int, left: list[Sent]) -> list[Sent] | None:
+        """One of the commands without an answer that may have this count, and the rest after it."""
+        for one in left:
+            self.steps += 1
+            if self.steps > STEPS:
+                raise Wrong("too many commands without an answer: their order was not found")
+            if one.after >= at:
+                continue
+            twin = office.twin()
+            status, said = asked(twin, one)
+            if status == 200 and said.get("ok") != "again":
+                rest = self.order(twin, at, [other for other in left if other is not one])
+                if rest is not None:
+                    return [one, *rest]
+        self.fail(at, f"no command without an answer can have the count {at}; there are {len(left)}")
+        return None
+
+
+def audit(office: Soaked, sent: list[Sent], folder: Path) -> Audit:
+    """Whether the file holds what the answers since this office said; the office of the result is the one that stands then."""
+    rows = Rows(folder)
+    found = Audit(office.twin(), list(rows.faults))
+    try:
+        history = History(sent, rows)
+        commands = history.order(office.twin(), office.accepted, history.doubtful)
+        if commands is None:
+            raise Wrong(history.why)
+        found.stood = sum(one.is_doubtful for one in commands)
+        found.faults += check_others(found.office, commands, [one for one in sent if not one.is_doubtful and one.accepted is None])
+    except (Wrong, Refused) as why:
+        found.faults.append(str(why))
+    if found.faults:
+        found.office = rows.office()
+    return found
+
+
+def check_others(office: Soaked, commands: list[Sent], others: list[Sent]) -> list[str]:
+    """Carries out the commands, and finds for each refusal, each repeated assignment and each answer to a query a count at which the model gives
+    it."""
+    open_ones = sorted((one for one in others if is_judged(one)), key=lambda one: one.after)
+    waiting: list[Sent] = []
+    faults: list[str] = []
+    for at in range(len(commands) + 1):
+        while open_ones and open_ones[0].after <= office.accepted:
+            waiting.append(open_ones.pop(0))
+        waiting = [one for one in waiting if would_answer(office, one) != (one.status, one.said)]
+        late = [one for one in waiting if one.before is not None and one.before <= office.accepted]
+        faults += [f"at no count from {one.after} to {one.before}: {one}" for one in late]
+        waiting = [one for one in waiting if one not in late]
+        if at < len(commands):
+            asked(office, commands[at])
+    return faults + [f"at no count from {one.after} on: {one}" for one in [*waiting, *open_ones]]
+
+
+def is_judged(one: Sent) -> bool:
+    """Whether an answer says something of the state: not that memory ran out, or that the office is closed."""
+    return one.said is not None and one.said.get("refused") not in ("Memory", "Closed", "Store")
+
+
+# ---- the file
+
+
+class Rows:
+    """The rows of a copy of both files, as sqlite3 reads them."""
+
+    def __init__(self, folder: Path) -> None:
+        self.faults: list[str] = []
+        with copied_database(folder) as database:
+            for pragma, wanted in (("integrity_check", [("ok",)]), ("foreign_key_check", [])):
+                met = database.execute(f"PRAGMA {pragma}").fetchall()
+                if met != wanted:
+                    self.faults.append(f"PRAGMA {pragma} finds {met[:3]}")
+            self.office_rows = database.execute("SELECT id, format, handed, accepted FROM office").fetchall()
+            self.records = database.execute(f"SELECT {', '.join(COLUMNS)} FROM source_record ORDER BY arch, source").fetchall()
+            self.queues = database.execute("SELECT arch, source FROM source_record WHERE state = 0 ORDER BY arch, rank, source").fetchall()
+            twice = database.execute("SELECT take FROM source_record WHERE take IS NOT NULL GROUP BY take HAVING count(*) > 1").fetchall()
+            without = "SELECT source FROM source_record WHERE (holder IS NULL) <> (take IS NULL) OR (state IN (1, 2, 3)) = (take IS NULL)"
+            pairs = set(database.execute("SELECT name, arch FROM builder").fetchall())
+            scratch = [database.execute(f"SELECT count(*) FROM {name}").fetchone()[0] for name in ("scratch_source", "scratch_binary")]
+            self.faults += [f"take {take} is held twice" for (take,) in twice]
+            self.faults += [f"{source} has a holder without a take number, or is held in no such state" for (source,) in database.execute(without)]
+        if len(self.office_rows) != 1 or scratch != [0, 0] or pairs != {(name, arch) for name, archs in BUILDERS.items() for arch in archs}:
+            self.faults.append(f"office {self.office_rows}, builders {pairs}, scratch rows {scratch}")
+        self.handed, self.accepted = self.office_rows[0][2:] if self.office_rows else (0, 0)
+
+    def differences(self, office: Soaked) -> list[str]:
+        """What differs between the rows and an office."""
+        found = []
+        if (self.handed, self.accepted) != (office.handed, office.accepted):
+            found.append(f"the file counts {self.handed} and {self.accepted}, and the model {office.handed} and {office.accepted}")
+        wanted = {(one.arch, one.source): row_of(one) for one in office.records.values()}
+        met = {row[:2]: row for row in self.records}
+        for key in sorted(wanted.keys() | met.keys()):
+            if wanted.get(key) != met.get(key):
+                found.append(f"{key}: the file has {met.get(key)}, and the model {wanted.get(key)}")
+        for arch in ARCHS:
+            queue = [source for of, source in self.queues if of == arch]
+            if queue != [one.source for one in sorted(office.of_state(arch, "Needs-Build"), key=Record.place)]:
+                found.append(f"the queue of {arch} has another order")
+        return found
+
+    def office(self) -> Soaked:
+        """The office that these rows are, from which a trial goes on after something was amiss."""
+        office = Soaked()
+        office.handed, office.accepted = self.handed, self.accepted
+        for row in self.records:
+            fields = dict(zip(COLUMNS, row, strict=True))
+            fields["state"], fields["was_built"] = STATES[fields["state"]], bool(fields.pop("earlier"))
+            office.records[row[:2]] = Kept(**fields)
+        return office
+
+
+def row_of(record: Record) -> tuple[Any, ...]:
+    values = {key: getattr(record, key) for key in COLUMNS}
+    values["state"], values["earlier"] = STATES.index(record.state), int(record.earlier)
+    return tuple(values[key] for key in COLUMNS)
