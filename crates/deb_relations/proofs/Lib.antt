@@ -16,3 +16,4 @@ pub mod MapLemmas
 pub mod PairLemmas
 pub mod ReducedLemmas
 pub mod StrayLemmas
+pub mod NamedLemmas

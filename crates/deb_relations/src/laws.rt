@@ -11,7 +11,7 @@ ghost use Rattle.deb_relations.specs.Grammar.{is_white, Reads, relations_limit};
 ghost use Rattle.deb_relations.specs.Printing.{printed};
 ghost use Rattle.deb_relations.specs.Reading.{reading_of, HasBadVersion};
 ghost use Rattle.deb_relations.specs.Reduction.{has_no_lists, reduced};
-ghost use Rattle.deb_relations.specs.Satisfaction.{Pairs, no_pairs, satisfied, versions_of, with_pair};
+ghost use Rattle.deb_relations.specs.Satisfaction.{HaveSamePairs, Pairs, all_names, each_once, names_of, no_pairs, satisfied, versions_of, with_pair};
 
 /// What was read, and what it is reduced to, prints as a text that reads back as the same, if that text
 /// is within the limit; and each text has at most one reading.
@@ -68,6 +68,15 @@ pub fn pairs_are_a_set()
     ensures stays { (pairs : Pairs) (name version : List ℕ) (groups : List (List Alternative))
         → satisfied pairs groups ≡ true
         → satisfied (with_pair pairs name version) groups ≡ true }
+{}
+
+/// Whether relations are satisfied depends only on their package names: what has the same pairs for each of these
+/// satisfies the same relations.
+/// Source: Debian Policy 7.1.
+pub fn satisfied_by_names()
+    ensures same { (one other : Pairs) (groups : List (List Alternative))
+        → HaveSamePairs one other (names_of groups)
+        → satisfied one groups ≡ satisfied other groups }
 {}
 
 /// What is reduced has neither architectures nor build profiles left, and reducing it again, for

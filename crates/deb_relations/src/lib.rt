@@ -6,6 +6,7 @@ mod arch;
 mod available;
 mod fault;
 pub mod laws;
+mod named;
 mod names;
 mod parse;
 mod print;

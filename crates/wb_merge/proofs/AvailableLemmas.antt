@@ -25,29 +25,31 @@ one_more pairs name other version =
       | false ↦ λ _. refl
     ] refl
 
-more-of : (pairs : Pairs) (name : List ℕ) (rows : List BinaryRow)
-    → versions_of (fold (λ pairs row. with_pair pairs row.name row.version) pairs rows) name
-    ≡ versions_of pairs name ++ map (λ row. row.version) (filter (λ row. bytes_eq name row.name) rows)
-more-of pairs name [] = sym (append-nil (versions_of pairs name)) where
-  append-nil : (xs : List (List ℕ)) → xs ++ [] ≡ xs
-  append-nil [] = refl
-  append-nil (x ∷ xs) = ap (λ (ys : List (List ℕ)). x ∷ ys) (append-nil xs)
-more-of pairs name (row ∷ rows) =
-    let others = filter (λ (other : BinaryRow). bytes_eq name other.name) rows in
-    more-of (with_pair pairs row.name row.version) name rows
-    ∙ ap (λ (xs : List (List ℕ)). xs ++ map (λ (other : BinaryRow). other.version) others) (one_more pairs name row.name row.version)
-    ∙ elim (bytes_eq name row.name) as (λ b. cond b (versions_of pairs name ++ row.version ∷ []) (versions_of pairs name) ++ map (λ (other : BinaryRow). other.version) others
-    ≡ versions_of pairs name ++ map (λ (other : BinaryRow). other.version) (cond b (row ∷ others) others)) [
-      | true ↦ append_assoc (versions_of pairs name) (row.version ∷ []) (map (λ (other : BinaryRow). other.version) others)
-      | false ↦ refl
-    ]
+module _ {Row : Type 0} (name_of version_of : Row → List ℕ) where
+  -- the versions of a name, once the pairs of rows were added
+  pub more-of : (pairs : Pairs) (name : List ℕ) (rows : List Row)
+      → versions_of (fold (λ pairs row. with_pair pairs (name_of row) (version_of row)) pairs rows) name
+      ≡ versions_of pairs name ++ map version_of (filter (λ row. bytes_eq name (name_of row)) rows)
+  more-of pairs name [] = sym (append-nil (versions_of pairs name)) where
+    append-nil : (xs : List (List ℕ)) → xs ++ [] ≡ xs
+    append-nil [] = refl
+    append-nil (x ∷ xs) = ap (λ (ys : List (List ℕ)). x ∷ ys) (append-nil xs)
+  more-of pairs name (row ∷ rows) =
+      let others = filter (λ (other : Row). bytes_eq name (name_of other)) rows in
+      more-of (with_pair pairs (name_of row) (version_of row)) name rows
+      ∙ ap (λ (xs : List (List ℕ)). xs ++ map version_of others) (one_more pairs name (name_of row) (version_of row))
+      ∙ elim (bytes_eq name (name_of row)) as (λ b. cond b (versions_of pairs name ++ version_of row ∷ []) (versions_of pairs name) ++ map version_of others
+      ≡ versions_of pairs name ++ map version_of (cond b (row ∷ others) others)) [
+        | true ↦ append_assoc (versions_of pairs name) (version_of row ∷ []) (map version_of others)
+        | false ↦ refl
+      ]
 
-none-yet : (name : List ℕ) → versions_of no_pairs name ≡ []
+pub none-yet : (name : List ℕ) → versions_of no_pairs name ≡ []
 unfolding versions_of
 none-yet name = ap (λ (o : Option (List (List ℕ))). unwrap_or o []) (finite.get-empty text_cmp name)
 
 pub versions_of-available_of : (arch : ArchWords) (rows : List BinaryRow) (name : List ℕ) → versions_of (available_of arch rows) name ≡ installable_versions arch rows name
 unfolding available_of
 versions_of-available_of arch rows name =
-    more-of no_pairs name (filter (is_installable_on arch) rows)
+    more-of (λ (row : BinaryRow). row.name) (λ row. row.version) no_pairs name (filter (is_installable_on arch) rows)
     ∙ ap (λ (xs : List (List ℕ)). xs ++ installable_versions arch rows name) (none-yet name)

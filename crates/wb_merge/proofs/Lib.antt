@@ -5,6 +5,7 @@ pub mod ExampleLemmas
 pub mod FirstFaultLemmas
 pub mod FoldLemmas
 pub mod ForwardLemmas
+pub mod FoundLemmas
 pub mod GreatestLemmas
 pub mod ListedLemmas
 pub mod ListingLemmas
@@ -23,6 +24,7 @@ pub mod ReportMoveLemmas
 pub mod ReportReadLemmas
 pub mod ReportedLemmas
 pub mod RowLemmas
+pub mod ScratchLemmas
 pub mod SourceLemmas
 pub mod SourceTextLemmas
 pub mod SourcesLemmas

@@ -9,4 +9,5 @@ pub mod Offers
 pub mod Report
 pub mod Reported
 pub mod Rows
+pub mod Scratch
 pub mod Steps

@@ -95,14 +95,18 @@ newer_record listed built current =
 
 -- ---- a record of the version that is listed
 
--- the state at an equal version: Not-For-Us stays, what is built is Installed, a removed build and met waits give Needs-Build, all else stays
-abbrev pub same_state : Listed → Option Built → Pairs → Record → State
-same_state listed built available current =
+-- the state at an equal version, by whether its waits are met: Not-For-Us stays, what is built is Installed, a removed build and met waits give Needs-Build, all else stays
+abbrev pub same_state_given : Listed → Option Built → Bool → Record → State
+same_state_given listed built is_met current =
     if is_not_for_us current.state then NotForUs
     else (if covers built listed.version current.number then Installed
     else (if is_installed current.state then NeedsBuild
-    else (if is_dep_wait current.state then (if are_waits_met available current.waits then NeedsBuild else current.state)
+    else (if is_dep_wait current.state then (if is_met then NeedsBuild else current.state)
     else current.state)))
+
+-- the state at an equal version, by what is available
+abbrev pub same_state : Listed → Option Built → Pairs → Record → State
+same_state listed built available current = same_state_given listed built (are_waits_met available current.waits) current
 
 -- the number at an equal version: that of a build of this version that covers the record, else the record's own, as for Not-For-Us
 abbrev pub same_number : Listed → Option Built → Record → ℕ
@@ -111,24 +115,45 @@ same_number listed built current =
     else (if covers built listed.version current.number then built_number built listed.version current.number
     else current.number)
 
--- the record at an equal version, brought in line with its listing
+-- the record at an equal version, by whether its waits are met, brought in line with its listing
+abbrev pub same_record_given : Listed → Option Built → Bool → Record → Record
+same_record_given listed built is_met current =
+    relisted (same_state_given listed built is_met current) (same_number listed built current) listed built current
+
+-- the record at an equal version, by what is available
 unfoldable pub same_record : Listed → Option Built → Pairs → Record → Record
-same_record listed built available current =
-    relisted (same_state listed built available current) (same_number listed built current) listed built current
+same_record listed built available current = same_record_given listed built (are_waits_met available current.waits) current
 
 -- ---- all cases
 
--- what becomes of a record whose source package is listed: it is of an earlier version, of the same, or of a later one, which stays as it is
+-- what becomes of a record by the listed version: it is of an earlier one, of the same, at which it becomes this one, or of a later one, which stays as it is
+abbrev pub by_version : Listed → Option Built → Record → Record → Record
+by_version listed built same current =
+    match_ordering (version_cmp current.version listed.version) (newer_record listed built current) same current
+
+-- what becomes of a record whose source package is listed, by whether its waits are met
+abbrev pub listed_record_given : Listed → Option Built → Bool → Record → Record
+listed_record_given listed built is_met current = by_version listed built (same_record_given listed built is_met current) current
+
+-- what becomes of a record whose source package is listed, by what is available
 unfoldable pub listed_record : Listed → Option Built → Pairs → Record → Record
-listed_record listed built available current =
-    match_ordering (version_cmp current.version listed.version) (newer_record listed built current)
-    (same_record listed built available current) current
+listed_record listed built available current = by_version listed built (same_record listed built available current) current
 
 -- the record of a source package after a merge: none if it is not listed (this project's own)
 abbrev pub record_after : Option Record → Option Listed → Option Built → Pairs → Option Record
 record_after current None built available = None
 record_after None (Some listed) built available = Some (new_record listed built)
 record_after (Some current) (Some listed) built available = Some (listed_record listed built available current)
+
+-- the record of a source package after a merge, by whether the waits of its record are met
+abbrev pub record_given : Option Record → Option Listed → Option Built → Bool → Option Record
+record_given current None built is_met = None
+record_given None (Some listed) built is_met = Some (new_record listed built)
+record_given (Some current) (Some listed) built is_met = Some (listed_record_given listed built is_met current)
+
+-- it is said of a record in Dep-Wait whether its waits are met by what is available; of other records it plays no part
+abbrev pub SaysWaitsMet : Pairs → Bool → Record → Type 0
+SaysWaitsMet available is_met current = is_dep_wait current.state ≡ true → is_met ≡ are_waits_met available current.waits
 
 -- ---- holds
 

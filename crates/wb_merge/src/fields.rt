@@ -9,7 +9,7 @@ ghost use Rattle.deb_text.specs.Text.{is_empty_text};
 ghost use Rattle.wb_states.specs.Refusals.{name_of_field};
 ghost use Rattle.wb_merge.specs.Rows.{value_named, text_named, is_label_or_empty, required_fault, optional_fault};
 
-use deb_control::{ControlFaultKind, Paragraph};
+use deb_control::{ControlFaultKind, Fields};
 use deb_text::Text;
 use deb_version::{Version, VersionFault};
 use std::alloc::Global;
@@ -22,16 +22,16 @@ pub(crate) const MEMORY: ListingFault = ListingFault::Control {
 
 /// The folded value of the field of this name, if the paragraph has it.
 #[tactic(auto, unfolding(crate::specs::Rows::value_named))]
-pub(crate) fn value(
+pub(crate) fn value<F: Fields>(
     alloc: Global,
-    paragraph: &Paragraph<'_>,
+    fields: &F,
     name: &str,
 ) -> Result<Option<Text>, ListingFault>
-    ensures value { IfOk result (λ found. found ≡ value_named name.now paragraph.now) }
+    ensures value { IfOk result (λ found. found ≡ value_named name.now (F.fields fields.now)) }
     ensures refused { IfErr result (λ fault. fault ≡ Control Memory) }
-    ensures memory { IfErr result (λ fault. IsSome (value_named name.now paragraph.now)) }
+    ensures memory { IfErr result (λ fault. IsSome (value_named name.now (F.fields fields.now))) }
 {
-    let Some(field) = paragraph.get(name) else {
+    let Some(field) = fields.get(name) else {
         return Ok(None);
     };
     match field.folded(alloc) {
@@ -41,31 +41,27 @@ pub(crate) fn value(
 }
 
 /// The folded value of the field of this name, empty if the paragraph lacks it.
-pub(crate) fn text(
-    alloc: Global,
-    paragraph: &Paragraph<'_>,
-    name: &str,
-) -> Result<Text, ListingFault>
-    ensures value { IfOk result (λ text. text ≡ text_named name.now paragraph.now) }
+pub(crate) fn text<F: Fields>(alloc: Global, fields: &F, name: &str) -> Result<Text, ListingFault>
+    ensures value { IfOk result (λ text. text ≡ text_named name.now (F.fields fields.now)) }
     ensures refused { IfErr result (λ fault. fault ≡ Control Memory) }
 {
-    match value(alloc, paragraph, name)? {
+    match value(alloc, fields, name)? {
         Some(text) => Ok(text),
         None => Ok(Text::new(alloc)),
     }
 }
 
 /// The folded value of a field that has to be there.
-fn wanted(alloc: Global, paragraph: &Paragraph<'_>, field: ListField) -> Result<Text, ListingFault>
+fn wanted<F: Fields>(alloc: Global, fields: &F, field: ListField) -> Result<Text, ListingFault>
     ensures value { IfOk result (λ text.
-        value_named (name_of_field field) paragraph.now ≡ Some text) }
+        value_named (name_of_field field) (F.fields fields.now) ≡ Some text) }
     ensures missing { IfErr result (λ fault. fault ≢ Control Memory
-        → value_named (name_of_field field) paragraph.now ≡ None) }
+        → value_named (name_of_field field) (F.fields fields.now) ≡ None) }
     ensures refused { IfErr result (λ fault. fault ≢ Control Memory → fault ≡ Missing field) }
     ensures memory { IfErr result (λ fault. fault ≡ Control Memory
-        → IsSome (value_named (name_of_field field) paragraph.now)) }
+        → IsSome (value_named (name_of_field field) (F.fields fields.now))) }
 {
-    match value(alloc, paragraph, field.name())? {
+    match value(alloc, fields, field.name())? {
         Some(text) => Ok(text),
         None => Err(ListingFault::Missing { field }),
     }
@@ -87,14 +83,17 @@ fn formed(text: Text, has_form: bool, field: ListField) -> Result<Text, ListingF
 
 /// The name of the package.
 #[tactic(auto, unfolding(crate::specs::Rows::required_fault))]
-pub(crate) fn package_name(alloc: Global, paragraph: &Paragraph<'_>) -> Result<Text, ListingFault>
-    ensures value { IfOk result (λ name. name ≡ text_named (codes "Package") paragraph.now) }
-    ensures ok { OnOk result (required_fault Package is_package_name paragraph.now ≡ None) }
+pub(crate) fn package_name<F: Fields>(alloc: Global, fields: &F) -> Result<Text, ListingFault>
+    ensures value { IfOk result (λ name. name ≡ text_named (codes "Package") (F.fields fields.now)) }
+    ensures ok { OnOk result (required_fault Package is_package_name (F.fields fields.now) ≡ None) }
+    ensures there { OnOk result (IsSome (value_named (codes "Package") (F.fields fields.now))) }
+    ensures memory { IfErr result (λ fault. fault ≡ Control Memory
+        → IsSome (value_named (codes "Package") (F.fields fields.now))) }
     ensures refused { IfErr result (λ fault. fault ≢ Control Memory
-        → required_fault Package is_package_name paragraph.now ≡ Some fault) }
+        → required_fault Package is_package_name (F.fields fields.now) ≡ Some fault) }
 {
     let field = ListField::Package;
-    let name = wanted(alloc, paragraph, field)?;
+    let name = wanted(alloc, fields, field)?;
     let has_form = is_source(name.as_str());
     formed(name, has_form, field)
 }
@@ -123,31 +122,28 @@ pub(crate) fn parse_version(
 
 /// The version of the package.
 #[tactic(auto, unfolding(crate::specs::Rows::required_fault))]
-pub(crate) fn package_version(
-    alloc: Global,
-    paragraph: &Paragraph<'_>,
-) -> Result<Version, ListingFault>
-    ensures value { IfOk result (λ version. version ≡ text_named (codes "Version") paragraph.now) }
-    ensures ok { OnOk result (required_fault VersionField is_version_text paragraph.now ≡ None) }
+pub(crate) fn package_version<F: Fields>(alloc: Global, fields: &F) -> Result<Version, ListingFault>
+    ensures value { IfOk result (λ version. version ≡ text_named (codes "Version") (F.fields fields.now)) }
+    ensures ok { OnOk result (required_fault VersionField is_version_text (F.fields fields.now) ≡ None) }
     ensures refused { IfErr result (λ fault. fault ≢ Control Memory
-        → required_fault VersionField is_version_text paragraph.now ≡ Some fault) }
+        → required_fault VersionField is_version_text (F.fields fields.now) ≡ Some fault) }
 {
     let field = ListField::Version;
-    let text = wanted(alloc, paragraph, field)?;
+    let text = wanted(alloc, fields, field)?;
     parse_version(alloc, text.as_str(), field)
 }
 
 /// The architectures of the package, which are not empty.
 #[tactic(auto, unfolding(crate::specs::Rows::required_fault))]
-pub(crate) fn architectures(alloc: Global, paragraph: &Paragraph<'_>) -> Result<Text, ListingFault>
-    ensures value { IfOk result (λ archs. archs ≡ text_named (codes "Architecture") paragraph.now) }
+pub(crate) fn architectures<F: Fields>(alloc: Global, fields: &F) -> Result<Text, ListingFault>
+    ensures value { IfOk result (λ archs. archs ≡ text_named (codes "Architecture") (F.fields fields.now)) }
     ensures ok { OnOk result (
-        required_fault Architecture (λ text. not (is_empty_text text)) paragraph.now ≡ None) }
+        required_fault Architecture (λ text. not (is_empty_text text)) (F.fields fields.now) ≡ None) }
     ensures refused { IfErr result (λ fault. fault ≢ Control Memory
-        → required_fault Architecture (λ text. not (is_empty_text text)) paragraph.now ≡ Some fault) }
+        → required_fault Architecture (λ text. not (is_empty_text text)) (F.fields fields.now) ≡ Some fault) }
 {
     let field = ListField::Architecture;
-    let archs = wanted(alloc, paragraph, field)?;
+    let archs = wanted(alloc, fields, field)?;
     let has_form = !archs.as_str().is_empty();
     formed(archs, has_form, field)
 }
@@ -161,17 +157,17 @@ fn is_label_or_empty(text: &str) -> bool
 
 /// The priority or the section, which may be missing or empty.
 #[tactic(auto, unfolding(crate::specs::Rows::optional_fault))]
-pub(crate) fn label(
+pub(crate) fn label<F: Fields>(
     alloc: Global,
-    paragraph: &Paragraph<'_>,
+    fields: &F,
     field: ListField,
 ) -> Result<Text, ListingFault>
-    ensures value { IfOk result (λ text. text ≡ text_named (name_of_field field) paragraph.now) }
-    ensures ok { OnOk result (optional_fault field is_label_or_empty paragraph.now ≡ None) }
+    ensures value { IfOk result (λ text. text ≡ text_named (name_of_field field) (F.fields fields.now)) }
+    ensures ok { OnOk result (optional_fault field is_label_or_empty (F.fields fields.now) ≡ None) }
     ensures refused { IfErr result (λ fault. fault ≢ Control Memory
-        → optional_fault field is_label_or_empty paragraph.now ≡ Some fault) }
+        → optional_fault field is_label_or_empty (F.fields fields.now) ≡ Some fault) }
 {
-    let Some(label) = value(alloc, paragraph, field.name())? else {
+    let Some(label) = value(alloc, fields, field.name())? else {
         return Ok(Text::new(alloc));
     };
     let has_form = is_label_or_empty(label.as_str());

@@ -1,6 +1,6 @@
 //! Laws of the listing and of the merge, each on a function that does nothing.
-ghost use Rattle.std.specs.Prelude.{◌≡◌, ◌≢◌, ℕ, pos, ◌+◌, ◌≤◌, List, [], ◌∷◌, ◌++◌, length, codes, Option, option_map, Some, None, Ok, Err, ◌↔◌, ◌⊎◌, IfSome, IsTrue, true, false};
-ghost use Rattle.std.specs.List.{list_all};
+ghost use Rattle.std.specs.Prelude.{◌≡◌, ◌≢◌, ℕ, Bool, pos, ◌+◌, ◌≤◌, List, [], ◌∷◌, ◌++◌, length, filter, map as each, bytes_eq, codes, Option, option_map, Some, None, Ok, Err, ◌↔◌, ◌⊎◌, IfSome, IsTrue, true, false};
+ghost use Rattle.std.specs.List.{list_all, list_any};
 ghost use Rattle.std.specs.Char.{is_ascii_digit};
 ghost use Rattle.std.specs.Str.{IsUtf8};
 ghost use Rattle.std.specs.declared.cmp.Ordering.TheVariants.{Less, Equal};
@@ -10,11 +10,13 @@ ghost use Rattle.deb_version.specs.Syntax.{is_version_text, value_of};
 ghost use Rattle.deb_control.specs.Lines.{lines_of, paragraphs_in};
 ghost use Rattle.deb_relations.specs.declared.arch.ArchWords.{ArchWords};
 ghost use Rattle.deb_relations.specs.Examples.{amd64, hurd_i386};
-ghost use Rattle.deb_relations.specs.Satisfaction.{versions_of};
+ghost use Rattle.deb_relations.specs.declared.relations.Alternative.{Alternative};
+ghost use Rattle.deb_relations.specs.Reading.{reading_of};
+ghost use Rattle.deb_relations.specs.Satisfaction.{HaveSamePairs, Pairs, names_of, versions_of};
 ghost use Rattle.wb_merge.specs.declared.listing.Listed.{Listed};
 ghost use Rattle.wb_merge.specs.declared.listing.Built.{Built};
 ghost use Rattle.wb_merge.specs.Rows.{AreRows, IsFirstFault, NamesSource, SourceRow, BinaryRow, binary_paragraph, binary_rows, is_source_text, rebuild_number, source_name, source_paragraph, source_rows, with_version};
-ghost use Rattle.wb_merge.specs.Listing.{IsGreatest, available_of, built_of, installable_versions, is_listed, listed_cmp, candidates, built_cmp, builds, listing_of_rows, ArchiveListing};
+ghost use Rattle.wb_merge.specs.Listing.{IsGreatest, available_of, built_of, installable_versions, is_candidate, is_listed, listed_cmp, candidates, built_cmp, builds, listing_of, listing_of_rows, ArchiveListing};
 ghost use Rattle.wb_states.specs.declared.record.Record.{Record};
 ghost use Rattle.wb_states.specs.declared.refusal.Refusal.{Refusal};
 ghost use Rattle.wb_states.specs.declared.refusal.ListKind.TheVariants.{Sources, Packages};
@@ -25,9 +27,12 @@ ghost use Rattle.deb_relations.specs.Names.{is_package_name};
 ghost use Rattle.wb_states.specs.Record.{FitsState, IsWellFormed};
 ghost use Rattle.wb_states.specs.State.{is_held};
 ghost use Rattle.deb_text.specs.Text.{IsTextWithin};
-ghost use Rattle.wb_merge.specs.Merge.{ends_hold, HasSameHold};
+ghost use Rattle.wb_merge.specs.Merge.{are_waits_met, ends_hold, HasSameHold, SaysWaitsMet};
 ghost use Rattle.wb_merge.specs.Examples.{Becomes, BecomesBeside, BecomesByReport, binary_of, built_at, held_in, listed_at, record_in, reported_of, source_of, version_listed};
-ghost use Rattle.wb_merge.specs.Merged.{Records, BecomesAt, record_after_at, all_kept, is_same_record, merge_counts, merged, recorded_names};
+ghost use Rattle.wb_merge.specs.Merged.{Records, BecomesAt, record_after_at, all_kept, is_same_record, merge_counts, merged, record_after_named, recorded_names};
+ghost use Rattle.wb_merge.specs.Scratch.{built_in, is_build_of, kept_binaries, kept_sources, listed_in, listing_kept, listing_of_kept, record_found, row_of_kept, versions_in};
+ghost use Rattle.wb_states.specs.declared.scratch.SourceRow.{SourceRow as KeptSource};
+ghost use Rattle.wb_states.specs.declared.scratch.BinaryRow.{BinaryRow as KeptBinary};
 ghost use Rattle.wb_merge.specs.Steps.{Key};
 ghost use Rattle.wb_merge.specs.declared.report.ReportLine.{ReportLine};
 ghost use Rattle.wb_merge.specs.declared.report.ReportFault.TheVariants.{BadReport};
@@ -80,6 +85,64 @@ pub fn built_is_greatest()
 pub fn available_is_each_pair()
     ensures versions { (arch : ArchWords) (rows : List BinaryRow) (name : List ℕ)
         → versions_of (available_of arch rows) name ≡ installable_versions arch rows name }
+{}
+
+/// What a merge keeps of two lists while it runs has their listing: it is refused as they are, and what is listed and
+/// built of a source package, and which versions of a package are available, are those of the rows of that name.
+pub fn kept_rows_are_the_listing()
+    ensures listing { (sources packages : List ℕ) (arch : ArchWords) → listing_of sources packages arch
+        ≡ listing_kept arch (kept_sources sources) (kept_binaries arch packages) }
+    ensures listed { (arch : ArchWords) (sources : List KeptSource) (binaries : List KeptBinary) (name : List ℕ)
+        → map.get (listing_of_kept arch sources binaries).listed name ≡ listed_in arch sources name }
+    ensures built { (arch : ArchWords) (sources : List KeptSource) (binaries : List KeptBinary) (name : List ℕ)
+        → map.get (listing_of_kept arch sources binaries).built name ≡ built_in binaries name }
+    ensures available { (arch : ArchWords) (sources : List KeptSource) (binaries : List KeptBinary)
+        (name : List ℕ)
+        → versions_of (listing_of_kept arch sources binaries).available name ≡ versions_in binaries name }
+    // a name that no row has is not listed
+    ensures unnamed { (arch : ArchWords) (sources : List KeptSource) (name : List ℕ)
+        → list_any (bytes_eq name) (each (λ row. row.name) sources) ≡ false
+        → listed_in arch sources name ≡ None }
+{}
+
+/// Whether the waits of a record are met depends only on which versions of the packages that they name are available
+/// (Debian Policy 7.1).
+pub fn waits_are_met_by_names()
+    ensures same { (one other : Pairs) (waits : List ℕ) (relations : List (List Alternative))
+        → reading_of waits ≡ Ok relations → HaveSamePairs one other (names_of relations)
+        → are_waits_met one waits ≡ are_waits_met other waits }
+{}
+
+/// Rows for which no question asks may be left out: what is listed and built of a source package, and the versions of a
+/// package, are the same among the rows that pass a test, if each row that counts for them passes it.
+pub fn rows_left_out_change_nothing()
+    ensures listed { (arch : ArchWords) (keep : KeptSource → Bool) (rows : List KeptSource) (name : List ℕ)
+        → ((row : KeptSource) → is_candidate arch name (row_of_kept row) ≡ true → keep row ≡ true)
+        → listed_in arch (filter keep rows) name ≡ listed_in arch rows name }
+    ensures built { (keep : KeptBinary → Bool) (rows : List KeptBinary) (name : List ℕ)
+        → ((row : KeptBinary) → is_build_of name row ≡ true → keep row ≡ true)
+        → built_in (filter keep rows) name ≡ built_in rows name }
+    ensures versions { (keep : KeptBinary → Bool) (rows : List KeptBinary) (name : List ℕ)
+        → ((row : KeptBinary) → bytes_eq name row.name ≡ true → keep row ≡ true)
+        → versions_in (filter keep rows) name ≡ versions_in rows name }
+{}
+
+/// The record of a source package after a merge of a listing is the one that is found by the rows of that source package
+/// among what is kept of the lists, if it is said of a record in Dep-Wait whether its waits are met by what is available.
+pub fn records_are_found_by_rows()
+    ensures rows { (arch : ArchWords) (sources : List KeptSource) (binaries : List KeptBinary) (name : List ℕ)
+        (current : Option Record) (is_met : Bool)
+        → IfSome current (SaysWaitsMet (listing_of_kept arch sources binaries).available is_met)
+        → record_found arch current name (filter (λ row. bytes_eq name row.name) sources)
+        (filter (λ row. bytes_eq name row.source) binaries) is_met
+        ≡ record_after_named (listing_of_kept arch sources binaries) name current }
+    ensures lists { (sources packages : List ℕ) (arch : ArchWords) (listing : ArchiveListing)
+        (rows : List KeptSource) (binaries : List KeptBinary) (name : List ℕ) (current : Option Record) (is_met : Bool)
+        → listing_of sources packages arch ≡ Ok listing
+        → kept_sources sources ≡ Ok rows → kept_binaries arch packages ≡ Ok binaries
+        → IfSome current (SaysWaitsMet listing.available is_met)
+        → record_found arch current name (filter (λ row. bytes_eq name row.name) rows)
+        (filter (λ row. bytes_eq name row.source) binaries) is_met ≡ record_after_named listing name current }
 {}
 
 /// At each key a merge makes of the record there what the cases say, whatever the other records are: those

@@ -3,6 +3,7 @@
 #![tactic(auto)]
 
 mod fields;
+mod found;
 pub mod laws;
 mod listing;
 mod merge;
@@ -13,12 +14,15 @@ mod report;
 mod report_line;
 mod report_moves;
 mod rows;
+mod scratch;
 mod source;
 mod sources;
 
+pub use found::{after_found, is_listed_for};
 pub use listing::{Built, Listed, Listing};
 pub use merge::{Change, counted};
 pub use record::{after, blank_record};
 pub use report::{ReportFault, ReportLine, ReportLines};
 pub use report_moves::{after_report, changed_by_report};
+pub use scratch::{binary_row, source_row};
 pub use sources::Sources;

@@ -4,7 +4,7 @@ ghost use Rattle.std.specs.FinMap as map;
 ghost use Rattle.deb_relations.specs.declared.arch.ArchWords.{ArchWords as Arch};
 ghost use Rattle.deb_text.specs.Text.{text_cmp};
 ghost use Rattle.wb_states.specs.declared.refusal.Refusal.TheVariants.{Memory};
-ghost use Rattle.wb_merge.specs.Listing.{is_listed, printed_for, joined, depends_of, listed_as, listed_with, listed_cmp, built_as, built_cmp, is_better};
+ghost use Rattle.wb_merge.specs.Listing.{is_listed, printed_for, joined, both_joined, depends_of, listed_as, listed_with, listed_cmp, built_as, built_cmp, is_better};
 ghost use Rattle.wb_merge.specs.Offers.{with_listed, with_build, with_package};
 
 use crate::rows::{BinaryRow, SourceRow};
@@ -48,16 +48,21 @@ fn joined(alloc: Global, first: Text, second: Text) -> Result<Text, AllocError>
     Ok(Text::from(text))
 }
 
-/// What the source package needs to be built on the architecture, if that can be read.
-#[tactic(auto, unfolding(crate::specs::Listing::depends_of))]
-fn depends_of(alloc: Global, row: &SourceRow, arch: &ArchWords) -> Result<Option<Text>, Refusal>
-    ensures value { IfOk result (λ depends. depends ≡ depends_of arch.now row.now) }
+/// Two texts of relations reduced for the architecture, printed and joined, if both can be read.
+pub(crate) fn both_joined(
+    alloc: Global,
+    depends: &Text,
+    depends_arch: &Text,
+    arch: &ArchWords,
+) -> Result<Option<Text>, Refusal>
+    ensures value { IfOk result (λ joined. joined
+        ≡ both_joined (printed_for arch.now depends.now) (printed_for arch.now depends_arch.now)) }
     ensures refused { IfErr result (λ refusal. refusal ≡ Memory) }
 {
-    let Some(first) = printed_for(alloc, &row.depends, arch)? else {
+    let Some(first) = printed_for(alloc, depends, arch)? else {
         return Ok(None);
     };
-    let Some(second) = printed_for(alloc, &row.depends_arch, arch)? else {
+    let Some(second) = printed_for(alloc, depends_arch, arch)? else {
         return Ok(None);
     };
     let text = joined(alloc, first, second)?;
@@ -65,6 +70,15 @@ fn depends_of(alloc: Global, row: &SourceRow, arch: &ArchWords) -> Result<Option
         return Ok(None);
     }
     Ok(Some(text))
+}
+
+/// What the source package needs to be built on the architecture, if that can be read.
+#[tactic(auto, unfolding(crate::specs::Listing::depends_of))]
+fn depends_of(alloc: Global, row: &SourceRow, arch: &ArchWords) -> Result<Option<Text>, Refusal>
+    ensures value { IfOk result (λ depends. depends ≡ depends_of arch.now row.now) }
+    ensures refused { IfErr result (λ refusal. refusal ≡ Memory) }
+{
+    both_joined(alloc, &row.depends, &row.depends_arch, arch)
 }
 
 /// What the row lists, with what its source package needs to be built. The row is kept for other

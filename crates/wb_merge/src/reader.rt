@@ -35,7 +35,7 @@ pub(crate) fn is_memory(bad: ListFault) -> bool
 }
 
 /// The refusal of a list for its first fault, or for being out of memory.
-fn refuse(which: ListKind, bad: ListFault) -> Refusal
+pub(crate) fn refuse(which: ListKind, bad: ListFault) -> Refusal
     ensures memory { bad.fault ≡ Control NoMemory → result ≡ Memory }
     ensures refused { bad.fault ≢ Control NoMemory
         → result ≡ BadListing which bad.paragraph bad.fault }

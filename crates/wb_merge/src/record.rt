@@ -1,12 +1,12 @@
 //! What a merge makes of the record of one source package.
-ghost use Rattle.std.specs.Prelude.{◌≡◌, IsSome, IsTrue, IfOk, IfErr};
+ghost use Rattle.std.specs.Prelude.{◌≡◌, IsSome, IsTrue, IfOk, IfErr, OnErr};
 ghost use Rattle.std.specs.Option.{option_map, option_copied};
 ghost use Rattle.std.specs.Map.Iter.{deref};
 ghost use Rattle.std.specs.FinMap as map;
 ghost use Rattle.wb_states.specs.declared.refusal.Refusal.TheVariants.{Memory};
 ghost use Rattle.wb_states.specs.Moves.{note_after};
 ghost use Rattle.wb_states.specs.State.{is_dep_wait};
-ghost use Rattle.wb_merge.specs.Merge.{record_after, covers, built_number, are_waits_met, relisted, blank_record, new_state, new_number, new_record, newer_state, newer_number, newer_record, same_state, same_number, same_record, listed_record};
+ghost use Rattle.wb_merge.specs.Merge.{record_after, covers, built_number, are_waits_met, relisted, blank_record, new_state, new_number, new_record, newer_state, newer_number, newer_record, same_state_given, same_number, same_record_given, listed_record_given, SaysWaitsMet};
 
 use crate::{Built, Listed, Listing};
 use deb_relations::{Available, RelationFault, Relations};
@@ -138,7 +138,11 @@ fn new_number(listed: &Listed, built: Option<&Built>) -> u16
 
 /// The record of a source package that had none.
 #[tactic(auto, unfolding(crate::specs::Merge::new_record))]
-fn new_record(alloc: Global, listed: &Listed, built: Option<&Built>) -> Result<Record, Refusal>
+pub(crate) fn new_record(
+    alloc: Global,
+    listed: &Listed,
+    built: Option<&Built>,
+) -> Result<Record, Refusal>
     ensures value { IfOk result (λ new. new ≡ new_record listed.now (option_copied built.entry)) }
     ensures refused { IfErr result (λ refusal. refusal ≡ Memory) }
 {
@@ -185,29 +189,33 @@ fn newer_record(
     )
 }
 
-/// The state of a record of the version that is listed.
-fn same_state(
-    alloc: Global,
-    current: &Record,
-    listed: &Listed,
-    built: Option<&Built>,
-    available: &Available,
-) -> Result<State, Refusal>
-    ensures value { IfOk result (λ state.
-        state ≡ same_state listed.now (option_copied built.entry) available.now current.now) }
+/// Whether all that a record in Dep-Wait waits for is available; of another record it plays no part.
+fn says_waits_met(alloc: Global, current: &Record, available: &Available) -> Result<bool, Refusal>
+    ensures value { IfOk result (λ is_met. SaysWaitsMet available.now is_met current.now) }
     ensures refused { IfErr result (λ refusal. refusal ≡ Memory) }
-    ensures memory { IfErr result (λ refusal. IsTrue (is_dep_wait current.now.state)) }
+    ensures memory { OnErr result (IsTrue (is_dep_wait current.now.state)) }
+{
+    match current.state {
+        State::DepWait => are_waits_met(alloc, available, &current.waits),
+        _ => Ok(false),
+    }
+}
+
+/// The state of a record of the version that is listed.
+fn same_state(current: &Record, listed: &Listed, built: Option<&Built>, is_met: bool) -> State
+    ensures { result
+        ≡ same_state_given listed.now (option_copied built.entry) is_met current.now }
 {
     if matches!(current.state, State::NotForUs) {
-        return Ok(State::NotForUs);
+        return State::NotForUs;
     }
     if covers(built, &listed.version, current.number) {
-        return Ok(State::Installed);
+        return State::Installed;
     }
     match current.state {
-        State::Installed => Ok(State::NeedsBuild),
-        State::DepWait if are_waits_met(alloc, available, &current.waits)? => Ok(State::NeedsBuild),
-        state => Ok(state),
+        State::Installed => State::NeedsBuild,
+        State::DepWait if is_met => State::NeedsBuild,
+        state => state,
     }
 }
 
@@ -221,39 +229,37 @@ fn same_number(current: &Record, listed: &Listed, built: Option<&Built>) -> u16
 }
 
 /// A record of the version that is listed, after a merge.
-#[tactic(auto, unfolding(crate::specs::Merge::same_record))]
 fn same_record(
     alloc: Global,
     current: &Record,
     listed: &Listed,
     built: Option<&Built>,
-    available: &Available,
+    is_met: bool,
 ) -> Result<Record, Refusal>
     ensures value { IfOk result (λ new.
-        new ≡ same_record listed.now (option_copied built.entry) available.now current.now) }
+        new ≡ same_record_given listed.now (option_copied built.entry) is_met current.now) }
     ensures refused { IfErr result (λ refusal. refusal ≡ Memory) }
 {
-    let state = same_state(alloc, current, listed, built, available)?;
+    let state = same_state(current, listed, built, is_met);
     let number = same_number(current, listed, built);
     relist(alloc, copied(current)?, state, number, listed, built)
 }
 
 /// A record whose source package is listed, after a merge.
-#[tactic(auto, unfolding(crate::specs::Merge::listed_record))]
-fn listed_record(
+pub(crate) fn listed_record(
     alloc: Global,
     current: &Record,
     listed: &Listed,
     built: Option<&Built>,
-    available: &Available,
+    is_met: bool,
 ) -> Result<Record, Refusal>
     ensures value { IfOk result (λ new.
-        new ≡ listed_record listed.now (option_copied built.entry) available.now current.now) }
+        new ≡ listed_record_given listed.now (option_copied built.entry) is_met current.now) }
     ensures refused { IfErr result (λ refusal. refusal ≡ Memory) }
 {
     match compare(&current.version, &listed.version) {
         Ordering::Less => newer_record(alloc, current, listed, built),
-        Ordering::Equal => same_record(alloc, current, listed, built, available),
+        Ordering::Equal => same_record(alloc, current, listed, built, is_met),
         Ordering::Greater => copied(current),
     }
 }
@@ -284,7 +290,10 @@ pub fn after(
     };
     let built = listing.built(name);
     let made = match current {
-        Some(current) => listed_record(alloc, current, listed, built, listing.available())?,
+        Some(current) => {
+            let is_met = says_waits_met(alloc, current, listing.available())?;
+            listed_record(alloc, current, listed, built, is_met)?
+        }
         None => new_record(alloc, listed, built)?,
     };
     Ok(Some(made))

@@ -1,5 +1,5 @@
 //! The rows that a merge reads from the archive's lists.
-ghost use Rattle.std.specs.Prelude.{◌≡◌, ◌≢◌, Ok, Err, Some, None, not, ◌&&◌, true, false, IfOk, IfErr, OnOk, codes};
+ghost use Rattle.std.specs.Prelude.{◌≡◌, ◌≢◌, Ok, Err, Some, None, not, ◌&&◌, true, false, IsSome, IfOk, IfErr, OnOk, codes};
 ghost use Rattle.std.specs.List.{list_any};
 ghost use Rattle.deb_control.specs.declared.fault.ControlFaultKind.TheVariants.{Memory};
 ghost use Rattle.deb_text.specs.Lines.{words_in};
@@ -7,18 +7,19 @@ ghost use Rattle.deb_relations.specs.Arch.{arch_matches};
 ghost use Rattle.wb_states.specs.declared.refusal.ListingFault.TheVariants.{Control, BadValue};
 ghost use Rattle.wb_states.specs.declared.refusal.ListField.TheVariants.{Source};
 ghost use Rattle.deb_text.specs.Text.{is_empty_text};
-ghost use Rattle.wb_merge.specs.Rows.{value_named, is_source_text, optional_fault, source_row_of, binary_row_of, with_source};
+ghost use Rattle.wb_merge.specs.Rows.{value_named, is_source_text, optional_fault, source_fault, source_row_of, binary_row_of, with_source};
 ghost use Rattle.wb_merge.specs.Listing.{is_listed};
+ghost use Rattle.wb_merge.specs.Scratch.{source_columns};
 
 use crate::fields::{architectures, label, package_name, package_version, text, value};
 use crate::source::{parse_source, rebuild_number};
-use deb_control::Paragraph;
+use deb_control::Fields;
 use deb_relations::{ArchWords, arch_matches};
 use deb_text::Text;
 use deb_version::Version;
 use std::alloc::Global;
 use std::marker::Model;
-use wb_states::{ListField, ListingFault};
+use wb_states::{ListField, ListingFault, SourceRow as KeptSource};
 
 /// Whether a part of a text is a word that matches the architecture.
 fn is_match(part: &str, arch: &ArchWords) -> bool
@@ -35,6 +36,13 @@ fn has_match(words: &str, arch: &ArchWords) -> bool
         .split(' ')
         .flat_map(|part| part.split('\t'))
         .any(|part| is_match(part, arch))
+}
+
+/// Whether a source package of these architectures is listed for the architecture (Debian Policy 5.6.8).
+pub(crate) fn is_listed(archs: &Text, is_extra: bool, arch: &ArchWords) -> bool
+    ensures { result ≡ (list_any (λ word. arch_matches word arch.now) (words_in archs.now) && not is_extra) }
+{
+    has_match(archs.as_str(), arch) && !is_extra
 }
 
 /// What a merge reads from a paragraph of a Sources list (Debian Policy 5.4).
@@ -68,23 +76,51 @@ impl Model for SourceRow {
     } };
 }
 
+/// The columns of the paragraph of this number of a Sources list.
+#[tactic(auto, unfolding(crate::specs::Rows::source_fault))]
+pub(crate) fn source_columns<F: Fields>(
+    alloc: Global,
+    fields: &F,
+    at: u64,
+) -> Result<KeptSource, ListingFault>
+    ensures value { IfOk result (λ row. row ≡ source_columns at (F.fields fields.now)) }
+    ensures ok { OnOk result (source_fault (F.fields fields.now) ≡ None) }
+    ensures refused { IfErr result (λ fault. fault ≢ Control Memory
+        → source_fault (F.fields fields.now) ≡ Some fault) }
+    ensures memory { IfErr result (λ fault. fault ≡ Control Memory
+        → IsSome (value_named (codes "Package") (F.fields fields.now))) }
+{
+    Ok(KeptSource {
+        seq: at,
+        name: package_name(alloc, fields)?,
+        version: package_version(alloc, fields)?,
+        architecture: architectures(alloc, fields)?,
+        priority: label(alloc, fields, ListField::Priority)?,
+        section: label(alloc, fields, ListField::Section)?,
+        extra: text(alloc, fields, "Extra-Source-Only")?.as_str() == "yes",
+        depends: text(alloc, fields, "Build-Depends")?,
+        depends_arch: text(alloc, fields, "Build-Depends-Arch")?,
+    })
+}
+
 impl SourceRow {
     /// Reads a paragraph of a Sources list.
-    #[tactic(auto, unfolding(crate::specs::Rows::source_row_of, crate::specs::Rows::source_fault))]
-    pub(crate) fn read(alloc: Global, paragraph: &Paragraph<'_>) -> Result<SourceRow, ListingFault>
-        ensures value { IfOk result (λ row. source_row_of paragraph.now ≡ Ok row) }
+    #[tactic(auto, unfolding(crate::specs::Rows::source_row_of))]
+    pub(crate) fn read<F: Fields>(alloc: Global, fields: &F) -> Result<SourceRow, ListingFault>
+        ensures value { IfOk result (λ row. source_row_of (F.fields fields.now) ≡ Ok row) }
         ensures refused { IfErr result (λ fault. fault ≢ Control Memory
-            → source_row_of paragraph.now ≡ Err fault) }
+            → source_row_of (F.fields fields.now) ≡ Err fault) }
     {
+        let kept = source_columns(alloc, fields, 0)?;
         Ok(SourceRow {
-            name: package_name(alloc, paragraph)?,
-            version: package_version(alloc, paragraph)?,
-            archs: architectures(alloc, paragraph)?,
-            priority: label(alloc, paragraph, ListField::Priority)?,
-            section: label(alloc, paragraph, ListField::Section)?,
-            is_extra: text(alloc, paragraph, "Extra-Source-Only")?.as_str() == "yes",
-            depends: text(alloc, paragraph, "Build-Depends")?,
-            depends_arch: text(alloc, paragraph, "Build-Depends-Arch")?,
+            name: kept.name,
+            version: kept.version,
+            archs: kept.architecture,
+            is_extra: kept.extra,
+            priority: kept.priority,
+            section: kept.section,
+            depends: kept.depends,
+            depends_arch: kept.depends_arch,
         })
     }
 }
@@ -95,7 +131,7 @@ impl SourceRow {
     pub(crate) fn is_listed(&self, arch: &ArchWords) -> bool
         ensures { result ≡ is_listed arch.now self.now }
     {
-        has_match(self.archs.as_str(), arch) && !self.is_extra
+        is_listed(&self.archs, self.is_extra, arch)
     }
 }
 
@@ -105,8 +141,8 @@ pub(crate) struct BinaryRow {
     pub(crate) name: Text,
     pub(crate) version: Version,
     pub(crate) arch: Text,
-    source: Option<Text>,
-    source_version: Option<Version>,
+    pub(crate) source: Option<Text>,
+    pub(crate) source_version: Option<Version>,
     pub(crate) number: u16,
 }
 
@@ -162,15 +198,19 @@ fn with_source(
 impl BinaryRow {
     /// Reads a paragraph of a Packages list.
     #[tactic(auto, unfolding(crate::specs::Rows::binary_row_of, crate::specs::Rows::binary_fault, crate::specs::Rows::optional_fault))]
-    pub(crate) fn read(alloc: Global, paragraph: &Paragraph<'_>) -> Result<BinaryRow, ListingFault>
-        ensures value { IfOk result (λ row. binary_row_of paragraph.now ≡ Ok row) }
+    pub(crate) fn read<F: Fields>(alloc: Global, fields: &F) -> Result<BinaryRow, ListingFault>
+        ensures value { IfOk result (λ row. binary_row_of (F.fields fields.now) ≡ Ok row) }
         ensures refused { IfErr result (λ fault. fault ≢ Control Memory
-            → binary_row_of paragraph.now ≡ Err fault) }
+            → binary_row_of (F.fields fields.now) ≡ Err fault) }
+        // what takes memory
+        ensures there { OnOk result (IsSome (value_named (codes "Package") (F.fields fields.now))) }
+        ensures memory { IfErr result (λ fault. fault ≡ Control Memory
+            → IsSome (value_named (codes "Package") (F.fields fields.now))) }
     {
-        let name = package_name(alloc, paragraph)?;
-        let version = package_version(alloc, paragraph)?;
-        let arch = architectures(alloc, paragraph)?;
-        match value(alloc, paragraph, "Source")? {
+        let name = package_name(alloc, fields)?;
+        let version = package_version(alloc, fields)?;
+        let arch = architectures(alloc, fields)?;
+        match value(alloc, fields, "Source")? {
             Some(source) => with_source(alloc, name, version, arch, source.as_str()),
             None => Ok(BinaryRow {
                 name,
