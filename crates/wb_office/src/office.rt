@@ -234,6 +234,10 @@ impl<S: Alter + Drop> CarryOut for Office<S> {
         self.known.counts.accepted
     }
 
+    fn closed(&self) -> bool {
+        Office::closed(self)
+    }
+
     fn carry_out(&mut self, command: &Command) -> Result<Reply, Refusal> {
         self.apply(command)
     }

@@ -1,5 +1,5 @@
 //! What an office promises of the commands and the queries that it is given, wherever it keeps its state.
-ghost use Rattle.std.specs.Prelude.{◌≡◌, IfOk, IfErr, Ok, Err, false};
+ghost use Rattle.std.specs.Prelude.{◌≡◌, ◌↔◌, IfOk, IfErr, IsTrue, Ok, Err, false};
 ghost use Rattle.wb_states.specs.declared.refusal.Refusal.TheVariants.{Closed, Memory, Store};
 ghost use Rattle.wb_states.specs.declared.store_fault.StoreFault.{StoreFault};
 ghost use Rattle.wb_states.specs.Machine.{IsConsistent, Machine};
@@ -32,6 +32,11 @@ pub trait CarryOut {
     fn accepted_count(&self) -> u64
         ensures value { (machine : Machine) → is_clean self.now → stands_at self.now machine
             → result ≡ machine.accepted };
+
+    /// Whether the office is closed: it answers `Closed` to each command and query, until it is opened again. Takes no memory
+    /// (this project's own).
+    fn closed(&self) -> bool
+        ensures value { IsTrue result ↔ is_closed self.now };
 
     /// Carries out one command, whole or not at all, and answers it.
     ///
