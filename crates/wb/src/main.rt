@@ -4,10 +4,14 @@
 mod asked;
 mod connection;
 mod files;
+mod journal;
 mod memory;
+mod progress;
 mod serve;
 mod store;
 
+use journal::FileJournal;
+use progress::{is_watched, report_reading};
 use sqlite::Alter;
 use std::alloc::{AllocError, Global};
 use std::io::{self, BufReader, Read};
@@ -17,7 +21,9 @@ use std::rt::{Env, Files};
 use std::{env, fs};
 use wb_api::line_fault_json;
 use wb_daemon::{Cause, Lists, Message, run_lines, run_words, status};
+use wb_journal::Journaled;
 use wb_office::Office;
+use wb_step::CarryOut;
 use wb_streams::{WatchedReader, WatchedWriter};
 use wb_words::{HELP, Start, start_of};
 
@@ -28,11 +34,16 @@ const VERSION: &str = "wb 0.1.0, proved with rattle-kit-13f logic dac8208d650f15
 /// error.
 struct FileLists<'a, F> {
     rt: &'a F,
+    /// Whether a person may read the messages.
+    is_watched: bool,
 }
 
 impl<'a, F> Drop for FileLists<'a, F> {
     fn drop(self) {
-        let FileLists { rt: _ } = self;
+        let FileLists {
+            rt: _,
+            is_watched: _,
+        } = self;
     }
 }
 
@@ -41,7 +52,12 @@ impl<'a, F: Files + Eprint> Lists for FileLists<'a, F> {
 
     fn open(&mut self, _alloc: Global, name: &str) -> Result<Option<F::File>, AllocError> {
         match fs::open(self.rt, name) {
-            Ok(list) => Ok(Some(list)),
+            Ok(list) => {
+                if self.is_watched {
+                    report_reading(self.rt, name);
+                }
+                Ok(Some(list))
+            }
             Err(error) => {
                 self.report(Message::ListFailed {
                     name,
@@ -95,17 +111,21 @@ fn start(rt: &HostRuntime, arguments: &[String]) -> u8 {
         return said(rt.println(VERSION), status::ACCEPTED);
     }
     match start_of(rt.alloc(), &words) {
-        Ok(Start::Run { store }) => open_for(rt, store, Work::Run),
+        Ok(Start::Run { store, journal }) => open_for(rt, store, Work::Run { journal }),
         Ok(
             Start::Serve {
                 store,
                 port,
                 requests,
+                journal,
             },
         ) => match serve::listen(rt, port) {
             Some(listener) => {
-                let listener = &listener;
-                open_for(rt, store, Work::Serve { listener, requests })
+                let service = Service {
+                    listener: &listener,
+                    requests,
+                };
+                open_for(rt, store, Work::Serve { service, journal })
             }
             None => status::STOPPED,
         },
@@ -122,12 +142,14 @@ fn start(rt: &HostRuntime, arguments: &[String]) -> u8 {
 /// What an office is opened for. A port is taken before that, so that no file is made if the port cannot be taken.
 #[derive(Clone, Copy)]
 pub(crate) enum Work<'a> {
-    /// To answer the lines of standard input.
-    Run,
-    /// To answer this many connections; without a number, all until the program is ended.
+    /// To answer the lines of standard input, with a journal in this file if one is named.
+    Run {
+        journal: Option<&'a str>,
+    },
+    /// To answer requests, with a journal in this file if one is named.
     Serve {
-        listener: &'a TcpListener,
-        requests: Option<u32>,
+        service: Service<'a>,
+        journal: Option<&'a str>,
     },
     /// To answer the query of these words, which leaves the office as it is.
     Ask {
@@ -137,6 +159,13 @@ pub(crate) enum Work<'a> {
     CarryOut {
         words: &'a [&'a str],
     },
+}
+
+/// Where requests come in, and how many connections are served; without a number, all until the program is ended.
+#[derive(Clone, Copy)]
+pub(crate) struct Service<'a> {
+    listener: &'a TcpListener,
+    requests: Option<u32>,
 }
 
 /// Has an office do its work, over the tables in the file if one is named, and otherwise over tables in memory.
@@ -150,10 +179,29 @@ fn open_for(rt: &HostRuntime, store: Option<&str>, work: Work<'_>) -> u8 {
 /// Has the office do this work.
 pub(crate) fn act<S: Alter + Drop>(rt: &HostRuntime, office: &mut Office<S>, work: Work<'_>) -> u8 {
     match work {
-        Work::Run => run(rt, office),
         Work::Ask { words } | Work::CarryOut { words } => answer(rt, office, words),
-        Work::Serve { listener, requests } => serve::serve(rt, office, listener, requests),
+        Work::Run { journal: None } => run(rt, office),
+        Work::Run {
+            journal: Some(file),
+        } => run(rt, &mut journaled(rt, office, file)),
+        Work::Serve {
+            service,
+            journal: None,
+        } => serve::serve(rt, office, service),
+        Work::Serve {
+            service,
+            journal: Some(file),
+        } => serve::serve(rt, &mut journaled(rt, office, file), service),
     }
+}
+
+/// The office with its journal in this file.
+fn journaled<'a, S: Alter + Drop>(
+    rt: &'a HostRuntime,
+    office: &'a mut Office<S>,
+    file: &'a str,
+) -> Journaled<'a, Office<S>, FileJournal<'a>> {
+    Journaled::new(office, FileJournal::new(rt, file))
 }
 
 /// Says that the program's words are no command.
@@ -171,25 +219,27 @@ fn texts_of<'a>(alloc: Global, arguments: &'a [String]) -> Option<Vec<&'a str>> 
 }
 
 /// Answers the lines of standard input on standard output.
-fn run<S: Alter + Drop>(rt: &HostRuntime, office: &mut Office<S>) -> u8 {
+fn run<O: CarryOut>(rt: &HostRuntime, office: &mut O) -> u8 {
     let Ok(buffered) = BufReader::new(rt.alloc(), rt.reader()) else {
         say(rt, Message::Stopped { cause: Cause::Room });
         return status::STOPPED;
     };
     let mut reader = WatchedReader::new(buffered);
     let mut writer = WatchedWriter::new(io::writer(rt));
-    let mut lists = FileLists { rt };
+    let mut lists = FileLists {
+        rt,
+        is_watched: is_watched(rt),
+    };
     run_lines(rt.alloc(), office, &mut reader, &mut writer, &mut lists)
 }
 
 /// Answers a single command on standard output.
-pub(crate) fn answer<S: Alter + Drop>(
-    rt: &HostRuntime,
-    office: &mut Office<S>,
-    words: &[&str],
-) -> u8 {
+pub(crate) fn answer<O: CarryOut>(rt: &HostRuntime, office: &mut O, words: &[&str]) -> u8 {
     let mut writer = WatchedWriter::new(io::writer(rt));
-    let mut lists = FileLists { rt };
+    let mut lists = FileLists {
+        rt,
+        is_watched: is_watched(rt),
+    };
     run_words(rt.alloc(), office, words, &mut writer, &mut lists)
 }
 

@@ -1,14 +1,13 @@
 //! The office over HTTP, on a port of this machine.
 
 use crate::connection::TimedStream;
-use crate::say;
-use sqlite::Alter;
+use crate::{Service, say};
 use std::io::{self, Read};
 use std::net::{Ipv4Addr, Shutdown, SocketAddr, TcpListener, TcpStream};
 use std::time::Duration;
 use wb_api::{Routes, Served, serve_one};
 use wb_daemon::{Cause, Message, status};
-use wb_office::Office;
+use wb_step::CarryOut;
 use wb_streams::{WatchedReader, WatchedWriter};
 
 /// How many seconds a connection has for its request and its answer together; a read or a write after that fails.
@@ -38,14 +37,9 @@ const FAILURES: u32 = 100;
 
 /// Serves this many connections, one after another, or without a number all until the program is ended. The paths are read
 /// once, before the first.
-pub(crate) fn serve<S: Alter + Drop>(
-    rt: &HostRuntime,
-    office: &mut Office<S>,
-    listener: &TcpListener,
-    requests: Option<u32>,
-) -> u8 {
+pub(crate) fn serve<O: CarryOut>(rt: &HostRuntime, office: &mut O, service: Service<'_>) -> u8 {
     match Routes::new(rt.alloc()) {
-        Ok(routes) => serve_routes(rt, &routes, office, listener, requests),
+        Ok(routes) => serve_routes(rt, &routes, office, service),
         Err(error) => {
             let _ = eprintln!(rt; "wb: nothing can be served: {error}");
             status::STOPPED
@@ -56,20 +50,19 @@ pub(crate) fn serve<S: Alter + Drop>(
 /// Serves this many connections, one after another, or without a number all until the program is ended. It ends early if the
 /// office is closed then, or if connections cannot be accepted. Each that cannot is reported on standard error, and counts
 /// too.
-fn serve_routes<S: Alter + Drop>(
+fn serve_routes<O: CarryOut>(
     rt: &HostRuntime,
     routes: &Routes,
-    office: &mut Office<S>,
-    listener: &TcpListener,
-    requests: Option<u32>,
+    office: &mut O,
+    service: Service<'_>,
 ) -> u8 {
-    let limit = match requests {
+    let limit = match service.requests {
         Some(count) => u64::from(count),
         None => u64::MAX,
     };
     let mut failures: u32 = 0;
     for _ in 0..limit {
-        match listener.accept() {
+        match service.listener.accept() {
             Ok((stream, _)) => {
                 failures = 0;
                 report(rt, serve_stream(rt, routes, office, &stream));
@@ -97,10 +90,10 @@ fn serve_routes<S: Alter + Drop>(
 }
 
 /// Answers the request of one connection, closes the connection, and says how that ended.
-fn serve_stream<S: Alter + Drop>(
+fn serve_stream<O: CarryOut>(
     rt: &HostRuntime,
     routes: &Routes,
-    office: &mut Office<S>,
+    office: &mut O,
     stream: &TcpStream,
 ) -> io::Result<Served> {
     let timed = TimedStream::new(rt, stream, Duration::from_secs(LIMIT_SECONDS))?;

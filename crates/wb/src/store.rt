@@ -3,6 +3,7 @@
 ghost use Rattle.sqlite.specs.Held.{IsNew};
 
 use crate::files::{connect, connect_to_ask, names_no_file, refuse};
+use crate::progress::report_opening;
 use crate::{Work, act, answer, said};
 use sqlite::{Connection, File, FileStore};
 use std::alloc::AllocError;
@@ -68,6 +69,7 @@ fn open_locked(rt: &HostRuntime, file: &str, work: Work<'_>) -> u8 {
         Ok(true) => return refuse_lost(rt, file),
         Err(AllocError) => return refuse_fault(rt, file, StoreFault::Memory),
     }
+    report_opening(rt, file);
     let asked = match work {
         Work::Ask { words } => ask_file(rt, file, words),
         _ => None,

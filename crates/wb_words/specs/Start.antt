@@ -1,19 +1,24 @@
 -- What the words after the program's name ask of it, as `clap` reads them.
-use Rattle.std.specs.Prelude.{◌≡◌, ◌≢◌, ◌⊎◌, ℕ, List, [], ◌∷◌, Bool, true, false, if◌then◌else◌, drop, map, nat_eq, Option, Some, None, codes, option_map, ⊤}
+use Rattle.std.specs.Prelude.{◌≡◌, ◌≢◌, ◌⊎◌, ℕ, List, [], ◌∷◌, Bool, true, false, if◌then◌else◌, drop, map, nat_eq, Option, Some, None, codes, option_and_then, option_map, ⊤}
 use Rattle.std.specs.Borrow.{Bor}
 use Rattle.std.specs.List.{starts_with}
 use Rattle.std.specs.Str.{bytes_eq}
 use Rattle.clap.specs.Words.{App, IsAmong, Kinds, Row, Text, fault_of, first_of, matches_of, new_app, subcommand_of, with_subcommand}
 use Rattle.clap.specs.declared.error.kind.ErrorKind.{ErrorKind}
 use Rattle.clap.specs.declared.error.kind.ErrorKind.TheVariants.{DisplayHelp}
+use Rattle.wb_words.specs.Arguments.{word_of}
 use Rattle.wb_words.specs.Service.{serve_app, service_named}
 use Rattle.wb_words.specs.Usages.{is_query, with_arguments, with_wb_usages}
 use Rattle.wb_words.specs.declared.usage.ArgumentKind.TheVariants.{NamedWord}
 use Rattle.wb_words.specs.declared.start.Start.{Start}
 use Rattle.wb_words.specs.declared.start.Start.TheVariants.{Run, Serve, Ask, CarryOut, Help}
 
--- the program's own command line: the option `--store`, which takes a word, the subcommands `run` and `serve` and those of a line, and the options `--help`
--- and `-h`
+-- a subcommand with the option `--journal`, which takes a word
+unfoldable pub with_journal : App → App
+with_journal app = with_arguments app ((codes "journal", NamedWord) ∷ [])
+
+-- the program's own command line: the option `--store`, which takes a word, the subcommands `run` and `serve`, which have the option `--journal`, those
+-- of a line, and the options `--help` and `-h`
 unfoldable pub start_app : App
 start_app = with_wb_usages (with_subcommand (with_subcommand (with_arguments (record (new_app (codes "wb")) {
   top = record ((new_app (codes "wb")).top) {
@@ -21,7 +26,7 @@ start_app = with_wb_usages (with_subcommand (with_subcommand (with_arguments (re
     disable_help_subcommand = true;
     subcommand_required = true;
   };
-}) ((codes "store", NamedWord) ∷ [])) (new_app (codes "run")).top) serve_app.top)
+}) ((codes "store", NamedWord) ∷ [])) (with_journal (new_app (codes "run"))).top) (with_journal serve_app).top)
 
 -- the first word is `help`
 abbrev pub begins_with_help : List Text → Bool
@@ -39,6 +44,10 @@ store_in words = first_of (codes "store") (matches_of start_app words)
 -- the subcommand that the words name, with its arguments
 unfoldable pub subcommand_in : List Text → Option (Text × List Row)
 subcommand_in words = subcommand_of start_app words
+
+-- the word after the option `--journal` of the subcommand, if it is given
+unfoldable pub journal_in : List Text → Option Text
+journal_in words = option_and_then (λ named. word_of (codes "journal") named.1) (subcommand_in words)
 
 -- how many words before the subcommand name the file that keeps the records
 abbrev pub store_words : List Text → ℕ
@@ -62,10 +71,16 @@ pub record IsSingle (words : List Text) (named : Text × List Row) (given : List
   pub no_run : bytes_eq named.0 (codes "run") ≡ false
   pub no_service : bytes_eq named.0 (codes "serve") ≡ false
 
+-- the journal is the file that the arguments of a subcommand name as such
+abbrev pub IsJournal : Text × List Row → Option (Bor Text) → Type 0
+IsJournal named journal = option_map (λ file. file.now) journal ≡ word_of (codes "journal") named.1
+
 -- a subcommand with its arguments asks for this, with the records in this file
 abbrev pub Names : List Text → Option Text → Text × List Row → Start → Type 0
-Names words file named (Run store) = (option_map (λ file. file.now) store ≡ file) × (bytes_eq named.0 (codes "run") ≡ true)
-Names words file named (Serve store port requests) = (option_map (λ file. file.now) store ≡ file) × (service_named named ≡ Some (port, requests))
+Names words file named (Run store journal) = (option_map (λ file. file.now) store ≡ file) × IsJournal named journal
+    × (bytes_eq named.0 (codes "run") ≡ true)
+Names words file named (Serve store port requests journal) = (option_map (λ file. file.now) store ≡ file) × IsJournal named journal
+    × (service_named named ≡ Some (port, requests))
 Names words file named (Ask store given) = (option_map (λ file. file.now) store ≡ file) × IsSingle words named given.now true
 Names words file named (CarryOut store given) = (option_map (λ file. file.now) store ≡ file) × IsSingle words named given.now false
 Names words file named Help = ⊥
@@ -90,8 +105,8 @@ IsRead words start = (begins_with_help words ≡ false) × (start_faults words �
 
 -- the words ask for this
 abbrev pub Starts : List Text → Start → Type 0
-Starts words (Run store) = IsRead words (Run store)
-Starts words (Serve store port requests) = IsRead words (Serve store port requests)
+Starts words (Run store journal) = IsRead words (Run store journal)
+Starts words (Serve store port requests journal) = IsRead words (Serve store port requests journal)
 Starts words (Ask store given) = IsRead words (Ask store given)
 Starts words (CarryOut store given) = IsRead words (CarryOut store given)
 Starts words Help = (begins_with_help words ≡ true) ⊎ IsAmong DisplayHelp (start_faults words)

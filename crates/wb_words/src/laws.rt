@@ -13,7 +13,7 @@ ghost use Rattle.wb_states.specs.Forms.{PutBack, Rebuild, Take};
 ghost use Rattle.wb_states.specs.Forms.{Uploaded, Waits};
 ghost use Rattle.wb_states.specs.declared.query.Query.TheVariants as query;
 ghost use Rattle.wb_words.specs.Arguments.{integer_in, joined, number_in, parts_in};
-ghost use Rattle.wb_words.specs.Start.{IsNoStart, Starts, begin_with_query, single_words, start_faults, store_in};
+ghost use Rattle.wb_words.specs.Start.{IsNoStart, Starts, begin_with_query, journal_in, single_words, start_faults, store_in};
 ghost use Rattle.wb_words.specs.Usages.{usage_named, wb_usages};
 ghost use Rattle.wb_words.specs.Words.{command_named, invocation_by, invocation_in, IsQuery};
 ghost use Rattle.wb_words.specs.declared.start.Start.TheVariants.{Ask, CarryOut, Help, Run, Serve};
@@ -300,7 +300,7 @@ pub fn other_arguments_are_none()
 /// What the program is started for: `run`, help in its three forms, and words that ask for nothing.
 pub fn starts_are_read()
     // help is wanted, also after `run` and after a command
-    ensures run { Starts (codes "run" ∷ []) (Run None) }
+    ensures run { Starts (codes "run" ∷ []) (Run None None) }
     ensures stored { start_faults (codes "--store" ∷ codes "/var/lib/wb" ∷ codes "run" ∷ []) ≡ [] }
     ensures file { store_in (codes "--store" ∷ codes "/var/lib/wb" ∷ codes "run" ∷ []) ≡ Some (codes "/var/lib/wb") }
     ensures equals { store_in (codes "--store=a b" ∷ codes "run" ∷ []) ≡ Some (codes "a b") }
@@ -316,6 +316,21 @@ pub fn starts_are_read()
     ensures unnamed { IsNoStart (codes "--store" ∷ []) }
     ensures twice { IsNoStart (codes "--store=a" ∷ codes "--store=b" ∷ codes "run" ∷ []) }
     ensures behind { IsNoStart (codes "run" ∷ codes "--store=a" ∷ []) }
+{}
+
+/// `run` and `serve` take the file of a journal, once, after them and in any place among their options; no other subcommand
+/// takes one.
+pub fn journals_are_read()
+    ensures run { journal_in (codes "run" ∷ codes "--journal" ∷ codes "wb.journal" ∷ []) ≡ Some (codes "wb.journal") }
+    ensures run_read { start_faults (codes "run" ∷ codes "--journal=a b" ∷ []) ≡ [] }
+    ensures serve { journal_in (codes "serve" ∷ codes "--journal=a b" ∷ codes "--port=1" ∷ []) ≡ Some (codes "a b") }
+    ensures serve_read { start_faults (codes "serve" ∷ codes "--journal=a b" ∷ codes "--port=1" ∷ []) ≡ [] }
+    ensures none { journal_in (codes "run" ∷ []) ≡ None }
+    // without a file, twice, before the subcommand, and after another one
+    ensures unnamed { IsNoStart (codes "run" ∷ codes "--journal" ∷ []) }
+    ensures twice { IsNoStart (codes "run" ∷ codes "--journal=a" ∷ codes "--journal=b" ∷ []) }
+    ensures before { IsNoStart (codes "--journal=a" ∷ codes "run" ∷ []) }
+    ensures other { IsNoStart (codes "queue" ∷ codes "amd64" ∷ codes "--journal=a" ∷ []) }
 {}
 
 /// A single command is asked for by its words, and a query as such: those are the words after the file that keeps the
@@ -356,11 +371,11 @@ pub fn queries_ask_for_no_command()
 /// `numbers_are_read` has it, and stand within their limits.
 pub fn services_are_read()
     ensures serve { Starts (codes "serve" ∷ codes "--port" ∷ codes "8080" ∷ codes "--requests" ∷ codes "10" ∷ [])
-        (Serve None 8080 (Some 10)) }
-    ensures order { Starts (codes "serve" ∷ codes "--requests=+1" ∷ codes "--port=007" ∷ []) (Serve None 7 (Some 1)) }
+        (Serve None 8080 (Some 10) None) }
+    ensures order { Starts (codes "serve" ∷ codes "--requests=+1" ∷ codes "--port=007" ∷ []) (Serve None 7 (Some 1) None) }
     ensures greatest { Starts (codes "serve" ∷ codes "--port=65535" ∷ codes "--requests=1000000" ∷ [])
-        (Serve None 65535 (Some 1000000)) }
-    ensures unlimited { Starts (codes "serve" ∷ codes "--port=1" ∷ []) (Serve None 1 None) }
+        (Serve None 65535 (Some 1000000) None) }
+    ensures unlimited { Starts (codes "serve" ∷ codes "--port=1" ∷ []) (Serve None 1 None None) }
     ensures file { store_in (codes "--store" ∷ codes "wb.db" ∷ codes "serve" ∷ codes "--port=1" ∷ codes "--requests=1"
         ∷ []) ≡ Some (codes "wb.db") }
     ensures help { Starts (codes "serve" ∷ codes "--help" ∷ []) Help }

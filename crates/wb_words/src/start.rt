@@ -1,9 +1,12 @@
 //! What the program is started for.
 ghost use Rattle.std.specs.Prelude.{◌≡◌, ◌≢◌, false, if◌then◌else◌, codes, map, option_map, IfErr, IfNone, IfOk, IfSome};
-ghost use Rattle.clap.specs.Words.{app_of, first_of, found_of, kind_of, rows_of, subcommand_rows_of};
+ghost use Rattle.clap.specs.Words.{app_of, first_of, found_of, kind_of, new_app, rows_of, subcommand_rows_of, with_subcommand};
+ghost use Rattle.clap.specs.declared.builder.command.Command.TheViews.{out-Command};
 ghost use Rattle.clap.specs.declared.error.kind.ErrorKind.TheVariants.{OutOfMemory};
+ghost use Rattle.wb_words.specs.Arguments.{word_of};
+ghost use Rattle.wb_words.specs.Service.{serve_app};
 ghost use Rattle.wb_words.specs.Start.{Asks, AsksNone, IsNoStart, Names, NamesNone, Starts};
-ghost use Rattle.wb_words.specs.Start.{begin_with_query, begins_with_help, single_words, start_app, store_words};
+ghost use Rattle.wb_words.specs.Start.{begin_with_query, begins_with_help, single_words, start_app, store_words, with_journal};
 ghost use Rattle.wb_words.specs.declared.start.Start.TheVariants.{Ask, CarryOut};
 
 use crate::query::is_query;
@@ -21,6 +24,8 @@ pub enum Start<'a> {
     Run {
         /// The file that keeps the records; without one they end with the program.
         store: Option<&'a str>,
+        /// The file to which a line for each accepted command is appended, if one is kept.
+        journal: Option<&'a str>,
     },
     /// To answer requests of builders over HTTP.
     Serve {
@@ -30,6 +35,8 @@ pub enum Start<'a> {
         port: u16,
         /// How many connections are served, from 1 to 1000000; without it, all until the program is ended.
         requests: Option<u32>,
+        /// The file to which a line for each accepted command is appended, if one is kept.
+        journal: Option<&'a str>,
     },
     /// To have the office answer a query, which leaves it as it is.
     Ask {
@@ -54,10 +61,11 @@ pub const HELP: &str = "\
 The central office of an autobuilder network.
 
 Usage:
-  wb [--store FILE] run    Answers the commands of its input
+  wb [--store FILE] run [--journal FILE]
+                           Answers the commands of its input
   wb [--store FILE] COMMAND ARGUMENTS..
                            Answers one command
-  wb [--store FILE] serve --port P [--requests N]
+  wb [--store FILE] serve --port P [--requests N] [--journal FILE]
                            Answers HTTP requests of builders on this machine
   wb help                  Prints this text
   wb --version             Prints the version
@@ -75,64 +83,92 @@ another, until it is ended. With --requests it serves N of them, and ends. P is
 from 1 to 65535, and N from 1 to 1000000. Each connection carries one request.
 --store keeps the records as with `wb run`.
 
+With --journal a line of JSON is appended to FILE for each accepted command once
+it is stored: when it was accepted, what it was, and its answer. A journal that
+cannot be written is reported, and stops nothing.
+
 The commands are:
 
   add-arch NAME OS CPU
           Adds an architecture
+          Example: add-arch amd64 linux amd64
   add-builder NAME ARCH
           Lets a builder build for an architecture
+          Example: add-builder b1 amd64
   enter ARCH SOURCE VERSION PRIORITY SECTION
           Puts a new source package into the queue of an architecture
+          Example: enter amd64 hello 1.0-1 optional devel
   next ARCH BUILDER [--after N]
           Gives a builder the first source package of the queue. With --after,
           if the builder still builds under a take number above N, repeats the
           answer with the smallest of them
+          Example: next amd64 b1 --after 0
   take ARCH BUILDER SOURCE VERSION
           Gives a builder this source package of the queue
+          Example: take amd64 b1 hello 1.0-1
   built TAKE
           Reports that the builder built the source package
+          Example: built 17
   uploaded TAKE
           Reports that the builder uploaded what it built
+          Example: uploaded 17
   waits TAKE RELATIONS..
           Reports that the source package waits for these relations
+          Example: waits 17 libfoo-dev (>= 2)
   attempted TAKE [REASON..]
           Reports that the builder's build failed
+          Example: attempted 17 a test failed
   put-back TAKE
           Puts the source package back into the queue
+          Example: put-back 17
   give-back ARCH SOURCE VERSION
           Puts a source package back into the queue
+          Example: give-back amd64 hello 1.0-1
   dep-wait ARCH SOURCE VERSION RELATIONS..
           Lets a source package wait for these relations
+          Example: dep-wait amd64 hello 1.0-1 libfoo-dev (>= 2), bar | baz
   fail ARCH SOURCE VERSION [NOTE..]
           Says that the build fails, as a person who looked at it found
+          Example: fail amd64 hello 1.0-1 needs a newer compiler
   not-for-us ARCH SOURCE VERSION [NOTE..]
           Says that the source package is not built on this architecture
+          Example: not-for-us amd64 hello 1.0-1 needs x86 hardware
   rebuild ARCH SOURCE VERSION NUMBER [MESSAGE..]
           Builds an installed source package again, under this number
+          Example: rebuild amd64 hello 1.0-1 1 rebuild against libfoo2
   build-priority ARCH SOURCE VERSION VALUE
           Gives a source package another build priority, from -1000 to 1000. The
           greatest is built first. A negative VALUE comes after the word --
+          Example: build-priority amd64 hello 1.0-1 -- -50
   merge SOURCESFILE PART..
           Brings the records in line with the lists of the archive. A PART is
           ARCH=PACKAGESFILE. Give one for each architecture
+          Example: merge Sources-0412 amd64=Packages-amd64-0412
   report ARCH FILE
           Brings the records of an architecture in line with a report of which
           build dependencies can be installed
+          Example: report amd64 report-0412
 
 and these, which change nothing:
 
   queue ARCH
           Shows the queue of an architecture, in the order of building
+          Example: queue amd64
   summary ARCH
           Shows how many source packages are in each state
+          Example: summary amd64
   by-state ARCH STATE
           Shows the source packages in a state, such as Needs-Build
+          Example: by-state amd64 Build-Attempted
   item ARCH SOURCE
           Shows a source package
+          Example: item amd64 hello
   depends ARCH SOURCE
           Shows what a source package needs to be built
+          Example: depends amd64 hello
   mine BUILDER
           Shows what a builder holds
+          Example: mine b1
 
 TAKE is the take number in the answer to next or take. An argument in brackets
 may be left out. An argument that ends in .. takes several words.
@@ -155,6 +191,9 @@ fn begins_with_help(words: &[&str]) -> bool
 /// The options before the subcommand.
 const OPTIONS: [(&str, ArgumentKind); 1] = [("store", ArgumentKind::NamedWord)];
 
+/// The option of the subcommands that go on with an office.
+const JOURNAL: [(&str, ArgumentKind); 1] = [("journal", ArgumentKind::NamedWord)];
+
 /// The program's command line: the option `--store`, the subcommands `run` and `serve` and those of a line, and help.
 #[tactic(auto, unfolding(crate::specs::Start::start_app))]
 fn start_app<'a>(alloc: Global) -> Result<Command<'a>, AllocError>
@@ -164,10 +203,51 @@ fn start_app<'a>(alloc: Global) -> Result<Command<'a>, AllocError>
         .no_binary_name(true)
         .disable_help_subcommand(true)
         .subcommand_required(true);
-    let served = with_arguments(alloc, bare, OPTIONS.as_slice())?
-        .subcommand(Command::new(alloc, "run"))?
-        .subcommand(serve_command(alloc)?)?;
+    let optional = with_arguments(alloc, bare, OPTIONS.as_slice())?;
+    let run = with_run(alloc, optional)?;
+    let served = with_service(alloc, run)?;
     with_line_subcommands(alloc, served)
+}
+
+/// The command with the subcommand `run`.
+fn with_run<'a>(alloc: Global, command: Command<'a>) -> Result<Command<'a>, AllocError>
+    requires { (out-Command command).has_globals ≡ false }
+    ensures value { IfOk result (λ made. app_of made
+        ≡ with_subcommand (app_of command.entry) (with_journal (new_app (codes "run"))).top) }
+    ensures local { IfOk result (λ made. (out-Command made).has_globals ≡ false) }
+{
+    let run = with_journal(alloc, Command::new(alloc, "run"))?;
+    command.subcommand(run)
+}
+
+/// The command with the subcommand `serve`.
+fn with_service<'a>(alloc: Global, command: Command<'a>) -> Result<Command<'a>, AllocError>
+    requires { (out-Command command).has_globals ≡ false }
+    ensures value { IfOk result (λ made. app_of made
+        ≡ with_subcommand (app_of command.entry) (with_journal serve_app).top) }
+    ensures local { IfOk result (λ made. (out-Command made).has_globals ≡ false) }
+{
+    let serve = with_journal(alloc, serve_command(alloc)?)?;
+    command.subcommand(serve)
+}
+
+/// The subcommand with the option `--journal`.
+#[tactic(auto, unfolding(crate::specs::Start::with_journal))]
+fn with_journal<'a>(alloc: Global, subcommand: Command<'a>) -> Result<Command<'a>, AllocError>
+    requires { (out-Command subcommand).has_globals ≡ false }
+    ensures value { IfOk result (λ made. app_of made ≡ with_journal (app_of subcommand.entry)) }
+    ensures local { IfOk result (λ made. (out-Command made).has_globals ≡ false) }
+{
+    with_arguments(alloc, subcommand, JOURNAL.as_slice())
+}
+
+/// The file of the journal, if the subcommand's arguments name one.
+#[tactic(auto, using(crate::proofs::RowLemmas::row_laws), unfolding(crate::specs::Arguments::word_of))]
+fn journal_of<'a>(arguments: &ArgMatches<'a>) -> Option<&'a str>
+    ensures value { option_map (λ file. file.now) result
+        ≡ word_of (codes "journal") (rows_of (found_of arguments.now)) }
+{
+    arguments.get_str("journal")
 }
 
 /// How many words before the subcommand name the file that keeps the records.
@@ -205,20 +285,25 @@ fn start_named<'a>(
     words: &'a [&'a str],
     store: Option<&'a str>,
     name: &str,
-    arguments: &ArgMatches<'_>,
+    arguments: &ArgMatches<'a>,
 ) -> Option<Start<'a>>
     ensures some { IfSome result (Names (map (λ word. word.now) words.entry.now)
         (option_map (λ file. file.now) store.entry) (name.now, rows_of (found_of arguments.now))) }
     ensures none { IfNone result (NamesNone (name.now, rows_of (found_of arguments.now))) }
 {
     match name {
-        "run" => Some(Start::Run { store }),
+        "run" => {
+            let journal = journal_of(arguments);
+            Some(Start::Run { store, journal })
+        }
         "serve" => {
             let (port, requests) = service_of(arguments)?;
+            let journal = journal_of(arguments);
             Some(Start::Serve {
                 store,
                 port,
                 requests,
+                journal,
             })
         }
         _ => Some(single_start(store, single_words(words))),
@@ -279,7 +364,8 @@ fn started<'a>(
 /// `help` as the first word asks for help, whatever follows; `--help` and `-h` do if no word before
 /// them is at fault or is `--`. `--store FILE` or `--store=FILE` before the subcommand names the file that keeps
 /// the records. `serve` wants `--port` with a number from 1 to 65535, and takes `--requests` with one from 1 to 1000000,
-/// each in decimal digits after at most one plus sign. Each subcommand of a line is one here too, with its arguments: what
+/// each in decimal digits after at most one plus sign. `--journal FILE`, after `run` or `serve`, names the file to which a
+/// line for each accepted command is appended. Each subcommand of a line is one here too, with its arguments: what
 /// `clap` does not test of them, numbers and the parts of a merge, is read when the command is carried out. The error is
 /// that of `clap`, with a text for the terminal: the words ask for nothing, or there is no memory to read them, which may
 /// come at any words. The grammar is this project's own.

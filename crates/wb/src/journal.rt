@@ -1,0 +1,102 @@
+//! The journal of an office in a file.
+
+use jiff::Timestamp;
+use std::alloc::Global;
+use std::fs::{File, OpenOptions};
+use std::io::{self, Read, Seek, SeekFrom, Write};
+use std::os::unix::fs::OpenOptionsExt;
+use wb_journal::{Journal, entry_line};
+use wb_states::{Command, Reply};
+
+/// A journal in a file, which each entry is appended to: the file may be moved away at any time. An entry that cannot be written
+/// is lost, which is said on standard error once, and again with their number when the next is written.
+#[derive(Drop)]
+pub(crate) struct FileJournal<'a> {
+    rt: &'a HostRuntime,
+    /// The name of the file, which is made for its owner and group if it is not there.
+    file: &'a str,
+    /// Whether the file may end within a line.
+    is_cut: bool,
+    /// How many entries were lost since the last that was written.
+    lost: u64,
+}
+
+impl<'a> FileJournal<'a> {
+    /// The journal in the file of this name.
+    pub(crate) fn new(rt: &'a HostRuntime, file: &'a str) -> Self {
+        FileJournal {
+            rt,
+            file,
+            is_cut: ends_within_a_line(rt, file),
+            lost: 0,
+        }
+    }
+
+    /// Appends a line for the command to the file.
+    fn write(&mut self, command: &Command, reply: &Reply) -> io::Result<()> {
+        let alloc = self.rt.alloc();
+        let time = time_now(self.rt, alloc);
+        let line = entry_line(alloc, time.as_deref(), command, reply)?;
+        let mut how = OpenOptions::new();
+        how.append(true).create(true).mode(0o640);
+        let mut file = how.open(self.rt, self.file)?;
+        if self.is_cut {
+            file.write_all(b"\n")?;
+        }
+        self.is_cut = true;
+        file.write_all(line.as_bytes())?;
+        self.is_cut = false;
+        Ok(())
+    }
+
+    /// Says that the journal is written again, if entries were lost.
+    fn report_written(&mut self) {
+        if self.lost > 0 {
+            let _ = eprintln!(self.rt;
+                "wb: the journal {} is written again, and lacks {} entries",
+                self.file, self.lost
+            );
+        }
+        self.lost = 0;
+    }
+
+    /// Says why an entry is lost, if the one before was not.
+    fn report_lost(&mut self, error: io::Error) {
+        if self.lost == 0 {
+            let _ = eprintln!(self.rt;
+                "wb: the journal {} cannot be written, and commands go on without it: {error}",
+                self.file
+            );
+        }
+        self.lost = self.lost.saturating_add(1);
+    }
+}
+
+impl<'a> Journal for FileJournal<'a> {
+    fn append(&mut self, command: &Command, reply: &Reply) {
+        match self.write(command, reply) {
+            Ok(()) => self.report_written(),
+            Err(error) => self.report_lost(error),
+        }
+    }
+}
+
+/// The time in UTC to the second, as RFC 3339 writes it; none if the clock shows none, or there is no memory for it.
+fn time_now(rt: &HostRuntime, alloc: Global) -> Option<String> {
+    let now = Timestamp::now(rt).ok()?;
+    format!(in alloc; "{now:.0}").ok()
+}
+
+/// Whether the file of this name has a last line without a line feed, as after a stop within a write.
+fn ends_within_a_line(rt: &HostRuntime, name: &str) -> bool {
+    last_byte(rt, name).is_ok_and(|byte| byte != b'\n')
+}
+
+/// The last byte of the file of this name.
+fn last_byte(rt: &HostRuntime, name: &str) -> io::Result<u8> {
+    let mut file = File::open(rt, name)?;
+    file.seek(SeekFrom::End(-1))?;
+    let mut byte = [0u8];
+    file.read_exact(&mut byte)?;
+    Ok(byte[0])
+}

@@ -1,0 +1,30 @@
+use Rattle.std.proofs.Common.{◌≡◌, ℕ, List, refl, Option, None, Some}
+use Rattle.serde_json.proofs.OnLiterals.{serde_json_on_literals}
+use Rattle.wb_api.specs.Commands.{attempted_in, dep_wait_in, fail_in, give_back_in, next_in, not_for_us_in, rebuild_in, subject_in, take_in, waits_in}
+use Rattle.wb_api.specs.Commands.{command_in}
+use Rattle.wb_api.specs.declared.route.CommandKind.TheVariants as kind
+use Rattle.wb_journal.specs.Commands.{value_of_command}
+use Rattle.wb_states.specs.Forms.{Next}
+use Rattle.wb_journal.proofs.laws.entries_are_bodies_of_requests.Goals as goal
+
+next : (arch builder : List ℕ) (after : Option ℕ) → command_in kind.Next (value_of_command (Next arch builder after)) ≡ Some (Next arch builder after)
+unfolding next_in serde_json_on_literals
+next arch builder None = refl
+next arch builder (Some n) = refl
+
+pub returns : goal.returns
+unfolding attempted_in dep_wait_in fail_in give_back_in next_in not_for_us_in rebuild_in subject_in take_in waits_in serde_json_on_literals
+returns c = record {
+  next = next;
+  take = λ arch builder source version. refl;
+  built = λ take_number. refl;
+  uploaded = λ take_number. refl;
+  waits = λ take_number relations. refl;
+  put_back = λ take_number. refl;
+  attempted = λ take_number reason. refl;
+  give_back = λ arch source version. refl;
+  dep_wait = λ arch source version relations. refl;
+  fail = λ arch source version note. refl;
+  not_for_us = λ arch source version note. refl;
+  rebuild = λ arch source version number message. refl;
+}

@@ -1,0 +1,32 @@
+-- The lines of a journal: JSON texts (RFC 8259) with their keys in byte order and no space.
+use Rattle.std.specs.Prelude.{ℕ, List, ◌++◌, Option, None, Some, codes, decimal}
+use Rattle.json.specs.Print.{quoted}
+use Rattle.serde_json.specs.Written.{compact_text}
+use Rattle.wb_api.specs.Encoding.{reply_text}
+use Rattle.wb_states.specs.Commands.{name_of_command}
+use Rattle.wb_states.specs.declared.command.Command.{Command}
+use Rattle.wb_states.specs.declared.reply.Reply.{Reply}
+use Rattle.wb_states.specs.declared.reply.Reply.TheVariants.{Done, Job, Again, Reported, Merged}
+use Rattle.wb_journal.specs.Commands.{value_of_command}
+
+-- how many commands were accepted, by a reply
+abbrev pub accepted_of : Reply → ℕ
+accepted_of (Done accepted) = accepted
+accepted_of (Job accepted assignment) = accepted
+accepted_of (Again accepted assignment) = accepted
+accepted_of (Reported accepted changed) = accepted
+accepted_of (Merged accepted parts) = accepted
+
+-- the text of a time, or `null` if the clock showed none
+abbrev pub time_text : Option (List ℕ) → List ℕ
+time_text None = codes "null"
+time_text (Some time) = quoted time
+
+-- the line of a command that was accepted at this time, with its reply
+unfoldable pub entry_text : Option (List ℕ) → Command → Reply → List ℕ
+entry_text time command reply =
+    codes "{\"accepted\":" ++ decimal (accepted_of reply)
+    ++ codes ",\"answer\":" ++ reply_text (name_of_command command) reply
+    ++ codes ",\"command\":" ++ compact_text (value_of_command command)
+    ++ codes ",\"time\":" ++ time_text time
+    ++ codes "}\n"

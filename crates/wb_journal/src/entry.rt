@@ -1,0 +1,74 @@
+//! The lines of a journal.
+ghost use Rattle.std.specs.Prelude.{◌≡◌, ◌++◌, decimal, option_map, IfOk, OnOk};
+ghost use Rattle.std.specs.String.{string_bytes};
+ghost use Rattle.serde_json.specs.Written.{compact_text};
+ghost use Rattle.wb_journal.specs.Commands.{value_of_command};
+ghost use Rattle.wb_journal.specs.Entries.{accepted_of, entry_text, time_text};
+
+use crate::command::value_of_command;
+use itoa::Buffer;
+use serde_json::Value;
+use std::alloc::{AllocError, Global};
+use wb_api::reply_json;
+use wb_states::{Command, Reply};
+
+/// The line of a journal for a command that was accepted at this time, with its reply: a JSON object (RFC 8259) without a
+/// space, and a line feed.
+///
+/// It has under `accepted` the count of accepted commands with this one, under `answer` the reply as it is answered, under
+/// `command` the command's name and its arguments, and under `time` the time, `null` if the clock showed none. A merge has
+/// the architectures of its parts alone, and a report the number of its bytes. The only error is that there is no memory
+/// for the text. The keys are this project's own.
+#[tactic(auto, unfolding(crate::specs::Entries::entry_text))]
+pub fn entry_line(
+    alloc: Global,
+    time: Option<&str>,
+    command: &Command,
+    reply: &Reply,
+) -> Result<String, AllocError>
+    ensures value { IfOk result (λ line. string_bytes line
+        ≡ entry_text (option_map (λ time. time.now) time.entry) command.now reply.now) }
+{
+    let mut line = String::from_str(alloc, "{\"accepted\":")?;
+    line.push_str(Buffer::new().format(accepted_of(reply)))?;
+    line.push_str(",\"answer\":")?;
+    line.push_str(reply_json(alloc, command.name(), reply)?.as_str())?;
+    line.push_str(",\"command\":")?;
+    line.push_str(command_json(alloc, command)?.as_str())?;
+    line.push_str(",\"time\":")?;
+    line.push_str(time_json(alloc, time)?.as_str())?;
+    line.push_str("}\n")?;
+    Ok(line)
+}
+
+/// How many commands were accepted, by a reply.
+fn accepted_of(reply: &Reply) -> u64
+    ensures { result ≡ accepted_of reply.now }
+{
+    match reply {
+        Reply::Done { accepted }
+        | Reply::Job { accepted, .. }
+        | Reply::Again { accepted, .. }
+        | Reply::Reported { accepted, .. }
+        | Reply::Merged { accepted, .. } => *accepted,
+    }
+}
+
+/// The object of a command as text.
+#[tactic(auto, using(crate::proofs::EntryLemmas::floats_of_commands))]
+fn command_json(alloc: Global, command: &Command) -> Result<String, AllocError>
+    ensures { IfOk result (λ text. string_bytes text ≡ compact_text (value_of_command command.now)) }
+{
+    let value = value_of_command(alloc, command)?;
+    value.to_string(alloc)
+}
+
+/// The text of a time, or `null`.
+fn time_json(alloc: Global, time: Option<&str>) -> Result<String, AllocError>
+    ensures { IfOk result (λ text. string_bytes text ≡ time_text (option_map (λ time. time.now) time.entry)) }
+{
+    match time {
+        Some(time) => Value::try_from_str(alloc, time)?.to_string(alloc),
+        None => String::from_str(alloc, "null"),
+    }
+}

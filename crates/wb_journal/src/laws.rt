@@ -1,0 +1,41 @@
+//! What holds of the lines of a journal. The function runs nothing: its contract is proved.
+ghost use Rattle.std.specs.Prelude.{◌≡◌, ℕ, ℤ, List, Option, Some};
+ghost use Rattle.wb_api.specs.Commands.{command_in};
+ghost use Rattle.wb_api.specs.declared.route.CommandKind.TheVariants as kind;
+ghost use Rattle.wb_journal.specs.Commands.{value_of_command};
+ghost use Rattle.wb_states.specs.Forms.{Attempted, BuildPriority, Built, DepWait, Fail, GiveBack, Next, NotForUs, PutBack, Rebuild};
+ghost use Rattle.wb_states.specs.Forms.{Take, Uploaded, Waits};
+
+/// What a journal has of a command is the body of the request that gives it, for each command that a request gives but a
+/// report, of which it has the length alone: so what was accepted can be given again.
+pub fn entries_are_bodies_of_requests()
+    // of builders
+    ensures next { (arch builder : List ℕ) (after : Option ℕ)
+        → command_in kind.Next (value_of_command (Next arch builder after)) ≡ Some (Next arch builder after) }
+    ensures take { (arch builder source version : List ℕ)
+        → command_in kind.Take (value_of_command (Take arch builder source version))
+        ≡ Some (Take arch builder source version) }
+    ensures built { (take_number : ℕ) → command_in kind.Built (value_of_command (Built take_number)) ≡ Some (Built take_number) }
+    ensures uploaded { (take_number : ℕ)
+        → command_in kind.Uploaded (value_of_command (Uploaded take_number)) ≡ Some (Uploaded take_number) }
+    ensures waits { (take_number : ℕ) (relations : List ℕ)
+        → command_in kind.Waits (value_of_command (Waits take_number relations)) ≡ Some (Waits take_number relations) }
+    ensures put_back { (take_number : ℕ)
+        → command_in kind.PutBack (value_of_command (PutBack take_number)) ≡ Some (PutBack take_number) }
+    ensures attempted { (take_number : ℕ) (reason : List ℕ)
+        → command_in kind.Attempted (value_of_command (Attempted take_number reason)) ≡ Some (Attempted take_number reason) }
+    // of operators
+    ensures give_back { (arch source version : List ℕ)
+        → command_in kind.GiveBack (value_of_command (GiveBack arch source version)) ≡ Some (GiveBack arch source version) }
+    ensures dep_wait { (arch source version relations : List ℕ)
+        → command_in kind.DepWait (value_of_command (DepWait arch source version relations))
+        ≡ Some (DepWait arch source version relations) }
+    ensures fail { (arch source version note : List ℕ)
+        → command_in kind.Fail (value_of_command (Fail arch source version note)) ≡ Some (Fail arch source version note) }
+    ensures not_for_us { (arch source version note : List ℕ)
+        → command_in kind.NotForUs (value_of_command (NotForUs arch source version note))
+        ≡ Some (NotForUs arch source version note) }
+    ensures rebuild { (arch source version : List ℕ) (number : ℕ) (message : List ℕ)
+        → command_in kind.Rebuild (value_of_command (Rebuild arch source version number message))
+        ≡ Some (Rebuild arch source version number message) }
+{}

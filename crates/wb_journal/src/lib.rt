@@ -1,0 +1,11 @@
+//! The journal of an office: a line for each accepted command, with its time; and the layer around any office that writes
+//! it. Nothing that an office promises rests on it.
+#![tactic(auto)]
+
+mod command;
+mod entry;
+mod journal;
+pub mod laws;
+
+pub use entry::entry_line;
+pub use journal::{Journal, Journaled};
