@@ -38,6 +38,7 @@ class Settings:
     program: Path = Path("/usr/bin/wb")
     port: int = 8080
     requests: int = 1000000
+    journal: Path | None = None
     service: str = "systemd"
     unit: str = "wb.service"
     pid_file: Path | None = None
@@ -48,8 +49,12 @@ class Settings:
     snapshot_drop: Sequence[str] = ()
     snapshot_folder: Path | None = None
 
+    def journal_words(self) -> list[str]:
+        """The words of the program that have it keep the journal, if one is kept."""
+        return ["--journal", str(self.journal)] if self.journal else []
 
-PATHS = {"STORE", "BACKUPS", "PROGRAM", "PID_FILE", "LOG", "SNAPSHOT_FOLDER"}
+
+PATHS = {"STORE", "BACKUPS", "PROGRAM", "JOURNAL", "PID_FILE", "LOG", "SNAPSHOT_FOLDER"}
 NUMBERS = {"PORT": 65535, "REQUESTS": 1000000, "WAIT": 86400}
 COMMANDS = {"SNAPSHOT_MAKE", "SNAPSHOT_DROP"}
 TEXTS = {"SERVICE", "UNIT", "OWNER"}
