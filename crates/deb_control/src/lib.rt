@@ -5,6 +5,7 @@
 
 mod fault;
 mod field;
+mod fields;
 pub mod laws;
 mod lines;
 mod paragraph;
@@ -12,5 +13,6 @@ mod paragraphs;
 
 pub use fault::{ControlFault, ControlFaultKind};
 pub use field::{Field, Lines};
+pub use fields::Fields;
 pub use paragraph::Paragraph;
 pub use paragraphs::Paragraphs;
