@@ -9,7 +9,7 @@ use Rattle.std.proofs.lemmas.List.{append-nil}
 use Rattle.std.proofs.lemmas.Str.{IsUtf8-from_is_utf8, is_utf8-from_IsUtf8}
 use Rattle.std.specs.Option.{option_or}
 use Rattle.deb_control.specs.declared.fault.ControlFaultKind.{ControlFaultKind}
-use Rattle.deb_control.specs.declared.fault.ControlFaultKind.TheVariants.{TooLarge, NotUtf8, Orphan, NoColon, BadName, Duplicate, Memory, Ended}
+use Rattle.deb_control.specs.declared.fault.ControlFaultKind.TheVariants.{TooLarge, NotUtf8, Orphan, NoColon, BadName, Duplicate, Read, Memory, Ended}
 use Rattle.deb_control.specs.Lines.{is_continuation, body_of}
 use Rattle.std.specs.Str.{str_to_ascii_lowercase}
 use Rattle.deb_control.specs.Fields.{FieldText, Reads, HaveDistinctNames, IsLineFault, HasBadLine, IsFault, has_colon, is_name, name_of, field_of, fields_of, is_among, names_in, form_fault, line_fault, names_after, first_fault, paragraph_limit, fault_of, outcome, reading_of}
@@ -44,6 +44,7 @@ tests_fault BadName continues none colon name among f = rw f.0 (rw f.1 (rw f.2 r
 tests_fault Duplicate continues none colon name among f = rw f.0 (rw f.1 (rw f.2 (rw f.3 refl)))
 tests_fault TooLarge continues none colon name among f = absurd f
 tests_fault NotUtf8 continues none colon name among f = absurd f
+tests_fault Read continues none colon name among f = absurd f
 tests_fault Memory continues none colon name among f = absurd f
 tests_fault Ended continues none colon name among f = absurd f
 
@@ -73,6 +74,7 @@ line_fault-is kind fields line is =
     by_tests Duplicate fields line f = (f.0, f.1, f.2, sym (is_among-names_in (name_of line) fields) ∙ f.3)
     by_tests TooLarge fields line f = absurd f
     by_tests NotUtf8 fields line f = absurd f
+    by_tests Read fields line f = absurd f
     by_tests Memory fields line f = absurd f
     by_tests Ended fields line f = absurd f
 
@@ -89,6 +91,7 @@ line_fault-from kind fields line f =
     to_tests Duplicate fields line f = (f.0, f.1, f.2, is_among-names_in (name_of line) fields ∙ f.3)
     to_tests TooLarge fields line f = absurd f
     to_tests NotUtf8 fields line f = absurd f
+    to_tests Read fields line f = absurd f
     to_tests Memory fields line f = absurd f
     to_tests Ended fields line f = absurd f
 
@@ -199,6 +202,7 @@ bad_line Orphan lines size text h = (size, text, h)
 bad_line NoColon lines size text h = (size, text, h)
 bad_line BadName lines size text h = (size, text, h)
 bad_line Duplicate lines size text h = (size, text, h)
+bad_line Read lines size text h = (size, text, h)
 bad_line Memory lines size text h = (size, text, h)
 bad_line Ended lines size text h = (size, text, h)
 
@@ -241,6 +245,7 @@ fault_of-IsFault Orphan lines f = fault_of-bad lines Orphan f.0 f.1 f.2
 fault_of-IsFault NoColon lines f = fault_of-bad lines NoColon f.0 f.1 f.2
 fault_of-IsFault BadName lines f = fault_of-bad lines BadName f.0 f.1 f.2
 fault_of-IsFault Duplicate lines f = fault_of-bad lines Duplicate f.0 f.1 f.2
+fault_of-IsFault Read lines f = fault_of-bad lines Read f.0 f.1 f.2
 fault_of-IsFault Memory lines f = fault_of-bad lines Memory f.0 f.1 f.2
 fault_of-IsFault Ended lines f = fault_of-bad lines Ended f.0 f.1 f.2
 
@@ -248,9 +253,12 @@ pub reading_of-IsFault : (lines : List (List ℕ)) (kind : ControlFaultKind) →
 unfolding reading_of
 reading_of-IsFault lines kind f = ap (λ (v : Option ControlFaultKind). outcome v (fields_of (map body_of lines))) (fault_of-IsFault kind lines f)
 
--- so no reading is refused for memory, or since one was refused before
+-- so no reading is refused for memory, for a read, or since one was refused before
 pub reading_of-Memory : (lines : List (List ℕ)) → reading_of lines ≡ Err Memory → ⊥
 reading_of-Memory lines is = (IsFault-from_reading_of lines Memory is).2.fault
+
+pub reading_of-Read : (lines : List (List ℕ)) → reading_of lines ≡ Err Read → ⊥
+reading_of-Read lines is = (IsFault-from_reading_of lines Read is).2.fault
 
 pub reading_of-Ended : (lines : List (List ℕ)) → reading_of lines ≡ Err Ended → ⊥
 reading_of-Ended lines is = (IsFault-from_reading_of lines Ended is).2.fault

@@ -14,3 +14,9 @@ pub mod BadLineLemmas
 pub mod RoomLemmas
 pub mod TextLineLemmas
 pub mod FoundLemmas
+pub mod SourceLemmas
+pub mod LineReadLemmas
+pub mod ParagraphReadLemmas
+pub mod OwnedLemmas
+pub mod FeedLemmas
+pub mod FeedCallLemmas

@@ -32,11 +32,11 @@ after-other c cs other =
     ap (λ (k : ℕ). drop (k + 1) (c ∷ cs)) (position-other c cs other)
     ∙ ap (λ (k : ℕ). drop k (c ∷ cs)) (one_more_past (position_or_len is_line_feed cs))
 
-front_line-feed : (c : ℕ) (cs : List ℕ) → is_line_feed c ≡ true → front_line (c ∷ cs) ≡ c ∷ []
+pub front_line-feed : (c : ℕ) (cs : List ℕ) → is_line_feed c ≡ true → front_line (c ∷ cs) ≡ c ∷ []
 unfolding front_line
 front_line-feed c cs feed = ap (λ (k : ℕ). take (k + 1) (c ∷ cs)) (position-feed c cs feed)
 
-front_line-other : (c : ℕ) (cs : List ℕ) → is_line_feed c ≡ false → front_line (c ∷ cs) ≡ c ∷ front_line cs
+pub front_line-other : (c : ℕ) (cs : List ℕ) → is_line_feed c ≡ false → front_line (c ∷ cs) ≡ c ∷ front_line cs
 unfolding front_line
 front_line-other c cs other =
     ap (λ (k : ℕ). take (k + 1) (c ∷ cs)) (position-other c cs other)

@@ -1,7 +1,7 @@
 -- The names of the faults of control data.
 use Rattle.std.specs.Prelude.{ℕ, List, codes}
 use Rattle.deb_control.specs.declared.fault.ControlFaultKind.{ControlFaultKind}
-use Rattle.deb_control.specs.declared.fault.ControlFaultKind.TheVariants.{TooLarge, NotUtf8, Orphan, NoColon, BadName, Duplicate, Memory, Ended}
+use Rattle.deb_control.specs.declared.fault.ControlFaultKind.TheVariants.{TooLarge, NotUtf8, Orphan, NoColon, BadName, Duplicate, Read, Memory, Ended}
 
 -- the name of a fault, in ASCII
 abbrev pub fault_name : ControlFaultKind → List ℕ
@@ -11,5 +11,6 @@ fault_name Orphan = codes "Orphan"
 fault_name NoColon = codes "NoColon"
 fault_name BadName = codes "BadName"
 fault_name Duplicate = codes "Duplicate"
+fault_name Read = codes "Read"
 fault_name Memory = codes "Memory"
 fault_name Ended = codes "Ended"

@@ -2,3 +2,8 @@ pub mod Lines
 pub mod Faults
 pub mod Fields
 pub mod Paragraphs
+pub mod Source
+pub mod Unfinished
+pub mod Pieces
+pub mod FeedState
+pub mod Feed

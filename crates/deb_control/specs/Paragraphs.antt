@@ -58,6 +58,11 @@ after_calls (suc n) place = after_calls n (step place).1
 abbrev pub answer_after : ℕ → ReaderState → Answer
 answer_after n place = (step (after_calls n place)).0
 
+-- what so many calls answer, one after the other, unless memory runs out
+abbrev pub answers_of : ℕ → ReaderState → List Answer
+answers_of zero place = []
+answers_of (suc n) place = (step place).0 ∷ answers_of n (step place).1
+
 -- the answer for the paragraph of this number: its fields or its fault (Policy 5.1)
 abbrev pub answer_for : ℕ → List (List ℕ) → Answer
 answer_for number lines = (answered number [] (reading_of lines)).0

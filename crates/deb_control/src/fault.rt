@@ -24,6 +24,8 @@ pub enum ControlFaultKind {
     BadName,
     /// A name stands twice in the paragraph, without regard to case.
     Duplicate,
+    /// A read of the paragraph failed, or the reader has more bytes than a feed reads.
+    Read,
     /// Memory ran out.
     Memory,
     /// A call before this one was refused.
@@ -44,6 +46,7 @@ impl ControlFaultKind {
             ControlFaultKind::NoColon => "NoColon",
             ControlFaultKind::BadName => "BadName",
             ControlFaultKind::Duplicate => "Duplicate",
+            ControlFaultKind::Read => "Read",
             ControlFaultKind::Memory => "Memory",
             ControlFaultKind::Ended => "Ended",
         }

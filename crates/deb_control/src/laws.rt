@@ -1,12 +1,16 @@
 //! Laws of the definitions that the contracts cite.
-ghost use Rattle.std.specs.Prelude.{◌≡◌, ◌≢◌, ◌+◌, ◌∷◌, ◌++◌, [], ℕ, List, codes, true, false, None, Some, Ok, Err, length};
+ghost use Rattle.std.specs.Prelude.{◌≡◌, ◌≢◌, ◌+◌, ◌<◌, ◌⊎◌, ◌∷◌, ◌++◌, [], ℕ, List, codes, true, false, None, Some, Ok, Err, length};
 ghost use Rattle.std.specs.List.{list_all};
+ghost use Rattle.deb_control.specs.declared.fault.ControlFault.{ControlFault};
 ghost use Rattle.deb_control.specs.declared.fault.ControlFaultKind.{ControlFaultKind};
-ghost use Rattle.deb_control.specs.declared.fault.ControlFaultKind.TheVariants.{BadName, Duplicate, Ended, Memory, NoColon, Orphan};
+ghost use Rattle.deb_control.specs.declared.fault.ControlFaultKind.TheVariants.{BadName, Duplicate, Ended, Memory, NoColon, Orphan, Read};
 ghost use Rattle.deb_control.specs.Lines.{lines_of, HaveLines, paragraphs_in, HaveParagraphs};
 ghost use Rattle.std.specs.Str.{str_to_ascii_lowercase};
 ghost use Rattle.deb_control.specs.Fields.{FieldText, field_named, folded_of, reading_of, IsReading, IsFault};
-ghost use Rattle.deb_control.specs.Paragraphs.{begun, has_reading, answer_after, answer_for};
+ghost use Rattle.deb_control.specs.Paragraphs.{Answer, begun, has_reading, answer_after, answer_for, answers_of};
+ghost use Rattle.deb_control.specs.Source.{TakesSome};
+ghost use Rattle.deb_control.specs.FeedState.{FeedState, feed_limit, fresh};
+ghost use Rattle.deb_control.specs.Feed.{HaveAnswers, ReadEnds};
 
 /// The lines of a text are its pieces, each with the line feed that ends it,
 /// which the last may lack (Debian Policy 5.1).
@@ -69,9 +73,25 @@ pub fn calls_give_paragraphs()
         ≡ Err (record { paragraph = length before + 1; kind = Ended }) }
 {}
 
-/// No paragraph has the fault `Memory` or `Ended`, which say why none was
+/// Call by call a feed answers for the bytes of its reader, however the reader cuts them, what a reader of the same bytes in
+/// memory answers (this project's own).
+pub fn feeds_answer_as_paragraphs()
+    ensures { (text : List ℕ) (answers : List Answer) (last : FeedState) →
+        HaveAnswers answers (fresh (Some text)) last →
+        answers ≡ answers_of (length answers) (begun (paragraphs_in (lines_of text))) }
+{}
+
+/// A feed answers `Read` only if a read failed, or if its reader has more bytes than a feed reads (this project's own).
+pub fn feeds_read_to_their_limit()
+    ensures { (text : List ℕ) (old new : FeedState) (fault : ControlFault) →
+        TakesSome (fresh (Some text)).source old.source → TakesSome old.source new.source →
+        ReadEnds old fault new → (new.source.failed ≡ true) ⊎ (feed_limit < length text) }
+{}
+
+/// No paragraph has the fault `Read`, `Memory` or `Ended`, which say why none was
 /// read (this project's own).
 pub fn faults_are_of_text()
+    ensures read { (lines : List (List ℕ)) → reading_of lines ≢ Err Read }
     ensures memory { (lines : List (List ℕ)) → reading_of lines ≢ Err Memory }
     ensures ended { (lines : List (List ℕ)) → reading_of lines ≢ Err Ended }
 {}

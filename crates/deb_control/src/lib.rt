@@ -4,15 +4,20 @@
 #![tactic(auto)]
 
 mod fault;
+mod feed;
 mod field;
 mod fields;
 pub mod laws;
 mod lines;
+mod owned;
 mod paragraph;
 mod paragraphs;
+mod source;
 
 pub use fault::{ControlFault, ControlFaultKind};
+pub use feed::Feed;
 pub use field::{Field, Lines};
 pub use fields::Fields;
+pub use owned::{OwnedFields, OwnedParagraph};
 pub use paragraph::Paragraph;
 pub use paragraphs::Paragraphs;

@@ -6,7 +6,7 @@ ghost use Rattle.deb_control.specs.Lines.{is_line_feed, is_blank, is_continuatio
 use memchr::memchr;
 
 /// The place of the first line feed.
-fn line_feed_place(bytes: &[u8]) -> Option<usize>
+pub(crate) fn line_feed_place(bytes: &[u8]) -> Option<usize>
     ensures { result ≡ position is_line_feed bytes.now }
 {
     memchr(b'\n', bytes)
@@ -36,7 +36,7 @@ pub(crate) fn split_text(text: &str) -> (&str, &str)
 
 /// Whether each byte of a line, its line feed not counted, is a space or a tab: such a line, an empty one
 /// too, separates paragraphs (Debian Policy 5.1).
-fn is_blank_line(line: &[u8]) -> bool
+pub(crate) fn is_blank_line(line: &[u8]) -> bool
     ensures { result ≡ list_all is_blank line.now }
 {
     line.iter().all(|b| *b == b' ' || *b == b'\t')

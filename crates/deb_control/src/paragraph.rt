@@ -16,13 +16,13 @@ use std::collections::BTreeSet;
 use std::marker::Model;
 
 /// The greatest number of bytes of a paragraph, line feeds included.
-const PARAGRAPH_LIMIT: usize = 4194304;
+pub(crate) const PARAGRAPH_LIMIT: usize = 4194304;
 
 /// This many names are compared one by one; the names of later fields stand in a set.
 const COMPARED_NAMES: usize = 32;
 
 /// Whether two names are the same but for case.
-fn is_same_name(left: &str, right: &str) -> bool
+pub(crate) fn is_same_name(left: &str, right: &str) -> bool
     ensures { result ≡ str_eq_ignore_ascii_case left.now right.now }
 {
     left.eq_ignore_ascii_case(right)

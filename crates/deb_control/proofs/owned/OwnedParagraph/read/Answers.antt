@@ -1,0 +1,30 @@
+use Rattle.std.proofs.Common.{◌≡◌, ◌∙◌, sym, ap, List, ℕ, Vec, true, false}
+use Rattle.std.specs.declared.alloc.Global.{Global}
+use Rattle.std.specs.Prelude.{string_bytes}
+use Rattle.deb_control.specs.Lines.{lines_of}
+use Rattle.deb_control.specs.Fields.{reading_of}
+use Rattle.deb_control.proofs.ReadLemmas.{reading_of-not_utf8}
+use Rattle.std.proofs.lemmas.Result.{err_from_is_err_and}
+use Rattle.deb_control.proofs.OwnedLemmas.{reading_of-own}
+use Rattle.deb_control.proofs.FeedLemmas.{no-Read, no-Ended}
+use Rattle.deb_control.proofs.owned.OwnedParagraph.read.Goals as goal
+
+never : false ≡ true → ⊥
+never e = cc
+
+pub returns-in_default-clause-refused : goal.returns-in_default-clause-refused
+returns-in_default-clause-refused c = λ _. reading_of-not_utf8 c.args.bytes.items c.requires (λ utf8. never (c.in_default.ensures.succeeds utf8))
+
+pub returns-clause-ok : goal.returns-clause-ok
+returns-clause-ok c =
+    let same : string_bytes c.in-Ok.text ≡ c.args.bytes.items = ap (λ (v : Vec ℕ Global). v.items) c.in-Ok.ensures.ok in
+    ap (λ (v : List ℕ). reading_of (lines_of v)) (sym same)
+    ∙ reading_of-own (string_bytes c.in-Ok.text) c.in_ok-read.field-0 (ap (λ (v : List ℕ). reading_of (lines_of v)) (sym c.as_bytes.ensures.value) ∙ c.in_ok-read.ensures.ok)
+
+pub returns-in_err-read-clause-of_text : goal.returns-in_err-read-clause-of_text
+returns-in_err-read-clause-of_text c =
+    let p = err_from_is_err_and c.from_residual.result c.from_residual.ensures.1 in
+    rw (p.1, p.2) (
+      no-Read (lines_of c.as_bytes.result.now) c.in_err-read.field-0.0 c.in_err-read.ensures.refused,
+      no-Ended (lines_of c.as_bytes.result.now) c.in_err-read.field-0.0 c.in_err-read.ensures.refused,
+    )
