@@ -105,6 +105,11 @@ def entry_after_cut(line: bytes) -> Entry | None:
     return None
 
 
+def is_front(line: bytes) -> bool:
+    """Whether a line that is no entry may be the front of one: the last line, or one after which a start began a new line."""
+    return not line.endswith(b"\n") or line.startswith(BEGIN) or BEGIN.startswith(line.rstrip(b"\n"))
+
+
 def read_journal(name: str, file: IO[bytes]) -> Iterator[Entry | Refused]:
     """The entries of a journal, and of each line that is none why it is none. A line that was cut off is a `Cut`."""
     for number, line in enumerate(file, 1):
@@ -118,8 +123,8 @@ def read_journal(name: str, file: IO[bytes]) -> Iterator[Entry | Refused]:
             if entry:
                 yield Cut(f"{place}: a line that was cut off stands before another one, as after a kill; it is left out")
                 yield entry
-            elif not line.endswith(b"\n"):
-                yield Cut(f"{place}: the last line is cut off, as after a kill; it is left out")
+            elif is_front(line):
+                yield Cut(f"{place}: the line is cut off, as after a kill; it is left out")
             else:
                 yield Refused(f"{place}: {why}")
         except Refused as why:
@@ -251,12 +256,12 @@ class History:
 
 
 def archs_of(entry: Entry) -> list[str]:
-    """The architectures of a merge or of a report."""
+    """The architecture of a report, or those of the parts of a merge that were not refused."""
     if entry.name == "report":
         return [str(entry.words.get("arch"))]
-    parts = entry.words.get("parts")
-    named = [part.get("arch") for part in parts if isinstance(part, dict)] if isinstance(parts, list) else []
-    return [str(arch) for arch in named]
+    parts = entry.answer.get("parts")
+    merged = [part for part in parts if isinstance(part, dict) and "refused" not in part] if isinstance(parts, list) else []
+    return [str(part.get("arch")) for part in merged]
 
 
 def median_of(seconds: Iterable[int]) -> int | None:
