@@ -1,5 +1,6 @@
 //! The reading of control data, on texts. A case is a paragraph, or the end of the text with its fault.
 
+use crate::feed::try_feed;
 use crate::outcome::Outcome;
 use anyhow::Result;
 use deb_control::{ControlFault, Field, Paragraph, Paragraphs};
@@ -8,7 +9,7 @@ use std::alloc::{AllocError, Global};
 
 /// A field, as the answer to a text writes it.
 #[derive(Debug, Drop, Deserialize)]
-struct FieldText {
+pub(crate) struct FieldText {
     name: String,
     first: String,
     lines: Vec<String>,
@@ -17,26 +18,26 @@ struct FieldText {
 
 /// A paragraph, as the answer to a text writes it.
 #[derive(Debug, Drop, Deserialize)]
-struct ParagraphText {
-    fields: Vec<FieldText>,
+pub(crate) struct ParagraphText {
+    pub(crate) fields: Vec<FieldText>,
 }
 
 /// A fault, as the answer to a text writes it, with the number of its paragraph, counted from 1.
 #[derive(Debug, Drop, Deserialize)]
-struct FaultText {
-    paragraph: u64,
-    name: String,
+pub(crate) struct FaultText {
+    pub(crate) paragraph: u64,
+    pub(crate) name: String,
 }
 
 /// The answer to a text: its paragraphs, and the fault that ends them, if any.
 #[derive(Debug, Drop, Deserialize)]
-struct Answer {
-    paragraphs: Vec<ParagraphText>,
-    fault: Option<FaultText>,
+pub(crate) struct Answer {
+    pub(crate) paragraphs: Vec<ParagraphText>,
+    pub(crate) fault: Option<FaultText>,
 }
 
 /// A field as it was read.
-fn field_read(alloc: Global, field: &Field) -> Result<FieldText, AllocError> {
+pub(crate) fn field_read(alloc: Global, field: &Field) -> Result<FieldText, AllocError> {
     let mut lines = Vec::new(alloc);
     for line in field.lines() {
         lines.push(String::from_str(alloc, line)?)?;
@@ -59,7 +60,7 @@ fn paragraph_read(alloc: Global, paragraph: &Paragraph) -> Result<ParagraphText,
 }
 
 /// A fault as it was answered.
-fn fault_read(alloc: Global, fault: ControlFault) -> Result<FaultText, AllocError> {
+pub(crate) fn fault_read(alloc: Global, fault: ControlFault) -> Result<FaultText, AllocError> {
     Ok(FaultText {
         paragraph: fault.paragraph,
         name: String::from_str(alloc, fault.name())?,
@@ -100,9 +101,11 @@ fn compared(alloc: Global, wanted: &Answer, found: &Answer) -> Result<Outcome, A
     Ok(outcome)
 }
 
-/// Tries the bytes of a text against its answer, which is JSON.
+/// Tries the bytes of a text against its answer, which is JSON; and a feed on the same bytes, whose differences alone count.
 pub(crate) fn tried(alloc: Global, bytes: &[u8], answer: &str) -> Result<Outcome> {
     let wanted: Answer = serde_json::from_str(alloc, answer)?;
     let found = answer_of(alloc, bytes)?;
-    Ok(compared(alloc, &wanted, &found)?)
+    let mut outcome = compared(alloc, &wanted, &found)?;
+    try_feed(alloc, bytes, &found, &mut outcome)?;
+    Ok(outcome)
 }

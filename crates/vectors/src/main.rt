@@ -4,6 +4,7 @@
 #![tactic(auto)]
 
 mod control;
+mod feed;
 mod outcome;
 mod relations;
 mod rows;

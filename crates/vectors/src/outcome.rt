@@ -39,6 +39,20 @@ impl Outcome {
         self.cases = self.cases.saturating_add(1);
         Ok(())
     }
+
+    /// Adds the case at this place of a text only if it differs: it is another way to try what was counted already.
+    pub(crate) fn compare(
+        &mut self,
+        alloc: Global,
+        place: u64,
+        wanted: &str,
+        found: &str,
+    ) -> Result<(), AllocError> {
+        if found != wanted {
+            self.add(alloc, place, wanted, found)?;
+        }
+        Ok(())
+    }
 }
 
 impl fmt::Display for Outcome {

@@ -35,7 +35,13 @@ fn measure_control(rt: &HostRuntime, path: &str) -> Result<()> {
     let start = Instant::now(rt)?;
     let (paragraphs, fields) = control::counts(rt.alloc(), &bytes)?;
     let reading = start.elapsed(rt)?;
+    let start = Instant::now(rt)?;
+    let fed = control::fed_counts(rt.alloc(), &bytes)?;
+    let feeding = start.elapsed(rt)?;
     println!(rt; "{paragraphs} paragraphs, {fields} fields")?;
-    eprintln!(rt; "read in {reading:?}")?;
+    eprintln!(rt; "read in {reading:?}, by a feed in {feeding:?}")?;
+    if fed != (paragraphs, fields) {
+        eprintln!(rt; "the feed found {} paragraphs, {} fields", fed.0, fed.1)?;
+    }
     Ok(())
 }
