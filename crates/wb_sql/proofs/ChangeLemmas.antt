@@ -1,5 +1,5 @@
 -- The command of an INSERT, an INSERT OR REPLACE or a DELETE on one table, where the schema is known to have the table at a place.
-use Rattle.std.proofs.Common.{◌≡◌, refl, sym, subst, ℕ, ◌+◌, negsuc, ◌&&◌, List, [], ◌∷◌, map, Ok, None, Some, Option, true, false, slice_get}
+use Rattle.std.proofs.Common.{◌≡◌, refl, sym, subst, ℕ, ◌+◌, negsuc, ◌&&◌, List, [], ◌∷◌, map, Ok, None, Some, Option, true, false}
 use Rattle.sqlite.specs.Schema.{Schema}
 use Rattle.sqlite.specs.Table.{Table}
 use Rattle.sqlite.specs.declared.types.Value.TheVariants.{Int}

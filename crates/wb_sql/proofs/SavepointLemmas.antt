@@ -1,7 +1,6 @@
 -- What the texts of the savepoint do, over any schema.
-use Rattle.std.proofs.Common.{◌≡◌, inl, inr, ℕ, List, [], ◌∷◌, codes, true, false, None, Ok, Err, Some, slice_get, map, IsTrue, refl, sym, ap, subst, ◌∙◌, arith}
+use Rattle.std.proofs.Common.{◌≡◌, inl, inr, ℕ, List, [], ◌∷◌, codes, true, false, None, Some, slice_get, map, IsTrue, refl, sym, ap, subst, ◌∙◌, arith}
 use Rattle.std.proofs.lemmas.Bool.{both_ways}
-use Rattle.sqlite.specs.Order.{Row}
 use Rattle.sqlite.specs.Tree.{Trees}
 use Rattle.sqlite.specs.Schema.{Schema}
 use Rattle.sqlite.specs.Effect.{Database}
@@ -9,13 +8,12 @@ use Rattle.sqlite.specs.Command.{Command}
 use Rattle.sqlite.specs.Command.TheVariants.{Savepoint as Save, Release, RollbackTo}
 use Rattle.sqlite_resolve.specs.declared.compiled.Compiled.{Compiled}
 use Rattle.sqlite_tied.specs.Compute.{everything}
-use Rattle.sqlite.specs.declared.error.Error.{Error}
 use Rattle.sqlite.specs.Given.{IsPlain}
 use Rattle.sqlite.specs.Listing.{understood}
 use Rattle.sqlite.specs.State.{State, Savepoint, Shows, CommitsBy, IsStatement, IsNewestNamed, names_in, begins_at}
 use Rattle.sqlite.proofs.Callers.{command_of, runs_as}
 use Rattle.wb_sql.specs.Calls.{RanInside}
-use Rattle.wb_sql.specs.Savepoints.{save_text, back_text, release_text, part_of, IsSavedAs, IsSaved, Saves, GoesBack, Releases}
+use Rattle.wb_sql.specs.Savepoints.{save_text, back_text, release_text, part_of, IsSaved, Saves, GoesBack, Releases}
 
 module _ (schema : Schema) where
   save_is : command_of (understood schema save_text) ≡ Save (codes "part")

@@ -1,5 +1,5 @@
 -- The columns of the scratch tables, as the queries show them; and the DELETE of the rows up to a place.
-use Rattle.std.proofs.Common.{◌≡◌, refl, sym, ap, ◌∙◌, ℕ, nat_le, negsuc, ◌&&◌, List, [], ◌∷◌, codes, length, map, Ok, Some, true, false}
+use Rattle.std.proofs.Common.{◌≡◌, refl, ap, ◌∙◌, ℕ, nat_le, negsuc, ◌&&◌, List, [], ◌∷◌, codes, length, Ok, Some, true, false}
 use Rattle.sqlite.specs.Schema.{Schema}
 use Rattle.sqlite.specs.Table.{Table}
 use Rattle.sqlite.specs.Term.{Term, lit, col, op2}
