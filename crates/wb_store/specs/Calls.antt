@@ -63,12 +63,12 @@ abbrev pub FailsToLookUp : OfficeQuery → State → State → StoreFault → Ty
 FailsToLookUp query old new fault =
     FailsToRead query old new fault
     ⊎ (((fault ≡ Memory) × IsUnchanged old new)
-    ⊎ ((fault ≡ unfit (table_asked query)) × IsUnchanged old new × ((machine : Machine) → IsConsistent machine → ¬ StandsFor machine old.now)))
+    ⊎ ((fault ≡ unfit (table_asked query)) × IsUnchanged old new × ((machine : Machine) (scratch : Scratch) → IsConsistent machine → ¬ StandsWith machine scratch old.now)))
 
--- a look-up in one of the office's tables, by this query: if it succeeds, its answer is that of the state for which the database stands, and the database stays as
--- it is; if it fails, it fails for one of the reasons above; and a crash leaves no more than before
+-- a look-up in one of the office's tables, by this query: if it succeeds, its answer is that of the state for which the database stands, also while a merge runs, and the
+-- database stays as it is; if it fails, it fails for one of the reasons above; and a crash leaves no more than before
 pub record LooksUp {S A : Type 0} (g : Ghosts S) (query : OfficeQuery) (Answer : Machine → A → Type 0) (old new : Held S) (result : Result A StoreFault) : Type 0 where
-  pub value : HasCleanDisk (state g new) → IfOk result (λ answer. (machine : Machine) → StandsFor machine (state g old).now → Answer machine answer)
+  pub value : HasCleanDisk (state g new) → IfOk result (λ answer. (machine : Machine) (scratch : Scratch) → StandsWith machine scratch (state g old).now → Answer machine answer)
   pub same : HasCleanDisk (state g new) → HasOffice old.schema → OnOk result (IsUnchanged (state g old) (state g new))
   pub err : HasCleanDisk (state g new) → HasOffice old.schema → IfErr result (FailsToLookUp query (state g old) (state g new))
   pub survives : Survives (state g old) (state g new) (λ _. ¬ HasOffice old.schema)
