@@ -1,5 +1,5 @@
 -- The savepoint of a transaction: what is made of it, and what a call on it promises (SQL's SAVEPOINT, ROLLBACK TO and RELEASE).
-use Rattle.std.specs.Prelude.{◌≡◌, ⊤, ℕ, true, false, List, [], ◌∷◌, codes, Result, Err, IsTrue, IfErr, OnOk}
+use Rattle.std.specs.Prelude.{◌≡◌, ⊤, ℕ, true, false, List, [], ◌∷◌, ◌++◌, codes, Result, Err, IsTrue, IfErr, OnOk}
 use Rattle.sqlite_trees.specs.declared.store.Store.{Ghosts}
 use Rattle.sqlite.specs.declared.error.Error.{Error}
 use Rattle.sqlite.specs.declared.error.Error.TheVariants.{SqliteFailure}
@@ -25,35 +25,35 @@ release_text = codes "RELEASE part"
 abbrev pub part_of : Database → Savepoint
 part_of was = record { name = codes "part"; begins = false; db = was }
 
--- the transaction has this savepoint, and no other
-abbrev pub IsSavedAs : Database → State → Type 0
-IsSavedAs was s = s.marks ≡ part_of was ∷ []
+-- the newest savepoint of the transaction is this one, after these
+abbrev pub IsSavedAs : List Savepoint → Database → State → Type 0
+IsSavedAs before was s = s.marks ≡ before ++ part_of was ∷ []
 
--- the transaction has a savepoint, and one alone
+-- the newest savepoint of the transaction is one that `save` made
 abbrev pub IsSaved : State → Type 0
-IsSaved s = (was : Database) × IsSavedAs was s
+IsSaved s = (before : List Savepoint) × (was : Database) × IsSavedAs before was s
 
--- the savepoint of what the transaction sees is made, if it had none, and nothing is written
+-- the savepoint of what the transaction sees is made, and nothing is written
 pub record Saves (old new : State) : Type 0 where
   pub shown : Shows old new old.now old.committed true
   pub counts : KeepsCounts old new
-  pub saved : old.marks ≡ [] → IsSavedAs old.now new
+  pub saved : IsSavedAs old.marks old.now new
 
 -- the transaction sees again what it saw at its savepoint, which stays, and nothing is committed
 pub record GoesBackTo (was : Database) (old new : State) : Type 0 where
   pub shown : Shows old new was old.committed true
   pub counts : KeepsCounts old new
-  pub saved : IsSavedAs was new
+  pub marks : new.marks ≡ old.marks
 
--- it goes back to the savepoint, whatever that saw
+-- it goes back to the newest savepoint, whatever that saw
 abbrev pub GoesBack : State → State → Type 0
-GoesBack old new = (was : Database) → IsSavedAs was old → GoesBackTo was old new
+GoesBack old new = (before : List Savepoint) (was : Database) → IsSavedAs before was old → GoesBackTo was old new
 
--- the savepoint is dropped, and the transaction sees what it saw
+-- the newest savepoint is dropped, and the transaction sees what it saw
 pub record Releases (old new : State) : Type 0 where
   pub shown : Shows old new old.now old.committed true
   pub counts : KeepsCounts old new
-  pub unmarked : new.marks ≡ []
+  pub marks : (before : List Savepoint) (was : Database) → IsSavedAs before was old → new.marks ≡ before
 
 -- nothing is asked of the transaction
 abbrev pub IsAny : State → Type 0

@@ -1,4 +1,4 @@
-//! The savepoint of a transaction. A transaction has one at most, which is named `part`.
+//! The savepoint of a transaction, which is named `part`. Of several the newest counts.
 
 ghost use Rattle.std.specs.Prelude.{◌≡◌, false, [], IsTrue, IfErr, OnOk};
 ghost use Rattle.sqlite.specs.State.{HasCleanDisk, Survives, Executes, CommitsBy};
@@ -9,24 +9,23 @@ ghost use Rattle.wb_sql.specs.Savepoints.{save_text, back_text, release_text, Is
 
 use sqlite::{Alter, Connection, Error, ErrorCode};
 
-/// Makes the savepoint, to which [`back_to`] goes back. The transaction has none yet: with one, nothing is promised of it.
-/// Nothing is written. It fails as [`crate::execute`] does.
+/// Makes a savepoint, to which [`back_to`] goes back. Nothing is written. It fails as [`crate::execute`] does.
 pub fn save<S: Alter>(conn: &mut Connection<S>) -> Result<(), Error>
     ensures runs { RunsOnPart S.Store save_text IsAny Saves conn.old conn.new result }
 {
     run_on_part(conn, "SAVEPOINT part")
 }
 
-/// Takes back what was written since the savepoint, which stays, so that one can go back to it again. Without a savepoint it
-/// fails. It fails as [`crate::execute`] does, too.
+/// Takes back what was written since the newest savepoint, which stays, so that one can go back to it again. Without a
+/// savepoint it fails. It fails as [`crate::execute`] does, too.
 pub fn back_to<S: Alter>(conn: &mut Connection<S>) -> Result<(), Error>
     ensures runs { RunsOnPart S.Store back_text IsAny GoesBack conn.old conn.new result }
 {
     run_on_part(conn, "ROLLBACK TO part")
 }
 
-/// Drops the savepoint, and keeps what was written since. Without a savepoint it fails. It fails as [`crate::execute`] does,
-/// too.
+/// Drops the newest savepoint, and keeps what was written since. Without a savepoint it fails. It fails as
+/// [`crate::execute`] does, too.
 pub fn release<S: Alter>(conn: &mut Connection<S>) -> Result<(), Error>
     ensures runs { RunsOnPart S.Store release_text IsSaved Releases conn.old conn.new result }
 {

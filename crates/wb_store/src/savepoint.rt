@@ -8,7 +8,7 @@ use crate::fault::answer_on;
 use sqlite::{Alter, Connection};
 use wb_states::{StoreFault, Table};
 
-/// Makes the savepoint, if there is none yet. Nothing is written.
+/// Makes a savepoint. Nothing is written.
 pub(crate) fn save<S: Alter>(conn: &mut Connection<S>) -> Result<(), StoreFault>
     ensures calls { CallsPart S.Store save_text IsAny Saves conn.old conn.new result }
 {
@@ -16,7 +16,7 @@ pub(crate) fn save<S: Alter>(conn: &mut Connection<S>) -> Result<(), StoreFault>
     answer_on(answered, Table::Office)
 }
 
-/// Takes back what was written since the savepoint, which stays.
+/// Takes back what was written since the newest savepoint, which stays.
 pub(crate) fn back_to<S: Alter>(conn: &mut Connection<S>) -> Result<(), StoreFault>
     ensures calls { CallsPart S.Store back_text IsAny GoesBack conn.old conn.new result }
 {
@@ -24,7 +24,7 @@ pub(crate) fn back_to<S: Alter>(conn: &mut Connection<S>) -> Result<(), StoreFau
     answer_on(answered, Table::Office)
 }
 
-/// Drops the savepoint, and keeps what was written since.
+/// Drops the newest savepoint, and keeps what was written since.
 pub(crate) fn release<S: Alter>(conn: &mut Connection<S>) -> Result<(), StoreFault>
     ensures calls { CallsPart S.Store release_text IsSaved Releases conn.old conn.new result }
 {

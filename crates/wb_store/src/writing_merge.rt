@@ -23,7 +23,7 @@ use sqlite::Alter;
 use wb_states::{BinaryRow, SourceRow, StoreFault};
 
 impl<S: Alter + Drop> Writing<'_, S> {
-    /// Makes the savepoint, to which [`back_to`](Writing::back_to) goes back, if there is none yet; nothing is written.
+    /// Makes a savepoint, to which [`back_to`](Writing::back_to) goes back; nothing is written.
     pub fn save(&mut self) -> Result<(), StoreFault>
         ensures same_reference { self.new.store.ghost_name ≡ self.old.store.ghost_name }
         ensures calls { CallsPart S.Store save_text IsAny Saves self.old.store.now self.new.store.now result }
@@ -32,8 +32,8 @@ impl<S: Alter + Drop> Writing<'_, S> {
         savepoint::save(&mut store.conn)
     }
 
-    /// Takes back what was written since the savepoint, rows of tables of others too, and keeps the savepoint. Without a
-    /// savepoint it is a fault.
+    /// Takes back what was written since the newest savepoint, rows of tables of others too, and keeps the savepoint.
+    /// Without a savepoint it is a fault.
     pub fn back_to(&mut self) -> Result<(), StoreFault>
         ensures same_reference { self.new.store.ghost_name ≡ self.old.store.ghost_name }
         ensures calls { CallsPart S.Store back_text IsAny GoesBack self.old.store.now self.new.store.now result }
@@ -42,7 +42,7 @@ impl<S: Alter + Drop> Writing<'_, S> {
         savepoint::back_to(&mut store.conn)
     }
 
-    /// Drops the savepoint, and keeps what was written since. Without a savepoint it is a fault.
+    /// Drops the newest savepoint, and keeps what was written since. Without a savepoint it is a fault.
     pub fn release(&mut self) -> Result<(), StoreFault>
         ensures same_reference { self.new.store.ghost_name ≡ self.old.store.ghost_name }
         ensures calls { CallsPart S.Store release_text IsSaved Releases self.old.store.now self.new.store.now result }
