@@ -3,6 +3,7 @@ pub mod BackLemmas
 pub mod CellsLemmas
 pub mod ColumnLemmas
 pub mod ReadLemmas
+pub mod ScratchLemmas
 pub mod TextLemmas
 pub mod ValueLemmas
 pub mod FormLemmas

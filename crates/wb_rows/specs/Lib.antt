@@ -1,3 +1,4 @@
 pub mod Cells
 pub mod Forms
 pub mod Reading
+pub mod Scratch

@@ -7,8 +7,10 @@ mod fields;
 mod form;
 pub mod laws;
 mod read;
+mod scratch;
 mod write;
 
 pub use form::is_well_formed;
 pub use read::{arch_of, builder_of, record_of, state_of};
+pub use scratch::{binary_of, binary_values, name_of, source_of, source_values};
 pub use write::{arch_values, builder_values, record_values};

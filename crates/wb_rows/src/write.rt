@@ -1,5 +1,5 @@
 //! The values of the rows of what is kept, as a statement binds them.
-ghost use Rattle.std.specs.Prelude.{◌≡◌, ◌≤◌, IfSome};
+ghost use Rattle.std.specs.Prelude.{◌≡◌, ◌≤◌, ◌<◌, ◌^◌, IfSome};
 ghost use Rattle.sqlite.specs.Value.{owned};
 ghost use Rattle.sqlite.specs.Values.{bound, bound_value};
 ghost use Rattle.sqlite.specs.declared.types.Value.TheVariants.{Int};
@@ -63,7 +63,7 @@ pub fn builder_values<'a>(name: &'a Text, arch: &'a Text) -> [ValueRef<'a>; 2]
     [text_value(name), text_value(arch)]
 }
 
-fn text_value<'a>(text: &'a Text) -> ValueRef<'a>
+pub(crate) fn text_value<'a>(text: &'a Text) -> ValueRef<'a>
     ensures { bound_value (owned result) ≡ text_cell text.now }
 {
     ValueRef::Text(text.as_str().as_bytes())
@@ -78,7 +78,7 @@ fn optional_text_value<'a>(text: &'a Option<Text>) -> ValueRef<'a>
     }
 }
 
-fn version_value<'a>(version: &'a Version) -> ValueRef<'a>
+pub(crate) fn version_value<'a>(version: &'a Version) -> ValueRef<'a>
     ensures { bound_value (owned result) ≡ text_cell version.now }
 {
     ValueRef::Text(version.text().as_bytes())
@@ -90,7 +90,7 @@ fn state_value<'a>(state: State) -> ValueRef<'a>
     ValueRef::Int(i64::from(state.code()))
 }
 
-fn rebuild_value<'a>(rebuild: u16) -> ValueRef<'a>
+pub(crate) fn rebuild_value<'a>(rebuild: u16) -> ValueRef<'a>
     ensures { bound_value (owned result) ≡ number rebuild }
 {
     ValueRef::Int(i64::from(rebuild))
@@ -108,6 +108,14 @@ fn rank_value<'a>(current: &Record) -> ValueRef<'a>
     ValueRef::Int(i64::from(rank(current)))
 }
 
+/// A place in a list, below 2^63.
+pub(crate) fn seq_value<'a>(seq: u64) -> ValueRef<'a>
+    requires { seq < 2 ^ 63 }
+    ensures { bound_value (owned result) ≡ number seq }
+{
+    ValueRef::Int(seq as i64)
+}
+
 fn take_value<'a>(take: Option<u64>) -> ValueRef<'a>
     requires { IfSome take (λ take_number. take_number ≤ count_limit) }
     ensures { bound_value (owned result) ≡ number_or_null take }
@@ -118,7 +126,7 @@ fn take_value<'a>(take: Option<u64>) -> ValueRef<'a>
     }
 }
 
-fn flag_value<'a>(value: bool) -> ValueRef<'a>
+pub(crate) fn flag_value<'a>(value: bool) -> ValueRef<'a>
     ensures { bound_value (owned result) ≡ flag value }
 {
     ValueRef::Int(if value { 1 } else { 0 })

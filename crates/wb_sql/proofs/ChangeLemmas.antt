@@ -1,5 +1,5 @@
 -- The command of an INSERT, an INSERT OR REPLACE or a DELETE on one table, where the schema is known to have the table at a place.
-use Rattle.std.proofs.Common.{◌≡◌, refl, sym, subst, ℕ, ◌+◌, negsuc, ◌&&◌, List, [], ◌∷◌, map, Ok, None, Some, Option, true, false, slice_get}
+use Rattle.std.proofs.Common.{◌≡◌, refl, sym, subst, ℕ, ◌+◌, negsuc, ◌&&◌, List, [], ◌∷◌, map, Ok, None, Some, Option, true, false}
 use Rattle.sqlite.specs.Schema.{Schema}
 use Rattle.sqlite.specs.Table.{Table}
 use Rattle.sqlite.specs.declared.types.Value.TheVariants.{Int}
@@ -93,12 +93,11 @@ pub picked_is : (cx : Context) (table : Table) (project filter : List Term) (tes
 unfolding picked
 picked_is cx table project filter test s next n last is = rw is refl
 
-deleted_is : (schema : Schema) (table : Table) (at : ℕ) (tests : List Test) → slice_get schema.tables at ≡ Some table → AreTests table tests → suffices_for max_budget tests ≡ true
-    → deleted schema at table (where_of (map test_of tests)) ≡ Ok (rowids table (map (term_of table) tests))
+deleted_by : (schema : Schema) (table : Table) (at : ℕ) (test : Option Expr) (filter : List Term) (n : ℕ) (last : Carried)
+    → body.tests lower (over schema at table.name [] false) [] test (at_budget 2 max_budget nothing) ≡ Ok (filter, at_budget 2 n last) → deleted schema at table test ≡ Ok (rowids table filter)
 unfolding deleted
-deleted_is schema table at tests listed are enough =
-    rw (picked_is (over schema at table.name [] false) table (col 1 0 ∷ []) (map (term_of table) tests) (where_of (map test_of tests)) (at_budget 2 max_budget nothing)
-    2 (left_by max_budget tests) (carried_by nothing tests) (tests_are schema table at 2 max_budget table.name [] nothing listed tests are enough)) refl
+deleted_by schema table at test filter n last is =
+    rw (picked_is (over schema at table.name [] false) table (col 1 0 ∷ []) filter test (at_budget 2 max_budget nothing) 2 n last is) refl
 
 -- what is asked of the table's rows has the right types, whatever else the schema has
 pub simple_accepted : (schema : Schema) (table : Table) (filter project : List Term) → HasTable schema table
@@ -108,18 +107,27 @@ simple_accepted schema table filter project has typed =
     subst (λ slots. (accepts_after [] (query_of (simple (Inner table.tree ∷ []) filter project)) slots && (is_count [] (lit (Int (negsuc 0))) && is_count [] (number 0))) ≡ true)
     (sym (filled_is schema table has.stored (found_in_tree schema table has))) typed
 
+-- a DELETE whose WHERE is read as these terms
+pub delete_by : (schema : Schema) (table : Table) (base : ℕ) (test : Option Expr) (filter : List Term) (n : ℕ) (last : Carried) (has : HasTable schema table)
+    → body.tests lower (over schema has.at table.name [] false) [] test (at_budget 2 max_budget nothing) ≡ Ok (filter, at_budget 2 n last)
+    → (accepts_after [] (query_of (rowids table filter)) (Some (row_classes table ∷ [])) && (is_count [] (lit (Int (negsuc 0))) && is_count [] (number 0))) ≡ true
+    → compile.command schema [] base (written.Delete table.name test []) ≡ Ok (does.Delete has.at (record { lets = []; body = query_of (rowids table filter) }))
+unfolding compile.command compile.delete
+delete_by schema table base test filter n last has is typed =
+    rw (
+      has.named,
+      has.listed,
+      deleted_by schema table has.at test filter n last is,
+      program_is schema (rowids table filter) (simple_accepted schema table filter (col 1 0 ∷ []) has typed),
+    ) refl
+
 pub delete_is : (schema : Schema) (table : Table) (base : ℕ) (tests : List Test) (has : HasTable schema table) → AreTests table tests → suffices_for max_budget tests ≡ true
     → (accepts_after [] (query_of (rowids table (map (term_of table) tests))) (Some (row_classes table ∷ [])) && (is_count [] (lit (Int (negsuc 0))) && is_count [] (number 0))) ≡ true
     → compile.command schema [] base (written.Delete table.name (where_of (map test_of tests)) [])
     ≡ Ok (does.Delete has.at (record { lets = []; body = query_of (rowids table (map (term_of table) tests)) }))
-unfolding compile.command compile.delete
 delete_is schema table base tests has are enough typed =
-    rw (
-      has.named,
-      has.listed,
-      deleted_is schema table has.at tests has.listed are enough,
-      program_is schema (rowids table (map (term_of table) tests)) (simple_accepted schema table (map (term_of table) tests) (col 1 0 ∷ []) has typed),
-    ) refl
+    delete_by schema table base (where_of (map test_of tests)) (map (term_of table) tests) (left_by max_budget tests) (carried_by nothing tests) has
+    (tests_are schema table has.at 2 max_budget table.name [] nothing has.listed tests are enough) typed
 
 pub delete_returns : (schema : Schema) (base : ℕ) (name : Name) (test : Option Expr) → compile.returning schema base (written.Delete name test []) ≡ Ok None
 unfolding compile.returning compile.shows

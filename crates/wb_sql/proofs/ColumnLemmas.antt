@@ -109,3 +109,14 @@ pub compared_is : (schema : Schema) (table : Table) (c : Column) (at k n : ℕ) 
 unfolding compared affinity_of
 compared_is schema table c at k n alias shown aggregates op listed is plain =
     rw (of_column_is schema table c at k alias shown aggregates listed is, parameter_is schema at n alias shown aggregates, converted_left (of_declared c) (col 1 (suc k)), converted_right (of_declared c) n plain) refl
+
+rowid_is : (schema : Schema) (at : ℕ) (alias : Name) (shown : List Output) (aggregates : Bool) → of_column (over schema at alias shown aggregates) 1 0 ≡ affinity.Numeric
+unfolding of_column
+rowid_is schema at alias shown aggregates = refl
+
+-- the same of the rowid
+pub rowid_compared_is : (schema : Schema) (at n : ℕ) (alias : Name) (shown : List Output) (aggregates : Bool) (op : BinaryOp)
+    → compared (over schema at alias shown aggregates) op (col 1 0) (col 0 n) ≡ op2 op (col 1 0) (col 0 n)
+unfolding compared affinity_of
+rowid_compared_is schema at n alias shown aggregates op =
+    rw (rowid_is schema at alias shown aggregates, parameter_is schema at n alias shown aggregates, converted_left affinity.Numeric (col 1 0), converted_right affinity.Numeric n refl) refl

@@ -27,6 +27,8 @@ pub mod QuietLemmas
 pub mod ReadingLemmas
 pub mod RecognitionLemmas
 pub mod RecordLemmas
+pub mod SavepointLemmas
+pub mod ScratchLemmas
 pub mod SelectForm
 pub mod SelectLemmas
 pub mod SetLemmas

@@ -16,7 +16,7 @@ use Rattle.sqlite_rules.specs.Lists.{Has}
 use Rattle.sqlite_rules.proofs.ListLemmas.{has_kept, test_from, test_has}
 use Rattle.sqlite_rules.proofs.PlaceLemmas.{named_parent}
 use Rattle.wb_sql.specs.Changes.{does_nothing, refers_to_tree, never_acts_on}
-use Rattle.wb_sql.specs.Tables.{office, arch, builder, source_record, office_schema}
+use Rattle.wb_sql.specs.Tables.{office, arch, builder, source_record, scratch_source, scratch_binary, office_schema}
 use Rattle.wb_sql.specs.Among.{HasTable, HasOffice, table_in, tree_named, names_office, is_quiet, are_quiet}
 
 -- what has the same name as a name has the same name as each that is the same
@@ -74,3 +74,11 @@ builder_quiet schema has = quiet_in schema (table_in schema builder) has.builder
 pub record_quiet : (schema : Schema) → HasOffice schema → never_acts_on schema (tree_named schema source_record.name) ≡ true
 unfolding same_name
 record_quiet schema has = quiet_in schema (table_in schema source_record) has.record_is refl has.quiet
+
+pub source_quiet : (schema : Schema) → HasOffice schema → never_acts_on schema (tree_named schema scratch_source.name) ≡ true
+unfolding same_name
+source_quiet schema has = quiet_in schema (table_in schema scratch_source) has.source_is refl has.quiet
+
+pub binary_quiet : (schema : Schema) → HasOffice schema → never_acts_on schema (tree_named schema scratch_binary.name) ≡ true
+unfolding same_name
+binary_quiet schema has = quiet_in schema (table_in schema scratch_binary) has.binary_is refl has.quiet

@@ -24,6 +24,10 @@ column name = roll-Expr (Expr-F.Column None name)
 abbrev pub test : Name × ℕ → Expr
 test t = roll-Expr (Expr-F.Binary binary.Eq (column t.0) (roll-Expr (Expr-F.Parameter t.1)))
 
+-- a column is at most the parameter of this number
+abbrev pub bound : Name × ℕ → Expr
+bound t = roll-Expr (Expr-F.Binary binary.Le (column t.0) (roll-Expr (Expr-F.Parameter t.1)))
+
 -- a column of the result, with no other name
 abbrev pub shown : Name → Shown
 shown name = roll-Shown (Shown-F.One (column name) None name)

@@ -88,7 +88,7 @@ abbrev pub carried_by : Carried → List Test → Carried
 carried_by last [] = last
 carried_by last (x ∷ more) = nothing
 
-tests_some : (lower : Context → Expr → Lowering Term) (cx : Context) (e : Expr) (t : Term) (s s1 : State) → lower cx e s ≡ Ok (t, s1) → body.tests lower cx [] (Some e) s ≡ Ok (conjuncts t, s1)
+pub tests_some : (lower : Context → Expr → Lowering Term) (cx : Context) (e : Expr) (t : Term) (s s1 : State) → lower cx e s ≡ Ok (t, s1) → body.tests lower cx [] (Some e) s ≡ Ok (conjuncts t, s1)
 unfolding body.tests
 tests_some lower cx e t s s1 is = rw is refl
 

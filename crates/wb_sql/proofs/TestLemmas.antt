@@ -20,9 +20,9 @@ use Rattle.sqlite_ast.specs.declared.Expr.{Expr, roll-Expr}
 use Rattle.sqlite_ast.specs.declared.Expr.TheOpen.{Expr-F}
 use Rattle.sqlite_ast.specs.declared.Binary.{Binary}
 use Rattle.sqlite_ast.specs.declared.Binary.TheVariants as binary
-use Rattle.wb_sql.proofs.SelectForm.{Name, column, test}
+use Rattle.wb_sql.proofs.SelectForm.{Name, column, test, bound}
 use Rattle.wb_sql.proofs.OpenedLemmas.{out_parameter, out_binary}
-use Rattle.wb_sql.proofs.ColumnLemmas.{over, at_budget, lower_column, compared_is, is_plain}
+use Rattle.wb_sql.proofs.ColumnLemmas.{over, at_budget, lower_column, compared_is, rowid_compared_is, is_plain}
 
 both_is : (lower : Context → Expr → Lowering Term) (cx : Context) (op : Binary) (a b : Expr) (x y : Term) (s s1 s2 : State)
     → is_identity op ≡ false → lower cx a s ≡ Ok (x, s1) → lower cx b s1 ≡ Ok (y, s2) → both lower cx op a b s ≡ combine cx op (chosen s1.last s2.last) x y s2
@@ -99,3 +99,24 @@ lower_test schema table c at k m alias shown aggregates depth next n last listed
     (lower_parameter cx depth next ((n - 1) - 1) m (declared table k c) e3)
     (combine_equal cx how (col 1 (suc k)) (col 0 (m - 1)) (at_budget next (((n - 1) - 1) - 1) nothing)
     ∙ rw (compared_is schema table c at k (m - 1) alias shown aggregates (by.Compare compare.Eq how) listed column_is.is plain) refl)
+
+combine_at_most : (cx : Context) (how : Collation) (x y : Term) (s : State) → combine cx binary.Le how x y s ≡ Ok (compared cx (by.Compare compare.Le how) x y, s)
+unfolding combine
+combine_at_most cx how x y s = refl
+
+-- the rowid, which is a column, is at most a parameter
+pub lower_bound : (schema : Schema) (table : Table) (c : Column) (at k m : ℕ) (alias : Name) (shown : List Output) (aggregates : Bool) (depth next n : ℕ) (last : Carried)
+    → slice_get schema.tables at ≡ Some table → IsColumn table k c → place_of table k ≡ 0
+    → nat_lt 1 n ≡ true → nat_lt 1 (n - 1) ≡ true → nat_lt 1 ((n - 1) - 1) ≡ true
+    → lower_to (suc (suc depth)) (over schema at alias shown aggregates) (bound (c.name, m)) (at_budget next n last)
+    ≡ Ok (op2 (by.Compare compare.Le (chosen (declared table k c) nothing)) (col 1 0) (col 0 (m - 1)), at_budget next (((n - 1) - 1) - 1) nothing)
+lower_bound schema table c at k m alias shown aggregates depth next n last listed column_is place e1 e2 e3 =
+    let cx : Context = over schema at alias shown aggregates in
+    let how : Collation = chosen (declared table k c) nothing in
+    let left : lower_to (suc depth) cx (column c.name) (at_budget next (n - 1) nothing) ≡ Ok (col 1 0, at_budget next ((n - 1) - 1) (declared table k c)) =
+    lower_column schema table c at k alias c.name shown aggregates depth next (n - 1) nothing listed column_is.named column_is.is e2 ∙ rw place refl in
+    lower_both cx binary.Le (column c.name) (roll-Expr (Expr-F.Parameter m)) (col 1 0) (col 0 (m - 1)) (op2 (by.Compare compare.Le how) (col 1 0) (col 0 (m - 1)))
+    (suc depth) next n ((n - 1) - 1) (((n - 1) - 1) - 1) last (declared table k c) nothing e1 refl left
+    (lower_parameter cx depth next ((n - 1) - 1) m (declared table k c) e3)
+    (combine_at_most cx how (col 1 0) (col 0 (m - 1)) (at_budget next (((n - 1) - 1) - 1) nothing)
+    ∙ rw (rowid_compared_is schema at (m - 1) alias shown aggregates (by.Compare compare.Le how)) refl)

@@ -8,6 +8,8 @@ pub mod OfficeStatements
 pub mod Queries
 pub mod Recognition
 pub mod Rows
+pub mod Savepoints
+pub mod ScratchStatements
 pub mod Settled
 pub mod Statements
 pub mod Tables

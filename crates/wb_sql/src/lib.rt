@@ -14,6 +14,8 @@ mod id_check;
 mod making;
 mod reading;
 mod recognition;
+mod savepoints;
+pub mod scratch;
 pub mod statements;
 mod transaction;
 
@@ -23,4 +25,5 @@ pub use format::has_format_column;
 pub use making::{make_empty_office, make_tables};
 pub use reading::read;
 pub use recognition::{has_office_tables, lacks_office};
+pub use savepoints::{back_to, release, save};
 pub use transaction::{CommitError, begin, commit, execute, is_usable, roll_back};

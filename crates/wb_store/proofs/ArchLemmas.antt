@@ -21,7 +21,8 @@ use Rattle.wb_states.specs.declared.arch.OsCpu.{OsCpu}
 use Rattle.wb_states.specs.Machine.{Machine, IsArch, IsConsistent}
 use Rattle.wb_rows.specs.Cells.{arch_cells}
 use Rattle.wb_rows.proofs.CellsLemmas.{arch_cells-same}
-use Rattle.wb_store.specs.Stands.{StandsFor}
+use Rattle.wb_store.specs.Merging.{Scratch}
+use Rattle.wb_store.specs.Stands.{StandsWith}
 use Rattle.wb_store.specs.Lookups.{AreArchs, AreRowsOf, FirstWords, IsReadableArch}
 use Rattle.wb_store.proofs.EqualLemmas.{are_equal, and_true, equal-Text}
 use Rattle.wb_store.proofs.FormLemmas.{kept_arch_formed, kept_arch_readable}
@@ -50,7 +51,7 @@ skips_name : (params : Row) → SkipsRowid sql.arch_of_name params
 skips_name params [] = (refl, refl)
 skips_name params (x ∷ row) = (refl, refl)
 
-module _ (machine : Machine) (db : Database) (stands : StandsFor machine db) (answer : List Row) where
+module _ (machine : Machine) {scratch : Scratch} (db : Database) (stands : StandsWith machine scratch db) (answer : List Row) where
   abbrev known : List (List ℕ × OsCpu)
   known = finite.entries machine.archs
 
@@ -82,7 +83,7 @@ skips_archs : (params : Row) → SkipsRowid sql.all_archs params
 skips_archs params [] = (refl, refl)
 skips_archs params (x ∷ row) = (refl, refl)
 
-module _ (machine : Machine) (db : Database) (stands : StandsFor machine db) (answer : List Row) (a : Answers sql.all_archs [] (rows_in db tables.arch) answer) where
+module _ (machine : Machine) {scratch : Scratch} (db : Database) (stands : StandsWith machine scratch db) (answer : List Row) (a : Answers sql.all_archs [] (rows_in db tables.arch) answer) where
   abbrev archs : List (List ℕ × OsCpu)
   archs = finite.entries machine.archs
 

@@ -26,7 +26,8 @@ use Rattle.wb_sql.specs.Tables as tables
 use Rattle.wb_states.specs.Machine.{Key, Machine, IsConsistent, archs_of}
 use Rattle.wb_rows.specs.Cells.{builder_cells}
 use Rattle.wb_rows.proofs.CellsLemmas.{builder_cells-same}
-use Rattle.wb_store.specs.Stands.{StandsFor, builder_pairs}
+use Rattle.wb_store.specs.Merging.{Scratch}
+use Rattle.wb_store.specs.Stands.{StandsWith, builder_pairs}
 use Rattle.wb_store.specs.Lookups.{ArePairs, HaveArchs, IsReadablePair}
 use Rattle.wb_store.proofs.EqualLemmas.{are_equal, and_true, equal-Text}
 use Rattle.wb_store.proofs.FormLemmas.{kept_pair_readable}
@@ -183,7 +184,7 @@ one_there : (key : Key) (b : Bool) (rows : List Row) → rows ≡ map builder_ce
 one_there key true rows is = ap is_nonempty is
 one_there key false rows is = ap is_nonempty is
 
-module _ (machine : Machine) (db : Database) (stands : StandsFor machine db) (answer : List Row) where
+module _ (machine : Machine) {scratch : Scratch} (db : Database) (stands : StandsWith machine scratch db) (answer : List Row) where
   abbrev kept : List Key
   kept = builder_pairs machine
 

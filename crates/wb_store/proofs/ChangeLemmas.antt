@@ -41,8 +41,9 @@ use Rattle.wb_sql.specs.Among.{HasTable, HasOffice, InsertsAmong, UpsertsRecords
 use Rattle.wb_sql.specs.OfficeStatements.{office_sets, arch_row as arch_terms, builder_row as builder_terms, record_row as record_terms, record_sets, record_key, has_record_key}
 use Rattle.wb_sql.proofs.RecordLemmas.{arch_typed, builder_typed}
 use Rattle.wb_rows.specs.Cells.{record_cells, arch_cells, builder_cells, number}
-use Rattle.wb_store.specs.Stands.{HoldsRows, StandsFor, office_row, record_rows, arch_rows, builder_rows, builder_pairs}
-use Rattle.wb_store.specs.Calls.{Becomes, Changes, FailsToWrite}
+use Rattle.wb_store.specs.Merging.{Scratch, no_merge, stored_source, stored_binary}
+use Rattle.wb_store.specs.Stands.{HoldsRows, StandsWith, office_row, record_rows, arch_rows, builder_rows, builder_pairs}
+use Rattle.wb_store.specs.Calls.{BecomesWith, Changes, FailsToWrite}
 use Rattle.wb_store.specs.Faults.{answer_on}
 use Rattle.wb_store.specs.Writes as write
 use Rattle.wb_store.specs.Writes.{IsTextOfWrite, OfficeWrite, table_written, written_by}
@@ -57,11 +58,13 @@ use Rattle.wb_sql.proofs.ApartLemmas.{other_rows, own_rows}
 -- what a statement that writes makes of the state
 pub statement_changes : {S A : Type 0} {g : Ghosts S} {sql : List ℕ} {params : Row} {Allows : Machine → Type 0} {after : Machine → Machine} {old new : Held S} {r : Result A Error} {answer : Result A StoreFault} (write : OfficeWrite) (Done : State → State → Type 0)
     → IsTextOfWrite write sql → params ≡ written_by write → ((schema : Schema) → HasOffice schema → IsWriting schema sql)
-    → ((machine : Machine) → StandsFor machine (state g old).now → Allows machine → (state g new).step_limit ≡ (state g old).step_limit → Done (state g old) (state g new) → Becomes (after machine) (state g old) (state g new))
+    → ((machine : Machine) (scratch : Scratch) → StandsWith machine scratch (state g old).now → Allows machine → (state g new).step_limit ≡ (state g old).step_limit → Done (state g old) (state g new)
+    → BecomesWith (after machine) scratch (state g old) (state g new))
     → RunsStatement g sql params old new r → (HasCleanDisk (state g new) → OnOk r (Done (state g old) (state g new))) → answer ≡ answer_on r (table_written write) → Changes g write Allows after old new answer
 statement_changes {A = A} {g = g} {sql = sql} {params = params} {Allows = Allows} {after = after} {old = old} {new = new} {r = r} write Done text given writes makes ran ok is =
     subst (λ (t : Result A StoreFault). Changes g write Allows after old new t) (sym is) (record {
-      ok = λ clean. ok_on _ r (on_ok r (λ done machine stands allows. makes machine stands allows ran.survives.limit done) (ok clean));
+      ok = λ clean. ok_on _ r (on_ok r (λ done machine stands allows. makes machine no_merge stands allows ran.survives.limit done) (ok clean));
+      beside = λ clean. ok_on _ r (on_ok r (λ done machine scratch stands allows. makes machine scratch stands allows ran.survives.limit done) (ok clean));
       err = λ clean inside. err_on r (ran.err clean inside);
       ended = λ over. let ended = ran.ended over in (ap (λ answered. answer_on answered (table_written write)) ended.0, ended.1);
       survives = survives_weaker (state g old) (state g new) _ _ (λ clean db none has. none (writes old.schema has)) ran.survives;
@@ -85,26 +88,26 @@ statement_changes {A = A} {g = g} {sql = sql} {params = params} {Allows = Allows
 
 -- ---- the other tables
 
-module _ {machine : Machine} {old new : State} (stands : StandsFor machine old.now) (table : Table) (rows : List Row) (is : HasTable old.now.schema table) (made : SetsTable table rows old new) where
-  still_has : HasOffice new.now.schema
+module _ {machine : Machine} {scratch : Scratch} {old new : State} (stands : StandsWith machine scratch old.now) (table : Table) (rows : List Row) (is : HasTable old.now.schema table) (made : SetsTable table rows old new) where
+  pub still_has : HasOffice new.now.schema
   still_has = subst HasOffice (sym made.schema) stands.has
 
-  still_counts : length office.columns ≢ length table.columns → rows_in new.now office ≡ office_row machine ∷ []
+  pub still_counts : length office.columns ≢ length table.columns → rows_in new.now office ≡ office_row machine ∷ []
   still_counts differ = other_rows old new table rows office is made stands.has.office_is differ ∙ stands.counts
 
-  still_archs : length arch.columns ≢ length table.columns → HoldsRows (arch_rows machine) (rows_in new.now arch)
+  pub still_archs : length arch.columns ≢ length table.columns → HoldsRows (arch_rows machine) (rows_in new.now arch)
   still_archs differ = subst (HoldsRows (arch_rows machine)) (sym (other_rows old new table rows arch is made stands.has.arch_is differ)) stands.archs
 
-  still_builders : length builder.columns ≢ length table.columns → HoldsRows (builder_rows machine) (rows_in new.now builder)
+  pub still_builders : length builder.columns ≢ length table.columns → HoldsRows (builder_rows machine) (rows_in new.now builder)
   still_builders differ = subst (HoldsRows (builder_rows machine)) (sym (other_rows old new table rows builder is made stands.has.builder_is differ)) stands.builders
 
-  still_records : length source_record.columns ≢ length table.columns → HoldsRows (record_rows machine) (rows_in new.now source_record)
+  pub still_records : length source_record.columns ≢ length table.columns → HoldsRows (record_rows machine) (rows_in new.now source_record)
   still_records differ = subst (HoldsRows (record_rows machine)) (sym (other_rows old new table rows source_record is made stands.has.record_is differ)) stands.records
 
-  still_sources : length scratch_source.columns ≢ length table.columns → rows_in new.now scratch_source ≡ []
+  pub still_sources : length scratch_source.columns ≢ length table.columns → rows_in new.now scratch_source ≡ map stored_source scratch.sources
   still_sources differ = other_rows old new table rows scratch_source is made stands.has.source_is differ ∙ stands.sources
 
-  still_binaries : length scratch_binary.columns ≢ length table.columns → rows_in new.now scratch_binary ≡ []
+  pub still_binaries : length scratch_binary.columns ≢ length table.columns → rows_in new.now scratch_binary ≡ map stored_binary scratch.binaries
   still_binaries differ = other_rows old new table rows scratch_binary is made stands.has.binary_is differ ∙ stands.binaries
 
 -- the rows of an office's table, after a change that kept the schema
@@ -122,13 +125,13 @@ rows_beside columns x xs ys left rows same kept stored put = record {
 
 -- ---- each statement
 
-module _ (sql : List ℕ) (machine : Machine) (old new : State) (stands : StandsFor machine old.now) (limit : new.step_limit ≡ old.step_limit) where
+module _ (sql : List ℕ) (machine : Machine) {scratch : Scratch} (old new : State) (stands : StandsWith machine scratch old.now) (limit : new.step_limit ≡ old.step_limit) where
   abbrev schema : Schema
   schema = old.now.schema
 
   -- the office's row with these counts, under the same rowid
   pub counts_set : (handed accepted : ℕ) → UpdatesAmong office sql [] office_sets 2 → Updates sql (number handed ∷ number accepted ∷ []) old new
-      → Becomes (record machine { handed = handed; accepted = accepted }) old new
+      → BecomesWith (record machine { handed = handed; accepted = accepted }) scratch old new
   counts_set handed accepted text does =
       let after : Machine = record machine { handed = handed; accepted = accepted } in
       let params : Row = number handed ∷ number accepted ∷ [] in
@@ -148,6 +151,7 @@ module _ (sql : List ℕ) (machine : Machine) (old new : State) (stands : Stands
           records = still_records stands (table_in schema office) rows stands.has.office_is made (λ e. omega (arith, e));
           sources = still_sources stands (table_in schema office) rows stands.has.office_is made (λ e. omega (arith, e));
           binaries = still_binaries stands (table_in schema office) rows stands.has.office_is made (λ e. omega (arith, e));
+          order = stands.order;
         };
         schema_is = made.schema;
         shown = made.shown;
@@ -158,7 +162,7 @@ module _ (sql : List ℕ) (machine : Machine) (old new : State) (stands : Stands
 
   -- one more architecture
   pub arch_put : (name : List ℕ) (words : OsCpu) → InsertsAmong arch sql arch_terms 3 → finite.get machine.archs name ≡ None → Inserts sql (arch_cells (name, words)) old new
-      → Becomes (record machine { archs = finite.insert machine.archs name words }) old new
+      → BecomesWith (record machine { archs = finite.insert machine.archs name words }) scratch old new
   arch_put name words text unknown does =
       let tree = tree_named schema arch.name in
       let typed = typed_at tree arch (Null ∷ arch_cells (name, words)) (arch_typed name words.os words.cpu) in
@@ -177,6 +181,7 @@ module _ (sql : List ℕ) (machine : Machine) (old new : State) (stands : Stands
           records = still_records stands (table_in schema arch) _ stands.has.arch_is made (λ e. omega (arith, e));
           sources = still_sources stands (table_in schema arch) _ stands.has.arch_is made (λ e. omega (arith, e));
           binaries = still_binaries stands (table_in schema arch) _ stands.has.arch_is made (λ e. omega (arith, e));
+          order = stands.order;
         };
         schema_is = made.schema;
         shown = made.shown;
@@ -187,7 +192,7 @@ module _ (sql : List ℕ) (machine : Machine) (old new : State) (stands : Stands
 
   -- one more pair of a builder and an architecture
   pub builder_put : (name of : List ℕ) → InsertsAmong builder sql builder_terms 2 → set.contains machine.builders (name, of) ≡ false → Inserts sql (builder_cells (name, of)) old new
-      → Becomes (record machine { builders = set.insert machine.builders (name, of) }) old new
+      → BecomesWith (record machine { builders = set.insert machine.builders (name, of) }) scratch old new
   builder_put name of text unknown does =
       let after : Machine = record machine { builders = set.insert machine.builders (name, of) } in
       let tree = tree_named schema builder.name in
@@ -206,6 +211,7 @@ module _ (sql : List ℕ) (machine : Machine) (old new : State) (stands : Stands
           records = still_records stands (table_in schema builder) _ stands.has.builder_is made (λ e. omega (arith, e));
           sources = still_sources stands (table_in schema builder) _ stands.has.builder_is made (λ e. omega (arith, e));
           binaries = still_binaries stands (table_in schema builder) _ stands.has.builder_is made (λ e. omega (arith, e));
+          order = stands.order;
         };
         schema_is = made.schema;
         shown = made.shown;
@@ -216,7 +222,7 @@ module _ (sql : List ℕ) (machine : Machine) (old new : State) (stands : Stands
 
   -- other rows of records
   records_made : (after : finite.FinMap pair_cmp Record) (rows : List Row) → SetsTable (table_in schema source_record) rows old new
-      → HoldsRows (map record_cells (finite.entries after)) (new.now.trees (tree_named schema source_record.name)) → Becomes (record machine { records = after }) old new
+      → HoldsRows (map record_cells (finite.entries after)) (new.now.trees (tree_named schema source_record.name)) → BecomesWith (record machine { records = after }) scratch old new
   records_made after rows made holds =
       record {
         stands = record {
@@ -227,6 +233,7 @@ module _ (sql : List ℕ) (machine : Machine) (old new : State) (stands : Stands
           records = moved old new source_record _ made.schema holds;
           sources = still_sources stands (table_in schema source_record) rows stands.has.record_is made (λ e. omega (arith, e));
           binaries = still_binaries stands (table_in schema source_record) rows stands.has.record_is made (λ e. omega (arith, e));
+          order = stands.order;
         };
         schema_is = made.schema;
         shown = made.shown;
@@ -237,7 +244,7 @@ module _ (sql : List ℕ) (machine : Machine) (old new : State) (stands : Stands
 
   -- a record less
   pub record_removed : (of source : List ℕ) → DeletesAmong source_record sql has_record_key 2 → Deletes sql (Text of ∷ Text source ∷ []) old new
-      → Becomes (record machine { records = finite.remove machine.records (of, source) }) old new
+      → BecomesWith (record machine { records = finite.remove machine.records (of, source) }) scratch old new
   record_removed of source text does =
       let put = does (table_in schema source_record) has_record_key 2 (text schema (tree_named schema source_record.name) stands.has.record_is (record_quiet schema stands.has)) stands.records.stored in
       let columns = map record_cells (finite.entries (finite.remove machine.records (of, source))) in
@@ -251,7 +258,7 @@ module _ (sql : List ℕ) (machine : Machine) (old new : State) (stands : Stands
   record_beside : (of source : List ℕ) (current : Record) (rows : List Row) → SetsTable (table_in schema source_record) rows old new → IsStored (new.now.trees (tree_named schema source_record.name))
       → IsPermutation (record_cells ((of, source), current) ∷ filter (λ columns. not (begins_with of source columns)) (cells_of (rows_in old.now source_record)))
       (cells_of (new.now.trees (tree_named schema source_record.name)))
-      → Becomes (record machine { records = finite.insert machine.records (of, source) current }) old new
+      → BecomesWith (record machine { records = finite.insert machine.records (of, source) current }) scratch old new
   record_beside of source current rows made stored put =
       let was = cells_of (rows_in old.now source_record) in
       let after = finite.insert machine.records (of, source) current in
@@ -262,7 +269,7 @@ module _ (sql : List ℕ) (machine : Machine) (old new : State) (stands : Stands
 
   -- a record in place of the one with its key
   pub record_put : (of source : List ℕ) (current : Record) → UpsertsRecords sql → Upserts sql (record_cells ((of, source), current)) old new
-      → Becomes (record machine { records = finite.insert machine.records (of, source) current }) old new
+      → BecomesWith (record machine { records = finite.insert machine.records (of, source) current }) scratch old new
   record_put of source current text does =
       let entry : Entry = ((of, source), current) in
       let tree = tree_named schema source_record.name in
@@ -276,7 +283,7 @@ module _ (sql : List ℕ) (machine : Machine) (old new : State) (stands : Stands
 
   -- another record in place of the one that has its key
   pub record_renewed : (of source : List ℕ) (current : Record) → UpdatesAmong source_record sql has_record_key record_sets 16 → IsSome (finite.get machine.records (of, source))
-      → Updates sql (record_cells ((of, source), current)) old new → Becomes (record machine { records = finite.insert machine.records (of, source) current }) old new
+      → Updates sql (record_cells ((of, source), current)) old new → BecomesWith (record machine { records = finite.insert machine.records (of, source) current }) scratch old new
   record_renewed of source current text there does =
       let tree = tree_named schema source_record.name in
       let rows = rows_in old.now source_record in
@@ -305,28 +312,28 @@ module _ {S A : Type 0} {g : Ghosts S} {sql : List ℕ} {params : Row} {old new 
       → answer ≡ answer_on r Office → Changes g (write.SetsCounts handed accepted) (λ _. ⊤) (λ machine. record machine { handed = handed; accepted = accepted }) old new answer
   counts_change handed accepted text is =
       statement_changes (write.SetsCounts handed accepted) (Updates sql params) text is (λ schema has. updates_writes schema sql (table_in schema office) [] office_sets (text schema (tree_named schema office.name) has.office_is (office_quiet schema has)))
-      (λ machine stands allows limit does. counts_set sql machine (state g old) (state g new) stands limit handed accepted text (subst (λ p. Updates sql p (state g old) (state g new)) is does))
+      (λ machine scratch stands allows limit does. counts_set sql machine (state g old) (state g new) stands limit handed accepted text (subst (λ p. Updates sql p (state g old) (state g new)) is does))
 
   pub arch_change : (name : List ℕ) (words : OsCpu) → InsertsAmong arch sql arch_terms 3 → params ≡ arch_cells (name, words) → RunsStatement g sql params old new r
       → (HasCleanDisk (state g new) → OnOk r (Inserts sql params (state g old) (state g new)))
       → answer ≡ answer_on r Arch → Changes g (write.AddsArch (name, words)) (λ machine. finite.get machine.archs name ≡ None) (λ machine. record machine { archs = finite.insert machine.archs name words }) old new answer
   arch_change name words text is =
       statement_changes (write.AddsArch (name, words)) (Inserts sql params) text is (λ schema has. inserts_writes schema sql (table_in schema arch) arch_terms (text schema (tree_named schema arch.name) has.arch_is (arch_quiet schema has)))
-      (λ machine stands unknown limit does. arch_put sql machine (state g old) (state g new) stands limit name words text unknown (subst (λ p. Inserts sql p (state g old) (state g new)) is does))
+      (λ machine scratch stands unknown limit does. arch_put sql machine (state g old) (state g new) stands limit name words text unknown (subst (λ p. Inserts sql p (state g old) (state g new)) is does))
 
   pub builder_change : (name of : List ℕ) → InsertsAmong builder sql builder_terms 2 → params ≡ builder_cells (name, of) → RunsStatement g sql params old new r
       → (HasCleanDisk (state g new) → OnOk r (Inserts sql params (state g old) (state g new)))
       → answer ≡ answer_on r Builder → Changes g (write.AddsBuilder (name, of)) (λ machine. set.contains machine.builders (name, of) ≡ false) (λ machine. record machine { builders = set.insert machine.builders (name, of) }) old new answer
   builder_change name of text is =
       statement_changes (write.AddsBuilder (name, of)) (Inserts sql params) text is (λ schema has. inserts_writes schema sql (table_in schema builder) builder_terms (text schema (tree_named schema builder.name) has.builder_is (builder_quiet schema has)))
-      (λ machine stands unknown limit does. builder_put sql machine (state g old) (state g new) stands limit name of text unknown (subst (λ p. Inserts sql p (state g old) (state g new)) is does))
+      (λ machine scratch stands unknown limit does. builder_put sql machine (state g old) (state g new) stands limit name of text unknown (subst (λ p. Inserts sql p (state g old) (state g new)) is does))
 
   pub removal_change : (of source : List ℕ) → DeletesAmong source_record sql has_record_key 2 → params ≡ Text of ∷ Text source ∷ [] → RunsStatement g sql params old new r
       → (HasCleanDisk (state g new) → OnOk r (Deletes sql params (state g old) (state g new)))
       → answer ≡ answer_on r SourceRecord → Changes g (write.RemovesRecord (of, source)) (λ _. ⊤) (λ machine. record machine { records = finite.remove machine.records (of, source) }) old new answer
   removal_change of source text is =
       statement_changes (write.RemovesRecord (of, source)) (Deletes sql params) text is (λ schema has. deletes_writes schema sql (table_in schema source_record) has_record_key (text schema (tree_named schema source_record.name) has.record_is (record_quiet schema has)))
-      (λ machine stands allows limit does. record_removed sql machine (state g old) (state g new) stands limit of source text (subst (λ p. Deletes sql p (state g old) (state g new)) is does))
+      (λ machine scratch stands allows limit does. record_removed sql machine (state g old) (state g new) stands limit of source text (subst (λ p. Deletes sql p (state g old) (state g new)) is does))
 
   pub record_change : (of source : List ℕ) (current : Record) → UpsertsRecords sql → params ≡ record_cells ((of, source), current) → RunsStatement g sql params old new r
       → (HasCleanDisk (state g new) → OnOk r (Upserts sql params (state g old) (state g new)))
@@ -334,7 +341,7 @@ module _ {S A : Type 0} {g : Ghosts S} {sql : List ℕ} {params : Row} {old new 
   record_change of source current text is =
       statement_changes (write.PutsRecord ((of, source), current)) (Upserts sql params) text is (λ schema has. upserts_writes schema sql (table_in schema source_record) record_terms record_sets record_key 16
       (text schema (tree_named schema source_record.name) has.at has.record_is has.records_indexed (record_quiet schema has)))
-      (λ machine stands allows limit does. record_put sql machine (state g old) (state g new) stands limit of source current text (subst (λ p. Upserts sql p (state g old) (state g new)) is does))
+      (λ machine scratch stands allows limit does. record_put sql machine (state g old) (state g new) stands limit of source current text (subst (λ p. Upserts sql p (state g old) (state g new)) is does))
 
   pub renewal_change : (of source : List ℕ) (current : Record) → UpdatesAmong source_record sql has_record_key record_sets 16 → params ≡ record_cells ((of, source), current) → RunsStatement g sql params old new r
       → (HasCleanDisk (state g new) → OnOk r (Updates sql params (state g old) (state g new)))
@@ -342,4 +349,4 @@ module _ {S A : Type 0} {g : Ghosts S} {sql : List ℕ} {params : Row} {old new 
   renewal_change of source current text is =
       statement_changes (write.ReplacesRecord ((of, source), current)) (Updates sql params) text is (λ schema has. updates_writes schema sql (table_in schema source_record) has_record_key record_sets
       (text schema (tree_named schema source_record.name) has.record_is (record_quiet schema has)))
-      (λ machine stands there limit does. record_renewed sql machine (state g old) (state g new) stands limit of source current text there (subst (λ p. Updates sql p (state g old) (state g new)) is does))
+      (λ machine scratch stands there limit does. record_renewed sql machine (state g old) (state g new) stands limit of source current text there (subst (λ p. Updates sql p (state g old) (state g new)) is does))

@@ -40,7 +40,7 @@ among machine arch state = within arch state (finite.entries machine.records)
 pub looks_up_as : {S A B : Type 0} {g : Ghosts S} {query : OfficeQuery} {Before : Machine → A → Type 0} {After : Machine → B → Type 0} {old new : Held S} {x : A} (y : B)
     → LooksUp g query Before old new (Ok x) → ((machine : Machine) → Before machine x → After machine y) → LooksUp g query After old new (Ok y)
 looks_up_as y looked follows = record {
-  value = λ clean machine stands. follows machine (looked.value clean machine stands);
+  value = λ clean machine scratch stands. follows machine (looked.value clean machine scratch stands);
   same = looked.same;
   err = λ clean has. tt;
   survives = looked.survives;

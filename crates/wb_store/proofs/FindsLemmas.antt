@@ -9,6 +9,7 @@ use Rattle.wb_sql.specs.Among.{HasOffice}
 use Rattle.wb_states.specs.declared.store_fault.StoreFault.{StoreFault}
 use Rattle.wb_states.specs.declared.store_fault.StoreFault.TheVariants.{Memory}
 use Rattle.wb_states.specs.Machine.{Machine, IsConsistent}
+use Rattle.wb_store.specs.Merging.{no_merge}
 use Rattle.wb_store.specs.Stands.{StandsFor}
 use Rattle.wb_store.specs.Calls.{LooksUp}
 use Rattle.wb_store.specs.Queries as ask
@@ -68,7 +69,7 @@ module _ {S : Type 0} {g : Ghosts S} {old new : Held S} where
   -- a look-up alone
   pub finds_looked_up : {A : Type 0} {query : OfficeQuery} {Answer : Machine → A → Type 0} (r : Result A StoreFault) → LooksUp g query Answer old new r → Finds g Answer old new r
   finds_looked_up (Ok x) one = record {
-    value = λ clean office machine sound stands. one.value clean machine stands;
+    value = λ clean office machine sound stands. one.value clean machine no_merge stands;
     same = λ clean office. inr (one.same clean office, one.survives.limit);
     err = λ clean office is_open. tt;
     survives = one.survives;

@@ -30,7 +30,8 @@ use Rattle.wb_states.specs.Lookups.{entry_of, rows_of}
 use Rattle.wb_states.specs.Lookups.{rows_in as records_in}
 use Rattle.wb_rows.specs.Cells.{record_cells, number}
 use Rattle.wb_rows.proofs.CellsLemmas.{record_cells-same}
-use Rattle.wb_store.specs.Stands.{StandsFor}
+use Rattle.wb_store.specs.Merging.{Scratch}
+use Rattle.wb_store.specs.Stands.{StandsWith}
 use Rattle.wb_store.specs.Lookups.{AreCounts, counts_row, keyed_cells}
 use Rattle.wb_store.proofs.OrderLemmas.{all_from_in, entry_at, map_injective, first_of-take_one}
 use Rattle.wb_store.proofs.LookupLemmas.{key_params, key_answer, arch_answer, state_params, state_answer, held_answer, queue_params, queue_answer, head_answer, take_answer}
@@ -77,7 +78,7 @@ module _ (machine : Machine) where
     | inr over ↦ none_beyond sound m (grind (arith, nat_tests)) ∙ sym (none_beyond sound n (grind (arith, nat_tests)))
   ]
 
-module _ (machine : Machine) (db : Database) (stands : StandsFor machine db) where
+module _ (machine : Machine) {scratch : Scratch} (db : Database) (stands : StandsWith machine scratch db) where
   -- the counts in the office's row
   pub counts_found : (rows : List Row) → Answers sql.office_counts [] (rows_in db tables.office) rows → AreCounts rows machine.handed machine.accepted
   counts_found rows a =

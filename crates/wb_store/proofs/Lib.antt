@@ -3,6 +3,7 @@ pub mod BuilderLemmas
 pub mod ChangeLemmas
 pub mod ChangeRowLemmas
 pub mod CheckLemmas
+pub mod ClearLemmas
 pub mod CountLemmas
 pub mod EqualLemmas
 pub mod FileLemmas
@@ -13,6 +14,7 @@ pub mod FoundLemmas
 pub mod HoldLemmas
 pub mod LookupLemmas
 pub mod MapLemmas
+pub mod NameLemmas
 pub mod NumberedLemmas
 pub mod OpeningAfterLemmas
 pub mod OpeningBuilderLemmas
@@ -24,11 +26,15 @@ pub mod OpeningStreamLemmas
 pub mod OpeningWaitLemmas
 pub mod OrderLemmas
 pub mod OthersLemmas
+pub mod PackageLemmas
+pub mod PartLemmas
+pub mod PlaceLemmas
 pub mod PreparingLemmas
 pub mod ReadLemmas
 pub mod RefusalLemmas
 pub mod RenewalLemmas
 pub mod ScratchLemmas
+pub mod ScratchChangeLemmas
 pub mod SettledLemmas
 pub mod StateLemmas
 pub mod StaysLemmas

@@ -36,7 +36,8 @@ use Rattle.wb_states.specs.Lookups.{is_in, is_of, rows_of}
 use Rattle.wb_states.specs.Lookups.{rows_in as records_in}
 use Rattle.wb_rows.specs.Cells.{record_cells, state_cells, number}
 use Rattle.wb_rows.specs.Reading.{IsReadable}
-use Rattle.wb_store.specs.Stands.{StandsFor}
+use Rattle.wb_store.specs.Merging.{Scratch}
+use Rattle.wb_store.specs.Stands.{StandsWith}
 use Rattle.wb_store.specs.Lookups.{AreRecords}
 use Rattle.wb_store.proofs.EqualLemmas.{are_equal, and_true, then_none, nat_eq-turned, equal-Text, equal-number, equal-text_or_null, equal-number_or_null, order-number}
 use Rattle.wb_store.proofs.FormLemmas.{kept_readable}
@@ -252,7 +253,7 @@ module _ (machine : Machine) where
 
 -- ---- the answers
 
-module _ (machine : Machine) (db : Database) (stands : StandsFor machine db) (answer : List Row) where
+module _ (machine : Machine) {scratch : Scratch} (db : Database) (stands : StandsWith machine scratch db) (answer : List Row) where
   abbrev kept : List Entry
   kept = finite.entries machine.records
 

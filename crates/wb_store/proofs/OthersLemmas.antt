@@ -12,7 +12,7 @@ use Rattle.sqlite_rules.proofs.ListLemmas.{has_kept}
 use Rattle.sqlite_schema.specs.Names.{same_name}
 use Rattle.wb_sql.specs.Changes.{SetsTable}
 use Rattle.wb_sql.specs.Among.{HasTable, names_office, table_in}
-use Rattle.wb_sql.specs.Tables.{office, arch, builder, source_record}
+use Rattle.wb_sql.specs.Tables.{office, arch, builder, source_record, scratch_source, scratch_binary}
 use Rattle.wb_store.specs.Others.{KeepsOthers}
 
 -- what holds of each table of a list follows from another that does
@@ -85,3 +85,11 @@ module _ (schema : Schema) where
   pub record_named : names_office (table_in schema source_record).name ≡ true
   unfolding same_name
   record_named = refl
+
+  pub source_named : names_office (table_in schema scratch_source).name ≡ true
+  unfolding same_name
+  source_named = refl
+
+  pub binary_named : names_office (table_in schema scratch_binary).name ≡ true
+  unfolding same_name
+  binary_named = refl

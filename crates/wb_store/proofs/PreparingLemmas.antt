@@ -64,6 +64,7 @@ stands_empty base lacks numbered old new made = record {
   records = no_rows (record_rows empty_office) (rows_in new.now source_record) (ap (map record_cells) (no_entries pair_cmp _ refl)) made.made.empty.1.1.0;
   sources = made.made.empty.1.1.1.0;
   binaries = made.made.empty.1.1.1.1.0;
+  order = record { sources = tt; binaries = tt };
 }
 
 -- ---- what a transaction makes of a database that lacks the office

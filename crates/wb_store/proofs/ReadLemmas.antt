@@ -19,7 +19,8 @@ use Rattle.wb_states.specs.declared.store_fault.Table.TheVariants.{Office, Arch,
 use Rattle.wb_states.specs.Machine.{Machine, IsConsistent}
 use Rattle.wb_states.specs.declared.keyed.KeyedRecord.{KeyedRecord}
 use Rattle.wb_store.specs.Faults.{IsUnfit, unfit, answer_on}
-use Rattle.wb_store.specs.Stands.{StandsFor}
+use Rattle.wb_store.specs.Merging.{Scratch}
+use Rattle.wb_store.specs.Stands.{StandsWith}
 use Rattle.wb_store.specs.Calls.{FailsToLookUp, FailsToRead, LooksUp}
 use Rattle.wb_store.specs.Lookups.{AreRecords, AreRowsOf, FailsToReadRecords, IsQueryFault, MayAnswer, ReadsRecords, ReadsTable, keyed_cells}
 use Rattle.sqlite.specs.declared.error.Error.{Error}
@@ -150,11 +151,11 @@ module _ {S : Type 0} {g : Ghosts S} {sql : List ℕ} {params : Row} {old new : 
   module _ {query : OfficeQuery} (asks : AsksOf sql params query) where
     -- a look-up whose query succeeded, and whose rows are read
     pub looks_up_rows : {A X : Type 0} {rows : Vec Row X} {Answer : Machine → A → Type 0} (Fits : Type 0) (r : Result A StoreFault) → ReadsTable g (table_asked query) sql params old new (Ok rows)
-        → ((machine : Machine) → StandsFor machine (state g old).now → AnswersTo query (state g old).now rows.items → IfOk r (Answer machine)) → IfErr r (IsUnfit (table_asked query) Fits)
-        → ((machine : Machine) → IsConsistent machine → StandsFor machine (state g old).now → AnswersTo query (state g old).now rows.items → Fits)
+        → ((machine : Machine) (scratch : Scratch) → StandsWith machine scratch (state g old).now → AnswersTo query (state g old).now rows.items → IfOk r (Answer machine)) → IfErr r (IsUnfit (table_asked query) Fits)
+        → ((machine : Machine) (scratch : Scratch) → IsConsistent machine → StandsWith machine scratch (state g old).now → AnswersTo query (state g old).now rows.items → Fits)
         → LooksUp g query Answer old new r
     looks_up_rows Fits (Ok x) read finds fault fits = record {
-      value = λ clean machine stands. finds machine stands (answered asks (state g old) stands.has (read.value clean));
+      value = λ clean machine scratch stands. finds machine scratch stands (answered asks (state g old) stands.has (read.value clean));
       same = λ clean office. read.same clean (plain_over asks office);
       err = λ clean office. tt;
       survives = crash_over asks g old new read.survives;
@@ -164,7 +165,7 @@ module _ {S : Type 0} {g : Ghosts S} {sql : List ℕ} {params : Row} {old new : 
       same = λ clean office. tt;
       err = λ clean office. elim fault [
         | inl memory ↦ inr (inl (memory, read.same clean (plain_over asks office)))
-        | inr unfit ↦ inr (inr (unfit.0, read.same clean (plain_over asks office), λ machine sound stands. unfit.1 (fits machine sound stands (answered asks (state g old) stands.has (read.value clean)))))
+        | inr unfit ↦ inr (inr (unfit.0, read.same clean (plain_over asks office), λ machine scratch sound stands. unfit.1 (fits machine scratch sound stands (answered asks (state g old) stands.has (read.value clean)))))
       ];
       survives = crash_over asks g old new read.survives;
     }
@@ -181,10 +182,10 @@ module _ {S : Type 0} {g : Ghosts S} {sql : List ℕ} {params : Row} {old new : 
   module _ {query : OfficeQuery} (asks : AsksOf sql params query) (on_records : SourceRecord ≡ table_asked query) where
     -- a look-up of records
     pub looks_up : {A X : Type 0} {rows : Vec KeyedRecord X} {Answer : Machine → A → Type 0} {x : A} → ReadsRecords g sql params old new (Ok rows)
-        → ((machine : Machine) → StandsFor machine (state g old).now → AnswersTo query (state g old).now (map keyed_cells rows.items) → Answer machine x)
+        → ((machine : Machine) (scratch : Scratch) → StandsWith machine scratch (state g old).now → AnswersTo query (state g old).now (map keyed_cells rows.items) → Answer machine x)
         → LooksUp g query Answer old new (Ok x)
     looks_up read finds = record {
-      value = λ clean machine stands. finds machine stands (answered asks (state g old) stands.has (read.value clean));
+      value = λ clean machine scratch stands. finds machine scratch stands (answered asks (state g old) stands.has (read.value clean));
       same = λ clean office. read.same clean (plain_over asks office);
       err = λ clean office. tt;
       survives = crash_over asks g old new read.survives;
@@ -192,7 +193,7 @@ module _ {S : Type 0} {g : Ghosts S} {sql : List ℕ} {params : Row} {old new : 
 
     -- a look-up whose records are not had
     pub fails_to_look_up : {A X : Type 0} {fault : StoreFault} {Answer : Machine → A → Type 0} {r : Result A StoreFault} → ReadsRecords {X = X} g sql params old new (Err fault) → r ≡ Err fault
-        → ((machine : Machine) → IsConsistent machine → StandsFor machine (state g old).now → (rows : List Row) → AnswersTo query (state g old).now rows → AreRecords rows)
+        → ((machine : Machine) (scratch : Scratch) → IsConsistent machine → StandsWith machine scratch (state g old).now → (rows : List Row) → AnswersTo query (state g old).now rows → AreRecords rows)
         → LooksUp g query Answer old new r
     fails_to_look_up {A} {fault = fault} {Answer = Answer} read is fits = subst (λ (r : Result A StoreFault). LooksUp g query Answer old new r) (sym is) (record {
       value = λ clean. tt;
@@ -205,7 +206,7 @@ module _ {S : Type 0} {g : Ghosts S} {sql : List ℕ} {params : Row} {old new : 
         why office (inl failed) = inl (fails_to_read asks (subst (λ table. IsQueryFault table sql params (state g old) (state g new) fault) on_records failed))
         why office (inr (kept, (rows, answers, inl memory))) = inr (inl (memory, kept))
         why office (inr (kept, (rows, answers, inr bad))) =
-            inr (inr (subst (λ table. fault ≡ unfit table) on_records bad.0, kept, λ machine sound stands. bad.1 (fits machine sound stands rows (answered asks (state g old) stands.has answers))))
+            inr (inr (subst (λ table. fault ≡ unfit table) on_records bad.0, kept, λ machine scratch sound stands. bad.1 (fits machine scratch sound stands rows (answered asks (state g old) stands.has answers))))
 
     -- a look-up that is out of memory for its answer
     pub lacks_memory : {A X : Type 0} {rows : Vec KeyedRecord X} {Answer : Machine → A → Type 0} {r : Result A StoreFault} → ReadsRecords g sql params old new (Ok rows)
@@ -219,8 +220,8 @@ module _ {S : Type 0} {g : Ghosts S} {sql : List ℕ} {params : Row} {old new : 
 
     -- all the records of a look-up
     pub looks_up_all : {X : Type 0} {Answer : Machine → Vec KeyedRecord X → Type 0} (r : Result (Vec KeyedRecord X) StoreFault) → ReadsRecords g sql params old new r
-        → ((machine : Machine) (rows : Vec KeyedRecord X) → StandsFor machine (state g old).now → AnswersTo query (state g old).now (map keyed_cells rows.items) → Answer machine rows)
-        → ((machine : Machine) → IsConsistent machine → StandsFor machine (state g old).now → (rows : List Row) → AnswersTo query (state g old).now rows → AreRecords rows)
+        → ((machine : Machine) (scratch : Scratch) (rows : Vec KeyedRecord X) → StandsWith machine scratch (state g old).now → AnswersTo query (state g old).now (map keyed_cells rows.items) → Answer machine rows)
+        → ((machine : Machine) (scratch : Scratch) → IsConsistent machine → StandsWith machine scratch (state g old).now → (rows : List Row) → AnswersTo query (state g old).now rows → AreRecords rows)
         → LooksUp g query Answer old new r
-    looks_up_all (Ok rows) read finds fits = looks_up read (λ machine. finds machine rows)
+    looks_up_all (Ok rows) read finds fits = looks_up read (λ machine scratch. finds machine scratch rows)
     looks_up_all (Err fault) read finds fits = fails_to_look_up read refl fits

@@ -18,9 +18,10 @@ use Rattle.wb_states.specs.declared.store_fault.Table.TheVariants.{Office}
 use Rattle.wb_states.specs.Machine.{Machine}
 use Rattle.wb_store.specs.Ending.{IsEndedFrom, IsFaultOfCommit, IsFaultOfRollBack, committed, doubt_of, is_over, rolled_back}
 use Rattle.wb_store.specs.Faults.{fault_of}
-use Rattle.wb_store.specs.Stands.{StandsFor}
+use Rattle.wb_store.specs.Merging.{Scratch}
+use Rattle.wb_store.specs.Stands.{StandsFor, StandsWith}
 use Rattle.wb_store.specs.Calls.{Becomes, Changes, FailsToWrite, LooksUp, FailsToLookUp}
-use Rattle.wb_store.specs.Settled.{StandsForTrees, IsOffice, IsSettled, IsUnderWay, LeavesOnly, IsBackAt, SettlesBy, TakesBack}
+use Rattle.wb_store.specs.Settled.{StandsForTrees, IsOffice, IsSettled, IsUnderWay, IsUnderWayWith, LeavesOnly, IsBackAt, SettlesBy, TakesBack}
 use Rattle.wb_store.specs.Queries.{OfficeQuery}
 use Rattle.wb_store.specs.Writes.{OfficeWrite}
 
@@ -41,8 +42,8 @@ office_trees db h = record { schema = db.schema; sound = h.sound; stands = h.sta
 same_office : {machine : Machine} (a b : Database) → b ≡ a → IsOffice machine a → IsOffice machine b
 same_office {machine = machine} a b same = subst (IsOffice machine) (sym same)
 
-same_stands : {machine : Machine} (a b : Database) → b ≡ a → StandsFor machine a → StandsFor machine b
-same_stands {machine = machine} a b same = subst (StandsFor machine) (sym same)
+same_stands : {machine : Machine} {scratch : Scratch} (a b : Database) → b ≡ a → StandsWith machine scratch a → StandsWith machine scratch b
+same_stands {machine = machine} {scratch = scratch} a b same = subst (StandsWith machine scratch) (sym same)
 
 only_of : {machine : Machine} (s : State) (db : Database) → LeavesAlone s db.trees → IsOffice machine db → LeavesOnly machine s
 only_of {machine = machine} s db alone is left may = subst (StandsForTrees machine) (sym (alone left may)) (office_trees db is)
@@ -63,9 +64,9 @@ begins g {machine} old new begun h =
 
 -- ---- what a failure makes of a transaction
 
-module _ {before now : Machine} (old new : State) where
+module _ {before now : Machine} {scratch : Scratch} (old new : State) where
   -- a transaction under way that a call left as it was
-  pub stays_under_way : IsUnchanged old new → LeavesNoMore old new → IsUnderWay before now old → IsUnderWay before now new
+  pub stays_under_way : IsUnchanged old new → LeavesNoMore old new → IsUnderWayWith before now scratch old → IsUnderWayWith before now scratch new
   stays_under_way same fewer h = record {
     is_open = same.0.is_open;
     inside = subst IsTrue (sym same.0.mode) h.inside;
@@ -75,7 +76,7 @@ module _ {before now : Machine} (old new : State) where
   }
 
   -- a transaction under way that is taken back
-  pub goes_back : IsRolledBack old new → LeavesNoMore old new → IsUnderWay before now old → IsBackAt before new
+  pub goes_back : IsRolledBack old new → LeavesNoMore old new → IsUnderWayWith before now scratch old → IsBackAt before new
   goes_back undone fewer h = record {
     idle = undone.autocommit;
     left = λ db may. only_of old old.committed h.alone h.began db (fewer db may);
@@ -91,7 +92,7 @@ module _ {before now : Machine} (old new : State) where
   }
 
   -- after a failure that committed nothing, the transaction is under way as it was, or taken back
-  pub stays_or_goes_back : IsKeptOrUndone old new → LeavesNoMore old new → IsUnderWay before now old → IsUnderWay before now new ⊎ IsBackAt before new
+  pub stays_or_goes_back : IsKeptOrUndone old new → LeavesNoMore old new → IsUnderWayWith before now scratch old → IsUnderWayWith before now scratch new ⊎ IsBackAt before new
   stays_or_goes_back (inl same) fewer h = inl (stays_under_way same fewer h)
   stays_or_goes_back (inr undone) fewer h = inr (goes_back undone fewer h)
 
@@ -225,11 +226,18 @@ module _ {S A : Type 0} (g : Ghosts S) (old new : Held S) where
       → (HasCleanDisk (state g new) → OnOk r (IsRolledBack (state g old) (state g new)))
       → (HasCleanDisk (state g new) → OnErr r (IsTakenBack (state g old) (state g new)))
       → Survives (state g old) (state g new) (λ _. ⊥) → TakesBack g old new
-  takes_back r ok err survives = record { back = λ clean before now from. back clean before now (taken r (ok clean) (err clean)) from }
+  takes_back r ok err survives = record {
+    back = λ clean before now from. back clean before now (taken r (ok clean) (err clean)) from;
+    beside = λ clean before now scratch h. beside clean before now scratch (taken r (ok clean) (err clean)) h;
+  }
     where
       taken : (r : Result A Error) → OnOk r (IsRolledBack (state g old) (state g new)) → OnErr r (IsTakenBack (state g old) (state g new)) → IsTakenBack (state g old) (state g new)
       taken (Ok x) undone none = inl undone
       taken (Err e) none undone = undone
+
+      beside : HasCleanDisk (state g new) → (before now : Machine) (scratch : Scratch) → IsTakenBack (state g old) (state g new) → IsUnderWayWith before now scratch (state g old) → IsBackAt before (state g new)
+      beside clean before now scratch (inl undone) h = goes_back (state g old) (state g new) undone (fewer_of (state g old) (state g new) survives (λ db none. none) clean) h
+      beside clean before now scratch (inr over) h = absurd (both_ways _ over.0 h.inside)
 
       back : HasCleanDisk (state g new) → (before now : Machine) → IsTakenBack (state g old) (state g new) → IsUnderWay before now (state g old) ⊎ IsBackAt before (state g old) → IsBackAt before (state g new)
       back clean before now (inl undone) (inl h) = goes_back (state g old) (state g new) undone (fewer_of (state g old) (state g new) survives (λ db none. none) clean) h

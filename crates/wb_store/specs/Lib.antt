@@ -6,12 +6,16 @@ pub mod Files
 pub mod Finds
 pub mod Formats
 pub mod Lookups
+pub mod Merging
 pub mod Opened
 pub mod Opening
 pub mod Others
 pub mod Preparing
 pub mod Queries
+pub mod Savepoints
 pub mod Scratch
+pub mod ScratchLookups
+pub mod ScratchWrites
 pub mod Settled
 pub mod Stands
 pub mod Writes

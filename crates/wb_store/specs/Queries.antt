@@ -7,6 +7,7 @@ use Rattle.sqlite.specs.declared.types.Value.TheVariants.{Text}
 use Rattle.wb_sql.specs.Queries.{TableQuery, Answers}
 use Rattle.wb_sql.specs.Among.{AsksAmong, rows_in}
 use Rattle.wb_sql.specs.OfficeStatements as sql
+use Rattle.wb_sql.specs.ScratchStatements as merge
 use Rattle.wb_sql.specs.Tables as tables
 use Rattle.wb_states.specs.declared.store_fault.Table.{Table}
 use Rattle.wb_states.specs.declared.store_fault.Table.TheVariants as on
@@ -49,6 +50,11 @@ pub data OfficeQuery : Type 0 where
   -- one source package, and one binary package, of a merge
   OneSource : OfficeQuery
   OneBinary : OfficeQuery
+  -- the names of the source packages of a merge, and those that have a name; its binary packages of a source package, and those that have a name
+  SourceNames : OfficeQuery
+  SourcesNamed : List ℕ → OfficeQuery
+  BinariesOf : List ℕ → OfficeQuery
+  BinariesNamed : List ℕ → OfficeQuery
 
 -- the table that it is on
 abbrev pub table_asked : OfficeQuery → Table
@@ -69,6 +75,10 @@ table_asked (TakenAs take_number) = on.SourceRecord
 table_asked (HeldBy builder) = on.SourceRecord
 table_asked OneSource = on.ScratchSource
 table_asked OneBinary = on.ScratchBinary
+table_asked SourceNames = on.ScratchSource
+table_asked (SourcesNamed name) = on.ScratchSource
+table_asked (BinariesOf source) = on.ScratchBinary
+table_asked (BinariesNamed name) = on.ScratchBinary
 
 -- what it asks
 abbrev pub query_asked : OfficeQuery → TableQuery
@@ -89,6 +99,10 @@ query_asked (TakenAs take_number) = sql.record_of_take
 query_asked (HeldBy builder) = sql.held_by
 query_asked OneSource = sql.first_source
 query_asked OneBinary = sql.first_binary
+query_asked SourceNames = merge.source_names
+query_asked (SourcesNamed name) = merge.sources_named
+query_asked (BinariesOf source) = merge.binaries_of_source
+query_asked (BinariesNamed name) = merge.binaries_named
 
 -- its parameters: the queue has the records of the state of code 0, which wait for a builder, and a take number that is too great for SQL is
 -- asked as the greatest number, 2^63 - 1, which no record has
@@ -110,6 +124,10 @@ given_to (TakenAs take_number) = number (min take_number (2 ^ 63 - 1)) ∷ []
 given_to (HeldBy builder) = Text builder ∷ []
 given_to OneSource = []
 given_to OneBinary = []
+given_to SourceNames = []
+given_to (SourcesNamed name) = Text name ∷ []
+given_to (BinariesOf source) = Text source ∷ []
+given_to (BinariesNamed name) = Text name ∷ []
 
 -- it is for one row of a scratch table
 abbrev pub IsScratch : OfficeQuery → Type 0

@@ -14,7 +14,8 @@ use Rattle.wb_sql.specs.Settled.{AreSettled}
 use Rattle.wb_states.specs.declared.store_fault.StoreFault.{StoreFault}
 use Rattle.wb_states.specs.declared.store_fault.StoreFault.TheVariants.{Memory}
 use Rattle.wb_states.specs.Machine.{Machine}
-use Rattle.wb_store.specs.Stands.{StandsFor}
+use Rattle.wb_store.specs.Merging.{Scratch, no_merge}
+use Rattle.wb_store.specs.Stands.{StandsFor, StandsWith}
 
 -- the trees hold the office's tables, beside those of others, as their catalogue lists them, with the rows of this state
 pub record StandsForTrees (machine : Machine) (trees : Trees) : Type 0 where
@@ -35,13 +36,18 @@ pub record IsSettled (machine : Machine) (s : State) : Type 0 where
   pub holds : IsOffice machine s.now
   pub alone : LeavesAlone s s.now.trees
 
--- a transaction under way: it began from the state `before`, which is committed and is all that a crash leaves, and its database stands for `now`
-pub record IsUnderWay (before now : Machine) (s : State) : Type 0 where
+-- a transaction under way: it began from the state `before`, which is committed and is all that a crash leaves, and its database stands for `now` with
+-- these rows of a merge
+pub record IsUnderWayWith (before now : Machine) (scratch : Scratch) (s : State) : Type 0 where
   pub is_open : IsTrue s.is_open
   pub inside : IsTrue s.in_transaction
-  pub stands : StandsFor now s.now
+  pub stands : StandsWith now scratch s.now
   pub began : IsOffice before s.committed
   pub alone : LeavesAlone s s.committed.trees
+
+-- the same while no merge runs
+abbrev pub IsUnderWay : Machine → Machine → State → Type 0
+IsUnderWay before now s = IsUnderWayWith before now no_merge s
 
 -- a crash leaves only a database that stands for this state
 abbrev pub LeavesOnly : Machine → State → Type 0
@@ -66,9 +72,10 @@ pub record SettlesBy {S A : Type 0} (g : Ghosts S) (old new : Held S) (result : 
       → IsUnderWay before now (state g new) ⊎ IsBackAt before (state g new)
   pub crash : HasCleanDisk (state g new) → (before now : Machine) → IsUnderWay before now (state g old) → LeavesEither before now (state g new)
 
--- a transaction under way, or taken back before, is taken back
+-- a transaction under way, or taken back before, is taken back, also while a merge runs
 pub record TakesBack {S : Type 0} (g : Ghosts S) (old new : Held S) : Type 0 where
   pub back : HasCleanDisk (state g new) → (before now : Machine) → IsUnderWay before now (state g old) ⊎ IsBackAt before (state g old) → IsBackAt before (state g new)
+  pub beside : HasCleanDisk (state g new) → (before now : Machine) (scratch : Scratch) → IsUnderWayWith before now scratch (state g old) → IsBackAt before (state g new)
 
 -- whatever a crash leaves of the files, it is one database, which stands for this state
 abbrev pub AreSettledAt : {D : Type 0} → DiskGhosts D → Files D → Machine → Type 0

@@ -11,6 +11,7 @@ use Rattle.wb_sql.specs.Among.{HasOffice, rows_in}
 use Rattle.deb_text.specs.Text.{pair_cmp}
 use Rattle.wb_states.specs.Machine.{Machine, Key}
 use Rattle.wb_rows.specs.Cells.{record_cells, arch_cells, builder_cells, number}
+use Rattle.wb_store.specs.Merging.{Scratch, IsInOrder, no_merge, stored_source, stored_binary}
 
 -- a table holds rows with these columns, each once, and no other row
 pub record HoldsRows (columns : List Row) (rows : List Row) : Type 0 where
@@ -37,12 +38,18 @@ builder_pairs machine = finite.keys (finite.from_entries {R = pair_cmp} (map (λ
 abbrev pub builder_rows : Machine → List Row
 builder_rows machine = map builder_cells (builder_pairs machine)
 
--- the database has the office's tables with their indexes, beside those of others, and they hold the rows of this state, and no other row
-pub record StandsFor (machine : Machine) (db : Database) : Type 0 where
+-- the database has the office's tables with their indexes, beside those of others, and they hold the rows of this state and, of a merge, these rows in
+-- the order of their places, and no other row
+pub record StandsWith (machine : Machine) (scratch : Scratch) (db : Database) : Type 0 where
   pub has : HasOffice db.schema
   pub counts : rows_in db office ≡ office_row machine ∷ []
   pub archs : HoldsRows (arch_rows machine) (rows_in db arch)
   pub builders : HoldsRows (builder_rows machine) (rows_in db builder)
   pub records : HoldsRows (record_rows machine) (rows_in db source_record)
-  pub sources : rows_in db scratch_source ≡ []
-  pub binaries : rows_in db scratch_binary ≡ []
+  pub sources : rows_in db scratch_source ≡ map stored_source scratch.sources
+  pub binaries : rows_in db scratch_binary ≡ map stored_binary scratch.binaries
+  pub order : IsInOrder scratch
+
+-- the same while no merge runs: the database stands for the state
+abbrev pub StandsFor : Machine → Database → Type 0
+StandsFor machine db = StandsWith machine no_merge db

@@ -12,14 +12,18 @@ mod fault;
 mod holds;
 pub mod laws;
 mod lookups;
+mod merging;
 mod opening;
+mod packages;
 mod preparing;
 mod queue;
 mod reading;
 mod records;
+mod savepoint;
 mod scratch;
 mod store;
 mod writing;
+mod writing_merge;
 
 pub use checks::{check_archs, check_builders, check_counts, check_records};
 pub use fault::{fault_of, opening_fault, unfit};

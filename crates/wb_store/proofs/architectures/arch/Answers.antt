@@ -17,7 +17,7 @@ returns g c =
     let rows = c.in_ok-rows.rows.items in
     record {
       looks_up = looks_up_rows (asks_of (ask.ArchNamed c.args.name.now) c.arch_words.ensures (ap (λ v. v ∷ []) (text_bound c.params-to_sql.ensures c.as_str.ensures))) (AreArchs rows) c.words_in.result c.in_ok-rows.ensures.reads
-          (λ machine stands a. IfOk-weaker c.words_in.result _ _ (λ found first. words_found machine db stands rows c.args.name.now found refl a first) c.words_in.ensures.value)
+          (λ machine scratch stands a. IfOk-weaker c.words_in.result _ _ (λ found first. words_found machine db stands rows c.args.name.now found refl a first) c.words_in.ensures.value)
           c.words_in.ensures.err
-          (λ machine sound stands a. name_readable machine db stands rows sound a);
+          (λ machine scratch sound stands a. name_readable machine db stands rows sound a);
     }

@@ -16,7 +16,7 @@ returns g c =
     let rows = c.in_ok-rows_of.field-0.items in
     record {
       looks_up = looks_up_rows (asks_of ask.Archs c.all_archs.ensures refl) (AreArchs rows) c.archs_in.result c.in_ok-rows_of.ensures.reads
-          (λ machine stands a. IfOk-weaker c.archs_in.result _ _ (λ made is. archs_found machine db stands rows a made.items is) c.archs_in.ensures.value)
+          (λ machine scratch stands a. IfOk-weaker c.archs_in.result _ _ (λ made is. archs_found machine db stands rows a made.items is) c.archs_in.ensures.value)
           c.archs_in.ensures.err
-          (λ machine sound stands a. archs_readable machine db stands rows a sound);
+          (λ machine scratch sound stands a. archs_readable machine db stands rows a sound);
     }

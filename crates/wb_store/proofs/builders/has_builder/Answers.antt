@@ -16,8 +16,8 @@ returns g c =
     let rows = c.in_ok-pairs.pairs.items in
     record {
       looks_up = looks_up_rows (asks_of (ask.Pair (c.args.builder.now, c.args.arch.now)) c.builder_pair.ensures (ap₂ (λ u v. u ∷ v ∷ []) (text_bound c.params-to_sql.ensures c.as_str.ensures) (text_bound c.params-to_sql-2.ensures c.as_str-2.ensures))) (Unit {0}) (Ok _) c.in_ok-pairs.ensures.reads
-          (λ machine stands a. ap not c.is_empty.ensures ∙ counted-is_nonempty c.in_ok-pairs.pairs ∙ pair_found machine db stands rows (c.args.builder.now, c.args.arch.now)
+          (λ machine scratch stands a. ap not c.is_empty.ensures ∙ counted-is_nonempty c.in_ok-pairs.pairs ∙ pair_found machine db stands rows (c.args.builder.now, c.args.arch.now)
           refl a)
           tt
-          (λ machine sound stands a. tt);
+          (λ machine scratch sound stands a. tt);
     }

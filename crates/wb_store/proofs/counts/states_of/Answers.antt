@@ -23,8 +23,8 @@ returns g c =
     let rows = c.in_ok-rows.rows.items in
     record {
       looks_up = looks_up_rows (asks_of (ask.StatesOf arch) c.states_of_arch.ensures (ap (λ v. v ∷ []) (text_bound c.params-to_sql.ensures c.as_str.ensures))) (AreStates rows) c.states_in.result c.in_ok-rows.ensures.reads
-          (λ machine stands a. IfOk-weaker c.states_in.result _ _
+          (λ machine scratch stands a. IfOk-weaker c.states_in.result _ _
           (λ made is. states_found (rows_of machine arch) made.items (subst (IsPermutation _) is (states_answer machine db stands rows arch a))) c.states_in.ensures.value)
           c.states_in.ensures.err
-          (λ machine sound stands a. are_states (rows_of machine arch) rows (states_answer machine db stands rows arch a));
+          (λ machine scratch sound stands a. are_states (rows_of machine arch) rows (states_answer machine db stands rows arch a));
     }

@@ -16,7 +16,7 @@ returns g c =
     let rows = c.in_ok-rows.rows.items in
     record {
       looks_up = looks_up_rows (asks_of ask.Office c.office_counts.ensures refl) (HaveCounts c.deref.result.now) c.counts_in.result c.in_ok-rows.ensures.reads
-          (λ machine stands a. IfOk-weaker c.counts_in.result _ _ (λ counts told. told machine.handed machine.accepted (c.deref.ensures.value ∙ counts_found machine db stands rows a)) c.counts_in.ensures.value)
+          (λ machine scratch stands a. IfOk-weaker c.counts_in.result _ _ (λ counts told. told machine.handed machine.accepted (c.deref.ensures.value ∙ counts_found machine db stands rows a)) c.counts_in.ensures.value)
           c.counts_in.ensures.err
-          (λ machine sound stands a. (machine.handed, machine.accepted, c.deref.ensures.value ∙ counts_found machine db stands rows a));
+          (λ machine scratch sound stands a. (machine.handed, machine.accepted, c.deref.ensures.value ∙ counts_found machine db stands rows a));
     }
