@@ -37,6 +37,7 @@ pub(crate) fn show_control<W: Write>(output: &mut W) -> Result<()> {
         ControlFaultKind::NoColon,
         ControlFaultKind::BadName,
         ControlFaultKind::Duplicate,
+        ControlFaultKind::Read,
         ControlFaultKind::Memory,
         ControlFaultKind::Ended,
     ];
