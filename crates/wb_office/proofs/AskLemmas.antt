@@ -82,6 +82,10 @@ pub mine-is : (machine : Machine) (builder : List ℕ) (rows : List KeyedRecord)
     → Ok (Mine builder rows) ≡ mine_in machine builder
 mine-is machine builder rows known held = sym (λ i. cond (known i) (Err UnknownBuilder) (Ok (Mine builder (keyed-entries held i))))
 
+-- an unknown builder is refused in the answer of the state
+pub mine-unknown : (machine : Machine) (builder : List ℕ) → is_unknown_builder machine builder ≡ true → Err UnknownBuilder ≡ mine_in machine builder
+mine-unknown machine builder unknown = sym (λ i. cond (unknown i) (Err UnknownBuilder) (Ok (Mine builder (each keyed (held_of machine builder)))))
+
 -- ---- one query
 
 module _ {S : Type 0} {g : Ghosts S} {answer_of : Machine → Result Answer Refusal} {is_bad was_closed : Bool} {was_known : Known} {old : Held S} where

@@ -1,7 +1,7 @@
-use Rattle.std.proofs.Common.{Ok, Err}
+use Rattle.std.proofs.Common.{Ok, Err, ◌∙◌}
 use Rattle.wb_store.proofs.ReadLemmas.{handed_on}
 use Rattle.wb_store.specs.Finds.{Finds}
-use Rattle.wb_store.proofs.FindsLemmas.{fails_to_find, finds_looked_up, finds_unasked, lacks_memory}
+use Rattle.wb_store.proofs.FindsLemmas.{fails_to_find, finds_from, finds_looked_up, finds_unasked, lacks_memory}
 use Rattle.wb_office.proofs.known.find_archs.Goals as goal
 
 pub returns-in_err-copied-clause-finds : goal.returns-in_err-copied-clause-finds
@@ -16,3 +16,7 @@ returns-in_err-found-clause-finds g c =
 pub returns-in_err-archs-clause-finds : goal.returns-in_err-archs-clause-finds
 returns-in_err-archs-clause-finds g c =
     lacks_memory (finds_looked_up (Ok _) c.in_ok-found.ensures.looks_up) (handed_on c.from_residual-in_err-archs.result c.from_residual-in_err-archs.ensures.1)
+
+pub returns-clause-finds : goal.returns-clause-finds
+returns-clause-finds g c = finds_from (finds_looked_up (Ok _) c.in_ok-found.ensures.looks_up)
+    (λ machine sound found knows. (c.in_ok-archs.ensures.value ∙ c.deref-2.ensures.value ∙ found, record { counts = knows.counts; archs = found }))

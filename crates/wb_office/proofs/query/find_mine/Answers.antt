@@ -1,9 +1,9 @@
 use Rattle.std.proofs.Common.{not, sym, ap, ◌∙◌, Ok, Err}
 use Rattle.deb_text.specs.Lists.{is_nonempty}
 use Rattle.wb_store.proofs.ReadLemmas.{handed_on}
-use Rattle.wb_office.proofs.AskLemmas.{mine-is, mine_with}
+use Rattle.wb_office.proofs.AskLemmas.{mine-is, mine-unknown, mine_with}
 use Rattle.wb_store.proofs.ScratchLemmas.{counted-is_nonempty}
-use Rattle.wb_store.proofs.FindsLemmas.{fails_to_find, finds_both, finds_looked_up, finds_then, lacks_memory, then_fails}
+use Rattle.wb_store.proofs.FindsLemmas.{fails_to_find, finds_both, finds_from, finds_looked_up, finds_then, lacks_memory, then_fails}
 use Rattle.wb_office.proofs.query.find_mine.Goals as goal
 
 pub returns-in_err-archs-clause-finds : goal.returns-in_err-archs-clause-finds
@@ -22,3 +22,8 @@ returns-clause-finds g c = finds_then (finds_looked_up (Ok _) c.in_ok-archs.ensu
     (λ machine sound archs held. (λ i. mine_with (c.in_ok-builder.ensures.cases i) (c.from-records.ensures i))
     ∙ mine-is machine c.args.builder.now c.in_ok-held_by.field-0.items
     (ap not (ap is_nonempty (sym (archs sound)) ∙ sym (ap not c.is_empty-is_unknown.ensures ∙ counted-is_nonempty c.in_ok-archs.archs) ∙ ap not c.if-is_unknown.false)) held)
+
+pub returns-then-is_unknown-clause-finds : goal.returns-then-is_unknown-clause-finds
+returns-then-is_unknown-clause-finds g c = finds_from (finds_looked_up (Ok _) c.in_ok-archs.ensures.looks_up)
+    (λ machine sound archs. mine-unknown machine c.args.builder.now
+    (ap not (ap is_nonempty (sym (archs sound)) ∙ sym (ap not c.is_empty-is_unknown.ensures ∙ counted-is_nonempty c.in_ok-archs.archs) ∙ ap not c.if-is_unknown.true)))
