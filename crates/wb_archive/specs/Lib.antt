@@ -1,0 +1,4 @@
+pub mod Faults
+pub mod Fills
+pub mod Reads
+pub mod Tables
