@@ -1,7 +1,7 @@
 -- A list that is read into a table, paragraph by paragraph.
-use Rattle.std.proofs.Common.{◌≡◌, ℕ, ◌+◌, ◌<◌, ◌≤◌, Bool, true, false, cond, List, [], ◌∷◌, ◌++◌, filter, Option, None, Some, Result, Ok, Err, refl, sym, ap, subst, ◌∙◌, inl, inr, append_assoc, append-nil, arith}
+use Rattle.std.proofs.Common.{◌≡◌, ℕ, ◌+◌, ◌<◌, Bool, true, false, cond, List, [], ◌∷◌, ◌++◌, filter, Option, None, Some, Result, Ok, Err, refl, sym, ap, subst, ◌∙◌, inl, inr, append_assoc, append-nil, arith}
 use Rattle.std.specs.Prelude.{IfSome}
-use Rattle.std.specs.List.{AllByRecursion, filter_map}
+use Rattle.std.specs.List.{AllByRecursion}
 use Rattle.std.specs.Result.{result_map_both}
 use Rattle.std.proofs.lemmas.List.Elements.{filter-append, filter_map-append}
 use Rattle.deb_control.specs.declared.fault.ControlFault.{ControlFault}
@@ -15,7 +15,7 @@ use Rattle.wb_states.specs.declared.scratch.BinaryRow.{BinaryRow}
 use Rattle.wb_merge.specs.Rows.{onto_rows}
 use Rattle.wb_merge.specs.Scratch.{present}
 use Rattle.wb_archive.specs.declared.fault.BadList.{BadList}
-use Rattle.wb_archive.specs.Faults.{IsRefused, refusal_of}
+use Rattle.wb_archive.specs.Faults.{IsRefused}
 use Rattle.wb_archive.specs.Fills.{WithRows, binaries_wanted, is_binary_wanted, is_source_wanted, sources_wanted}
 use Rattle.wb_archive.specs.Reads.{GivesRow, kept_at}
 use Rattle.wb_archive.specs.Tables.{IsAfterBinaries}

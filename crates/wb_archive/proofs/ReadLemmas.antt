@@ -1,5 +1,5 @@
 -- What a call of a reader says of what is kept of the paragraphs ahead.
-use Rattle.std.proofs.Common.{◌≡◌, ◌≢◌, ℕ, ◌+◌, Bool, true, false, cond, List, [], ◌∷◌, Option, None, Some, Result, Ok, Err, refl, sym, ap, subst, ◌∙◌, inl, inr, ◌⊎◌}
+use Rattle.std.proofs.Common.{◌≡◌, ◌≢◌, ℕ, ◌+◌, true, false, cond, List, [], ◌∷◌, Option, None, Some, Result, Ok, Err, refl, sym, ap, subst, ◌∙◌, inl, inr, ◌⊎◌}
 use Rattle.std.specs.Prelude.{IfSome}
 use Rattle.std.specs.Result.{result_map_both}
 use Rattle.deb_control.specs.declared.fault.ControlFault.{ControlFault}
@@ -23,7 +23,7 @@ use Rattle.wb_merge.specs.Scratch.{binary_columns, binary_row_at, kept_behind, k
 use Rattle.wb_archive.specs.declared.fault.BadList.{BadList}
 use Rattle.wb_archive.specs.declared.fault.ReadFault.{ReadFault}
 use Rattle.wb_archive.specs.declared.fault.ReadFault.TheVariants.{Memory as NoMemory, Bad}
-use Rattle.wb_archive.specs.Faults.{IfBad, IsBreak, IsRefused, control_bad, refusal_of}
+use Rattle.wb_archive.specs.Faults.{IfBad, IsRefused, control_bad, refusal_of}
 use Rattle.wb_archive.specs.Reads.{kept_ahead, kept_at}
 
 only-ok : {X E : Type 0} (x y : X) → ◌≡◌ {A = Result X E} (Ok x) (Ok y) → x ≡ y

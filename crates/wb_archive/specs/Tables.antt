@@ -1,5 +1,5 @@
 -- The tables in which a merge runs, and what stands in them.
-use Rattle.std.specs.Prelude.{◌≡◌, ℕ, ◌<◌, true, List, [], ◌∷◌, ◌++◌, map, bytes_eq, Option, Some, None}
+use Rattle.std.specs.Prelude.{◌≡◌, ℕ, ◌<◌, ⊤, true, false, List, [], ◌∷◌, map, bytes_eq, Option, Some, None}
 use Rattle.std.specs.List.{list_any, AllByRecursion}
 use Rattle.std.specs.FinMap as finite
 use Rattle.deb_text.specs.Lists.{IsIn}
@@ -9,7 +9,6 @@ use Rattle.wb_states.specs.declared.scratch.SourceRow.{SourceRow}
 use Rattle.wb_states.specs.declared.scratch.BinaryRow.{BinaryRow}
 use Rattle.wb_states.specs.State.{is_dep_wait}
 use Rattle.wb_merge.specs.Merged.{Records}
-use Rattle.wb_merge.proofs.NameLemmas.{IsApart}
 
 -- what stands in the tables: the records of the office, and what is kept of a Sources list and of the Packages list of a part
 pub record Contents : Type 0 where
@@ -58,9 +57,14 @@ IsAfterSources seq rows = AllByRecursion (λ (row : SourceRow). row.seq < seq) r
 abbrev pub IsAfterBinaries : ℕ → List BinaryRow → Type 0
 IsAfterBinaries seq rows = AllByRecursion (λ (row : BinaryRow). row.seq < seq) rows
 
+-- no name stands twice
+abbrev pub AreApart : List (List ℕ) → Type 0
+AreApart [] = ⊤
+AreApart (name ∷ names) = (list_any (bytes_eq name) names ≡ false) × AreApart names
+
 -- the names of the source packages of rows, each once
 pub record AreNamesOf (rows : List SourceRow) (names : List (List ℕ)) : Type 0 where
-  pub apart : IsApart bytes_eq names
+  pub apart : AreApart names
   pub all : (name : List ℕ) → list_any (bytes_eq name) names ≡ list_any (λ row. bytes_eq name row.name) rows
 
 -- among these are all records of the architecture that are in Dep-Wait

@@ -6,7 +6,7 @@ ghost use Rattle.wb_archive.specs.declared.fault.BadList.{BadList};
 ghost use Rattle.wb_archive.specs.declared.fault.ReadFault.TheVariants.{Bad};
 ghost use Rattle.wb_archive.specs.declared.fault.MergeFault.TheVariants.{Memory as NoMemory, Tables as OfTables};
 
-use std::alloc::{AllocError, AllocFailed};
+use std::alloc::AllocError;
 use wb_states::{ListKind, ListingFault, Refusal};
 
 /// The first fault of a list.

@@ -1,14 +1,12 @@
-use Rattle.std.proofs.Common.{◌≡◌, ◌<◌, ◌+◌, [], ◌∷◌, ◌++◌, Some, sym, subst, arith}
-use Rattle.std.specs.Prelude.{IfSome}
+use Rattle.std.proofs.Common.{◌+◌, [], ◌∷◌, arith}
 use Rattle.std.specs.BTreeSet.{contains}
-use Rattle.std.specs.List.{AllByRecursion}
 use Rattle.deb_control.specs.Paragraphs.{step}
 use Rattle.deb_text.specs.Text.{text_cmp}
 use Rattle.wb_states.specs.declared.refusal.ListKind.TheVariants.{Packages}
 use Rattle.wb_states.specs.declared.scratch.BinaryRow.{BinaryRow}
 use Rattle.wb_merge.specs.Scratch.{binary_row_at}
 use Rattle.wb_archive.specs.Fills.{binaries_wanted}
-use Rattle.wb_archive.specs.Reads.{GivesRow, packages_at}
+use Rattle.wb_archive.specs.Reads.{packages_at}
 use Rattle.wb_archive.specs.Tables.{with_binaries}
 use Rattle.wb_archive.proofs.FillLemmas.{binary-after, half-ended, half-refused, half-step, binary-numbered, binaries-split}
 use Rattle.wb_archive.proofs.fill.fill_binaries.Goals as goal

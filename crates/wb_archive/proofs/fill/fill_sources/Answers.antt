@@ -1,12 +1,11 @@
-use Rattle.std.proofs.Common.{◌≡◌, ◌<◌, ◌+◌, [], ◌∷◌, ◌++◌, Some, sym, subst, arith}
-use Rattle.std.specs.Prelude.{IfSome}
+use Rattle.std.proofs.Common.{◌<◌, ◌+◌, [], ◌∷◌, sym, subst, arith}
 use Rattle.std.specs.List.{AllByRecursion}
 use Rattle.deb_control.specs.Paragraphs.{step}
 use Rattle.wb_states.specs.declared.refusal.ListKind.TheVariants.{Sources}
 use Rattle.wb_states.specs.declared.scratch.SourceRow.{SourceRow}
 use Rattle.wb_merge.specs.Scratch.{source_row_at}
 use Rattle.wb_archive.specs.Fills.{sources_wanted}
-use Rattle.wb_archive.specs.Reads.{GivesRow, sources_at}
+use Rattle.wb_archive.specs.Reads.{sources_at}
 use Rattle.wb_archive.specs.Tables.{with_sources}
 use Rattle.wb_archive.proofs.FillLemmas.{half-ended, half-refused, half-step, source-numbered, sources-split}
 use Rattle.wb_archive.proofs.fill.fill_sources.Goals as goal
