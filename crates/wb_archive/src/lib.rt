@@ -4,6 +4,7 @@
 mod deciding;
 mod fault;
 mod fill;
+mod merge;
 mod paragraphs;
 mod part;
 mod rows;
@@ -14,6 +15,7 @@ mod waits;
 pub use deciding::decide;
 pub use fault::{BadList, MergeFault};
 pub use fill::{fill_binaries, fill_sources};
+pub use merge::{PartList, merge_lists};
 pub use paragraphs::ReadParagraphs;
 pub use part::merge_part;
 pub use tables::MergeTables;
