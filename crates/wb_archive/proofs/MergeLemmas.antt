@@ -20,7 +20,7 @@ use Rattle.wb_merge.specs.Listing.{ArchiveListing}
 use Rattle.wb_merge.specs.Merged.{Records}
 use Rattle.wb_merge.specs.Scratch.{kept_binaries, kept_sources, listing_kept}
 use Rattle.wb_merge.proofs.ScratchLemmas.{listing_of-kept}
-use Rattle.wb_step.specs.Parts.{end_with, listing_for, part_listing, records_with}
+use Rattle.wb_step.specs.Parts.{end_with, listing_for, part_listing, part_replies, records_after, records_with}
 use Rattle.wb_archive.specs.declared.fault.BadList.{BadList}
 use Rattle.wb_archive.specs.declared.merge.PartList.{PartList}
 use Rattle.wb_archive.specs.Faults.{refusal_of}
@@ -213,3 +213,27 @@ has-rows text P = at (kept_sources text) where
   at : (kept : Result (List SourceRow) Refusal) → WithRows kept P → (rows : List SourceRow) × ((kept ≡ Ok rows) × P rows)
   at (Ok rows) h = (rows, (refl, h))
   at (Err refusal) h = absurd h
+
+-- ---- merges of readers that do not break
+
+given-is : {R : Type 0} (Breaks : R → ControlFault → Type 0) → ((reader : R) (fault : ControlFault) → Breaks reader fault → ⊥)
+    → (listing given : Result ArchiveListing Refusal) → IsGiven Breaks listing given → given ≡ listing
+given-is Breaks never listing given (inl e) = e
+given-is Breaks never listing given (inr broke) = absurd (never broke.0 broke.1.1.0.broke broke.1.1.0.breaks)
+
+-- if no reader breaks, the replies and the records are those of the lists
+pub parts-are : {R : Type 0} (Breaks : R → ControlFault → Type 0) → ((reader : R) (fault : ControlFault) → Breaks reader fault → ⊥)
+    → (machine : Machine) (text : List ℕ) (given : List Part) (records last : Records) (replies : List PartReply)
+    → ArePartsDone (λ of. IsGiven Breaks (part_listing machine text of)) given records replies last
+    → (replies ≡ part_replies machine text given records) × (last ≡ records_after machine text given records)
+parts-are Breaks never machine text [] records last [] done = (refl, done)
+parts-are Breaks never machine text [] records last (reply ∷ replies) done = absurd done
+parts-are Breaks never machine text (of ∷ ofs) records last [] done = absurd done
+parts-are Breaks never machine text (of ∷ ofs) records last (reply ∷ replies) done =
+    let listing = done.0 in
+    let e = given-is Breaks never (part_listing machine text of) listing done.1.0 in
+    let rest = parts-are Breaks never machine text ofs (records_with records of.arch listing) last replies done.1.1.1 in (
+      (λ i. done.1.1.0 i ∷ rest.0 i)
+          ∙ (λ i. record { arch = of.arch; end = end_with records of.arch (e i) } ∷ part_replies machine text ofs (records_with records of.arch (e i))),
+      rest.1 ∙ (λ i. records_after machine text ofs (records_with records of.arch (e i))),
+    )

@@ -4,6 +4,7 @@
 mod deciding;
 mod fault;
 mod fill;
+pub mod laws;
 mod merge;
 mod paragraphs;
 mod part;
