@@ -19,7 +19,8 @@ bytes_eq-is : (x y : List ℕ) → bytes_eq x y ≡ true → x ≡ y
 bytes_eq-is x y = (bytes_eq-Decides x y).0
 
 -- a filter after a weaker one
-filter-weaker : {X : Type 0} (p q : X → Bool) → ((x : X) → p x ≡ true → q x ≡ true) → (xs : List X) → filter p (filter q xs) ≡ filter p xs
+filter-weaker : {X : Type 0} (p q : X → Bool) → ((x : X) → p x ≡ true → q x ≡ true) → (xs : List X)
+    → filter p (filter q xs) ≡ filter p xs
 filter-weaker p q implies [] = refl
 filter-weaker {X} p q implies (x ∷ xs) = go (p x) (q x) refl refl (filter-weaker p q implies xs)
   where
@@ -31,7 +32,8 @@ filter-weaker {X} p q implies (x ∷ xs) = go (p x) (q x) refl refl (filter-weak
     go false false pa qb more = more
 
 -- two filters are one
-filter-both : {X : Type 0} (p q r : X → Bool) → ((x : X) → r x ≡ (q x && p x)) → (xs : List X) → filter p (filter q xs) ≡ filter r xs
+filter-both : {X : Type 0} (p q r : X → Bool) → ((x : X) → r x ≡ (q x && p x)) → (xs : List X)
+    → filter p (filter q xs) ≡ filter r xs
 filter-both p q r same [] = refl
 filter-both {X} p q r same (x ∷ xs) = go (p x) (q x) (r x) refl refl refl (same x) (filter-both p q r same xs)
   where
@@ -45,7 +47,8 @@ filter-both {X} p q r same (x ∷ xs) = go (p x) (q x) (r x) refl refl refl (sam
     go a false false pa qb rc e more = more
 
 -- a name that is not among some is none of them
-apart : (found : List (List ℕ)) (name other : List ℕ) → is_among name found ≡ true → is_among other found ≡ false → bytes_eq name other ≡ false
+apart : (found : List (List ℕ)) (name other : List ℕ) → is_among name found ≡ true → is_among other found ≡ false
+    → bytes_eq name other ≡ false
 apart found name other here none =
     false_from_ne_true _ (λ same. cc (sym here ∙ ap (λ n. is_among n found) (bytes_eq-is name other same) ∙ none))
 
@@ -53,7 +56,8 @@ not-true : (b : Bool) → not b ≡ true → b ≡ false
 not-true true e = absurd cc
 not-true false e = refl
 
-is_among-push : (found : List (List ℕ)) (name other : List ℕ) → not (is_among other (found ++ name ∷ [])) ≡ (not (bytes_eq name other) && not (is_among other found))
+is_among-push : (found : List (List ℕ)) (name other : List ℕ)
+    → not (is_among other (found ++ name ∷ [])) ≡ (not (bytes_eq name other) && not (is_among other found))
 is_among-push found name other =
     ap not (list_any-append (λ v. bytes_eq v other) found (name ∷ [])) ∙ split (is_among other found) (bytes_eq name other)
   where
@@ -72,7 +76,8 @@ fold-with_name : (names found : List (List ℕ)) → fold with_name found names 
 fold-with_name [] found = sym (append-nil found)
 fold-with_name (name ∷ names) found = go (is_among name found) refl (fold-with_name names)
   where
-    go : (b : Bool) → is_among name found ≡ b → ((before : List (List ℕ)) → fold with_name before names ≡ before ++ new_names before names)
+    go : (b : Bool) → is_among name found ≡ b
+        → ((before : List (List ℕ)) → fold with_name before names ≡ before ++ new_names before names)
         → fold with_name (cond b found (found ++ name ∷ [])) names
         ≡ found ++ cond (not b) (name ∷ filter (λ other. not (is_among other found)) (filter (λ other. not (bytes_eq name other)) (each_once names)))
         (filter (λ other. not (is_among other found)) (filter (λ other. not (bytes_eq name other)) (each_once names)))
@@ -91,13 +96,15 @@ filter-all [] = refl
 filter-all (x ∷ xs) = ap (λ l. x ∷ l) (filter-all xs)
 
 -- names that are added one after another to none
-pub names_of-fold : (groups : List (List Alternative)) → fold with_name [] (flat_map (λ group. map (λ a. a.name) group) groups) ≡ names_of groups
+pub names_of-fold : (groups : List (List Alternative))
+    → fold with_name [] (flat_map (λ group. map (λ a. a.name) group) groups) ≡ names_of groups
 unfolding names_of all_names
 names_of-fold groups = fold-with_name (all_names groups) [] ∙ filter-all (each_once (all_names groups))
 
 -- the set that has a name more
 pub known-push : (old new : BTreeSet (List ℕ)) (found : List (List ℕ)) (name : List ℕ)
-    → IsNameTest (contains text_cmp old) found → Updates text_cmp old new name true → IsNameTest (contains text_cmp new) (found ++ name ∷ [])
+    → IsNameTest (contains text_cmp old) found → Updates text_cmp old new name true
+    → IsNameTest (contains text_cmp new) (found ++ name ∷ [])
 known-push old new found name is updates other =
     updates.0 other
     ∙ ap (λ b. cond b true (contains text_cmp old other)) (is_eq-slice_cmp name other)
@@ -126,7 +133,8 @@ any-to p (x ∷ xs) e = elim (cases_Bool (p x)) [
 ]
 
 -- two lists that have the same items pass a test alike
-any-same : {X : Type 0} (p : X → Bool) (xs ys : List X) → ((x : X) → IsIn x xs ↔ IsIn x ys) → list_any p xs ≡ list_any p ys
+any-same : {X : Type 0} (p : X → Bool) (xs ys : List X) → ((x : X) → IsIn x xs ↔ IsIn x ys)
+    → list_any p xs ≡ list_any p ys
 any-same p xs ys same = elim (cases_Bool (list_any p xs)) [
   | inl t ↦ let found = any-to p xs t in t ∙ sym (any-from p found.0 ys found.1.1 ((same found.0).0 found.1.0))
   | inr f ↦ f ∙ sym (false_from_ne_true _ (λ t.
@@ -146,7 +154,8 @@ all-unfilter P name (other ∷ names) here holds = go (bytes_eq name other) refl
     go true e later h = (subst P (bytes_eq-is name other e) here, later h)
     go false e later h = (h.0, later h.1)
 
-all-each_once : (P : List ℕ → Type 0) (names : List (List ℕ)) → AllByRecursion P (each_once names) → AllByRecursion P names
+all-each_once : (P : List ℕ → Type 0) (names : List (List ℕ)) → AllByRecursion P (each_once names)
+    → AllByRecursion P names
 all-each_once P [] holds = tt
 all-each_once P (name ∷ names) holds = (holds.0, all-each_once P names (all-unfilter P name (each_once names) holds.0 holds.1))
 
@@ -159,7 +168,8 @@ all-right P [] ys h = h
 all-right P (x ∷ xs) ys h = all-right P xs ys h.1
 
 module _ (one other : Pairs) where
-  met-same : (a : Alternative) → ((version : List ℕ) → IsIn version (versions_of one a.name) ↔ IsIn version (versions_of other a.name))
+  met-same : (a : Alternative)
+      → ((version : List ℕ) → IsIn version (versions_of one a.name) ↔ IsIn version (versions_of other a.name))
       → is_alternative_met one a ≡ is_alternative_met other a
   unfolding is_alternative_met
   met-same a same = any-same (meets_restriction a.restriction) (versions_of one a.name) (versions_of other a.name) same
@@ -169,7 +179,8 @@ module _ (one other : Pairs) where
   group-same [] same = refl
   group-same (a ∷ group) same = λ i. met-same a same.0 i || group-same group same.1 i
 
-  groups-same : (groups : List (List Alternative)) → HaveSamePairs one other (flat_map (λ group. map (λ a. a.name) group) groups)
+  groups-same : (groups : List (List Alternative))
+      → HaveSamePairs one other (flat_map (λ group. map (λ a. a.name) group) groups)
       → list_all (is_group_met one) groups ≡ list_all (is_group_met other) groups
   unfolding is_group_met
   groups-same [] same = refl
@@ -178,6 +189,7 @@ module _ (one other : Pairs) where
       let later = all-right _ (map (λ (a : Alternative). a.name) group) (flat_map (λ g. map (λ (a : Alternative). a.name) g) groups) same in
       λ i. group-same group here i && groups-same groups later i
 
-  pub satisfied-same : (groups : List (List Alternative)) → HaveSamePairs one other (names_of groups) → satisfied one groups ≡ satisfied other groups
+  pub satisfied-same : (groups : List (List Alternative)) → HaveSamePairs one other (names_of groups)
+      → satisfied one groups ≡ satisfied other groups
   unfolding satisfied names_of all_names
   satisfied-same groups same = groups-same groups (all-each_once _ (all_names groups) same)

@@ -23,22 +23,26 @@ use Rattle.wb_merge.proofs.ScratchLemmas.{listed_in-filter, built_in-filter, lis
 -- ---- what is said of the waits
 
 module _ (listed : Listed) (built : Option Built) (available : Pairs) (is_met : Bool) where
-  state-given : (current : Record) → SaysWaitsMet available is_met current → same_state_given listed built is_met current ≡ same_state listed built available current
+  state-given : (current : Record) → SaysWaitsMet available is_met current
+      → same_state_given listed built is_met current ≡ same_state listed built available current
   state-given current says = elim (cases_Bool (is_dep_wait current.state)) [
     | inl t ↦ ap (λ m. same_state_given listed built m current) (says t)
     | inr f ↦ rw f refl
   ]
 
-  same-given : (current : Record) → SaysWaitsMet available is_met current → same_record_given listed built is_met current ≡ same_record listed built available current
+  same-given : (current : Record) → SaysWaitsMet available is_met current
+      → same_record_given listed built is_met current ≡ same_record listed built available current
   unfolding same_record
   same-given current says = ap (λ state. relisted state (same_number listed built current) listed built current) (state-given current says)
 
-  pub listed-given : (current : Record) → SaysWaitsMet available is_met current → listed_record_given listed built is_met current ≡ listed_record listed built available current
+  pub listed-given : (current : Record) → SaysWaitsMet available is_met current
+      → listed_record_given listed built is_met current ≡ listed_record listed built available current
   unfolding listed_record
   listed-given current says = ap (λ same. by_version listed built same current) (same-given current says)
 
 pub record-given : (current : Option Record) (listed : Option Listed) (built : Option Built) (available : Pairs) (is_met : Bool)
-    → IfSome current (SaysWaitsMet available is_met) → record_given current listed built is_met ≡ record_after current listed built available
+    → IfSome current (SaysWaitsMet available is_met)
+    → record_given current listed built is_met ≡ record_after current listed built available
 record-given None None built available is_met says = refl
 record-given None (Some listed) built available is_met says = refl
 record-given (Some current) None built available is_met says = refl
@@ -46,7 +50,8 @@ record-given (Some current) (Some listed) built available is_met says = ap (λ (
 
 -- ---- the rows of a source package
 
-candidate-named : (arch : ArchWords) (name : List ℕ) (row : KeptSource) → is_candidate arch name (row_of_kept row) ≡ true → bytes_eq name row.name ≡ true
+candidate-named : (arch : ArchWords) (name : List ℕ) (row : KeptSource)
+    → is_candidate arch name (row_of_kept row) ≡ true → bytes_eq name row.name ≡ true
 unfolding is_candidate
 candidate-named arch name row is = (and_parts (bytes_eq name row.name) _ is).0
 
@@ -70,7 +75,8 @@ only-ok : {X E : Type 0} (x y : X) → ◌≡◌ {A = Result X E} (Ok x) (Ok y) 
 only-ok x y e = cc
 
 listing-is : (sources packages : List ℕ) (arch : ArchWords) (listing : ArchiveListing) (rows : List KeptSource) (binaries : List KeptBinary)
-    → listing_of sources packages arch ≡ Ok listing → kept_sources sources ≡ Ok rows → kept_binaries arch packages ≡ Ok binaries
+    → listing_of sources packages arch ≡ Ok listing → kept_sources sources ≡ Ok rows
+    → kept_binaries arch packages ≡ Ok binaries
     → listing_of_kept arch rows binaries ≡ listing
 listing-is sources packages arch listing rows binaries is kept others =
     only-ok (listing_of_kept arch rows binaries) listing
@@ -78,7 +84,8 @@ listing-is sources packages arch listing rows binaries is kept others =
 
 pub found-lists : (sources packages : List ℕ) (arch : ArchWords) (listing : ArchiveListing) (rows : List KeptSource) (binaries : List KeptBinary)
     (name : List ℕ) (current : Option Record) (is_met : Bool)
-    → listing_of sources packages arch ≡ Ok listing → kept_sources sources ≡ Ok rows → kept_binaries arch packages ≡ Ok binaries
+    → listing_of sources packages arch ≡ Ok listing → kept_sources sources ≡ Ok rows
+    → kept_binaries arch packages ≡ Ok binaries
     → IfSome current (SaysWaitsMet listing.available is_met)
     → record_found arch current name (filter (λ row. bytes_eq name row.name) rows) (filter (λ row. bytes_eq name row.source) binaries) is_met
     ≡ record_after_named listing name current
@@ -92,14 +99,17 @@ found-lists sources packages arch listing rows binaries name current is_met is k
 -- ---- what depends on the names of the waits alone
 
 pub waits-by-names : (one other : Pairs) (waits : List ℕ) (relations : List (List Alternative))
-    → reading_of waits ≡ Ok relations → HaveSamePairs one other (names_of relations) → are_waits_met one waits ≡ are_waits_met other waits
+    → reading_of waits ≡ Ok relations → HaveSamePairs one other (names_of relations)
+    → are_waits_met one waits ≡ are_waits_met other waits
 unfolding are_waits_met
 waits-by-names one other waits relations is same =
     ap (is_reading_met one) is ∙ satisfied-same one other relations same ∙ sym (ap (is_reading_met other) is)
 
 -- ---- a name that no row has
 
-none-named : (name : List ℕ) (rows : List KeptSource) → list_any (bytes_eq name) (map (λ row. row.name) rows) ≡ false → filter (λ row. bytes_eq name row.name) rows ≡ []
+none-named : (name : List ℕ) (rows : List KeptSource)
+    → list_any (bytes_eq name) (map (λ row. row.name) rows) ≡ false
+    → filter (λ row. bytes_eq name row.name) rows ≡ []
 none-named name [] none = refl
 none-named name (row ∷ rows) none =
     let both = or_parts (bytes_eq name row.name) (list_any (bytes_eq name) (map (λ (other : KeptSource). other.name) rows)) none in

@@ -30,7 +30,8 @@ use Rattle.wb_merge.proofs.NameLemmas.{bytes_eq-is}
 
 -- ---- filters, and the best of a list
 
-pub filter-weaker : {X : Type 0} (p q : X → Bool) → ((x : X) → p x ≡ true → q x ≡ true) → (xs : List X) → filter p (filter q xs) ≡ filter p xs
+pub filter-weaker : {X : Type 0} (p q : X → Bool) → ((x : X) → p x ≡ true → q x ≡ true) → (xs : List X)
+    → filter p (filter q xs) ≡ filter p xs
 filter-weaker p q implies [] = refl
 filter-weaker {X} p q implies (x ∷ xs) = go (p x) (q x) refl refl (filter-weaker p q implies xs)
   where
@@ -41,12 +42,14 @@ filter-weaker {X} p q implies (x ∷ xs) = go (p x) (q x) refl refl (filter-weak
     go false true pa qb more = rw pa more
     go false false pa qb more = more
 
-filter-map : {X Y : Type 0} (p : Y → Bool) (f : X → Y) (xs : List X) → filter p (map f xs) ≡ map f (filter (λ x. p (f x)) xs)
+filter-map : {X Y : Type 0} (p : Y → Bool) (f : X → Y) (xs : List X)
+    → filter p (map f xs) ≡ map f (filter (λ x. p (f x)) xs)
 filter-map p f [] = refl
 filter-map {X} {Y} p f (x ∷ xs) = go (p (f x)) (filter-map p f xs)
   where
     go : (b : Bool) → filter p (map f xs) ≡ map f (filter (λ y. p (f y)) xs)
-        → cond b (f x ∷ filter p (map f xs)) (filter p (map f xs)) ≡ map f (cond b (x ∷ filter (λ y. p (f y)) xs) (filter (λ y. p (f y)) xs))
+        → cond b (f x ∷ filter p (map f xs)) (filter p (map f xs))
+        ≡ map f (cond b (x ∷ filter (λ y. p (f y)) xs) (filter (λ y. p (f y)) xs))
     go true more = ap (λ l. f x ∷ l) more
     go false more = more
 
@@ -56,7 +59,8 @@ module _ {X Y : Type 0} (f : X → Y) (R : Y → Y → Ordering) where
   better-map (Some best) next = elim (is_gt (R (f next) (f best))) as (λ b. cond b (f next) (f best) ≡ f (cond b next best)) [ true ↦ refl | false ↦ refl ]
 
   -- the best of what items give is what the best item gives
-  best_from-map : (best : Option X) (xs : List X) → best_from R (option_map f best) (map f xs) ≡ option_map f (best_from (on f R) best xs)
+  best_from-map : (best : Option X) (xs : List X)
+      → best_from R (option_map f best) (map f xs) ≡ option_map f (best_from (on f R) best xs)
   best_from-map best [] = refl
   best_from-map best (x ∷ xs) =
       ap (λ y. best_from R (Some y) (map f xs)) (better-map best x) ∙ best_from-map (Some (better (on f R) best x)) xs
@@ -94,12 +98,14 @@ listed_in-filter arch keep rows name kept =
     ∙ listed_in-latest arch rows name
 
 pub built_in-filter : (keep : KeptBinary → Bool) (rows : List KeptBinary) (name : List ℕ)
-    → ((row : KeptBinary) → is_build_of name row ≡ true → keep row ≡ true) → built_in (filter keep rows) name ≡ built_in rows name
+    → ((row : KeptBinary) → is_build_of name row ≡ true → keep row ≡ true)
+    → built_in (filter keep rows) name ≡ built_in rows name
 unfolding built_in
 built_in-filter keep rows name kept = ap (λ l. best_from built_cmp None (map build_of l)) (filter-weaker (is_build_of name) keep kept rows)
 
 pub versions_in-filter : (keep : KeptBinary → Bool) (rows : List KeptBinary) (name : List ℕ)
-    → ((row : KeptBinary) → bytes_eq name row.name ≡ true → keep row ≡ true) → versions_in (filter keep rows) name ≡ versions_in rows name
+    → ((row : KeptBinary) → bytes_eq name row.name ≡ true → keep row ≡ true)
+    → versions_in (filter keep rows) name ≡ versions_in rows name
 unfolding versions_in
 versions_in-filter keep rows name kept = ap (map (λ (row : KeptBinary). row.version)) (filter-weaker (λ row. bytes_eq name row.name) keep kept rows)
 
@@ -126,13 +132,15 @@ onto-map f (Ok row) (Err refusal) = refl
 onto-map f (Ok row) (Ok rows) = refl
 
 sources-behind : (passed : ℕ) (paragraphs : List (List (List ℕ)))
-    → rows_behind source_paragraph Sources passed paragraphs ≡ result_map_both (map row_of_kept) (λ refusal. refusal) (kept_behind Sources source_row_at passed paragraphs)
+    → rows_behind source_paragraph Sources passed paragraphs
+    ≡ result_map_both (map row_of_kept) (λ refusal. refusal) (kept_behind Sources source_row_at passed paragraphs)
 sources-behind passed [] = refl
 sources-behind passed (lines ∷ later) =
     ap₂ onto_rows (one-source (passed + 1) (reading_of lines)) (sources-behind (passed + 1) later)
     ∙ onto-map row_of_kept (kept_reading Sources (passed + 1) (source_row_at (passed + 1)) (reading_of lines)) (kept_behind Sources source_row_at (passed + 1) later)
 
-pub source_rows-kept : (text : List ℕ) → source_rows text ≡ result_map_both (map row_of_kept) (λ refusal. refusal) (kept_sources text)
+pub source_rows-kept : (text : List ℕ)
+    → source_rows text ≡ result_map_both (map row_of_kept) (λ refusal. refusal) (kept_sources text)
 unfolding source_rows kept_sources
 source_rows-kept text = sources-behind 0 (paragraphs_in (lines_of text))
 
@@ -176,7 +184,8 @@ map-twice arch (Ok rows) = refl
 map-twice arch (Err refusal) = refl
 
 kept_binaries-rows : (arch : ArchWords) (text : List ℕ)
-    → kept_binaries arch text ≡ result_map_both (λ rows. present (kept_each arch 0 rows)) (λ refusal. refusal) (binary_rows text)
+    → kept_binaries arch text
+    ≡ result_map_both (λ rows. present (kept_each arch 0 rows)) (λ refusal. refusal) (binary_rows text)
 unfolding kept_binaries binary_rows
 kept_binaries-rows arch text =
     ap (result_map_both present (λ refusal. refusal)) (binaries-behind arch 0 (paragraphs_in (lines_of text)))
@@ -187,12 +196,14 @@ kept_binaries-rows arch text =
 bytes_eq-turned : (x y : List ℕ) → bytes_eq x y ≡ true → bytes_eq y x ≡ true
 bytes_eq-turned x y e = subst (λ z. bytes_eq z x ≡ true) (bytes_eq-is x y e) (subst (λ z. bytes_eq x z ≡ true) (sym (bytes_eq-is x y e)) e)
 
-own-installable : (arch : ArchWords) (row : BinaryRow) → bytes_eq arch.name row.arch ≡ true → is_installable_on arch row ≡ true
+own-installable : (arch : ArchWords) (row : BinaryRow) → bytes_eq arch.name row.arch ≡ true
+    → is_installable_on arch row ≡ true
 unfolding is_installable_on
 own-installable arch row e = rw (bytes_eq-turned arch.name row.arch e) refl
 
 builds-kept : (arch : ArchWords) (passed : ℕ) (rows : List BinaryRow) (name : List ℕ)
-    → map built_as (filter (is_built_from arch name) rows) ≡ map build_of (filter (is_build_of name) (present (kept_each arch passed rows)))
+    → map built_as (filter (is_built_from arch name) rows)
+    ≡ map build_of (filter (is_build_of name) (present (kept_each arch passed rows)))
 unfolding is_built_from kept_of
 builds-kept arch passed [] name = refl
 builds-kept arch passed (row ∷ rows) name =
@@ -204,8 +215,10 @@ builds-kept arch passed (row ∷ rows) name =
     kept : List KeptBinary
     kept = present (kept_each arch (passed + 1) rows)
 
-    go : (named own there : Bool) → bytes_eq name row.source ≡ named → bytes_eq arch.name row.arch ≡ own → (bytes_eq arch.name row.arch ≡ true → there ≡ true)
-        → map built_as (filter (is_built_from arch name) rows) ≡ map build_of (filter (is_build_of name) (present (kept_each arch (passed + 1) rows)))
+    go : (named own there : Bool) → bytes_eq name row.source ≡ named → bytes_eq arch.name row.arch ≡ own
+        → (bytes_eq arch.name row.arch ≡ true → there ≡ true)
+        → map built_as (filter (is_built_from arch name) rows)
+        ≡ map build_of (filter (is_build_of name) (present (kept_each arch (passed + 1) rows)))
         → map built_as (cond (named && own) (row ∷ filter (is_built_from arch name) rows) (filter (is_built_from arch name) rows))
         ≡ map build_of (filter (is_build_of name) (cons_option (cond there (Some (binary_columns arch (passed + 1) row)) None) (present (kept_each arch (passed + 1) rows))))
     go true true true n o is more = rw (n, o) (ap (λ l. built_as row ∷ l) more)
@@ -240,7 +253,8 @@ listed-kept arch sources binaries name =
     ∙ map-get listed_cmp (is_listed arch) (λ (row : SourceRow). row.name) (listed_as arch) (map row_of_kept sources) name
 
 built-there : (arch : ArchWords) (rows : List BinaryRow) (name : List ℕ)
-    → finite.get (map_at {R = text_cmp} (built_of arch rows) (map (λ row. row.source) rows)) name ≡ built_of arch rows name
+    → finite.get (map_at {R = text_cmp} (built_of arch rows) (map (λ row. row.source) rows)) name
+    ≡ built_of arch rows name
 unfolding built_of builds is_built_from
 built-there arch rows name = map-get built_cmp (λ (row : BinaryRow). bytes_eq arch.name row.arch) (λ row. row.source) built_as rows name
 
@@ -261,12 +275,14 @@ versions-kept arch sources binaries name =
     more-of (λ (row : KeptBinary). row.name) (λ row. row.version) no_pairs name binaries
     ∙ ap (λ (xs : List (List ℕ)). xs ++ map (λ (row : KeptBinary). row.version) (filter (λ row. bytes_eq name row.name) binaries)) (none-yet name)
 
-built_of-kept : (arch : ArchWords) (rows : List BinaryRow) (name : List ℕ) → built_of arch rows name ≡ built_in (present (kept_each arch 0 rows)) name
+built_of-kept : (arch : ArchWords) (rows : List BinaryRow) (name : List ℕ)
+    → built_of arch rows name ≡ built_in (present (kept_each arch 0 rows)) name
 unfolding built_of builds built_in
 built_of-kept arch rows name = ap (best_from built_cmp None) (builds-kept arch 0 rows name)
 
 rows-kept : (arch : ArchWords) (sources : List KeptSource) (rows : List BinaryRow)
-    → listing_of_rows arch (map row_of_kept sources) rows ≡ listing_of_kept arch sources (present (kept_each arch 0 rows))
+    → listing_of_rows arch (map row_of_kept sources) rows
+    ≡ listing_of_kept arch sources (present (kept_each arch 0 rows))
 unfolding listing_of_rows listing_of_kept listed_in available_of available_in
 rows-kept arch sources rows =
     let built : map_at {R = text_cmp} (built_of arch rows) (map (λ row. row.source) rows)
