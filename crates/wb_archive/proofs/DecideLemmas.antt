@@ -64,7 +64,7 @@ says-listing arch sources binaries current is_met says = says
 
 -- the record that is found by the rows of a source package is that of the merge
 pub found-decided : (arch : ArchWords) (now : Contents) (name : List ℕ) (current : Option Record) (is_met : Bool) (sources : List SourceRow) (binaries : List BinaryRow)
-    (new : Option Record) → current ≡ record_at now.records (arch.name, name) → IfSome current (SaysWaitsMet (available_in now.binaries) is_met)
+    (new : Option Record) → current ≡ record_at now.machine.records (arch.name, name) → IfSome current (SaysWaitsMet (available_in now.binaries) is_met)
     → sources ≡ filter (λ row. bytes_eq name row.name) now.sources → binaries ≡ filter (λ row. bytes_eq name row.source) now.binaries
     → new ≡ record_found arch current name sources binaries is_met → new ≡ record_decided arch now name
 found-decided arch now name current is_met sources binaries new was says named built is =
@@ -126,9 +126,9 @@ abbrev Covers : Records → List ℕ → ArchiveListing → List (List ℕ) → 
 Covers old arch listing names =
     (name : List ℕ) → list_any (bytes_eq name) names ≡ false → (finite.get old (arch, name) ≡ None) × (finite.get listing.listed name ≡ None)
 
-with-covers : (arch : ArchWords) (now : Contents) (names : List (List ℕ)) → AreNamesOf now.sources names → Covers now.records arch.name (listing_at arch now) (names_with now.records arch.name names)
+with-covers : (arch : ArchWords) (now : Contents) (names : List (List ℕ)) → AreNamesOf now.sources names → Covers now.machine.records arch.name (listing_at arch now) (names_with now.machine.records arch.name names)
 with-covers arch now names of name e =
-    let both = split (finite.contains_key now.records (arch.name, name)) (list_any (bytes_eq name) names) (sym (with-any now.records arch.name names name) ∙ e) in
+    let both = split (finite.contains_key now.machine.records (arch.name, name)) (list_any (bytes_eq name) names) (sym (with-any now.machine.records arch.name names name) ∙ e) in
     (none-is _ both.0, unlisted arch now name (sym (of.all name) ∙ both.1))
   where
     split : (a b : Bool) → (a || (not a && b)) ≡ false → (a ≡ false) × (b ≡ false)
@@ -139,14 +139,14 @@ with-covers arch now names of name e =
 pub record IsHalfNamed (now : Contents) (arch : List ℕ) (names left : List (List ℕ)) : Type 0 where
   pub listed : List (List ℕ)
   pub of_rows : AreNamesOf now.sources listed
-  pub is : names ++ filter (λ name. not (finite.contains_key now.records (arch, name))) left ≡ names_with now.records arch listed
+  pub is : names ++ filter (λ name. not (finite.contains_key now.machine.records (arch, name))) left ≡ names_with now.machine.records arch listed
 
-pub named-start : (now : Contents) (arch : List ℕ) (names left listed : List (List ℕ)) → names ≡ recorded_names now.records arch → left ≡ listed → AreNamesOf now.sources listed
+pub named-start : (now : Contents) (arch : List ℕ) (names left listed : List (List ℕ)) → names ≡ recorded_names now.machine.records arch → left ≡ listed → AreNamesOf now.sources listed
     → IsHalfNamed now arch names left
 named-start now arch names left listed is same of = record {
   listed = listed;
   of_rows = of;
-  is = λ i. is i ++ filter (λ name. not (finite.contains_key now.records (arch, name))) (same i);
+  is = λ i. is i ++ filter (λ name. not (finite.contains_key now.machine.records (arch, name))) (same i);
 }
 
 one-name : (p : List ℕ → Bool) (names later : List (List ℕ)) (name : List ℕ) (has : Bool) → p name ≡ not has
@@ -160,10 +160,10 @@ one-name p names later name has e =
     at false = refl
 
 pub named-step : (now : Contents) (arch : List ℕ) (names made items : List (List ℕ)) (at : ℕ) (name : List ℕ) (has : Bool) → at < length items → name ≡ get_or items at name
-    → has ≡ finite.contains_key now.records (arch, name) → made ≡ names ++ cond has [] (name ∷ []) → IsHalfNamed now arch names (drop at items)
+    → has ≡ finite.contains_key now.machine.records (arch, name) → made ≡ names ++ cond has [] (name ∷ []) → IsHalfNamed now arch names (drop at items)
     → IsHalfNamed now arch made (drop (at + 1) items)
 named-step now arch names made items at name has lt is known e half =
-    let p : List ℕ → Bool = λ n. not (finite.contains_key now.records (arch, n)) in
+    let p : List ℕ → Bool = λ n. not (finite.contains_key now.machine.records (arch, n)) in
     let left : drop at items ≡ name ∷ drop (at + 1) items = drop-cons items at name lt ∙ (λ i. sym is i ∷ drop (one_after at i) items) in
     record {
       listed = half.listed;
@@ -182,7 +182,7 @@ pub named-done : (now : Contents) (arch : List ℕ) (names items : List (List �
 named-done now arch names items at le half = record {
   listed = half.listed;
   of_rows = half.of_rows;
-  is = sym (append-nil names) ∙ ap (λ (l : List (List ℕ)). names ++ filter (λ name. not (finite.contains_key now.records (arch, name))) l) (sym (drop_all at items le)) ∙ half.is;
+  is = sym (append-nil names) ∙ ap (λ (l : List (List ℕ)). names ++ filter (λ name. not (finite.contains_key now.machine.records (arch, name))) l) (sym (drop_all at items le)) ∙ half.is;
 }
 
 -- ---- the start
@@ -262,15 +262,15 @@ apart-is [] h = tt
 apart-is (name ∷ names) h = (h.0, apart-is names h.1)
 
 pub decided-start : (arch : ArchWords) (now : Contents) (names : List (List ℕ)) → AreNamesToDecide now arch.name names
-    → IsHalfMerged now.records now.records arch.name (listing_at arch now) (all_kept 0) names
-decided-start arch now names of = subst (IsHalfMerged now.records now.records arch.name (listing_at arch now) (all_kept 0)) (sym of.is) (
+    → IsHalfMerged now.machine.records now.machine.records arch.name (listing_at arch now) (all_kept 0) names
+decided-start arch now names of = subst (IsHalfMerged now.machine.records now.machine.records arch.name (listing_at arch now) (all_kept 0)) (sym of.is) (
     let covers = with-covers arch now of.listed of.of_rows in
-    let apart = with-apart now.records arch.name of.listed (apart-is of.listed of.of_rows.apart) in
+    let apart = with-apart now.machine.records arch.name of.listed (apart-is of.listed of.of_rows.apart) in
     record {
       apart = apart;
-      half = start-half now.records arch.name (listing_at arch now) (names_with now.records arch.name of.listed) covers;
-      so_far = plus-none (counts_over now.records arch.name (listing_at arch now) (names_with now.records arch.name of.listed))
-          ∙ same-counts now.records arch.name (listing_at arch now) (names_with now.records arch.name of.listed) apart covers;
+      half = start-half now.machine.records arch.name (listing_at arch now) (names_with now.machine.records arch.name of.listed) covers;
+      so_far = plus-none (counts_over now.machine.records arch.name (listing_at arch now) (names_with now.machine.records arch.name of.listed))
+          ∙ same-counts now.machine.records arch.name (listing_at arch now) (names_with now.machine.records arch.name of.listed) apart covers;
     })
 
 -- ---- the loop
@@ -283,15 +283,15 @@ pub record IsHalfDecided (Holds : Records → Type 0) (old : Records) (arch : Li
 
 pub decided-step : {Holds More : Records → Type 0} (arch : ArchWords) (now : Contents) (counts : MergeCounts) (names : List (List ℕ)) (at : ℕ) (name : List ℕ)
     → at < length names → name ≡ get_or names at name
-    → (half : IsHalfDecided Holds now.records arch.name (listing_at arch now) counts (drop at names))
-    → More (set_record half.records (arch.name, name) (record_decided arch (record now { records = half.records }) name))
-    → (made : Change) → made ≡ change_of (record_at half.records (arch.name, name)) (record_decided arch (record now { records = half.records }) name)
-    → IsHalfDecided More now.records arch.name (listing_at arch now) (counted counts made) (drop (at + 1) names)
+    → (half : IsHalfDecided Holds now.machine.records arch.name (listing_at arch now) counts (drop at names))
+    → More (set_record half.records (arch.name, name) (record_decided arch (record now { machine = record now.machine { records = half.records } }) name))
+    → (made : Change) → made ≡ change_of (record_at half.records (arch.name, name)) (record_decided arch (record now { machine = record now.machine { records = half.records } }) name)
+    → IsHalfDecided More now.machine.records arch.name (listing_at arch now) (counted counts made) (drop (at + 1) names)
 decided-step arch now counts names at name lt is half more made e = record {
-  records = set_record half.records (arch.name, name) (record_decided arch (record now { records = half.records }) name);
+  records = set_record half.records (arch.name, name) (record_decided arch (record now { machine = record now.machine { records = half.records } }) name);
   holds = more;
-  half = half_merged-step now.records half.records _ arch.name (listing_at arch now) counts names at name lt is half.half
-      (set-is half.records (arch.name, name) (record_decided arch (record now { records = half.records }) name)) made e;
+  half = half_merged-step now.machine.records half.records _ arch.name (listing_at arch now) counts names at name lt is half.half
+      (set-is half.records (arch.name, name) (record_decided arch (record now { machine = record now.machine { records = half.records } }) name)) made e;
 }
 
 pub decided-done : {Holds : Records → Type 0} (old : Records) (arch : List ℕ) (listing : ArchiveListing) (counts : MergeCounts) (names : List (List ℕ)) (at : ℕ)

@@ -23,7 +23,7 @@ set_record records key (Some new) = finite.insert records key new
 
 -- the record of a source package after the merge of an architecture into what stands in the tables
 abbrev pub record_decided : ArchWords → Contents → List ℕ → Option Record
-record_decided arch now name = record_after_named (listing_at arch now) name (record_at now.records (arch.name, name))
+record_decided arch now name = record_after_named (listing_at arch now) name (record_at now.machine.records (arch.name, name))
 
 -- ---- the source packages that are decided
 
@@ -35,7 +35,7 @@ names_with records arch names = recorded_names records arch ++ filter (λ name. 
 pub record AreNamesToDecide (now : Contents) (arch : List ℕ) (names : List (List ℕ)) : Type 0 where
   pub listed : List (List ℕ)
   pub of_rows : AreNamesOf now.sources listed
-  pub is : names ≡ names_with now.records arch listed
+  pub is : names ≡ names_with now.machine.records arch listed
 
 -- ---- waits
 

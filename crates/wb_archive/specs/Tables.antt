@@ -7,12 +7,13 @@ use Rattle.wb_states.specs.declared.keyed.KeyedRecord.{KeyedRecord}
 use Rattle.wb_states.specs.declared.record.Record.{Record}
 use Rattle.wb_states.specs.declared.scratch.SourceRow.{SourceRow}
 use Rattle.wb_states.specs.declared.scratch.BinaryRow.{BinaryRow}
+use Rattle.wb_states.specs.Machine.{Machine}
 use Rattle.wb_states.specs.State.{is_dep_wait}
 use Rattle.wb_merge.specs.Merged.{Records}
 
--- what stands in the tables: the records of the office, and what is kept of a Sources list and of the Packages list of a part
+-- what stands in the tables: the state of the office, and what is kept of a Sources list and of the Packages list of a part
 pub record Contents : Type 0 where
-  pub records : Records
+  pub machine : Machine
   pub sources : List SourceRow
   pub binaries : List BinaryRow
 
@@ -25,7 +26,7 @@ pub record Tables : Type 0 where
 
 -- the tables with these records
 abbrev pub with_records : Records → Tables → Tables
-with_records records tables = record tables { now = record tables.now { records = records } }
+with_records records tables = record tables { now = record tables.now { machine = record tables.now.machine { records = records } } }
 
 -- the tables with this kept of a Sources list
 abbrev pub with_sources : List SourceRow → Tables → Tables

@@ -25,7 +25,7 @@ fn record_of<T: MergeTables>(
     name: &Text,
 ) -> Result<Option<Record>, MergeFault<T::Fault>>
     ensures value { (at : Tables) → T.is_clean tables.new → T.holds tables.old at
-        → IfOk result (λ found. found ≡ record_at at.now.records (arch.now, name.now)) }
+        → IfOk result (λ found. found ≡ record_at at.now.machine.records (arch.now, name.now)) }
     ensures same { (at : Tables) → T.is_clean tables.new → T.holds tables.old at → OnOk result (T.holds tables.new at) }
     ensures follows { OnOk result (T.follows tables.old tables.new) }
     ensures stops { IfErr result (StopsAs T.follows T.fails tables.old tables.new) }
@@ -40,7 +40,7 @@ fn has_record<T: MergeTables>(
     name: &Text,
 ) -> Result<bool, MergeFault<T::Fault>>
     ensures value { (at : Tables) → T.is_clean tables.new → T.holds tables.old at
-        → IfOk result (λ has. has ≡ finite.contains_key at.now.records (arch.now, name.now)) }
+        → IfOk result (λ has. has ≡ finite.contains_key at.now.machine.records (arch.now, name.now)) }
     ensures same { (at : Tables) → T.is_clean tables.new → T.holds tables.old at → OnOk result (T.holds tables.new at) }
     ensures follows { OnOk result (T.follows tables.old tables.new) }
     ensures stops { IfErr result (StopsAs T.follows T.fails tables.old tables.new) }
@@ -88,7 +88,7 @@ fn found<T: MergeTables>(
     old: Option<&Record>,
 ) -> Result<Option<Record>, MergeFault<T::Fault>>
     ensures value { (at : Tables) → T.is_clean tables.new → T.holds tables.old at
-        → option_map deref old.entry ≡ record_at at.now.records (arch.now.name, name.now)
+        → option_map deref old.entry ≡ record_at at.now.machine.records (arch.now.name, name.now)
         → IfOk result (λ new. new ≡ record_decided arch.now at.now name.now) }
     ensures same { (at : Tables) → T.is_clean tables.new → T.holds tables.old at → OnOk result (T.holds tables.new at) }
     ensures follows { OnOk result (T.follows tables.old tables.new) }
@@ -112,9 +112,9 @@ fn put_new<T: MergeTables>(
     change: Change,
 ) -> Result<(), MergeFault<T::Fault>>
     ensures value { (at : Tables) → T.is_clean tables.new → T.holds tables.old at
-        → change ≡ change_of (record_at at.now.records (arch.now, name.now)) (Some new.now)
+        → change ≡ change_of (record_at at.now.machine.records (arch.now, name.now)) (Some new.now)
         → OnOk result (T.holds tables.new
-        (with_records (set_record at.now.records (arch.now, name.now) (Some new.now)) at)) }
+        (with_records (set_record at.now.machine.records (arch.now, name.now) (Some new.now)) at)) }
     ensures follows { OnOk result (T.follows tables.old tables.new) }
     ensures stops { IfErr result (StopsAs T.follows T.fails tables.old tables.new) }
 {
@@ -132,9 +132,9 @@ fn take_out<T: MergeTables>(
     change: Change,
 ) -> Result<(), MergeFault<T::Fault>>
     ensures value { (at : Tables) → T.is_clean tables.new → T.holds tables.old at
-        → change ≡ change_of (record_at at.now.records (arch.now, name.now)) None
+        → change ≡ change_of (record_at at.now.machine.records (arch.now, name.now)) None
         → OnOk result (T.holds tables.new
-        (with_records (set_record at.now.records (arch.now, name.now) None) at)) }
+        (with_records (set_record at.now.machine.records (arch.now, name.now) None) at)) }
     ensures follows { OnOk result (T.follows tables.old tables.new) }
     ensures stops { IfErr result (StopsAs T.follows T.fails tables.old tables.new) }
 {
@@ -154,8 +154,8 @@ fn keep_record<T: MergeTables>(
     new: Option<Record>,
 ) -> Result<Change, MergeFault<T::Fault>>
     ensures value { (at : Tables) → T.is_clean tables.new → T.holds tables.old at
-        → option_map deref old.entry ≡ record_at at.now.records (arch.now, name.now)
-        → OnOk result (T.holds tables.new (with_records (set_record at.now.records (arch.now, name.now) new) at)) }
+        → option_map deref old.entry ≡ record_at at.now.machine.records (arch.now, name.now)
+        → OnOk result (T.holds tables.new (with_records (set_record at.now.machine.records (arch.now, name.now) new) at)) }
     ensures change { IfOk result (λ change. change ≡ change_of (option_map deref old.entry) new) }
     ensures follows { OnOk result (T.follows tables.old tables.new) }
     ensures stops { IfErr result (StopsAs T.follows T.fails tables.old tables.new) }
@@ -176,10 +176,10 @@ fn decide_one<T: MergeTables>(
     name: &Text,
 ) -> Result<Change, MergeFault<T::Fault>>
     ensures value { (at : Tables) → T.is_clean tables.new → T.holds tables.old at
-        → OnOk result (T.holds tables.new (with_records (set_record at.now.records (arch.now.name, name.now)
+        → OnOk result (T.holds tables.new (with_records (set_record at.now.machine.records (arch.now.name, name.now)
         (record_decided arch.now at.now name.now)) at)) }
     ensures change { (at : Tables) → T.is_clean tables.new → T.holds tables.old at
-        → IfOk result (λ change. change ≡ change_of (record_at at.now.records (arch.now.name, name.now))
+        → IfOk result (λ change. change ≡ change_of (record_at at.now.machine.records (arch.now.name, name.now))
         (record_decided arch.now at.now name.now)) }
     ensures follows { OnOk result (T.follows tables.old tables.new) }
     ensures stops { IfErr result (StopsAs T.follows T.fails tables.old tables.new) }
@@ -199,9 +199,9 @@ pub fn decide<T: MergeTables>(
 ) -> Result<MergeCounts, MergeFault<T::Fault>>
     ensures value { (at : Tables) → T.is_clean tables.new → T.holds tables.old at
         → OnOk result (T.holds tables.new
-        (with_records (merged at.now.records arch.now.name (listing_at arch.now at.now)) at)) }
+        (with_records (merged at.now.machine.records arch.now.name (listing_at arch.now at.now)) at)) }
     ensures counts { (at : Tables) → T.is_clean tables.new → T.holds tables.old at
-        → IfOk result (λ counts. counts ≡ merge_counts at.now.records arch.now.name (listing_at arch.now at.now)) }
+        → IfOk result (λ counts. counts ≡ merge_counts at.now.machine.records arch.now.name (listing_at arch.now at.now)) }
     ensures follows { OnOk result (T.follows tables.old tables.new) }
     ensures stops { IfErr result (StopsAs T.follows T.fails tables.old tables.new) }
 {

@@ -87,7 +87,7 @@ fn merge_known<T: MergeTables, R: ReadParagraphs>(
         → name.now ≡ of.arch → words.now ≡ finite.get machine.archs of.arch → BeginsAt R.stands_at packages.old of.packages
         → HasSources R.breaks text archs at.now.sources bad → AreKnown archs name.now words.now
         → IfOk result (IsPartDone (IsGiven R.breaks (part_listing machine text of))
-        (λ records. T.holds tables.new (with_records records at)) at.now.records of.arch) }
+        (λ records. T.holds tables.new (with_records records at)) at.now.machine.records of.arch) }
     ensures follows { OnOk result (T.follows tables.old tables.new) }
     ensures stops { IfErr result (StopsAs T.follows T.fails tables.old tables.new) }
 {
@@ -116,7 +116,7 @@ fn reply_to<T: MergeTables, R: ReadParagraphs>(
         → IsPartOf R.stands_at machine part of → HasSources R.breaks text archs at.now.sources bad
         → AreKnown archs part.arch part.words
         → IfOk result (λ reply. (reply.arch ≡ of.arch) × IsPartDone (IsGiven R.breaks (part_listing machine text of))
-        (λ records. T.holds tables.new (with_records records at)) at.now.records of.arch reply.end) }
+        (λ records. T.holds tables.new (with_records records at)) at.now.machine.records of.arch reply.end) }
     ensures follows { OnOk result (T.follows tables.old tables.new) }
     ensures stops { IfErr result (StopsAs T.follows T.fails tables.old tables.new) }
 {
@@ -149,7 +149,7 @@ fn merge_parts<T: MergeTables, R: ReadParagraphs>(
         → AllZip (IsPartOf R.stands_at machine) parts.items given → HasSources R.breaks text archs at.now.sources bad
         → AreAllKnown archs parts.items
         → IfOk result (λ replies. IsMergeDone (λ of. IsGiven R.breaks (part_listing machine text of))
-        (λ records. T.holds tables.new (with_records records at)) given at.now.records replies.items) }
+        (λ records. T.holds tables.new (with_records records at)) given at.now.machine.records replies.items) }
     ensures follows { OnOk result (T.follows tables.old tables.new) }
     ensures stops { IfErr result (StopsAs T.follows T.fails tables.old tables.new) }
 {
@@ -187,7 +187,7 @@ pub fn merge_lists<T: MergeTables, R: ReadParagraphs>(
         → at.saved ≡ None → at.now.sources ≡ [] → at.now.binaries ≡ []
         → BeginsAt R.stands_at sources.old text → AllZip (IsPartOf R.stands_at machine) parts.items given
         → IfOk result (λ replies. IsMergeDone (λ of. IsGiven R.breaks (part_listing machine text of))
-        (λ records. T.holds tables.new (with_records records at)) given at.now.records replies.items) }
+        (λ records. T.holds tables.new (with_records records at)) given at.now.machine.records replies.items) }
     ensures follows { OnOk result (T.follows tables.old tables.new) }
     ensures stops { IfErr result (StopsAs T.follows T.fails tables.old tables.new) }
 {

@@ -84,9 +84,9 @@ fn keep<T: MergeTables>(
 ) -> Result<PartEnd, MergeFault<T::Fault>>
     ensures value { (at : Tables) → T.is_clean tables.new → T.holds tables.old at → at.saved ≢ None
         → OnOk result (T.holds tables.new (without_savepoint (with_binaries []
-        (with_records (merged at.now.records arch.now.name (listing_at arch.now at.now)) at)))) }
+        (with_records (merged at.now.machine.records arch.now.name (listing_at arch.now at.now)) at)))) }
     ensures end { (at : Tables) → T.is_clean tables.new → T.holds tables.old at
-        → IfOk result (λ end. end ≡ Merged (merge_counts at.now.records arch.now.name (listing_at arch.now at.now))) }
+        → IfOk result (λ end. end ≡ Merged (merge_counts at.now.machine.records arch.now.name (listing_at arch.now at.now))) }
     ensures follows { OnOk result (T.follows tables.old tables.new) }
     ensures stops { IfErr result (StopsAs T.follows T.fails tables.old tables.new) }
 {
@@ -109,7 +109,7 @@ pub fn merge_part<T: MergeTables, R: ReadParagraphs>(
         → T.is_clean tables.new → T.holds tables.old at → R.stands_at packages.old place → place.passed ≡ 0
         → at.saved ≡ None → at.now.binaries ≡ [] → at.now.sources ≡ sources_wanted archs rows → IsIn arch.now archs
         → IfOk result (IsPartDone (IsListing R.breaks packages.new (listing_from arch.now rows place))
-        (λ records. T.holds tables.new (with_records records at)) at.now.records arch.now.name) }
+        (λ records. T.holds tables.new (with_records records at)) at.now.machine.records arch.now.name) }
     ensures follows { OnOk result (T.follows tables.old tables.new) }
     ensures stops { IfErr result (StopsAs T.follows T.fails tables.old tables.new) }
 {

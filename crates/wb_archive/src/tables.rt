@@ -9,7 +9,7 @@ use deb_text::Text;
 use deb_version::Version;
 use wb_states::{BinaryRow, KeyedRecord, Record, SourceRow};
 
-/// The tables in which a merge runs, within a transaction that its caller began: the records of the office, and what is kept
+/// The tables in which a merge runs, within a transaction that its caller began: the state of the office, and what is kept
 /// of the archive's lists. Each clause speaks of what stands in the tables before a call and says what stands in them after it
 /// (this project's own).
 pub trait MergeTables {
@@ -31,7 +31,7 @@ pub trait MergeTables {
     /// The record of the source package `source` on the architecture `arch`, or none if it has no record there.
     fn record(&mut self, arch: &Text, source: &Text) -> Result<Option<Record>, Self::Fault>
         ensures value { (tables : Tables) → is_clean self.new → holds self.old tables
-            → IfOk result (λ found. found ≡ finite.get tables.now.records (arch.now, source.now)) }
+            → IfOk result (λ found. found ≡ finite.get tables.now.machine.records (arch.now, source.now)) }
         ensures same { (tables : Tables) → is_clean self.new → holds self.old tables → OnOk result (holds self.new tables) }
         ensures follows { OnOk result (follows self.old self.new) }
         ensures fails { IfErr result (fails self.old self.new) };
@@ -39,7 +39,7 @@ pub trait MergeTables {
     /// The source packages of the architecture that have a record, by name.
     fn recorded_names(&mut self, arch: &Text) -> Result<Vec<Text>, Self::Fault>
         ensures value { (tables : Tables) → is_clean self.new → holds self.old tables
-            → IfOk result (λ names. names.items ≡ recorded_names tables.now.records arch.now) }
+            → IfOk result (λ names. names.items ≡ recorded_names tables.now.machine.records arch.now) }
         ensures same { (tables : Tables) → is_clean self.new → holds self.old tables → OnOk result (holds self.new tables) }
         ensures follows { OnOk result (follows self.old self.new) }
         ensures fails { IfErr result (fails self.old self.new) };
@@ -47,7 +47,7 @@ pub trait MergeTables {
     /// The records of the architecture that are in Dep-Wait.
     fn waiting(&mut self, arch: &Text) -> Result<Vec<KeyedRecord>, Self::Fault>
         ensures value { (tables : Tables) → is_clean self.new → holds self.old tables
-            → IfOk result (λ rows. HaveWaiting tables.now.records arch.now rows.items) }
+            → IfOk result (λ rows. HaveWaiting tables.now.machine.records arch.now rows.items) }
         ensures same { (tables : Tables) → is_clean self.new → holds self.old tables → OnOk result (holds self.new tables) }
         ensures follows { OnOk result (follows self.old self.new) }
         ensures fails { IfErr result (fails self.old self.new) };
@@ -104,14 +104,14 @@ pub trait MergeTables {
     /// all else stays.
     fn put(&mut self, arch: &Text, source: &Text, current: &Record) -> Result<(), Self::Fault>
         ensures value { (tables : Tables) → is_clean self.new → holds self.old tables → OnOk result (holds self.new
-            (with_records (finite.insert tables.now.records (arch.now, source.now) current.now) tables)) }
+            (with_records (finite.insert tables.now.machine.records (arch.now, source.now) current.now) tables)) }
         ensures follows { OnOk result (follows self.old self.new) }
         ensures fails { IfErr result (fails self.old self.new) };
 
     /// Takes out the record of the source package `source` on the architecture `arch`, if it has one; all else stays.
     fn remove(&mut self, arch: &Text, source: &Text) -> Result<(), Self::Fault>
         ensures value { (tables : Tables) → is_clean self.new → holds self.old tables → OnOk result (holds self.new
-            (with_records (finite.remove tables.now.records (arch.now, source.now)) tables)) }
+            (with_records (finite.remove tables.now.machine.records (arch.now, source.now)) tables)) }
         ensures follows { OnOk result (follows self.old self.new) }
         ensures fails { IfErr result (fails self.old self.new) };
 

@@ -61,7 +61,7 @@ fn waiting<T: MergeTables>(
     arch: &Text,
 ) -> Result<Vec<KeyedRecord>, MergeFault<T::Fault>>
     ensures value { (at : Tables) → T.is_clean tables.new → T.holds tables.old at
-        → IfOk result (λ rows. HaveWaiting at.now.records arch.now rows.items) }
+        → IfOk result (λ rows. HaveWaiting at.now.machine.records arch.now rows.items) }
     ensures same { (at : Tables) → T.is_clean tables.new → T.holds tables.old at → OnOk result (T.holds tables.new at) }
     ensures follows { OnOk result (T.follows tables.old tables.new) }
     ensures stops { IfErr result (StopsAs T.follows T.fails tables.old tables.new) }
@@ -76,7 +76,7 @@ pub(crate) fn waited_names<T: MergeTables>(
     arch: &Text,
 ) -> Result<BTreeSet<Text>, MergeFault<T::Fault>>
     ensures value { (at : Tables) → T.is_clean tables.new → T.holds tables.old at
-        → IfOk result (λ waited. AreAllWaitedFor at.now.records arch.now (contains text_cmp waited)) }
+        → IfOk result (λ waited. AreAllWaitedFor at.now.machine.records arch.now (contains text_cmp waited)) }
     ensures same { (at : Tables) → T.is_clean tables.new → T.holds tables.old at → OnOk result (T.holds tables.new at) }
     ensures follows { OnOk result (T.follows tables.old tables.new) }
     ensures stops { IfErr result (StopsAs T.follows T.fails tables.old tables.new) }

@@ -10,6 +10,6 @@ invariant-loop-name g l = record {
   follows : g.T.MergeTables.follows l.fn.tables l.tables;
   within : AreWithin l.name-index l.counts;
   half : (at : Tables) → g.T.MergeTables.is_clean l.tables → g.T.MergeTables.holds l.fn.tables at
-      → IsHalfDecided (λ records. g.T.MergeTables.holds l.tables (with_records records at)) at.now.records l.arch.name (listing_at l.arch at.now) l.counts
+      → IsHalfDecided (λ records. g.T.MergeTables.holds l.tables (with_records records at)) at.now.machine.records l.arch.name (listing_at l.arch at.now) l.counts
       (drop l.name-index l.name-items);
 }

@@ -21,8 +21,8 @@ returns-clause-value g c = λ at machine text given clean holds unsaved no_sourc
     c.deref-2.result.now c.in_ok-bad.bad filled in
     let parts = c.in_ok-replies.ensures.value (with_sources read.0 at) machine text c.deref-2.result.now given at_parts read.1.0 unsaved no_binaries zip read.1.1 known in
     let cleared = c.in_ok-clear_all.ensures.value (with_records parts.last (with_sources read.0 at)) clean parts.holds in
-    let as_was : record { now = record { records = parts.last; sources = []; binaries = [] }; saved = at.saved } ≡ with_records parts.last at =
-    λ i. record { now = record { records = parts.last; sources = sym no_sources i; binaries = sym no_binaries i }; saved = at.saved } in
+    let as_was : record { now = record { machine = record at.now.machine { records = parts.last }; sources = []; binaries = [] }; saved = at.saved } ≡ with_records parts.last at =
+    λ i. record { now = record { machine = record at.now.machine { records = parts.last }; sources = sym no_sources i; binaries = sym no_binaries i }; saved = at.saved } in
     record {
       last = parts.last;
       done = parts.done;

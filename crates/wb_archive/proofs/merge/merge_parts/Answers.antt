@@ -17,7 +17,7 @@ loop-part-init g c =
       follows = g.met.T.MergeTables.follows_itself c.args.tables.now;
       half = λ at machine text archs given clean holds unsaved empty zip has known.
           merged-start g.R.ReadParagraphs.stands_at machine archs (λ of. IsGiven g.R.ReadParagraphs.breaks (part_listing machine text of))
-          (λ (records : Records). g.T.MergeTables.holds c.args.tables.now (with_records records at)) given at.now.records c.new-replies.result.items
+          (λ (records : Records). g.T.MergeTables.holds c.args.tables.now (with_records records at)) given at.now.machine.records c.new-replies.result.items
           c.into_iter-part-iterator.result.rest.items c.new-replies.ensures.items holds
           (subst (λ l. AllZip (IsPartOf g.R.ReadParagraphs.stands_at machine) l given) (sym all) zip) (subst (λ l. AreAllKnown archs l) (sym all) known);
     }
@@ -32,7 +32,7 @@ loop-part-preserved g c =
       half = λ at machine text archs given clean holds unsaved empty zip has known.
           let half = c.loop-part.invariant.half at machine text archs given (laws.clean c.loop-part.tables c.reply_to.new.tables went clean) holds unsaved empty zip has known in
           merged-step g.R.ReadParagraphs.stands_at machine archs (λ of. IsGiven g.R.ReadParagraphs.breaks (part_listing machine text of))
-          {More = λ (records : Records). g.T.MergeTables.holds c.reply_to.new.tables (with_records records at)} given at.now.records c.loop-part.replies.items c.add_reply.new.replies.items
+          {More = λ (records : Records). g.T.MergeTables.holds c.reply_to.new.tables (with_records records at)} given at.now.machine.records c.loop-part.replies.items c.add_reply.new.replies.items
           c.loop-part.part-iterator.rest.items c.next.new.self.rest.items c.in-Some.part c.in_ok-reply.reply split c.in_ok-add_reply.ensures.value half
           (λ of records held is part_known. c.in_ok-reply.ensures.value (with_records records at) machine text archs of clean held unsaved empty is has part_known);
     }
@@ -40,5 +40,5 @@ loop-part-preserved g c =
 pub returns-clause-value : goal.returns-clause-value
 returns-clause-value g c = λ at machine text archs given clean holds unsaved empty zip has known.
     let none : c.loop-part.part-iterator.rest.items ≡ [] = grind (arith, common_steps, nil_from_length) in
-    merged-done g.R.ReadParagraphs.stands_at machine archs (λ of. IsGiven g.R.ReadParagraphs.breaks (part_listing machine text of)) given at.now.records c.loop-part.replies.items
+    merged-done g.R.ReadParagraphs.stands_at machine archs (λ of. IsGiven g.R.ReadParagraphs.breaks (part_listing machine text of)) given at.now.machine.records c.loop-part.replies.items
     c.loop-part.part-iterator.rest.items none (c.loop-part.invariant.half at machine text archs given clean holds unsaved empty zip has known)

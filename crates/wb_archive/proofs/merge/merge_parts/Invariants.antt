@@ -17,5 +17,5 @@ invariant-loop-part g l = record {
       → at.saved ≡ None → at.now.binaries ≡ [] → AllZip (IsPartOf g.R.ReadParagraphs.stands_at machine) l.fn.parts.items given
       → HasSources g.R.ReadParagraphs.breaks text archs at.now.sources l.bad → AreAllKnown archs l.fn.parts.items
       → IsHalfMerged g.R.ReadParagraphs.stands_at machine archs (λ of. IsGiven g.R.ReadParagraphs.breaks (part_listing machine text of))
-      (λ records. g.T.MergeTables.holds l.tables (with_records records at)) given at.now.records l.replies.items l.part-iterator.rest.items;
+      (λ records. g.T.MergeTables.holds l.tables (with_records records at)) given at.now.machine.records l.replies.items l.part-iterator.rest.items;
 }

@@ -29,7 +29,7 @@ returns-in-Some-clause-value g c = λ at place archs rows clean holds stands fir
     let back = on-ok-at _ c.take_back.result end done (c.take_back.ensures.value (with_binaries filled.1.0 (with_savepoint at)) at.now clean filled.1.1 refl) in
     let as_was : record { now = at.now; saved = None } ≡ at = λ i. record { now = at.now; saved = sym unsaved i } in
     part-refused g.R.ReadParagraphs.breaks c.fill_binaries.new.list (λ (records : Records). g.T.MergeTables.holds c.take_back.new.tables (with_records records at))
-    c.args.arch.now at.now.records rows place c.in-Some.bad end filled.0 (if-ok-at _ c.take_back.result end done c.take_back.ensures.end)
+    c.args.arch.now at.now.machine.records rows place c.in-Some.bad end filled.0 (if-ok-at _ c.take_back.result end done c.take_back.ensures.end)
     (subst (λ (t : Tables). g.T.MergeTables.holds c.take_back.new.tables t) as_was back))
 
 pub returns-clause-value : goal.returns-clause-value
@@ -45,15 +45,15 @@ returns-clause-value g c = λ at place archs rows clean holds stands first unsav
     let filled = rw c.in-None.is at (c.in_ok-bad.ensures.value (with_savepoint at) place at_fill kept stands first empty) in
     part-kept g.R.ReadParagraphs.breaks c.fill_binaries.new.list (λ (records : Records). g.T.MergeTables.holds c.keep.new.tables (with_records records at))
     (λ (binaries : List BinaryRow). g.T.MergeTables.holds c.fill_binaries.new.tables (with_binaries binaries (with_savepoint at)))
-    c.args.arch.now archs (contains text_cmp c.in_ok-waited.waited) at.now.records rows place end there
+    c.args.arch.now archs (contains text_cmp c.in_ok-waited.waited) at.now.machine.records rows place end there
     (c.in_ok-waited.ensures.value (with_savepoint at) at_waited saved) filled
     (λ binaries stood.
     let held = on-ok-at _ c.keep.result end done (c.keep.ensures.value (with_binaries binaries (with_savepoint at)) clean stood (some-none at.now)) in
     let told = if-ok-at _ c.keep.result end done (c.keep.ensures.end (with_binaries binaries (with_savepoint at)) clean stood) in
-    let m = merged at.now.records c.args.arch.now.name (listing_of_kept c.args.arch.now at.now.sources binaries) in
-    let emptied : record { now = record { records = m; sources = at.now.sources; binaries = [] }; saved = None } ≡ with_records m at =
-    λ i. record { now = record { records = m; sources = at.now.sources; binaries = sym empty i }; saved = sym unsaved i } in (
-      subst (λ (s : List SourceRow). end ≡ Merged (merge_counts at.now.records c.args.arch.now.name (listing_of_kept c.args.arch.now s binaries))) sources told,
-      subst (λ (s : List SourceRow). g.T.MergeTables.holds c.keep.new.tables (with_records (merged at.now.records c.args.arch.now.name (listing_of_kept c.args.arch.now s binaries)) at)) sources
+    let m = merged at.now.machine.records c.args.arch.now.name (listing_of_kept c.args.arch.now at.now.sources binaries) in
+    let emptied : record { now = record { machine = record at.now.machine { records = m }; sources = at.now.sources; binaries = [] }; saved = None } ≡ with_records m at =
+    λ i. record { now = record { machine = record at.now.machine { records = m }; sources = at.now.sources; binaries = sym empty i }; saved = sym unsaved i } in (
+      subst (λ (s : List SourceRow). end ≡ Merged (merge_counts at.now.machine.records c.args.arch.now.name (listing_of_kept c.args.arch.now s binaries))) sources told,
+      subst (λ (s : List SourceRow). g.T.MergeTables.holds c.keep.new.tables (with_records (merged at.now.machine.records c.args.arch.now.name (listing_of_kept c.args.arch.now s binaries)) at)) sources
           (subst (λ (t : Tables). g.T.MergeTables.holds c.keep.new.tables t) emptied held),
     )))
