@@ -1,0 +1,130 @@
+-- A list that is read into a table, paragraph by paragraph.
+use Rattle.std.proofs.Common.{◌≡◌, ℕ, ◌+◌, ◌<◌, Bool, true, false, cond, List, [], ◌∷◌, ◌++◌, filter, Option, None, Some, Result, Ok, Err, refl, sym, ap, subst, ◌∙◌, inl, inr, append_assoc, append-nil, arith}
+use Rattle.std.specs.Prelude.{IfSome}
+use Rattle.std.specs.List.{AllByRecursion}
+use Rattle.std.specs.Result.{result_map_both}
+use Rattle.std.proofs.lemmas.List.Elements.{filter-append, filter_map-append}
+use Rattle.deb_control.specs.declared.fault.ControlFault.{ControlFault}
+use Rattle.deb_control.specs.Fields.{FieldText}
+use Rattle.deb_control.specs.Paragraphs.{ReaderState}
+use Rattle.deb_relations.specs.declared.arch.ArchWords.{ArchWords}
+use Rattle.wb_states.specs.declared.refusal.Refusal.{Refusal}
+use Rattle.wb_states.specs.declared.refusal.ListKind.{ListKind}
+use Rattle.wb_states.specs.declared.scratch.SourceRow.{SourceRow}
+use Rattle.wb_states.specs.declared.scratch.BinaryRow.{BinaryRow}
+use Rattle.wb_merge.specs.Rows.{onto_rows}
+use Rattle.wb_merge.specs.Scratch.{present}
+use Rattle.wb_archive.specs.declared.fault.BadList.{BadList}
+use Rattle.wb_archive.specs.Faults.{IsRefused}
+use Rattle.wb_archive.specs.Fills.{WithRows, binaries_wanted, is_binary_wanted, is_source_wanted, sources_wanted}
+use Rattle.wb_archive.specs.Reads.{GivesRow, kept_at}
+use Rattle.wb_archive.specs.Tables.{IsAfterBinaries}
+
+-- ---- facts of each row
+
+pub all-append : {X : Type 0} (P : X → Type 0) (xs ys : List X) → AllByRecursion P xs → AllByRecursion P ys → AllByRecursion P (xs ++ ys)
+all-append P [] ys hx hy = hy
+all-append P (x ∷ xs) ys hx hy = (hx.0, all-append P xs ys hx.1 hy)
+
+pub all-weaken : {X : Type 0} (P Q : X → Type 0) → ((x : X) → P x → Q x) → (xs : List X) → AllByRecursion P xs → AllByRecursion Q xs
+all-weaken P Q step [] h = tt
+all-weaken P Q step (x ∷ xs) h = (step x h.0, all-weaken P Q step xs h.1)
+
+-- ---- half of a list
+
+-- rows before those of a list, if it is not refused
+abbrev pub onto_all : {X : Type 0} → List X → Result (List X) Refusal → Result (List X) Refusal
+onto_all done rows = result_map_both (λ rows. done ++ rows) (λ refusal. refusal) rows
+
+onto-row : {X : Type 0} (done : List X) (x : X) (later : Result (List X) Refusal) → onto_all done (onto_rows (Ok x) later) ≡ onto_all (done ++ x ∷ []) later
+onto-row done x (Ok rows) = ap (λ (l : _). Ok l) (sym (append_assoc done (x ∷ []) rows))
+onto-row done x (Err refusal) = refl
+
+onto-none : {X : Type 0} (rows : Result (List X) Refusal) → rows ≡ onto_all [] rows
+onto-none (Ok rows) = refl
+onto-none (Err refusal) = refl
+
+-- so many paragraphs of a list were read, and the table has of their rows those that can matter
+pub record IsHalfFilled {X Y : Type 0} (which : ListKind) (row_at : ℕ → List FieldText → Result X Refusal) (wanted : List X → List Y) (number : Y → ℕ)
+    (Holds : List Y → Type 0) (Stands : ReaderState → Type 0) (kept : Result (List X) Refusal) (passed : ℕ) : Type 0 where
+  pub place : ReaderState
+  pub stands : Stands place
+  pub count : passed ≡ place.passed
+  pub done : List X
+  pub ahead : kept ≡ onto_all done (kept_at which row_at place)
+  pub holds : Holds (wanted done)
+  pub below : AllByRecursion (λ row. number row < passed + 1) (wanted done)
+
+module _ {X Y : Type 0} (which : ListKind) (row_at : ℕ → List FieldText → Result X Refusal) (wanted : List X → List Y) (number : Y → ℕ) where
+  -- before the first paragraph
+  pub half-start : (Holds : List Y → Type 0) (Stands : ReaderState → Type 0) (place : ReaderState) → Stands place → place.passed ≡ 0 → wanted [] ≡ [] → Holds []
+      → IsHalfFilled which row_at wanted number Holds Stands (kept_at which row_at place) 0
+  half-start Holds Stands place stands first none holds = record {
+    place = place;
+    stands = stands;
+    count = sym first;
+    done = [];
+    ahead = onto-none (kept_at which row_at place);
+    holds = subst Holds (sym none) holds;
+    below = subst (AllByRecursion (λ row. number row < 0 + 1)) (sym none) tt;
+  }
+
+  -- one paragraph more
+  pub half-step : {Holds More : List Y → Type 0} {Stands Stood : ReaderState → Type 0} (kept : Result (List X) Refusal) (passed : ℕ)
+      → (half : IsHalfFilled which row_at wanted number Holds Stands kept passed) (x : X) (next : ReaderState)
+      → GivesRow which row_at half.place x next → Stood next → wanted (half.done ++ x ∷ []) ≡ wanted half.done ++ wanted (x ∷ [])
+      → More (wanted half.done ++ wanted (x ∷ [])) → AllByRecursion (λ row. number row ≡ passed + 1) (wanted (x ∷ []))
+      → IsHalfFilled which row_at wanted number More Stood kept (passed + 1)
+  half-step {More = More} kept passed half x next gives stood split more numbered = record {
+    place = next;
+    stands = stood;
+    count = ap (λ n. n + 1) half.count ∙ sym gives.count;
+    done = half.done ++ x ∷ [];
+    ahead = half.ahead ∙ ap (onto_all half.done) gives.kept ∙ onto-row half.done x (kept_at which row_at next);
+    holds = subst More (sym split) more;
+    below = subst (AllByRecursion (λ row. number row < passed + 1 + 1)) (sym split)
+        (all-append (λ row. number row < passed + 1 + 1) (wanted half.done) (wanted (x ∷ []))
+        (all-weaken (λ row. number row < passed + 1) (λ row. number row < passed + 1 + 1) (λ row lt. omega arith) (wanted half.done) half.below)
+        (all-weaken (λ row. number row ≡ passed + 1) (λ row. number row < passed + 1 + 1) (λ row e. omega arith) (wanted (x ∷ [])) numbered));
+  }
+
+  -- after the last paragraph
+  pub half-ended : {Holds : List Y → Type 0} {Stands : ReaderState → Type 0} (kept : Result (List X) Refusal) (passed : ℕ)
+      → (half : IsHalfFilled which row_at wanted number Holds Stands kept passed) → kept_at which row_at half.place ≡ Ok []
+      → WithRows kept (λ rows. Holds (wanted rows))
+  half-ended {Holds = Holds} kept passed half ended =
+      let is : kept ≡ Ok half.done = half.ahead ∙ ap (onto_all half.done) ended ∙ ap (λ (l : List X). Ok l) (append-nil half.done) in
+      subst (λ k. WithRows k (λ rows. Holds (wanted rows))) (sym is) half.holds
+
+  -- a refusal of the paragraphs ahead is one of the list
+  pub half-refused : {R : Type 0} {Holds : List Y → Type 0} {Stands : ReaderState → Type 0} (Breaks : R → ControlFault → Type 0) (reader : R)
+      (kept : Result (List X) Refusal) (passed : ℕ) (bad : BadList) → (half : IsHalfFilled which row_at wanted number Holds Stands kept passed)
+      → IsRefused Breaks reader (kept_at which row_at half.place) bad → IsRefused Breaks reader kept bad
+  half-refused Breaks reader kept passed bad half (inl breaks) = inl breaks
+  half-refused Breaks reader kept passed bad half (inr e) = inr (half.ahead ∙ ap (onto_all half.done) e)
+
+-- ---- rows that can matter
+
+pub sources-split : (archs : List ArchWords) (xs ys : List SourceRow) → sources_wanted archs (xs ++ ys) ≡ sources_wanted archs xs ++ sources_wanted archs ys
+sources-split archs xs ys = filter-append (is_source_wanted archs) xs ys
+
+pub binaries-split : (waited : List ℕ → Bool) (xs ys : List (Option BinaryRow)) → binaries_wanted waited (xs ++ ys) ≡ binaries_wanted waited xs ++ binaries_wanted waited ys
+binaries-split waited xs ys =
+    ap (filter (is_binary_wanted waited)) (filter_map-append (λ (row : Option BinaryRow). row) xs ys) ∙ filter-append (is_binary_wanted waited) (present xs) (present ys)
+
+filter-one : {X : Type 0} (P : X → Type 0) (test : X → Bool) (x : X) → P x → AllByRecursion P (filter test (x ∷ []))
+filter-one P test x h = elim (test x) as (λ b. AllByRecursion P (cond b (x ∷ []) [])) [ true ↦ (h, tt) | false ↦ tt ]
+
+pub source-numbered : (archs : List ArchWords) (n : ℕ) (row : SourceRow) → row.seq ≡ n → AllByRecursion (λ (row : SourceRow). row.seq ≡ n) (sources_wanted archs (row ∷ []))
+source-numbered archs n row e = filter-one (λ (row : SourceRow). row.seq ≡ n) (is_source_wanted archs) row e
+
+pub binary-numbered : (waited : List ℕ → Bool) (n : ℕ) (row : Option BinaryRow) → IfSome row (λ row. row.seq ≡ n)
+    → AllByRecursion (λ (row : BinaryRow). row.seq ≡ n) (binaries_wanted waited (row ∷ []))
+binary-numbered waited n None e = tt
+binary-numbered waited n (Some row) e = filter-one (λ (row : BinaryRow). row.seq ≡ n) (is_binary_wanted waited) row e
+
+-- a row whose number is the next comes after all that are kept
+pub binary-after : (n : ℕ) (row : Option BinaryRow) (rows : List BinaryRow) → IfSome row (λ row. row.seq ≡ n) → AllByRecursion (λ (row : BinaryRow). row.seq < n) rows
+    → IfSome row (λ row. IsAfterBinaries row.seq rows)
+binary-after n None rows e below = tt
+binary-after n (Some row) rows e below = subst (λ m. AllByRecursion (λ (r : BinaryRow). r.seq < m) rows) (sym e) below

@@ -1,0 +1,10 @@
+pub mod DecideLemmas
+pub mod FillLemmas
+pub mod FilterLemmas
+pub mod MergeLemmas
+pub mod NameCountLemmas
+pub mod PartLemmas
+pub mod ReadLemmas
+pub mod StopLemmas
+pub mod WaitedLemmas
+pub mod WaitLemmas

@@ -1,0 +1,40 @@
+-- Why a merge stops, and why a list is refused.
+use Rattle.std.specs.Prelude.{◌≡◌, ◌⊎◌, Result, Err, ⊤}
+use Rattle.deb_control.specs.declared.fault.ControlFault.{ControlFault}
+use Rattle.wb_states.specs.declared.refusal.Refusal.{Refusal}
+use Rattle.wb_states.specs.declared.refusal.Refusal.TheVariants.{BadListing}
+use Rattle.wb_states.specs.declared.refusal.ListKind.{ListKind}
+use Rattle.wb_states.specs.declared.refusal.ListingFault.TheVariants.{Control}
+use Rattle.wb_archive.specs.declared.fault.BadList.{BadList}
+use Rattle.wb_archive.specs.declared.fault.MergeFault.{MergeFault}
+use Rattle.wb_archive.specs.declared.fault.MergeFault.TheVariants.{Memory, Tables}
+use Rattle.wb_archive.specs.declared.fault.ReadFault.{ReadFault}
+use Rattle.wb_archive.specs.declared.fault.ReadFault.TheVariants.{Memory as NoMemory, Bad}
+
+-- the refusal for the fault of a list
+abbrev pub refusal_of : BadList → Refusal
+refusal_of bad = BadListing bad.which bad.paragraph bad.fault
+
+-- the fault of a list for a fault of its reader
+abbrev pub control_bad : ListKind → ControlFault → BadList
+control_bad which fault = record { which = which; paragraph = fault.paragraph; fault = Control fault.kind }
+
+-- the fault of a list is that the reader broke there
+pub record IsBreak {R : Type 0} (Breaks : R → ControlFault → Type 0) (reader : R) (bad : BadList) : Type 0 where
+  pub broke : ControlFault
+  pub breaks : Breaks reader broke
+  pub is : bad ≡ control_bad bad.which broke
+
+-- a list is refused: for its first fault, or since the reader broke
+abbrev pub IsRefused : {R X : Type 0} → (R → ControlFault → Type 0) → R → Result X Refusal → BadList → Type 0
+IsRefused Breaks reader kept bad = IsBreak Breaks reader bad ⊎ (kept ≡ Err (refusal_of bad))
+
+-- what is so of the fault of a list that was read
+abbrev pub IfBad : ReadFault → (BadList → Type 0) → Type 0
+IfBad NoMemory P = ⊤
+IfBad (Bad bad) P = P bad
+
+-- calls on tables went from the first to the second and then stopped: memory ran out, or the next call failed with this fault
+abbrev pub StopsAs : {T F : Type 0} → (T → T → Type 0) → (T → T → F → Type 0) → T → T → MergeFault F → Type 0
+StopsAs Follows Fails old new Memory = Follows old new
+StopsAs Follows Fails old new (Tables fault) = Fails old new fault

@@ -1,0 +1,9 @@
+pub mod Decides
+pub mod Faults
+pub mod Fills
+pub mod Merges
+pub mod Parts
+pub mod Reads
+pub mod Sources
+pub mod Tables
+pub mod Waited

@@ -1,0 +1,37 @@
+-- The parts of a merge, each from its own list, one after another.
+use Rattle.std.specs.Prelude.{◌≡◌, ◌⊎◌, ℕ, List, Result, Ok, Err}
+use Rattle.std.specs.Result.{result_map_both}
+use Rattle.deb_control.specs.declared.fault.ControlFault.{ControlFault}
+use Rattle.deb_control.specs.Paragraphs.{ReaderState}
+use Rattle.deb_relations.specs.declared.arch.ArchWords.{ArchWords}
+use Rattle.wb_states.specs.declared.refusal.Refusal.{Refusal}
+use Rattle.wb_states.specs.declared.reply.PartEnd.{PartEnd}
+use Rattle.wb_states.specs.declared.scratch.BinaryRow.{BinaryRow}
+use Rattle.wb_states.specs.declared.scratch.SourceRow.{SourceRow}
+use Rattle.wb_merge.specs.Listing.{ArchiveListing}
+use Rattle.wb_merge.specs.Merged.{Records}
+use Rattle.wb_merge.specs.Scratch.{listing_kept, present}
+use Rattle.wb_step.specs.Parts.{end_with, records_with}
+use Rattle.wb_archive.specs.declared.fault.BadList.{BadList}
+use Rattle.wb_archive.specs.Faults.{IsBreak, refusal_of}
+use Rattle.wb_archive.specs.Reads.{packages_at}
+
+-- what is kept of a Packages list of which a reader has the paragraphs ahead
+abbrev pub binaries_at : ArchWords → ReaderState → Result (List BinaryRow) Refusal
+binaries_at arch place = result_map_both present (λ refusal. refusal) (packages_at arch place)
+
+-- what a part lists, from these rows of Sources and the paragraphs that the reader of its Packages has ahead, or why it is refused
+abbrev pub listing_from : ArchWords → List SourceRow → ReaderState → Result ArchiveListing Refusal
+listing_from arch sources place = listing_kept arch (Ok sources) (binaries_at arch place)
+
+-- a list gave this listing: the one that it has, or a refusal since its reader broke
+abbrev pub IsListing : {R : Type 0} → (R → ControlFault → Type 0) → R → Result ArchiveListing Refusal → Result ArchiveListing Refusal → Type 0
+IsListing Breaks reader listing given =
+    (given ≡ listing) ⊎ ((bad : BadList) × (IsBreak Breaks reader bad × (given ≡ Err (refusal_of bad))))
+
+-- a part was merged or refused by the listing that its list gave, and the tables have the records after it
+pub record IsPartDone (Gives : Result ArchiveListing Refusal → Type 0) (Holds : Records → Type 0) (records : Records) (arch : List ℕ) (end : PartEnd) : Type 0 where
+  pub listing : Result ArchiveListing Refusal
+  pub gives : Gives listing
+  pub is : end ≡ end_with records arch listing
+  pub holds : Holds (records_with records arch listing)

@@ -1,0 +1,37 @@
+-- What is kept of the paragraphs that a reader has ahead.
+use Rattle.std.specs.Prelude.{◌≡◌, ℕ, ◌+◌, List, Option, None, Some, Result, Ok, Err}
+use Rattle.deb_control.specs.declared.fault.ControlFaultKind.TheVariants.{Ended}
+use Rattle.deb_control.specs.Fields.{FieldText}
+use Rattle.deb_control.specs.Paragraphs.{ReaderState}
+use Rattle.deb_relations.specs.declared.arch.ArchWords.{ArchWords}
+use Rattle.wb_states.specs.declared.refusal.Refusal.{Refusal}
+use Rattle.wb_states.specs.declared.refusal.Refusal.TheVariants.{BadListing}
+use Rattle.wb_states.specs.declared.refusal.ListKind.{ListKind}
+use Rattle.wb_states.specs.declared.refusal.ListKind.TheVariants.{Sources, Packages}
+use Rattle.wb_states.specs.declared.refusal.ListingFault.TheVariants.{Control}
+use Rattle.wb_states.specs.declared.scratch.SourceRow.{SourceRow}
+use Rattle.wb_states.specs.declared.scratch.BinaryRow.{BinaryRow}
+use Rattle.wb_merge.specs.Rows.{onto_rows}
+use Rattle.wb_merge.specs.Scratch.{binary_row_at, kept_behind, source_row_at}
+
+-- what is kept of each of the paragraphs ahead after so many, or the refusal for the first that has a fault; a reader that ended is refused
+abbrev pub kept_ahead : {X : Type 0} → ListKind → (ℕ → List FieldText → Result X Refusal) → ℕ → Option (List (List (List ℕ))) → Result (List X) Refusal
+kept_ahead which row_at passed None = Err (BadListing which passed (Control Ended))
+kept_ahead which row_at passed (Some paragraphs) = kept_behind which row_at passed paragraphs
+
+-- what is kept of each paragraph that a reader has ahead, or the refusal for the first that has a fault
+abbrev pub kept_at : {X : Type 0} → ListKind → (ℕ → List FieldText → Result X Refusal) → ReaderState → Result (List X) Refusal
+kept_at which row_at place = kept_ahead which row_at place.passed place.ahead
+
+-- what is kept of a Sources list of which a reader has the paragraphs ahead
+abbrev pub sources_at : ReaderState → Result (List SourceRow) Refusal
+sources_at place = kept_at Sources source_row_at place
+
+-- what is kept, paragraph by paragraph, of a Packages list of an architecture of which a reader has the paragraphs ahead
+abbrev pub packages_at : ArchWords → ReaderState → Result (List (Option BinaryRow)) Refusal
+packages_at arch place = kept_at Packages (binary_row_at arch) place
+
+-- a reader that goes on by one paragraph, of which this is kept
+pub record GivesRow {X : Type 0} (which : ListKind) (row_at : ℕ → List FieldText → Result X Refusal) (old : ReaderState) (row : X) (new : ReaderState) : Type 0 where
+  pub kept : kept_at which row_at old ≡ onto_rows (Ok row) (kept_at which row_at new)
+  pub count : new.passed ≡ old.passed + 1

@@ -1,0 +1,219 @@
+//! The records of an architecture, brought in line with what the tables have of the archive's lists.
+ghost use Rattle.std.specs.Prelude.{◌≡◌, ◌++◌, ◌∷◌, [], Some, None, IfOk, IfErr, OnOk, if◌then◌else◌};
+ghost use Rattle.std.specs.FinMap as finite;
+ghost use Rattle.std.specs.Option.{option_map};
+ghost use Rattle.std.specs.Map.Iter.{deref};
+ghost use Rattle.wb_merge.specs.Merged.{change_of, merge_counts, merged};
+ghost use Rattle.wb_merge.specs.Steps.{record_at};
+ghost use Rattle.wb_archive.specs.Decides.{AreNamesToDecide, listing_at, record_decided, set_record};
+ghost use Rattle.wb_archive.specs.Faults.{StopsAs};
+ghost use Rattle.wb_archive.specs.Tables.{Tables, with_records};
+
+use crate::MergeTables;
+use crate::fault::{MergeFault, asked};
+use crate::waits::is_met;
+use deb_relations::ArchWords;
+use deb_text::Text;
+use std::alloc::{AllocError, Global};
+use wb_merge::{Change, after_found, counted};
+use wb_states::{MergeCounts, Record};
+
+/// The record of the source package on the architecture, if it has one.
+fn record_of<T: MergeTables>(
+    tables: &mut T,
+    arch: &Text,
+    name: &Text,
+) -> Result<Option<Record>, MergeFault<T::Fault>>
+    ensures value { (at : Tables) → T.is_clean tables.new → T.holds tables.old at
+        → IfOk result (λ found. found ≡ record_at at.now.machine.records (arch.now, name.now)) }
+    ensures same { (at : Tables) → T.is_clean tables.new → T.holds tables.old at → OnOk result (T.holds tables.new at) }
+    ensures follows { OnOk result (T.follows tables.old tables.new) }
+    ensures stops { IfErr result (StopsAs T.follows T.fails tables.old tables.new) }
+{
+    asked(tables.record(arch, name))
+}
+
+/// Whether the source package has a record on the architecture.
+fn has_record<T: MergeTables>(
+    tables: &mut T,
+    arch: &Text,
+    name: &Text,
+) -> Result<bool, MergeFault<T::Fault>>
+    ensures value { (at : Tables) → T.is_clean tables.new → T.holds tables.old at
+        → IfOk result (λ has. has ≡ finite.contains_key at.now.machine.records (arch.now, name.now)) }
+    ensures same { (at : Tables) → T.is_clean tables.new → T.holds tables.old at → OnOk result (T.holds tables.new at) }
+    ensures follows { OnOk result (T.follows tables.old tables.new) }
+    ensures stops { IfErr result (StopsAs T.follows T.fails tables.old tables.new) }
+{
+    let found = record_of(tables, arch, name)?;
+    Ok(found.is_some())
+}
+
+/// Adds a copy of the name, unless it has a record.
+fn add_unless(names: &mut Vec<Text>, name: &Text, has_record: bool) -> Result<(), AllocError>
+    ensures value { OnOk result (names.new.items ≡ names.old.items ++ (if has_record then [] else name.now ∷ [])) }
+{
+    if !has_record {
+        names.push(name.clone()?)?;
+    }
+    Ok(())
+}
+
+/// The source packages of the architecture that have a record, then those of which there are rows and no record.
+fn names_to_decide<T: MergeTables>(
+    tables: &mut T,
+    arch: &Text,
+) -> Result<Vec<Text>, MergeFault<T::Fault>>
+    ensures value { (at : Tables) → T.is_clean tables.new → T.holds tables.old at
+        → IfOk result (λ names. AreNamesToDecide at.now arch.now names.items) }
+    ensures same { (at : Tables) → T.is_clean tables.new → T.holds tables.old at → OnOk result (T.holds tables.new at) }
+    ensures follows { OnOk result (T.follows tables.old tables.new) }
+    ensures stops { IfErr result (StopsAs T.follows T.fails tables.old tables.new) }
+{
+    let mut names = asked(tables.recorded_names(arch))?;
+    let listed = asked(tables.listed_names())?;
+    for name in &listed {
+        let has_record = has_record(tables, arch, name)?;
+        add_unless(&mut names, name, has_record)?;
+    }
+    Ok(names)
+}
+
+/// The record of a source package after the merge, given the one that it had.
+fn found<T: MergeTables>(
+    alloc: Global,
+    tables: &mut T,
+    arch: &ArchWords,
+    name: &Text,
+    old: Option<&Record>,
+) -> Result<Option<Record>, MergeFault<T::Fault>>
+    ensures value { (at : Tables) → T.is_clean tables.new → T.holds tables.old at
+        → option_map deref old.entry ≡ record_at at.now.machine.records (arch.now.name, name.now)
+        → IfOk result (λ new. new ≡ record_decided arch.now at.now name.now) }
+    ensures same { (at : Tables) → T.is_clean tables.new → T.holds tables.old at → OnOk result (T.holds tables.new at) }
+    ensures follows { OnOk result (T.follows tables.old tables.new) }
+    ensures stops { IfErr result (StopsAs T.follows T.fails tables.old tables.new) }
+{
+    let is_met = is_met(alloc, tables, old)?;
+    let sources = asked(tables.sources_named(name))?;
+    let binaries = asked(tables.binaries_of(name))?;
+    match after_found(alloc, old, name, &sources, &binaries, is_met, arch) {
+        Ok(new) => Ok(new),
+        Err(_) => Err(MergeFault::Memory),
+    }
+}
+
+/// Gives the source package this record, unless the change is that it keeps its own.
+fn put_new<T: MergeTables>(
+    tables: &mut T,
+    arch: &Text,
+    name: &Text,
+    new: &Record,
+    change: Change,
+) -> Result<(), MergeFault<T::Fault>>
+    ensures value { (at : Tables) → T.is_clean tables.new → T.holds tables.old at
+        → change ≡ change_of (record_at at.now.machine.records (arch.now, name.now)) (Some new.now)
+        → OnOk result (T.holds tables.new
+        (with_records (set_record at.now.machine.records (arch.now, name.now) (Some new.now)) at)) }
+    ensures follows { OnOk result (T.follows tables.old tables.new) }
+    ensures stops { IfErr result (StopsAs T.follows T.fails tables.old tables.new) }
+{
+    if let Change::Kept = change {
+        return Ok(());
+    }
+    asked(tables.put(arch, name, new))
+}
+
+/// Takes the record of the source package out, unless the change is that there was none.
+fn take_out<T: MergeTables>(
+    tables: &mut T,
+    arch: &Text,
+    name: &Text,
+    change: Change,
+) -> Result<(), MergeFault<T::Fault>>
+    ensures value { (at : Tables) → T.is_clean tables.new → T.holds tables.old at
+        → change ≡ change_of (record_at at.now.machine.records (arch.now, name.now)) None
+        → OnOk result (T.holds tables.new
+        (with_records (set_record at.now.machine.records (arch.now, name.now) None) at)) }
+    ensures follows { OnOk result (T.follows tables.old tables.new) }
+    ensures stops { IfErr result (StopsAs T.follows T.fails tables.old tables.new) }
+{
+    if let Change::Absent = change {
+        return Ok(());
+    }
+    asked(tables.remove(arch, name))
+}
+
+/// Gives the source package this record, or none, in place of the one that it had, if they differ: nothing is written for
+/// one that stays.
+fn keep_record<T: MergeTables>(
+    tables: &mut T,
+    arch: &Text,
+    name: &Text,
+    old: Option<&Record>,
+    new: Option<Record>,
+) -> Result<Change, MergeFault<T::Fault>>
+    ensures value { (at : Tables) → T.is_clean tables.new → T.holds tables.old at
+        → option_map deref old.entry ≡ record_at at.now.machine.records (arch.now, name.now)
+        → OnOk result (T.holds tables.new (with_records (set_record at.now.machine.records (arch.now, name.now) new) at)) }
+    ensures change { IfOk result (λ change. change ≡ change_of (option_map deref old.entry) new) }
+    ensures follows { OnOk result (T.follows tables.old tables.new) }
+    ensures stops { IfErr result (StopsAs T.follows T.fails tables.old tables.new) }
+{
+    let change = Change::of(old, new.as_ref());
+    match new {
+        Some(new) => put_new(tables, arch, name, &new, change)?,
+        None => take_out(tables, arch, name, change)?,
+    }
+    Ok(change)
+}
+
+/// Brings the record of one source package in line with what the tables have of the lists.
+fn decide_one<T: MergeTables>(
+    alloc: Global,
+    tables: &mut T,
+    arch: &ArchWords,
+    name: &Text,
+) -> Result<Change, MergeFault<T::Fault>>
+    ensures value { (at : Tables) → T.is_clean tables.new → T.holds tables.old at
+        → OnOk result (T.holds tables.new (with_records (set_record at.now.machine.records (arch.now.name, name.now)
+        (record_decided arch.now at.now name.now)) at)) }
+    ensures change { (at : Tables) → T.is_clean tables.new → T.holds tables.old at
+        → IfOk result (λ change. change ≡ change_of (record_at at.now.machine.records (arch.now.name, name.now))
+        (record_decided arch.now at.now name.now)) }
+    ensures follows { OnOk result (T.follows tables.old tables.new) }
+    ensures stops { IfErr result (StopsAs T.follows T.fails tables.old tables.new) }
+{
+    let old = record_of(tables, &arch.name, name)?;
+    let new = found(alloc, tables, arch, name, old.as_ref())?;
+    keep_record(tables, &arch.name, name, old.as_ref(), new)
+}
+
+/// Brings the records of the architecture in line with what the tables have of the archive's lists, source package by source
+/// package, each from its own rows, and counts what it did: a record is written if it is new or a field of it differs, and
+/// taken out if its source package is not listed. All else stays (this project's own).
+pub fn decide<T: MergeTables>(
+    alloc: Global,
+    tables: &mut T,
+    arch: &ArchWords,
+) -> Result<MergeCounts, MergeFault<T::Fault>>
+    ensures value { (at : Tables) → T.is_clean tables.new → T.holds tables.old at
+        → OnOk result (T.holds tables.new
+        (with_records (merged at.now.machine.records arch.now.name (listing_at arch.now at.now)) at)) }
+    ensures counts { (at : Tables) → T.is_clean tables.new → T.holds tables.old at
+        → IfOk result (λ counts. counts ≡ merge_counts at.now.machine.records arch.now.name (listing_at arch.now at.now)) }
+    ensures follows { OnOk result (T.follows tables.old tables.new) }
+    ensures stops { IfErr result (StopsAs T.follows T.fails tables.old tables.new) }
+{
+    let names = names_to_decide(tables, &arch.name)?;
+    let mut counts = MergeCounts {
+        added: 0,
+        changed: 0,
+        kept: 0,
+        removed: 0,
+    };
+    for name in &names {
+        counts = counted(counts, decide_one(alloc, tables, arch, name)?);
+    }
+    Ok(counts)
+}

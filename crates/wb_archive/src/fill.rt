@@ -1,0 +1,127 @@
+//! A list, read into a table paragraph by paragraph.
+ghost use Rattle.std.specs.Prelude.{◌≡◌, ◌++◌, ◌∷◌, [], IfOk, IfErr, IfSome, OnOk};
+ghost use Rattle.std.specs.BTreeSet.{contains};
+ghost use Rattle.deb_control.specs.Paragraphs.{ReaderState};
+ghost use Rattle.deb_text.specs.Text.{text_cmp};
+ghost use Rattle.wb_archive.specs.Faults.{IsRefused, StopsAs};
+ghost use Rattle.wb_archive.specs.Fills.{IsFilled, binaries_wanted, is_binary_wanted, is_source_wanted, sources_wanted};
+ghost use Rattle.wb_archive.specs.Reads.{packages_at, sources_at};
+ghost use Rattle.wb_archive.specs.Tables.{Tables, IsAfterBinaries, IsAfterSources, with_binaries, with_sources};
+
+use crate::fault::{BadList, MergeFault, ReadFault, asked};
+use crate::rows::{next_binary, next_source};
+use crate::{MergeTables, ReadParagraphs};
+use deb_relations::ArchWords;
+use deb_text::Text;
+use std::alloc::Global;
+use std::collections::BTreeSet;
+use wb_merge::is_listed_for;
+use wb_states::{BinaryRow, SourceRow};
+
+/// Whether the row can matter to a merge of these architectures.
+fn is_source_wanted(row: &SourceRow, archs: &[ArchWords]) -> bool
+    ensures { result ≡ is_source_wanted archs.now row.now }
+{
+    archs.iter().any(|arch| is_listed_for(row, arch))
+}
+
+/// Whether the row can matter to a part of which these names are waited for.
+fn is_binary_wanted(row: &BinaryRow, waited: &BTreeSet<Text>) -> bool
+    ensures { result ≡ is_binary_wanted (contains text_cmp waited.now) row.now }
+{
+    row.own || waited.contains(&row.name)
+}
+
+/// Puts the row into its table if it can matter.
+fn keep_source<T: MergeTables>(
+    tables: &mut T,
+    archs: &[ArchWords],
+    row: &SourceRow,
+) -> Result<(), MergeFault<T::Fault>>
+    ensures value { (at : Tables) → T.is_clean tables.new → T.holds tables.old at → IsAfterSources row.now.seq at.now.sources
+        → OnOk result (T.holds tables.new
+        (with_sources (at.now.sources ++ sources_wanted archs.now (row.now ∷ [])) at)) }
+    ensures follows { OnOk result (T.follows tables.old tables.new) }
+    ensures stops { IfErr result (StopsAs T.follows T.fails tables.old tables.new) }
+{
+    if is_source_wanted(row, archs) {
+        asked(tables.add_source(row))?;
+    }
+    Ok(())
+}
+
+/// Puts what is kept of a paragraph into its table, if anything is kept of it and it can matter.
+fn keep_binary<T: MergeTables>(
+    tables: &mut T,
+    waited: &BTreeSet<Text>,
+    row: &Option<BinaryRow>,
+) -> Result<(), MergeFault<T::Fault>>
+    ensures value { (at : Tables) → T.is_clean tables.new → T.holds tables.old at
+        → IfSome row.now (λ row. IsAfterBinaries row.seq at.now.binaries)
+        → OnOk result (T.holds tables.new
+        (with_binaries (at.now.binaries ++ binaries_wanted (contains text_cmp waited.now) (row.now ∷ [])) at)) }
+    ensures follows { OnOk result (T.follows tables.old tables.new) }
+    ensures stops { IfErr result (StopsAs T.follows T.fails tables.old tables.new) }
+{
+    match row {
+        Some(row) if is_binary_wanted(row, waited) => asked(tables.add_binary(row)),
+        _ => Ok(()),
+    }
+}
+
+/// Reads a Sources list into its table, which is empty: of its rows those that can matter to a merge of these
+/// architectures. Each paragraph is read and checked all the same, and the first faulty one refuses the list, or that its
+/// reader broke; the table then has some rows (this project's own).
+pub fn fill_sources<T: MergeTables, R: ReadParagraphs>(
+    alloc: Global,
+    tables: &mut T,
+    archs: &[ArchWords],
+    list: &mut R,
+) -> Result<Option<BadList>, MergeFault<T::Fault>>
+    ensures value { (at : Tables) (place : ReaderState) → T.is_clean tables.new → T.holds tables.old at
+        → R.stands_at list.old place → place.passed ≡ 0 → at.now.sources ≡ []
+        → IfOk result (IsFilled (sources_at place) (sources_wanted archs.now)
+        (λ rows. T.holds tables.new (with_sources rows at))
+        (IsRefused R.breaks list.new (sources_at place))) }
+    ensures follows { OnOk result (T.follows tables.old tables.new) }
+    ensures stops { IfErr result (StopsAs T.follows T.fails tables.old tables.new) }
+{
+    for passed in 0..u64::MAX {
+        match next_source(alloc, list, passed) {
+            Ok(Some(row)) => keep_source(tables, archs, &row)?,
+            Ok(None) => return Ok(None),
+            Err(ReadFault::Bad(bad)) => return Ok(Some(bad)),
+            Err(ReadFault::Memory) => return Err(MergeFault::Memory),
+        }
+    }
+    Ok(None)
+}
+
+/// Reads the Packages list of an architecture into its table, which is empty: of its rows those that can matter, the
+/// architecture's own and those whose names are waited for. Each paragraph is read and checked all the same, and the first
+/// faulty one refuses the list, or that its reader broke; the table then has some rows (this project's own).
+pub fn fill_binaries<T: MergeTables, R: ReadParagraphs>(
+    alloc: Global,
+    tables: &mut T,
+    arch: &ArchWords,
+    waited: &BTreeSet<Text>,
+    list: &mut R,
+) -> Result<Option<BadList>, MergeFault<T::Fault>>
+    ensures value { (at : Tables) (place : ReaderState) → T.is_clean tables.new → T.holds tables.old at
+        → R.stands_at list.old place → place.passed ≡ 0 → at.now.binaries ≡ []
+        → IfOk result (IsFilled (packages_at arch.now place) (binaries_wanted (contains text_cmp waited.now))
+        (λ rows. T.holds tables.new (with_binaries rows at))
+        (IsRefused R.breaks list.new (packages_at arch.now place))) }
+    ensures follows { OnOk result (T.follows tables.old tables.new) }
+    ensures stops { IfErr result (StopsAs T.follows T.fails tables.old tables.new) }
+{
+    for passed in 0..u64::MAX {
+        match next_binary(alloc, list, passed, arch) {
+            Ok(Some(row)) => keep_binary(tables, waited, &row)?,
+            Ok(None) => return Ok(None),
+            Err(ReadFault::Bad(bad)) => return Ok(Some(bad)),
+            Err(ReadFault::Memory) => return Err(MergeFault::Memory),
+        }
+    }
+    Ok(None)
+}

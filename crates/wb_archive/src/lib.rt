@@ -1,0 +1,22 @@
+//! The merge of an archive's lists, paragraph by paragraph, into tables that a trait describes.
+#![tactic(auto)]
+
+mod deciding;
+mod fault;
+mod fill;
+pub mod laws;
+mod merge;
+mod paragraphs;
+mod part;
+mod rows;
+mod tables;
+mod waited;
+mod waits;
+
+pub use deciding::decide;
+pub use fault::{BadList, MergeFault};
+pub use fill::{fill_binaries, fill_sources};
+pub use merge::{PartList, merge_lists};
+pub use paragraphs::ReadParagraphs;
+pub use part::merge_part;
+pub use tables::MergeTables;

@@ -1,0 +1,199 @@
+//! The merge of an archive's lists: Sources is read once, and then each part in its order.
+ghost use Rattle.std.specs.Prelude.{◌≡◌, ◌++◌, ◌⊎◌, ℕ, List, [], ◌∷◌, None, Some, Err, IfOk, IfErr, OnOk};
+ghost use Rattle.std.specs.FinMap as finite;
+ghost use Rattle.std.specs.List.{AllZip};
+ghost use Rattle.deb_control.specs.declared.fault.ControlFault.{ControlFault};
+ghost use Rattle.deb_relations.specs.declared.arch.ArchWords.{ArchWords};
+ghost use Rattle.wb_states.specs.declared.command.Part.{Part};
+ghost use Rattle.wb_states.specs.Machine.{Machine};
+ghost use Rattle.wb_step.specs.Parts.{part_listing, part_replies, records_after};
+ghost use Rattle.wb_states.specs.declared.reply.PartEnd.TheVariants.{Refused};
+ghost use Rattle.wb_archive.specs.Faults.{StopsAs, refusal_of};
+ghost use Rattle.wb_archive.specs.Parts.{IsPartDone};
+ghost use Rattle.wb_archive.specs.Merges.{BeginsAt, IsGiven, IsMergeDone, IsPartOf, arch_of, archs_of};
+ghost use Rattle.wb_archive.specs.Sources.{AreAllKnown, AreKnown, HasSources};
+ghost use Rattle.wb_archive.specs.Tables.{Tables, with_binaries, with_records, with_sources};
+
+use crate::fault::{BadList, MergeFault, asked};
+use crate::fill::fill_sources;
+use crate::part::merge_part;
+use crate::{MergeTables, ReadParagraphs};
+use deb_relations::ArchWords;
+use deb_text::Text;
+use std::alloc::{AllocError, Global};
+use wb_states::{OsCpu, PartEnd, PartReply, Refusal};
+
+/// A part of a merge: an architecture, and the reader of its Packages list.
+#[derive(Drop)]
+pub struct PartList<R: Drop> {
+    /// The architecture.
+    pub arch: Text,
+    /// Its words, if it was added to the office.
+    pub words: Option<OsCpu>,
+    /// Its Packages list.
+    pub packages: R,
+}
+
+/// Adds the architecture of a part, if it was added to the office.
+fn add_arch(
+    alloc: Global,
+    archs: &mut Vec<ArchWords>,
+    arch: &Text,
+    words: &Option<OsCpu>,
+) -> Result<(), AllocError>
+    ensures value { OnOk result (archs.new.items ≡ archs.old.items ++ arch_of arch.now words.now) }
+{
+    if let Some(words) = words {
+        let arch = ArchWords::new(alloc, arch.as_str(), words.os.as_str(), words.cpu.as_str())?;
+        archs.push(arch)?;
+    }
+    Ok(())
+}
+
+/// The architectures of the parts, of those that were added to the office.
+fn archs_of<R: ReadParagraphs>(
+    alloc: Global,
+    parts: &[PartList<R>],
+) -> Result<Vec<ArchWords>, AllocError>
+    ensures value { IfOk result (λ archs. archs.items ≡ archs_of parts.now) }
+{
+    let mut archs = Vec::new(alloc);
+    for part in parts {
+        add_arch(alloc, &mut archs, &part.arch, &part.words)?;
+    }
+    Ok(archs)
+}
+
+/// Refuses a part for the fault of a list.
+fn refused(bad: BadList) -> PartEnd
+    ensures value { result ≡ Refused (refusal_of bad) }
+{
+    PartEnd::Refused {
+        refusal: bad.refusal(),
+    }
+}
+
+/// Merges a part, given the fault for which Sources is refused, if it is. A part whose architecture is not known is not read.
+fn merge_known<T: MergeTables, R: ReadParagraphs>(
+    alloc: Global,
+    tables: &mut T,
+    bad: Option<BadList>,
+    name: &Text,
+    words: &Option<OsCpu>,
+    packages: &mut R,
+) -> Result<PartEnd, MergeFault<T::Fault>>
+    ensures value { (at : Tables) (machine : Machine) (text : List ℕ) (archs : List ArchWords) (of : Part)
+        → T.is_clean tables.new → T.holds tables.old at → at.saved ≡ None → at.now.binaries ≡ []
+        → name.now ≡ of.arch → words.now ≡ finite.get machine.archs of.arch → BeginsAt R.stands_at packages.old of.packages
+        → HasSources R.breaks text archs at.now.sources bad → AreKnown archs name.now words.now
+        → IfOk result (IsPartDone (IsGiven R.breaks (part_listing machine text of))
+        (λ records. T.holds tables.new (with_records records at)) at.now.machine.records of.arch) }
+    ensures follows { OnOk result (T.follows tables.old tables.new) }
+    ensures stops { IfErr result (StopsAs T.follows T.fails tables.old tables.new) }
+{
+    let Some(words) = words else {
+        return Ok(PartEnd::Refused {
+            refusal: Refusal::UnknownArch,
+        });
+    };
+    if let Some(bad) = bad {
+        return Ok(refused(bad));
+    }
+    let (os, cpu) = (words.os.as_str(), words.cpu.as_str());
+    let arch = ArchWords::new(alloc, name.as_str(), os, cpu)?;
+    merge_part(alloc, tables, &arch, packages)
+}
+
+/// Merges a part, and says of which architecture it is.
+fn reply_to<T: MergeTables, R: ReadParagraphs>(
+    alloc: Global,
+    tables: &mut T,
+    bad: Option<BadList>,
+    part: PartList<R>,
+) -> Result<PartReply, MergeFault<T::Fault>>
+    ensures value { (at : Tables) (machine : Machine) (text : List ℕ) (archs : List ArchWords) (of : Part)
+        → T.is_clean tables.new → T.holds tables.old at → at.saved ≡ None → at.now.binaries ≡ []
+        → IsPartOf R.stands_at machine part of → HasSources R.breaks text archs at.now.sources bad
+        → AreKnown archs part.arch part.words
+        → IfOk result (λ reply. (reply.arch ≡ of.arch) × IsPartDone (IsGiven R.breaks (part_listing machine text of))
+        (λ records. T.holds tables.new (with_records records at)) at.now.machine.records of.arch reply.end) }
+    ensures follows { OnOk result (T.follows tables.old tables.new) }
+    ensures stops { IfErr result (StopsAs T.follows T.fails tables.old tables.new) }
+{
+    let PartList {
+        arch,
+        words,
+        mut packages,
+    } = part;
+    let end = merge_known(alloc, tables, bad, &arch, &words, &mut packages)?;
+    Ok(PartReply { arch, end })
+}
+
+/// Adds a reply after the others.
+fn add_reply(replies: &mut Vec<PartReply>, reply: PartReply) -> Result<(), AllocError>
+    ensures value { OnOk result (replies.new.items ≡ replies.old.items ++ reply ∷ []) }
+{
+    replies.push(reply)?;
+    Ok(())
+}
+
+/// Merges the parts in their order.
+fn merge_parts<T: MergeTables, R: ReadParagraphs>(
+    alloc: Global,
+    tables: &mut T,
+    bad: Option<BadList>,
+    parts: Vec<PartList<R>>,
+) -> Result<Vec<PartReply>, MergeFault<T::Fault>>
+    ensures value { (at : Tables) (machine : Machine) (text : List ℕ) (archs : List ArchWords) (given : List Part)
+        → T.is_clean tables.new → T.holds tables.old at → at.saved ≡ None → at.now.binaries ≡ []
+        → AllZip (IsPartOf R.stands_at machine) parts.items given → HasSources R.breaks text archs at.now.sources bad
+        → AreAllKnown archs parts.items
+        → IfOk result (λ replies. IsMergeDone (λ of. IsGiven R.breaks (part_listing machine text of))
+        (λ records. T.holds tables.new (with_records records at)) given at.now.machine.records replies.items) }
+    ensures follows { OnOk result (T.follows tables.old tables.new) }
+    ensures stops { IfErr result (StopsAs T.follows T.fails tables.old tables.new) }
+{
+    let mut replies = Vec::new(alloc);
+    for part in parts {
+        let reply = reply_to(alloc, tables, bad, part)?;
+        add_reply(&mut replies, reply)?;
+    }
+    Ok(replies)
+}
+
+/// Takes out all rows of the merge.
+fn clear_all<T: MergeTables>(tables: &mut T) -> Result<(), MergeFault<T::Fault>>
+    ensures value { (at : Tables) → T.is_clean tables.new → T.holds tables.old at
+        → OnOk result (T.holds tables.new (with_sources [] (with_binaries [] at))) }
+    ensures follows { OnOk result (T.follows tables.old tables.new) }
+    ensures stops { IfErr result (StopsAs T.follows T.fails tables.old tables.new) }
+{
+    asked(tables.clear_scratch())
+}
+
+/// Merges an archive's lists into the records of the tables, paragraph by paragraph: Sources is read once, into its table, and
+/// then each part in its order, within a savepoint of its own. A part whose architecture was never added is not read and is
+/// refused with `UnknownArch`; one whose list is refused, or all if Sources is, changes nothing and says why. In the end no row
+/// of the lists is left and no savepoint. The errors are `Memory` if memory ran out, and else the first fault of the tables; the
+/// caller then takes its transaction back (this project's own).
+pub fn merge_lists<T: MergeTables, R: ReadParagraphs>(
+    alloc: Global,
+    tables: &mut T,
+    sources: &mut R,
+    parts: Vec<PartList<R>>,
+) -> Result<Vec<PartReply>, MergeFault<T::Fault>>
+    ensures value { (at : Tables) (machine : Machine) (text : List ℕ) (given : List Part)
+        → T.is_clean tables.new → T.holds tables.old at
+        → at.saved ≡ None → at.now.sources ≡ [] → at.now.binaries ≡ []
+        → BeginsAt R.stands_at sources.old text → AllZip (IsPartOf R.stands_at machine) parts.items given
+        → IfOk result (λ replies. IsMergeDone (λ of. IsGiven R.breaks (part_listing machine text of))
+        (λ records. T.holds tables.new (with_records records at)) given at.now.machine.records replies.items) }
+    ensures follows { OnOk result (T.follows tables.old tables.new) }
+    ensures stops { IfErr result (StopsAs T.follows T.fails tables.old tables.new) }
+{
+    let archs = archs_of(alloc, &parts)?;
+    let bad = fill_sources(alloc, tables, &archs, sources)?;
+    let replies = merge_parts(alloc, tables, bad, parts)?;
+    clear_all(tables)?;
+    Ok(replies)
+}

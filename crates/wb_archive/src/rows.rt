@@ -1,0 +1,90 @@
+//! What a merge keeps of the paragraphs of the archive's lists, one after another.
+ghost use Rattle.std.specs.Prelude.{◌≡◌, ◌≢◌, ◌+◌, ◌-◌, ◌^◌, ◌<◌, [], None, Ok, Err, IfOk, IfErr, IfSome};
+ghost use Rattle.deb_control.specs.Paragraphs.{ReaderState, step};
+ghost use Rattle.deb_control.specs.declared.fault.ControlFaultKind.TheVariants.{Memory as NoMemory};
+ghost use Rattle.wb_states.specs.declared.refusal.ListKind.TheVariants.{Sources, Packages};
+ghost use Rattle.wb_merge.specs.Scratch.{binary_row_at, source_row_at};
+ghost use Rattle.wb_archive.specs.Faults.{IfBad, IsRefused, control_bad};
+ghost use Rattle.wb_archive.specs.Reads.{GivesRow, packages_at, sources_at};
+ghost use Rattle.wb_archive.specs.declared.fault.ReadFault.TheVariants.{Bad};
+
+use crate::ReadParagraphs;
+use crate::fault::{BadList, ReadFault, read_fault};
+use deb_control::{ControlFault, ControlFaultKind};
+use deb_relations::ArchWords;
+use std::alloc::Global;
+use wb_merge::{binary_row, source_row};
+use wb_states::{BinaryRow, ListKind, ListingFault, SourceRow};
+
+/// Why a paragraph of a list was not read, for a fault of its reader.
+fn fault_of(which: ListKind, fault: ControlFault) -> ReadFault
+    ensures bad { fault.kind ≢ NoMemory → result ≡ Bad (control_bad which fault) }
+    ensures is { IfBad result (λ bad. fault.kind ≢ NoMemory × (bad ≡ control_bad which fault)) }
+{
+    match fault.kind {
+        ControlFaultKind::Memory => ReadFault::Memory,
+        kind => ReadFault::Bad(BadList {
+            which,
+            paragraph: fault.paragraph,
+            fault: ListingFault::Control { kind },
+        }),
+    }
+}
+
+/// What is kept of the next paragraph of a Sources list, after so many, or none at the end.
+pub(crate) fn next_source<R: ReadParagraphs>(
+    alloc: Global,
+    list: &mut R,
+    passed: u64,
+) -> Result<Option<SourceRow>, ReadFault>
+    requires room { passed < 2 ^ 64 - 1 }
+    ensures value { (place : ReaderState) → R.stands_at list.old place → passed ≡ place.passed
+        → IfOk result (λ found. IfSome found (λ row. GivesRow Sources source_row_at place row (step place).1)) }
+    ensures stands { (place : ReaderState) → R.stands_at list.old place
+        → IfOk result (λ found. IfSome found (λ row. R.stands_at list.new (step place).1)) }
+    ensures number { (place : ReaderState) → R.stands_at list.old place
+        → IfOk result (λ found. IfSome found (λ row. row.seq ≡ passed + 1)) }
+    ensures ended { (place : ReaderState) → R.stands_at list.old place
+        → IfOk result (λ found. found ≡ None → sources_at place ≡ Ok []) }
+    ensures refused { (place : ReaderState) → R.stands_at list.old place → passed ≡ place.passed
+        → IfErr result (λ fault. IfBad fault (IsRefused R.breaks list.new (sources_at place))) }
+{
+    match list.next(alloc) {
+        Ok(None) => Ok(None),
+        Ok(Some(found)) => match source_row(alloc, &found, passed + 1) {
+            Ok(row) => Ok(Some(row)),
+            Err(refusal) => Err(read_fault(refusal)),
+        },
+        Err(fault) => Err(fault_of(ListKind::Sources, fault)),
+    }
+}
+
+/// What is kept of the next paragraph of the Packages list of an architecture, after so many, or none at the end.
+pub(crate) fn next_binary<R: ReadParagraphs>(
+    alloc: Global,
+    list: &mut R,
+    passed: u64,
+    arch: &ArchWords,
+) -> Result<Option<Option<BinaryRow>>, ReadFault>
+    requires room { passed < 2 ^ 64 - 1 }
+    ensures value { (place : ReaderState) → R.stands_at list.old place → passed ≡ place.passed
+        → IfOk result (λ found. IfSome found (λ row.
+        GivesRow Packages (binary_row_at arch.now) place row (step place).1)) }
+    ensures stands { (place : ReaderState) → R.stands_at list.old place
+        → IfOk result (λ found. IfSome found (λ row. R.stands_at list.new (step place).1)) }
+    ensures number { (place : ReaderState) → R.stands_at list.old place
+        → IfOk result (λ found. IfSome found (λ row. IfSome row (λ row. row.seq ≡ passed + 1))) }
+    ensures ended { (place : ReaderState) → R.stands_at list.old place
+        → IfOk result (λ found. found ≡ None → packages_at arch.now place ≡ Ok []) }
+    ensures refused { (place : ReaderState) → R.stands_at list.old place → passed ≡ place.passed
+        → IfErr result (λ fault. IfBad fault (IsRefused R.breaks list.new (packages_at arch.now place))) }
+{
+    match list.next(alloc) {
+        Ok(None) => Ok(None),
+        Ok(Some(found)) => match binary_row(alloc, &found, passed + 1, arch) {
+            Ok(row) => Ok(Some(row)),
+            Err(refusal) => Err(read_fault(refusal)),
+        },
+        Err(fault) => Err(fault_of(ListKind::Packages, fault)),
+    }
+}
