@@ -129,7 +129,16 @@ class Gate:
         self.open()
 
     def open(self):
-        self.listener = socket.create_server(("127.0.0.1", self.port), backlog=64)
+        """Takes calls. A process that is begun meanwhile has the sockets of this one until it runs its program, so a port is free only then."""
+        end = time.monotonic() + WAIT
+        while True:
+            try:
+                self.listener = socket.create_server(("127.0.0.1", self.port), backlog=64)
+                break
+            except OSError:
+                if time.monotonic() > end:
+                    raise
+                time.sleep(0.01)
         threading.Thread(target=self.take_all, args=(self.listener,), daemon=True).start()
 
     def close(self):
