@@ -36,7 +36,8 @@ impl BadList {
 /// Why a merge stops before its end; `F` is a fault of the tables.
 #[derive(Debug, Drop)]
 pub enum MergeFault<F: Drop> {
-    /// Memory ran out, and each call on the tables succeeded.
+    /// Memory ran out, or a list has 2^63 - 1 paragraphs or more, which cannot all be numbered. Each call on the tables
+    /// succeeded.
     Memory,
     /// A call on the tables failed with this fault, and each call before it succeeded.
     Tables(F),

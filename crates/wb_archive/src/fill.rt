@@ -1,5 +1,5 @@
 //! A list, read into a table paragraph by paragraph.
-ghost use Rattle.std.specs.Prelude.{◌≡◌, ◌++◌, ◌∷◌, [], IfOk, IfErr, IfSome, OnOk};
+ghost use Rattle.std.specs.Prelude.{◌≡◌, ◌++◌, ◌∷◌, ◌<◌, ◌^◌, [], IfOk, IfErr, IfSome, OnOk};
 ghost use Rattle.std.specs.BTreeSet.{contains};
 ghost use Rattle.deb_control.specs.Paragraphs.{ReaderState};
 ghost use Rattle.deb_text.specs.Text.{text_cmp};
@@ -17,6 +17,9 @@ use std::alloc::Global;
 use std::collections::BTreeSet;
 use wb_merge::is_listed_for;
 use wb_states::{BinaryRow, SourceRow};
+
+/// The greatest number that a paragraph can have in the tables: a number there is below 2^63.
+const LAST_PLACE: u64 = i64::MAX as u64;
 
 /// Whether the row can matter to a merge of these architectures.
 fn is_source_wanted(row: &SourceRow, archs: &[ArchWords]) -> bool
@@ -38,6 +41,7 @@ fn keep_source<T: MergeTables>(
     archs: &[ArchWords],
     row: &SourceRow,
 ) -> Result<(), MergeFault<T::Fault>>
+    requires fits { row.now.seq < 2 ^ 63 }
     ensures value { (at : Tables) → T.is_clean tables.new → T.holds tables.old at → IsAfterSources row.now.seq at.now.sources
         → OnOk result (T.holds tables.new
         (with_sources (at.now.sources ++ sources_wanted archs.now (row.now ∷ [])) at)) }
@@ -56,6 +60,7 @@ fn keep_binary<T: MergeTables>(
     waited: &BTreeSet<Text>,
     row: &Option<BinaryRow>,
 ) -> Result<(), MergeFault<T::Fault>>
+    requires fits { IfSome row.now (λ row. row.seq < 2 ^ 63) }
     ensures value { (at : Tables) → T.is_clean tables.new → T.holds tables.old at
         → IfSome row.now (λ row. IsAfterBinaries row.seq at.now.binaries)
         → OnOk result (T.holds tables.new
@@ -71,7 +76,8 @@ fn keep_binary<T: MergeTables>(
 
 /// Reads a Sources list into its table, which is empty: of its rows those that can matter to a merge of these
 /// architectures. Each paragraph is read and checked all the same, and the first faulty one refuses the list, or that its
-/// reader broke; the table then has some rows (this project's own).
+/// reader broke; the table then has some rows. The errors are `Memory` if memory ran out, or if the list has 2^63 - 1
+/// paragraphs or more, which cannot all be numbered, and else the fault of the tables (this project's own).
 pub fn fill_sources<T: MergeTables, R: ReadParagraphs>(
     alloc: Global,
     tables: &mut T,
@@ -86,7 +92,7 @@ pub fn fill_sources<T: MergeTables, R: ReadParagraphs>(
     ensures follows { OnOk result (T.follows tables.old tables.new) }
     ensures stops { IfErr result (StopsAs T.follows T.fails tables.old tables.new) }
 {
-    for passed in 0..u64::MAX {
+    for passed in 0..LAST_PLACE {
         match next_source(alloc, list, passed) {
             Ok(Some(row)) => keep_source(tables, archs, &row)?,
             Ok(None) => return Ok(None),
@@ -94,12 +100,14 @@ pub fn fill_sources<T: MergeTables, R: ReadParagraphs>(
             Err(ReadFault::Memory) => return Err(MergeFault::Memory),
         }
     }
-    Ok(None)
+    Err(MergeFault::Memory)
 }
 
 /// Reads the Packages list of an architecture into its table, which is empty: of its rows those that can matter, the
 /// architecture's own and those whose names are waited for. Each paragraph is read and checked all the same, and the first
-/// faulty one refuses the list, or that its reader broke; the table then has some rows (this project's own).
+/// faulty one refuses the list, or that its reader broke; the table then has some rows. The errors are `Memory` if memory ran
+/// out, or if the list has 2^63 - 1 paragraphs or more, which cannot all be numbered, and else the fault of the tables (this
+/// project's own).
 pub fn fill_binaries<T: MergeTables, R: ReadParagraphs>(
     alloc: Global,
     tables: &mut T,
@@ -115,7 +123,7 @@ pub fn fill_binaries<T: MergeTables, R: ReadParagraphs>(
     ensures follows { OnOk result (T.follows tables.old tables.new) }
     ensures stops { IfErr result (StopsAs T.follows T.fails tables.old tables.new) }
 {
-    for passed in 0..u64::MAX {
+    for passed in 0..LAST_PLACE {
         match next_binary(alloc, list, passed, arch) {
             Ok(Some(row)) => keep_binary(tables, waited, &row)?,
             Ok(None) => return Ok(None),
@@ -123,5 +131,5 @@ pub fn fill_binaries<T: MergeTables, R: ReadParagraphs>(
             Err(ReadFault::Memory) => return Err(MergeFault::Memory),
         }
     }
-    Ok(None)
+    Err(MergeFault::Memory)
 }

@@ -1,9 +1,8 @@
 //! What a merge asks of a reader of paragraphs.
-ghost use Rattle.std.specs.Prelude.{◌≡◌, ◌≢◌, ◌⊎◌, ◌+◌, ◌-◌, ◌^◌, ◌<◌, IsTrue, IfOk, IfErr, Ok, Err, option_map};
+ghost use Rattle.std.specs.Prelude.{◌≡◌, ◌≢◌, ◌⊎◌, IsTrue, IfOk, IfErr, Ok, Err, option_map};
 ghost use Rattle.deb_control.specs.declared.fault.ControlFault.{ControlFault};
 ghost use Rattle.deb_control.specs.declared.fault.ControlFaultKind.TheVariants.{Memory};
 ghost use Rattle.deb_control.specs.Paragraphs.{ReaderState, step, wants_memory};
-ghost use Rattle.wb_merge.specs.Offers.{number_of};
 
 use deb_control::{ControlFault, Fields, Paragraph, Paragraphs};
 use std::alloc::Global;
@@ -30,22 +29,16 @@ pub trait ReadParagraphs: Drop {
             → breaks self.new fault ⊎ ((step place).0 ≡ Err fault)) }
         ensures memory { (place : ReaderState) → stands_at self.old place
             → IfErr result (λ fault. fault.kind ≡ Memory → IsTrue (wants_memory place.ahead)) };
-
-    // The paragraphs can be counted.
-    ghost counts: { (reader : Self) (place : ReaderState) → stands_at reader place
-        → place.passed + number_of place.ahead < 2 ^ 64 - 1 };
 }
 
 impl<'a> ReadParagraphs for Paragraphs<'a> {
     type Found = Paragraph<'a>;
 
-    ghost stands_at = { λ it place. (it ≡ place) × (place.passed + number_of place.ahead < 2 ^ 64 - 1) };
+    ghost stands_at = { λ it place. it ≡ place };
 
     ghost breaks = { λ _ _. ⊥ };
 
     fn next(&mut self, alloc: Global) -> Result<Option<Paragraph<'a>>, ControlFault> {
         Paragraphs::next(self, alloc)
     }
-
-    ghost counts = { λ reader place h. h.1 };
 }

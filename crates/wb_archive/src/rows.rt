@@ -42,8 +42,7 @@ pub(crate) fn next_source<R: ReadParagraphs>(
         → IfOk result (λ found. IfSome found (λ row. GivesRow Sources source_row_at place row (step place).1)) }
     ensures stands { (place : ReaderState) → R.stands_at list.old place
         → IfOk result (λ found. IfSome found (λ row. R.stands_at list.new (step place).1)) }
-    ensures number { (place : ReaderState) → R.stands_at list.old place
-        → IfOk result (λ found. IfSome found (λ row. row.seq ≡ passed + 1)) }
+    ensures number { IfOk result (λ found. IfSome found (λ row. row.seq ≡ passed + 1)) }
     ensures ended { (place : ReaderState) → R.stands_at list.old place
         → IfOk result (λ found. found ≡ None → sources_at place ≡ Ok []) }
     ensures refused { (place : ReaderState) → R.stands_at list.old place → passed ≡ place.passed
@@ -72,8 +71,7 @@ pub(crate) fn next_binary<R: ReadParagraphs>(
         GivesRow Packages (binary_row_at arch.now) place row (step place).1)) }
     ensures stands { (place : ReaderState) → R.stands_at list.old place
         → IfOk result (λ found. IfSome found (λ row. R.stands_at list.new (step place).1)) }
-    ensures number { (place : ReaderState) → R.stands_at list.old place
-        → IfOk result (λ found. IfSome found (λ row. IfSome row (λ row. row.seq ≡ passed + 1))) }
+    ensures number { IfOk result (λ found. IfSome found (λ row. IfSome row (λ row. row.seq ≡ passed + 1))) }
     ensures ended { (place : ReaderState) → R.stands_at list.old place
         → IfOk result (λ found. found ≡ None → packages_at arch.now place ≡ Ok []) }
     ensures refused { (place : ReaderState) → R.stands_at list.old place → passed ≡ place.passed

@@ -1,5 +1,5 @@
 //! What a merge asks of the tables in which it runs.
-ghost use Rattle.std.specs.Prelude.{◌≡◌, ◌≢◌, ◌++◌, ◌∷◌, [], Some, None, filter, map as each, bytes_eq, IfOk, IfErr, OnOk};
+ghost use Rattle.std.specs.Prelude.{◌≡◌, ◌≢◌, ◌++◌, ◌∷◌, [], ◌<◌, ◌^◌, Some, None, filter, map as each, bytes_eq, IfOk, IfErr, OnOk};
 ghost use Rattle.std.specs.FinMap as finite;
 ghost use Rattle.wb_merge.specs.Merged.{recorded_names};
 ghost use Rattle.wb_merge.specs.Scratch.{versions_in};
@@ -84,16 +84,18 @@ pub trait MergeTables {
         ensures follows { OnOk result (follows self.old self.new) }
         ensures fails { IfErr result (fails self.old self.new) };
 
-    /// Keeps a paragraph of Sources, whose number is above those that are kept; all else stays.
+    /// Keeps a paragraph of Sources, whose number is above those that are kept and below 2^63; all else stays.
     fn add_source(&mut self, row: &SourceRow) -> Result<(), Self::Fault>
+        requires fits { row.now.seq < 2 ^ 63 }
         ensures value { (tables : Tables) → is_clean self.new → holds self.old tables
             → IsAfterSources row.now.seq tables.now.sources
             → OnOk result (holds self.new (with_sources (tables.now.sources ++ row.now ∷ []) tables)) }
         ensures follows { OnOk result (follows self.old self.new) }
         ensures fails { IfErr result (fails self.old self.new) };
 
-    /// Keeps a paragraph of Packages, whose number is above those that are kept; all else stays.
+    /// Keeps a paragraph of Packages, whose number is above those that are kept and below 2^63; all else stays.
     fn add_binary(&mut self, row: &BinaryRow) -> Result<(), Self::Fault>
+        requires fits { row.now.seq < 2 ^ 63 }
         ensures value { (tables : Tables) → is_clean self.new → holds self.old tables
             → IsAfterBinaries row.now.seq tables.now.binaries
             → OnOk result (holds self.new (with_binaries (tables.now.binaries ++ row.now ∷ []) tables)) }

@@ -1,4 +1,4 @@
-use Rattle.std.proofs.Common.{◌+◌, [], ◌∷◌, arith}
+use Rattle.std.proofs.Common.{◌+◌, [], ◌∷◌}
 use Rattle.std.specs.BTreeSet.{contains}
 use Rattle.deb_control.specs.Paragraphs.{step}
 use Rattle.deb_text.specs.Text.{text_cmp}
@@ -38,17 +38,10 @@ loop-passed-preserved g c =
           let half = c.loop-passed.invariant.half at place (laws.clean c.loop-passed.tables c.keep_binary.new.tables kept.follows clean) holds stands first empty in
           let gives = rw c.in-Ok-Some.field-0-is at (c.in-Ok-Some.ensures.value half.place half.stands half.count) in
           let stood = rw c.in-Ok-Some.field-0-is at (c.in-Ok-Some.ensures.stands half.place half.stands) in
-          let number = rw c.in-Ok-Some.field-0-is at (c.in-Ok-Some.ensures.number half.place half.stands) in
+          let number = rw c.in-Ok-Some.field-0-is at c.in-Ok-Some.ensures.number in
           half-step Packages (binary_row_at c.args.arch.now) (binaries_wanted (contains text_cmp c.args.waited.now)) (λ (row : BinaryRow). row.seq) (packages_at c.args.arch.now place) c.loop-passed.passed half row (step half.place).1
           gives stood (binaries-split (contains text_cmp c.args.waited.now) half.done (row ∷ []))
           (kept.value (with_binaries (binaries_wanted (contains text_cmp c.args.waited.now) half.done) at) clean half.holds
           (binary-after (c.loop-passed.passed + 1) row (binaries_wanted (contains text_cmp c.args.waited.now) half.done) number half.below))
           (binary-numbered (contains text_cmp c.args.waited.now) (c.loop-passed.passed + 1) row number);
     }
-
-pub returns-clause-value : goal.returns-clause-value
-returns-clause-value g c = λ at place clean holds stands first empty.
-    let half = c.loop-passed.invariant.half at place clean holds stands first empty in
-    let few = g.met.R.ReadParagraphs.counts c.loop-passed.list half.place half.stands in
-    let count = half.count in
-    absurd (omega arith)

@@ -1,4 +1,4 @@
-use Rattle.std.proofs.Common.{◌<◌, ◌+◌, [], ◌∷◌, sym, subst, arith}
+use Rattle.std.proofs.Common.{◌<◌, ◌+◌, [], ◌∷◌, sym, subst}
 use Rattle.std.specs.List.{AllByRecursion}
 use Rattle.deb_control.specs.Paragraphs.{step}
 use Rattle.wb_states.specs.declared.refusal.ListKind.TheVariants.{Sources}
@@ -37,17 +37,10 @@ loop-passed-preserved g c =
           let half = c.loop-passed.invariant.half at place (laws.clean c.loop-passed.tables c.keep_source.new.tables kept.follows clean) holds stands first empty in
           let gives = rw c.in-Ok-Some.field-0-is at (c.in-Ok-Some.ensures.value half.place half.stands half.count) in
           let stood = rw c.in-Ok-Some.field-0-is at (c.in-Ok-Some.ensures.stands half.place half.stands) in
-          let number = rw c.in-Ok-Some.field-0-is at (c.in-Ok-Some.ensures.number half.place half.stands) in
+          let number = rw c.in-Ok-Some.field-0-is at c.in-Ok-Some.ensures.number in
           half-step Sources source_row_at (sources_wanted c.args.archs.now) (λ (row : SourceRow). row.seq) (sources_at place) c.loop-passed.passed half row (step half.place).1
           gives stood (sources-split c.args.archs.now half.done (row ∷ []))
           (kept.value (with_sources (sources_wanted c.args.archs.now half.done) at) clean half.holds
           (subst (λ n. AllByRecursion (λ (r : SourceRow). r.seq < n) (sources_wanted c.args.archs.now half.done)) (sym number) half.below))
           (source-numbered c.args.archs.now (c.loop-passed.passed + 1) row number);
     }
-
-pub returns-clause-value : goal.returns-clause-value
-returns-clause-value g c = λ at place clean holds stands first empty.
-    let half = c.loop-passed.invariant.half at place clean holds stands first empty in
-    let few = g.met.R.ReadParagraphs.counts c.loop-passed.list half.place half.stands in
-    let count = half.count in
-    absurd (omega arith)

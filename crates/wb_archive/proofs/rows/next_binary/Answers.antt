@@ -6,7 +6,7 @@ use Rattle.wb_archive.proofs.ReadLemmas.{binary-seq, refuses-control, refuses-fi
 use Rattle.wb_archive.proofs.rows.next_binary.Goals as goal
 
 pub returns-in-Ok-clause-number : goal.returns-in-Ok-clause-number
-returns-in-Ok-clause-number g c = λ place stands. binary-seq c.args.arch.now (c.args.passed + 1) (g.R.Found.Fields.fields c.in-Ok-Some.found) c.in-Ok.row c.in-Ok.ensures.value
+returns-in-Ok-clause-number g c = binary-seq c.args.arch.now (c.args.passed + 1) (g.R.Found.Fields.fields c.in-Ok-Some.found) c.in-Ok.row c.in-Ok.ensures.value
 
 pub returns-in-Ok-Some-clause-refused : goal.returns-in-Ok-Some-clause-refused
 returns-in-Ok-Some-clause-refused g c = λ place stands count.
