@@ -1,6 +1,7 @@
 pub mod DecideLemmas
 pub mod FillLemmas
 pub mod FilterLemmas
+pub mod FittingLemmas
 pub mod MergeLemmas
 pub mod NameCountLemmas
 pub mod PartLemmas

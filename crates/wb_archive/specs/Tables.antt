@@ -1,5 +1,5 @@
 -- The tables in which a merge runs, and what stands in them.
-use Rattle.std.specs.Prelude.{◌≡◌, ℕ, ◌<◌, ⊤, true, false, List, [], ◌∷◌, map, bytes_eq, Option, Some, None}
+use Rattle.std.specs.Prelude.{◌≡◌, ℕ, ◌<◌, ◌≤◌, ⊤, true, false, List, [], ◌∷◌, map, bytes_eq, Option, Some, None, IfSome}
 use Rattle.std.specs.List.{list_any, AllByRecursion}
 use Rattle.std.specs.FinMap as finite
 use Rattle.deb_text.specs.Lists.{IsIn}
@@ -7,6 +7,7 @@ use Rattle.wb_states.specs.declared.keyed.KeyedRecord.{KeyedRecord}
 use Rattle.wb_states.specs.declared.record.Record.{Record}
 use Rattle.wb_states.specs.declared.scratch.SourceRow.{SourceRow}
 use Rattle.wb_states.specs.declared.scratch.BinaryRow.{BinaryRow}
+use Rattle.wb_states.specs.Limits.{count_limit}
 use Rattle.wb_states.specs.Machine.{Machine}
 use Rattle.wb_states.specs.State.{is_dep_wait}
 use Rattle.wb_merge.specs.Merged.{Records}
@@ -67,6 +68,10 @@ AreApart (name ∷ names) = (list_any (bytes_eq name) names ≡ false) × AreApa
 pub record AreNamesOf (rows : List SourceRow) (names : List (List ℕ)) : Type 0 where
   pub apart : AreApart names
   pub all : (name : List ℕ) → list_any (bytes_eq name) names ≡ list_any (λ row. bytes_eq name row.name) rows
+
+-- the take number of the record, if it has one, is at most the limit
+abbrev pub HasFittingTake : Record → Type 0
+HasFittingTake current = IfSome current.take (λ take_number. take_number ≤ count_limit)
 
 -- among these are all records of the architecture that are in Dep-Wait
 abbrev pub HaveWaiting : Records → List ℕ → List KeyedRecord → Type 0

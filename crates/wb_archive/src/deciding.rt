@@ -1,5 +1,5 @@
 //! The records of an architecture, brought in line with what the tables have of the archive's lists.
-ghost use Rattle.std.specs.Prelude.{◌≡◌, ◌++◌, ◌∷◌, [], Some, None, IfOk, IfErr, OnOk, if◌then◌else◌};
+ghost use Rattle.std.specs.Prelude.{◌≡◌, ◌++◌, ◌∷◌, [], Some, None, IfOk, IfErr, IfSome, OnOk, if◌then◌else◌};
 ghost use Rattle.std.specs.FinMap as finite;
 ghost use Rattle.std.specs.Option.{option_map};
 ghost use Rattle.std.specs.Map.Iter.{deref};
@@ -7,7 +7,7 @@ ghost use Rattle.wb_merge.specs.Merged.{change_of, merge_counts, merged};
 ghost use Rattle.wb_merge.specs.Steps.{record_at};
 ghost use Rattle.wb_archive.specs.Decides.{AreNamesToDecide, listing_at, record_decided, set_record};
 ghost use Rattle.wb_archive.specs.Faults.{StopsAs};
-ghost use Rattle.wb_archive.specs.Tables.{Tables, with_records};
+ghost use Rattle.wb_archive.specs.Tables.{HasFittingTake, Tables, with_records};
 
 use crate::MergeTables;
 use crate::fault::{MergeFault, asked};
@@ -26,6 +26,7 @@ fn record_of<T: MergeTables>(
 ) -> Result<Option<Record>, MergeFault<T::Fault>>
     ensures value { (at : Tables) → T.is_clean tables.new → T.holds tables.old at
         → IfOk result (λ found. found ≡ record_at at.now.machine.records (arch.now, name.now)) }
+    ensures given { IfOk result (λ found. IfSome found HasFittingTake) }
     ensures same { (at : Tables) → T.is_clean tables.new → T.holds tables.old at → OnOk result (T.holds tables.new at) }
     ensures follows { OnOk result (T.follows tables.old tables.new) }
     ensures stops { IfErr result (StopsAs T.follows T.fails tables.old tables.new) }
@@ -87,9 +88,11 @@ fn found<T: MergeTables>(
     name: &Text,
     old: Option<&Record>,
 ) -> Result<Option<Record>, MergeFault<T::Fault>>
+    requires given { IfSome (option_map deref old) HasFittingTake }
     ensures value { (at : Tables) → T.is_clean tables.new → T.holds tables.old at
         → option_map deref old.entry ≡ record_at at.now.machine.records (arch.now.name, name.now)
         → IfOk result (λ new. new ≡ record_decided arch.now at.now name.now) }
+    ensures given { IfOk result (λ new. IfSome new HasFittingTake) }
     ensures same { (at : Tables) → T.is_clean tables.new → T.holds tables.old at → OnOk result (T.holds tables.new at) }
     ensures follows { OnOk result (T.follows tables.old tables.new) }
     ensures stops { IfErr result (StopsAs T.follows T.fails tables.old tables.new) }
@@ -111,6 +114,7 @@ fn put_new<T: MergeTables>(
     new: &Record,
     change: Change,
 ) -> Result<(), MergeFault<T::Fault>>
+    requires given { HasFittingTake new.now }
     ensures value { (at : Tables) → T.is_clean tables.new → T.holds tables.old at
         → change ≡ change_of (record_at at.now.machine.records (arch.now, name.now)) (Some new.now)
         → OnOk result (T.holds tables.new
@@ -153,6 +157,7 @@ fn keep_record<T: MergeTables>(
     old: Option<&Record>,
     new: Option<Record>,
 ) -> Result<Change, MergeFault<T::Fault>>
+    requires given { IfSome new HasFittingTake }
     ensures value { (at : Tables) → T.is_clean tables.new → T.holds tables.old at
         → option_map deref old.entry ≡ record_at at.now.machine.records (arch.now, name.now)
         → OnOk result (T.holds tables.new (with_records (set_record at.now.machine.records (arch.now, name.now) new) at)) }

@@ -1,9 +1,9 @@
 //! What a merge asks of the tables in which it runs.
-ghost use Rattle.std.specs.Prelude.{◌≡◌, ◌≢◌, ◌++◌, ◌∷◌, [], ◌<◌, ◌^◌, Some, None, filter, map as each, bytes_eq, IfOk, IfErr, OnOk};
+ghost use Rattle.std.specs.Prelude.{◌≡◌, ◌≢◌, ◌++◌, ◌∷◌, [], ◌<◌, ◌^◌, Some, None, filter, map as each, bytes_eq, IfOk, IfErr, IfSome, OnOk};
 ghost use Rattle.std.specs.FinMap as finite;
 ghost use Rattle.wb_merge.specs.Merged.{recorded_names};
 ghost use Rattle.wb_merge.specs.Scratch.{versions_in};
-ghost use Rattle.wb_archive.specs.Tables.{Contents, Tables, AreNamesOf, HaveWaiting, IsAfterBinaries, IsAfterSources, back_at, with_binaries, with_records, with_savepoint, with_sources, without_savepoint};
+ghost use Rattle.wb_archive.specs.Tables.{Contents, Tables, AreNamesOf, HasFittingTake, HaveWaiting, IsAfterBinaries, IsAfterSources, back_at, with_binaries, with_records, with_savepoint, with_sources, without_savepoint};
 
 use deb_text::Text;
 use deb_version::Version;
@@ -28,10 +28,12 @@ pub trait MergeTables {
     // Calls that succeeded went from the first on, and then one failed with this fault and left the second.
     ghost fails: { Self → Self → Self.Fault → Type 0 };
 
-    /// The record of the source package `source` on the architecture `arch`, or none if it has no record there.
+    /// The record of the source package `source` on the architecture `arch`, or none if it has no record there. Whatever stands
+    /// in the tables, its take number, if it has one, is at most [`wb_states::COUNT_LIMIT`].
     fn record(&mut self, arch: &Text, source: &Text) -> Result<Option<Record>, Self::Fault>
         ensures value { (tables : Tables) → is_clean self.new → holds self.old tables
             → IfOk result (λ found. found ≡ finite.get tables.now.machine.records (arch.now, source.now)) }
+        ensures given { IfOk result (λ found. IfSome found HasFittingTake) }
         ensures same { (tables : Tables) → is_clean self.new → holds self.old tables → OnOk result (holds self.new tables) }
         ensures follows { OnOk result (follows self.old self.new) }
         ensures fails { IfErr result (fails self.old self.new) };
@@ -102,9 +104,10 @@ pub trait MergeTables {
         ensures follows { OnOk result (follows self.old self.new) }
         ensures fails { IfErr result (fails self.old self.new) };
 
-    /// Gives the source package `source` on the architecture `arch` this record, in place of the one that it had, if any;
-    /// all else stays.
+    /// Gives the source package `source` on the architecture `arch` this record, whose take number, if it has one, is at most
+    /// [`wb_states::COUNT_LIMIT`], in place of the one that it had, if any; all else stays.
     fn put(&mut self, arch: &Text, source: &Text, current: &Record) -> Result<(), Self::Fault>
+        requires given { HasFittingTake current.now }
         ensures value { (tables : Tables) → is_clean self.new → holds self.old tables → OnOk result (holds self.new
             (with_records (finite.insert tables.now.machine.records (arch.now, source.now) current.now) tables)) }
         ensures follows { OnOk result (follows self.old self.new) }
