@@ -1,8 +1,9 @@
 -- Rows whose rowids are places, in the order of the places: one more, those after a place, and none.
-use Rattle.std.proofs.Common.{◌≡◌, ◌≢◌, ℕ, ◌<◌, nat_le, nat_cmp, true, false, not, ◌&&◌, cond, List, [], ◌∷◌, map, filter, Ordering, Less, Equal, Greater, is_lt, is_le, refl, ap, ap₂, ◌∙◌, arith}
+use Rattle.std.proofs.Common.{◌≡◌, ◌≢◌, ℕ, ◌+◌, ◌<◌, nat_le, nat_cmp, true, false, not, ◌&&◌, cond, List, [], ◌∷◌, length, map, filter, Ordering, Less, Equal, Greater, is_lt, is_le, refl, sym, ap, ap₂, ◌∙◌, arith}
 use Rattle.std.specs.List.{AllByRecursion, list_all}
 use Rattle.std.specs.Ordering.{match_ordering}
 use Rattle.std.proofs.lemmas.Bool.Decides.{nat_tests}
+use Rattle.std.proofs.lemmas.List.{length-map}
 use Rattle.sqlite.specs.Edit.{have_rowids}
 use Rattle.sqlite.specs.Order.{Row}
 use Rattle.sqlite.specs.Term.{holds}
@@ -97,6 +98,27 @@ module _ {X : Type 0} (seq : X → ℕ) (stored : X → Row) (ids : (x : X) → 
       by Less is rest = (all_placed y x ys (below_of (seq y) (seq x) is) up.0, rest)
       by Equal is rest = absurd (new.0 (same_of (seq y) (seq x) is))
       by Greater is rest = let less = above_of (seq y) (seq x) is in ((less, all_above x y ys less up.0), up)
+
+  apart_above : (x : X) (ys : List X) → AllByRecursion (λ z. seq x < seq z) ys → AllByRecursion (λ z. seq z ≢ seq x) ys
+  apart_above x [] above = tt
+  apart_above x (y ∷ ys) above = (λ same. omega (arith, above.0, same), apart_above x ys above.1)
+
+  -- if there is a row more, its place is new
+  pub is_new : (x : X) (xs : List X) → InOrder xs → length (put_row (stored x) (map stored xs)) ≡ length xs + 1 → AllByRecursion (λ y. seq y ≢ seq x) xs
+  is_new x [] up more = tt
+  is_new x (y ∷ ys) up more =
+      let order : value_cmp (rowid (stored y)) (rowid (stored x)) ≡ by_seq y x = ap₂ value_cmp (ids y) (ids x) ∙ order-number (seq y) (seq x) in
+      by (by_seq y x) refl (sym (ap (λ o. length (match_ordering o (stored y ∷ put_row (stored x) (map stored ys)) (stored x ∷ map stored ys) (stored x ∷ stored y ∷ map stored ys))) order) ∙ more) (is_new x ys up.1)
+    where
+      by : (r : Ordering) → by_seq y x ≡ r
+          → length (match_ordering r (stored y ∷ put_row (stored x) (map stored ys)) (stored x ∷ map stored ys) (stored x ∷ stored y ∷ map stored ys)) ≡ length (y ∷ ys) + 1
+          → (length (put_row (stored x) (map stored ys)) ≡ length ys + 1 → AllByRecursion (λ z. seq z ≢ seq x) ys)
+          → AllByRecursion (λ z. seq z ≢ seq x) (y ∷ ys)
+      by Less is more rest = let below = below_of (seq y) (seq x) is in (λ same. omega (arith, below, same), rest (omega (arith, more)))
+      by Equal is more rest = absurd (omega (arith, more, length-map ys stored))
+      by Greater is more rest =
+          let below = above_of (seq y) (seq x) is in
+          (λ same. omega (arith, below, same), apart_above x ys (all_above x y ys below up.0))
 
   -- no row is left by a DELETE without tests
   pub none_left : (params : Row) (xs : List X) → without (λ row. list_all (holds (params ∷ row ∷ [])) []) (map stored xs) ≡ []

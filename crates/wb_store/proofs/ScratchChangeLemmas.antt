@@ -1,6 +1,8 @@
 -- What a statement on one of the scratch tables makes of the rows of a merge.
-use Rattle.std.proofs.Common.{◌≡◌, ℕ, ◌<◌, pos, not, nat_le, inr, List, [], ◌∷◌, map, Result, Ok, Err, IfErr, OnOk, refl, arith, sym, ap, ap₂, subst, ◌∙◌}
+use Rattle.std.proofs.Common.{◌≡◌, ℕ, ◌+◌, ◌<◌, pos, not, nat_le, inr, List, [], ◌∷◌, length, map, IsPermutation, Result, Ok, Err, IfErr, OnOk, refl, arith, sym, ap, ap₂, subst, ◌∙◌}
 use Rattle.std.specs.List.{list_all}
+use Rattle.std.proofs.lemmas.List.{length-map}
+use Rattle.std.proofs.lemmas.List.Sorted.{length_permutation}
 use Rattle.sqlite_trees.specs.declared.store.Store.{Ghosts}
 use Rattle.sqlite.specs.declared.error.Error.{Error}
 use Rattle.sqlite.specs.Held.{Held, state}
@@ -17,7 +19,7 @@ use Rattle.wb_states.specs.declared.store_fault.StoreFault.{StoreFault}
 use Rattle.wb_states.specs.Machine.{Machine}
 use Rattle.wb_sql.specs.Calls.{RunsStatement}
 use Rattle.wb_sql.specs.Changes.{Inserts, Deletes, SetsTable}
-use Rattle.wb_sql.specs.Rows.{IsStored, IsTyped, without}
+use Rattle.wb_sql.specs.Rows.{IsStored, IsTyped, cells, cells_of, without}
 use Rattle.wb_sql.specs.Statements.{IsWriting}
 use Rattle.wb_sql.specs.Transactions.{IsKeptOrUndone}
 use Rattle.wb_sql.specs.Tables.{scratch_source, scratch_binary}
@@ -45,10 +47,12 @@ pub statement_changes : {S A : Type 0} {g : Ghosts S} {sql : List ℕ} {params :
     → IsTextOfWrite write sql → params ≡ written_by write → ((schema : Schema) → HasOffice schema → IsWriting schema sql)
     → ((machine : Machine) (scratch : Scratch) → StandsWith machine scratch (state g old).now → Allows write scratch → (state g new).step_limit ≡ (state g old).step_limit → Done (state g old) (state g new)
     → BecomesWith machine (after_write write scratch) (state g old) (state g new))
+    → ((machine : Machine) (scratch : Scratch) → StandsWith machine scratch (state g old).now → Done (state g old) (state g new) → Allows write scratch)
     → RunsStatement g sql params old new r → (HasCleanDisk (state g new) → OnOk r (Done (state g old) (state g new))) → answer ≡ answer_on r (table_written write) → ChangesScratch g write old new answer
-statement_changes {A = A} {g = g} {sql = sql} {params = params} {old = old} {new = new} {r = r} write Done text given writes makes ran ok is =
+statement_changes {A = A} {g = g} {sql = sql} {params = params} {old = old} {new = new} {r = r} write Done text given writes makes allows ran ok is =
     subst (λ (t : Result A StoreFault). ChangesScratch g write old new t) (sym is) (record {
-      ok = λ clean. ok_on _ r (on_ok r (λ done machine scratch stands allows. makes machine scratch stands allows ran.survives.limit done) (ok clean));
+      ok = λ clean. ok_on _ r (on_ok r (λ done machine scratch stands allowed. makes machine scratch stands allowed ran.survives.limit done) (ok clean));
+      allowed = λ clean. ok_on _ r (on_ok r (λ done machine scratch stands. allows machine scratch stands done) (ok clean));
       err = λ clean inside. err_on r (ran.err clean inside);
       ended = λ over. let ended = ran.ended over in (ap (λ answered. answer_on answered (table_written write)) ended.0, ended.1);
       survives = survives_weaker (state g old) (state g new) _ _ (λ clean db none has. none (writes old.schema has)) ran.survives;
@@ -190,6 +194,31 @@ module _ (sql : List ℕ) (machine : Machine) (scratch : Scratch) (old new : Sta
       binaries_made [] _ put.0
       (ap (without (λ row. list_all (holds ([] ∷ row ∷ [])) [])) stands.binaries ∙ place.none_left (λ (r : BinaryRow). r.seq) stored_binary binary_ids [] scratch.binaries) tt
 
+-- ---- a row that was added had a new place
+
+added_long : (given : Row) (rows made now : List Row) → IsPermutation (cells given ∷ cells_of rows) (cells_of now) → now ≡ made → length made ≡ length rows + 1
+added_long given rows made now same is =
+    sym (ap length is) ∙ sym (length-map now cells) ∙ length_permutation (cells given ∷ cells_of rows) (cells_of now) same ∙ omega (arith, length-map rows cells)
+
+module _ (sql : List ℕ) {machine : Machine} {scratch : Scratch} (old new : State) (stands : StandsWith machine scratch old.now) where
+  pub source_allowed : (row : SourceRow) → InsertsAmong scratch_source sql terms.source_row 9 → Inserts sql (source_cells row) old new → IsNewSource row.seq scratch
+  source_allowed row text does =
+      let schema = old.now.schema in
+      let tree = tree_named schema scratch_source.name in
+      let stored : IsStored (rows_in old.now scratch_source) = subst IsStored (sym stands.sources) (place.rows_stored (λ (r : SourceRow). r.seq) stored_source source_ids scratch.sources stands.order.sources) in
+      let put = does (table_in schema scratch_source) terms.source_row 9 (text schema tree stands.has.source_is (source_quiet schema stands.has)) stored (typed_at tree scratch_source (stored_source row) (source_typed row)) in
+      let long = added_long (stored_source row) (rows_in old.now scratch_source) (put_row (stored_source row) (map stored_source scratch.sources)) _ put.2 (put.0.rows_are ∙ ap (put_row (stored_source row)) stands.sources) in
+      place.is_new (λ (r : SourceRow). r.seq) stored_source source_ids row scratch.sources stands.order.sources (long ∙ ap (λ rows. length rows + 1) stands.sources ∙ ap (λ n. n + 1) (length-map scratch.sources stored_source))
+
+  pub binary_allowed : (row : BinaryRow) → InsertsAmong scratch_binary sql terms.binary_row 7 → Inserts sql (binary_cells row) old new → IsNewBinary row.seq scratch
+  binary_allowed row text does =
+      let schema = old.now.schema in
+      let tree = tree_named schema scratch_binary.name in
+      let stored : IsStored (rows_in old.now scratch_binary) = subst IsStored (sym stands.binaries) (place.rows_stored (λ (r : BinaryRow). r.seq) stored_binary binary_ids scratch.binaries stands.order.binaries) in
+      let put = does (table_in schema scratch_binary) terms.binary_row 7 (text schema tree stands.has.binary_is (binary_quiet schema stands.has)) stored (typed_at tree scratch_binary (stored_binary row) (binary_typed row)) in
+      let long = added_long (stored_binary row) (rows_in old.now scratch_binary) (put_row (stored_binary row) (map stored_binary scratch.binaries)) _ put.2 (put.0.rows_are ∙ ap (put_row (stored_binary row)) stands.binaries) in
+      place.is_new (λ (r : BinaryRow). r.seq) stored_binary binary_ids row scratch.binaries stands.order.binaries (long ∙ ap (λ rows. length rows + 1) stands.binaries ∙ ap (λ n. n + 1) (length-map scratch.binaries stored_binary))
+
 -- ---- each call
 
 module _ {S A : Type 0} {g : Ghosts S} {sql : List ℕ} {params : Row} {old new : Held S} {r : Result A Error} {answer : Result A StoreFault} where
@@ -199,6 +228,7 @@ module _ {S A : Type 0} {g : Ghosts S} {sql : List ℕ} {params : Row} {old new 
       statement_changes (write.AddsSource row) (Inserts sql params) text is (λ schema has. inserts_writes schema sql (table_in schema scratch_source) terms.source_row
       (text schema (tree_named schema scratch_source.name) has.source_is (source_quiet schema has)))
       (λ machine scratch stands fresh limit does. source_added sql machine scratch (state g old) (state g new) stands limit row text fresh (subst (λ p. Inserts sql p (state g old) (state g new)) is does))
+      (λ machine scratch stands does. source_allowed sql (state g old) (state g new) stands row text (subst (λ p. Inserts sql p (state g old) (state g new)) is does))
 
   pub binary_change : (row : BinaryRow) → InsertsAmong scratch_binary sql terms.binary_row 7 → params ≡ binary_cells row → RunsStatement g sql params old new r
       → (HasCleanDisk (state g new) → OnOk r (Inserts sql params (state g old) (state g new))) → answer ≡ answer_on r (table_written (write.AddsBinary row)) → ChangesScratch g (write.AddsBinary row) old new answer
@@ -206,6 +236,7 @@ module _ {S A : Type 0} {g : Ghosts S} {sql : List ℕ} {params : Row} {old new 
       statement_changes (write.AddsBinary row) (Inserts sql params) text is (λ schema has. inserts_writes schema sql (table_in schema scratch_binary) terms.binary_row
       (text schema (tree_named schema scratch_binary.name) has.binary_is (binary_quiet schema has)))
       (λ machine scratch stands fresh limit does. binary_added sql machine scratch (state g old) (state g new) stands limit row text fresh (subst (λ p. Inserts sql p (state g old) (state g new)) is does))
+      (λ machine scratch stands does. binary_allowed sql (state g old) (state g new) stands row text (subst (λ p. Inserts sql p (state g old) (state g new)) is does))
 
   pub sources_removal : (at : ℕ) → DeletesAmong scratch_source sql terms.is_up_to_place 1 → params ≡ number at ∷ [] → RunsStatement g sql params old new r
       → (HasCleanDisk (state g new) → OnOk r (Deletes sql params (state g old) (state g new))) → answer ≡ answer_on r (table_written (write.RemovesSources at)) → ChangesScratch g (write.RemovesSources at) old new answer
@@ -213,6 +244,7 @@ module _ {S A : Type 0} {g : Ghosts S} {sql : List ℕ} {params : Row} {old new 
       statement_changes (write.RemovesSources at) (Deletes sql params) text is (λ schema has. deletes_writes schema sql (table_in schema scratch_source) terms.is_up_to_place
       (text schema (tree_named schema scratch_source.name) has.source_is (source_quiet schema has)))
       (λ machine scratch stands allows limit does. sources_removed sql machine scratch (state g old) (state g new) stands limit at text (subst (λ p. Deletes sql p (state g old) (state g new)) is does))
+      (λ machine scratch stands does. tt)
 
   pub binaries_removal : (at : ℕ) → DeletesAmong scratch_binary sql terms.is_up_to_place 1 → params ≡ number at ∷ [] → RunsStatement g sql params old new r
       → (HasCleanDisk (state g new) → OnOk r (Deletes sql params (state g old) (state g new))) → answer ≡ answer_on r (table_written (write.RemovesBinaries at)) → ChangesScratch g (write.RemovesBinaries at) old new answer
@@ -220,6 +252,7 @@ module _ {S A : Type 0} {g : Ghosts S} {sql : List ℕ} {params : Row} {old new 
       statement_changes (write.RemovesBinaries at) (Deletes sql params) text is (λ schema has. deletes_writes schema sql (table_in schema scratch_binary) terms.is_up_to_place
       (text schema (tree_named schema scratch_binary.name) has.binary_is (binary_quiet schema has)))
       (λ machine scratch stands allows limit does. binaries_removed sql machine scratch (state g old) (state g new) stands limit at text (subst (λ p. Deletes sql p (state g old) (state g new)) is does))
+      (λ machine scratch stands does. tt)
 
   pub sources_emptied : DeletesAmong scratch_source sql [] 0 → params ≡ [] → RunsStatement g sql params old new r
       → (HasCleanDisk (state g new) → OnOk r (Deletes sql params (state g old) (state g new))) → answer ≡ answer_on r (table_written write.ClearsSources) → ChangesScratch g write.ClearsSources old new answer
@@ -227,6 +260,7 @@ module _ {S A : Type 0} {g : Ghosts S} {sql : List ℕ} {params : Row} {old new 
       statement_changes write.ClearsSources (Deletes sql params) text is (λ schema has. deletes_writes schema sql (table_in schema scratch_source) []
       (text schema (tree_named schema scratch_source.name) has.source_is (source_quiet schema has)))
       (λ machine scratch stands allows limit does. sources_cleared sql machine scratch (state g old) (state g new) stands limit text (subst (λ p. Deletes sql p (state g old) (state g new)) is does))
+      (λ machine scratch stands does. tt)
 
   pub binaries_emptied : DeletesAmong scratch_binary sql [] 0 → params ≡ [] → RunsStatement g sql params old new r
       → (HasCleanDisk (state g new) → OnOk r (Deletes sql params (state g old) (state g new))) → answer ≡ answer_on r (table_written write.ClearsBinaries) → ChangesScratch g write.ClearsBinaries old new answer
@@ -234,3 +268,4 @@ module _ {S A : Type 0} {g : Ghosts S} {sql : List ℕ} {params : Row} {old new 
       statement_changes write.ClearsBinaries (Deletes sql params) text is (λ schema has. deletes_writes schema sql (table_in schema scratch_binary) []
       (text schema (tree_named schema scratch_binary.name) has.binary_is (binary_quiet schema has)))
       (λ machine scratch stands allows limit does. binaries_cleared sql machine scratch (state g old) (state g new) stands limit text (subst (λ p. Deletes sql p (state g old) (state g new)) is does))
+      (λ machine scratch stands does. tt)

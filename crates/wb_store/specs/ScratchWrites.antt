@@ -85,11 +85,13 @@ pub record FailsToWrite (write : ScratchWrite) (old new : State) (fault : StoreF
   pub fault_is : fault ≡ fault_of error (table_written write)
   pub left : IsKeptOrUndone old new
 
--- a write to one of the scratch tables in a transaction: if it succeeds, a database that stood for a state with rows that allow it stands for the same
--- state with the rows after it; if it fails, its statement did; if the transaction is over, it is refused; and a crash leaves no more than before
+-- a write to one of the scratch tables in a transaction: if it succeeds, the rows allowed it, and a database that stood for a state with rows that allow it
+-- stands for the same state with the rows after it; if it fails, its statement did; if the transaction is over, it is refused; and a crash leaves no more
+-- than before
 pub record ChangesScratch {S A : Type 0} (g : Ghosts S) (write : ScratchWrite) (old new : Held S) (result : Result A StoreFault) : Type 0 where
   pub ok : HasCleanDisk (state g new)
       → OnOk result ((machine : Machine) (scratch : Scratch) → StandsWith machine scratch (state g old).now → Allows write scratch → BecomesWith machine (after_write write scratch) (state g old) (state g new))
+  pub allowed : HasCleanDisk (state g new) → OnOk result ((machine : Machine) (scratch : Scratch) → StandsWith machine scratch (state g old).now → Allows write scratch)
   pub err : HasCleanDisk (state g new) → IsTrue old.in_transaction → IfErr result (FailsToWrite write (state g old) (state g new))
   pub ended : old.in_transaction ≡ false → (result ≡ Err (unfit (table_written write))) × (new ≡ old)
   pub survives : Survives (state g old) (state g new) (λ _. ¬ HasOffice old.schema)
