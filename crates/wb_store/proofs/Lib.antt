@@ -14,6 +14,8 @@ pub mod FoundLemmas
 pub mod HoldLemmas
 pub mod LookupLemmas
 pub mod MapLemmas
+pub mod MergeAskLemmas
+pub mod MergeRunLemmas
 pub mod NameLemmas
 pub mod NumberedLemmas
 pub mod OpeningAfterLemmas

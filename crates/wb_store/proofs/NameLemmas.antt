@@ -109,14 +109,14 @@ named_outputs : (os : List Output) → AllByRecursion IsNamed os → AreRowsOf n
 named_outputs [] all = ([], tt, refl)
 named_outputs (o ∷ os) all = let rest = named_outputs os all.1 in (all.0.0 ∷ rest.0, (all.0.1, rest.1), ap₂ ◌∷◌ all.0.2 rest.2)
 
-bytes_eq_equiv : IsEquivalence bytes_eq
+pub bytes_eq_equiv : IsEquivalence bytes_eq
 bytes_eq_equiv = record {
   refl = λ x. (bytes_eq-Decides x x).1 refl;
   symm = bytes_eq-turned;
   congr = λ x y z e. ap (λ w. bytes_eq w z) ((bytes_eq-Decides x y).0 e);
 }
 
-ties : (x y : List ℕ) → bytes_eq x y ≡ eq_by_cmp text_cmp x y
+pub ties : (x y : List ℕ) → bytes_eq x y ≡ eq_by_cmp text_cmp x y
 ties x y = bytes_eq-turned x y ∙ name_test x y
 
 module _ {machine : Machine} {scratch : Scratch} (db : Database) (stands : StandsWith machine scratch db) (answer : List Row) (a : Answers sql.source_names [] (rows_in db tables.scratch_source) answer) where

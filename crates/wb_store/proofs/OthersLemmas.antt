@@ -14,6 +14,7 @@ use Rattle.wb_sql.specs.Changes.{SetsTable}
 use Rattle.wb_sql.specs.Among.{HasTable, names_office, table_in}
 use Rattle.wb_sql.specs.Tables.{office, arch, builder, source_record, scratch_source, scratch_binary}
 use Rattle.wb_store.specs.Others.{KeepsOthers}
+pub use Rattle.wb_store.specs.MergeLaws.{others_then}
 
 -- what holds of each table of a list follows from another that does
 each_table : {P Q : Table → Type 0} (tables : List Table) → ((t : Table) → Has tables t → P t → Q t) → AllByRecursion P tables → AllByRecursion Q tables
@@ -24,11 +25,6 @@ each_table (t ∷ tables) follows all = (follows t (inl refl) all.0, each_table 
 any_table : {Q : Table → Type 0} (tables : List Table) → ((t : Table) → Q t) → AllByRecursion Q tables
 any_table [] holds = tt
 any_table (t ∷ tables) holds = (holds t, any_table tables holds)
-
--- what two hold of each table of a list, together
-both_tables : {P Q R : Table → Type 0} (tables : List Table) → ((t : Table) → P t → Q t → R t) → AllByRecursion P tables → AllByRecursion Q tables → AllByRecursion R tables
-both_tables [] follows one two = tt
-both_tables (t ∷ tables) follows one two = (follows t one.0 two.0, both_tables tables follows one.1 two.1)
 
 -- ---- nothing is done, or one change after another
 
@@ -43,14 +39,6 @@ others_equal before after same = subst (λ db. KeepsOthers before db) (sym same)
 -- what was kept is kept in a database that is the same as the one after
 pub others_still : {before mid : Database} (after : Database) → KeepsOthers before mid → after ≡ mid → KeepsOthers before after
 others_still {before} after kept same = subst (λ db. KeepsOthers before db) (sym same) kept
-
--- what one keeps of a database, and then another of that, both keep
-pub others_then : (before mid after : Database) → KeepsOthers before mid → KeepsOthers mid after → KeepsOthers before after
-others_then before mid after one two = record {
-  schema = two.schema ∙ one.schema;
-  rows = both_tables before.schema.tables (λ t first second other. second other ∙ first other) one.rows
-      (subst (λ (s : Schema). AllByRecursion (λ (t : Table). names_office t.name ≡ false → after.trees t.tree ≡ mid.trees t.tree) s.tables) one.schema two.rows);
-}
 
 -- ---- one of the office's tables is changed
 

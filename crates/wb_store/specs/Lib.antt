@@ -6,6 +6,8 @@ pub mod Files
 pub mod Finds
 pub mod Formats
 pub mod Lookups
+pub mod MergeLaws
+pub mod MergeRuns
 pub mod Merging
 pub mod Opened
 pub mod Opening

@@ -12,6 +12,7 @@ mod fault;
 mod holds;
 pub mod laws;
 mod lookups;
+mod merge_tables;
 mod merging;
 mod opening;
 mod packages;

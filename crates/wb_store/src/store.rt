@@ -86,9 +86,14 @@ impl<S: Alter + Drop> Store<S> {
         requires idle { self.old.in_transaction ≡ false }
         ensures same_reference { result.store.ghost_name ≡ self.entry.ghost_name }
         ensures begun { result.store.now ≡ record self.old { in_transaction = true } }
+        ensures unsaved { result.is_saved ≡ false }
     {
         wb_sql::begin(&mut self.conn);
-        Writing { store: self }
+        Writing {
+            store: self,
+            is_saved: false,
+            last_place: 0,
+        }
     }
 
     /// Whether no transaction is under way. Takes no memory (this project's own).

@@ -27,6 +27,10 @@ use wb_states::{Counts, OsCpu, Record, StoreFault};
 /// its changes are refused (this project's own).
 pub struct Writing<'store, S: Alter + Drop> {
     pub(crate) store: &'store mut Store<S>,
+    /// Whether a merge set its savepoint.
+    pub(crate) is_saved: bool,
+    /// The greatest place at which a merge added a row, or 0.
+    pub(crate) last_place: u64,
 }
 
 impl<S: Alter + Drop> Writing<'_, S> {
@@ -128,7 +132,11 @@ impl<S: Alter + Drop> Writing<'_, S> {
         ensures survives { Survives (state S.Store self.entry.store.now) (state S.Store self.exit.0.now)
             (λ db. db ≡ (state S.Store self.entry.store.now).now.trees) }
     {
-        let Writing { store } = self;
+        let Writing {
+            store,
+            is_saved: _,
+            last_place: _,
+        } = self;
         ending::commit(&mut store.conn)
     }
 
@@ -144,7 +152,11 @@ impl<S: Alter + Drop> Writing<'_, S> {
             → IfErr result (IsFaultOfRollBack (state S.Store self.entry.store.now) (state S.Store self.exit.0.now)) }
         ensures survives { Survives (state S.Store self.entry.store.now) (state S.Store self.exit.0.now) (λ _. ⊥) }
     {
-        let Writing { store } = self;
+        let Writing {
+            store,
+            is_saved: _,
+            last_place: _,
+        } = self;
         ending::roll_back(&mut store.conn)
     }
 }

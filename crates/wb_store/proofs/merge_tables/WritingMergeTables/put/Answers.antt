@@ -1,0 +1,12 @@
+use Rattle.std.proofs.Common.{refl, ◌∙◌}
+use Rattle.wb_store.proofs.MergeRunLemmas.{changed_fails, changed_holds, changed_runs, fault_with_same, with_same}
+use Rattle.wb_store.proofs.merge_tables.WritingMergeTables.put.Goals as goal
+
+pub returns-clause-value : goal.returns-clause-value
+returns-clause-value g c = rw (← c.store.view_is) (λ tables clean holds. changed_holds g.S.Store c.args.self.now.is_saved _ c.put.new.conn c.put.result c.put.ensures.changes clean tables holds)
+
+pub returns-clause-follows : goal.returns-clause-follows
+returns-clause-follows g c = rw (← c.store.view_is) (with_same _ c.put.result refl (changed_runs g.S.Store c.args.self.now.is_saved _ c.put.new.conn c.put.result c.put.ensures.changes))
+
+pub returns-clause-fails : goal.returns-clause-fails
+returns-clause-fails g c = rw (← c.store.view_is) (fault_with_same _ c.put.result refl (changed_fails g.S.Store c.args.self.now.is_saved _ c.put.new.conn tt c.put.result c.put.ensures.changes))

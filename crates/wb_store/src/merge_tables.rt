@@ -1,0 +1,211 @@
+//! The tables of an office in a transaction, as those in which a merge runs.
+ghost use Rattle.std.specs.Prelude.{◌≡◌, ◌<◌, ◌^◌, false, true, IfErr, IfOk, IfSome, map as each};
+ghost use Rattle.sqlite.specs.Held.{state};
+ghost use Rattle.sqlite.specs.State.{HasCleanDisk};
+ghost use Rattle.wb_states.specs.declared.store_fault.Table.TheVariants.{SourceRecord};
+ghost use Rattle.wb_archive.specs.Tables.{HasFittingTake};
+ghost use Rattle.wb_store.specs.Faults.{unfit};
+ghost use Rattle.wb_store.specs.MergeRuns.{FailsIn, HoldsTables, RunsOn};
+ghost use Rattle.std.proofs.Common.{refl, ◌∙◌};
+ghost use Rattle.wb_store.specs.MergeLaws.{clean_before, fails_then, runs_itself, runs_then};
+
+use crate::fault::unfit;
+use crate::writing::Writing;
+use crate::{changes, merging, packages, savepoint};
+use deb_text::Text;
+use deb_version::Version;
+use sqlite::Alter;
+use std::alloc::AllocError;
+use wb_archive::MergeTables;
+use wb_states::{BinaryRow, COUNT_LIMIT, KeyedRecord, Record, SourceRow, State, StoreFault, Table};
+
+/// The greatest place that a row of a merge can have.
+const GREATEST_PLACE: u64 = i64::MAX as u64;
+
+/// The place, if a row can have it, or else the greatest that one can have.
+fn within(place: u64) -> u64
+    ensures fits { result < 2 ^ 63 }
+{
+    if place > GREATEST_PLACE {
+        GREATEST_PLACE
+    } else {
+        place
+    }
+}
+
+/// Whether the take number of the record, if there are both, is at most the limit.
+fn fits(found: &Option<Record>) -> bool
+    ensures value { result ≡ true → IfSome found.now HasFittingTake }
+    ensures over { result ≡ false → ¬ IfSome found.now HasFittingTake }
+{
+    match found {
+        Some(current) => match current.take {
+            Some(take_number) => take_number <= COUNT_LIMIT,
+            None => true,
+        },
+        None => true,
+    }
+}
+
+/// The record that was looked up, if there is one, if its take number fits. The fault is `Damaged` with row 0 of the records if
+/// it does not.
+fn fitting(found: Option<Record>) -> Result<Option<Record>, StoreFault>
+    ensures value { IfOk result (λ told. (told ≡ found) × IfSome told HasFittingTake) }
+    ensures fault { IfErr result (λ fault. (fault ≡ unfit SourceRecord) × ¬ IfSome found HasFittingTake) }
+{
+    if fits(&found) {
+        Ok(found)
+    } else {
+        Err(unfit(Table::SourceRecord))
+    }
+}
+
+/// The names of the source packages of records, in their order.
+fn names_of(rows: Vec<KeyedRecord>) -> Result<Vec<Text>, AllocError>
+    ensures value { IfOk result (λ names. names.items ≡ each (λ row. row.source) rows.items) }
+{
+    let mut names = Vec::new(*rows.allocator());
+    for row in rows {
+        names.push(row.source)?;
+    }
+    Ok(names)
+}
+
+/// The versions of packages, in their order.
+fn versions_of(rows: Vec<BinaryRow>) -> Result<Vec<Version>, AllocError>
+    ensures value { IfOk result (λ versions. versions.items ≡ each (λ row. row.version) rows.items) }
+{
+    let mut versions = Vec::new(*rows.allocator());
+    for row in rows {
+        versions.push(row.version)?;
+    }
+    Ok(versions)
+}
+
+impl<S: Alter + Drop> MergeTables for Writing<'_, S> {
+    type Fault = StoreFault;
+
+    ghost is_clean = { λ it. HasCleanDisk (state S.Store it.store.now) };
+
+    ghost holds = { λ it tables. HoldsTables it.is_saved tables (state S.Store it.store.now) };
+
+    ghost follows = { λ old new. (new.store.ghost_name ≡ old.store.ghost_name)
+        × RunsOn S.Store old.is_saved old.store.now new.is_saved new.store.now };
+
+    ghost fails = { λ old new fault. (new.store.ghost_name ≡ old.store.ghost_name)
+        × FailsIn S.Store old.is_saved old.store.now new.store.now fault };
+
+    ghost follows_itself = { λ it. (refl, runs_itself S.Store it.is_saved it.store.now) };
+
+    ghost follows_on = { λ first second third one two. (
+      two.0 ∙ one.0,
+      runs_then S.Store first.is_saved second.is_saved third.is_saved
+          first.store.now second.store.now third.store.now one.1 two.1,
+    ) };
+
+    ghost fails_on = { λ first second third fault one two. (
+      two.0 ∙ one.0,
+      fails_then S.Store first.is_saved second.is_saved
+          first.store.now second.store.now third.store.now fault one.1 two.1,
+    ) };
+
+    ghost clean = { λ first second one. clean_before S.Store first.is_saved second.is_saved first.store.now second.store.now one.1 };
+
+    fn record(&mut self, arch: &Text, source: &Text) -> Result<Option<Record>, StoreFault> {
+        let found = self.store.get(arch, source)?;
+        fitting(found)
+    }
+
+    fn recorded_names(&mut self, arch: &Text) -> Result<Vec<Text>, StoreFault> {
+        let rows = self.store.all_of(arch)?;
+        Ok(names_of(rows)?)
+    }
+
+    fn waiting(&mut self, arch: &Text) -> Result<Vec<KeyedRecord>, StoreFault> {
+        self.store.in_state(arch, State::DepWait)
+    }
+
+    fn listed_names(&mut self) -> Result<Vec<Text>, StoreFault> {
+        let store = &mut *self.store;
+        packages::listed_names(&mut store.conn)
+    }
+
+    fn sources_named(&mut self, name: &Text) -> Result<Vec<SourceRow>, StoreFault> {
+        let store = &mut *self.store;
+        packages::sources_named(&mut store.conn, name)
+    }
+
+    fn binaries_of(&mut self, source: &Text) -> Result<Vec<BinaryRow>, StoreFault> {
+        let store = &mut *self.store;
+        packages::binaries_of(&mut store.conn, source)
+    }
+
+    fn versions_named(&mut self, name: &Text) -> Result<Vec<Version>, StoreFault> {
+        let store = &mut *self.store;
+        let rows = packages::versions_named(&mut store.conn, name)?;
+        Ok(versions_of(rows)?)
+    }
+
+    fn add_source(&mut self, row: &SourceRow) -> Result<(), StoreFault> {
+        let store = &mut *self.store;
+        merging::add_source(&mut store.conn, row)?;
+        self.last_place = self.last_place.max(row.seq);
+        Ok(())
+    }
+
+    fn add_binary(&mut self, row: &BinaryRow) -> Result<(), StoreFault> {
+        let store = &mut *self.store;
+        merging::add_binary(&mut store.conn, row)?;
+        self.last_place = self.last_place.max(row.seq);
+        Ok(())
+    }
+
+    fn put(&mut self, arch: &Text, source: &Text, current: &Record) -> Result<(), StoreFault> {
+        let store = &mut *self.store;
+        changes::put(&mut store.conn, arch, source, current)
+    }
+
+    fn remove(&mut self, arch: &Text, source: &Text) -> Result<(), StoreFault> {
+        let store = &mut *self.store;
+        changes::remove(&mut store.conn, arch, source)
+    }
+
+    fn save(&mut self) -> Result<(), StoreFault> {
+        let store = &mut *self.store;
+        savepoint::save(&mut store.conn)?;
+        self.is_saved = true;
+        Ok(())
+    }
+
+    // Without a savepoint there is nothing to go back to.
+    fn back_to(&mut self) -> Result<(), StoreFault> {
+        if !self.is_saved {
+            return Ok(());
+        }
+        let store = &mut *self.store;
+        savepoint::back_to(&mut store.conn)
+    }
+
+    // Without a savepoint there is none to give up.
+    fn release(&mut self) -> Result<(), StoreFault> {
+        if !self.is_saved {
+            return Ok(());
+        }
+        let store = &mut *self.store;
+        savepoint::release(&mut store.conn)?;
+        self.is_saved = false;
+        Ok(())
+    }
+
+    fn clear_binaries(&mut self) -> Result<(), StoreFault> {
+        let last = within(self.last_place);
+        let store = &mut *self.store;
+        merging::clear_binaries(&mut store.conn, last)
+    }
+
+    fn clear_scratch(&mut self) -> Result<(), StoreFault> {
+        let last = within(self.last_place);
+        let store = &mut *self.store;
+        merging::clear_scratch(&mut store.conn, last)
+    }
+}
