@@ -1,11 +1,10 @@
 //! A list, read into a table paragraph by paragraph.
 ghost use Rattle.std.specs.Prelude.{◌≡◌, ◌++◌, ◌∷◌, ◌<◌, ◌^◌, [], IfOk, IfErr, IfSome, OnOk};
 ghost use Rattle.std.specs.BTreeSet.{contains};
-ghost use Rattle.deb_control.specs.Paragraphs.{ReaderState};
 ghost use Rattle.deb_text.specs.Text.{text_cmp};
 ghost use Rattle.wb_archive.specs.Faults.{IsRefused, StopsAs};
 ghost use Rattle.wb_archive.specs.Fills.{IsFilled, binaries_wanted, is_binary_wanted, is_source_wanted, sources_wanted};
-ghost use Rattle.wb_archive.specs.Reads.{packages_at, sources_at};
+ghost use Rattle.wb_archive.specs.Reads.{MayStandWhere, packages_at, sources_at};
 ghost use Rattle.wb_archive.specs.Tables.{Tables, IsAfterBinaries, IsAfterSources, with_binaries, with_sources};
 
 use crate::fault::{BadList, MergeFault, ReadFault, asked};
@@ -84,11 +83,11 @@ pub fn fill_sources<T: MergeTables, R: ReadParagraphs>(
     archs: &[ArchWords],
     list: &mut R,
 ) -> Result<Option<BadList>, MergeFault<T::Fault>>
-    ensures value { (at : Tables) (place : ReaderState) → T.is_clean tables.new → T.holds tables.old at
-        → R.stands_at list.old place → place.passed ≡ 0 → at.now.sources ≡ []
-        → IfOk result (IsFilled (sources_at place) (sources_wanted archs.now)
-        (λ rows. T.holds tables.new (with_sources rows at))
-        (IsRefused R.breaks list.new (sources_at place))) }
+    ensures value { (at : Tables) → T.is_clean tables.new → T.holds tables.old at
+        → R.passed list.old ≡ 0 → at.now.sources ≡ []
+        → IfOk result (λ bad. MayStandWhere R.may_stand_at list.old (λ place. IsFilled (sources_at place)
+        (sources_wanted archs.now) (λ rows. T.holds tables.new (with_sources rows at))
+        (IsRefused R.breaks list.new (sources_at place)) bad)) }
     ensures follows { OnOk result (T.follows tables.old tables.new) }
     ensures stops { IfErr result (StopsAs T.follows T.fails tables.old tables.new) }
 {
@@ -115,11 +114,11 @@ pub fn fill_binaries<T: MergeTables, R: ReadParagraphs>(
     waited: &BTreeSet<Text>,
     list: &mut R,
 ) -> Result<Option<BadList>, MergeFault<T::Fault>>
-    ensures value { (at : Tables) (place : ReaderState) → T.is_clean tables.new → T.holds tables.old at
-        → R.stands_at list.old place → place.passed ≡ 0 → at.now.binaries ≡ []
-        → IfOk result (IsFilled (packages_at arch.now place) (binaries_wanted (contains text_cmp waited.now))
-        (λ rows. T.holds tables.new (with_binaries rows at))
-        (IsRefused R.breaks list.new (packages_at arch.now place))) }
+    ensures value { (at : Tables) → T.is_clean tables.new → T.holds tables.old at
+        → R.passed list.old ≡ 0 → at.now.binaries ≡ []
+        → IfOk result (λ bad. MayStandWhere R.may_stand_at list.old (λ place. IsFilled (packages_at arch.now place)
+        (binaries_wanted (contains text_cmp waited.now)) (λ rows. T.holds tables.new (with_binaries rows at))
+        (IsRefused R.breaks list.new (packages_at arch.now place)) bad)) }
     ensures follows { OnOk result (T.follows tables.old tables.new) }
     ensures stops { IfErr result (StopsAs T.follows T.fails tables.old tables.new) }
 {
