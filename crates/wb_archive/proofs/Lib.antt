@@ -2,6 +2,7 @@ pub mod DecideLemmas
 pub mod FillLemmas
 pub mod FilterLemmas
 pub mod FittingLemmas
+pub mod KnownListLemmas
 pub mod MergeLemmas
 pub mod NameCountLemmas
 pub mod PartLemmas

@@ -64,7 +64,7 @@ part-without-sources Breaks Holds machine text archs table of words records bad 
   at (inr e) = inl (sym (listing-known machine text of words some
       ∙ ap (λ sources. listing_kept (with_words of.arch words) sources (kept_binaries (with_words of.arch words) of.packages)) e))
 
-binaries-begun : (arch : ArchWords) (packages : List ℕ) → binaries_at arch (begun (paragraphs_in (lines_of packages))) ≡ kept_binaries arch packages
+pub binaries-begun : (arch : ArchWords) (packages : List ℕ) → binaries_at arch (begun (paragraphs_in (lines_of packages))) ≡ kept_binaries arch packages
 unfolding kept_binaries
 binaries-begun arch packages = refl
 
@@ -202,7 +202,7 @@ known-all (part ∷ parts) = (
 
 -- ---- Sources
 
-sources-begun : (text : List ℕ) → sources_at (begun (paragraphs_in (lines_of text))) ≡ kept_sources text
+pub sources-begun : (text : List ℕ) → sources_at (begun (paragraphs_in (lines_of text))) ≡ kept_sources text
 unfolding kept_sources
 sources-begun text = refl
 

@@ -73,10 +73,11 @@ fn keep_binary<T: MergeTables>(
     }
 }
 
-/// Reads a Sources list into its table, which is empty: of its rows those that can matter to a merge of these
-/// architectures. Each paragraph is read and checked all the same, and the first faulty one refuses the list, or that its
-/// reader broke; the table then has some rows. The errors are `Memory` if memory ran out, or if the list has 2^63 - 1
-/// paragraphs or more, which cannot all be numbered, and else the fault of the tables (this project's own).
+/// Reads a Sources list, of which no paragraph was read before, into its table, which is empty: of its rows those that
+/// can matter to a merge of these architectures. Each paragraph is read and checked all the same, and the first faulty
+/// one refuses the list, or that its reader broke; the table then has some rows. The errors are `Memory` if memory ran
+/// out, or if the list has 2^63 - 1 paragraphs or more, which cannot all be numbered, and else the fault of the tables
+/// (this project's own).
 pub fn fill_sources<T: MergeTables, R: ReadParagraphs>(
     alloc: Global,
     tables: &mut T,
@@ -102,11 +103,11 @@ pub fn fill_sources<T: MergeTables, R: ReadParagraphs>(
     Err(MergeFault::Memory)
 }
 
-/// Reads the Packages list of an architecture into its table, which is empty: of its rows those that can matter, the
-/// architecture's own and those whose names are waited for. Each paragraph is read and checked all the same, and the first
-/// faulty one refuses the list, or that its reader broke; the table then has some rows. The errors are `Memory` if memory ran
-/// out, or if the list has 2^63 - 1 paragraphs or more, which cannot all be numbered, and else the fault of the tables (this
-/// project's own).
+/// Reads the Packages list of an architecture, of which no paragraph was read before, into its table, which is empty: of
+/// its rows those that can matter, the architecture's own and those whose names are waited for. Each paragraph is read
+/// and checked all the same, and the first faulty one refuses the list, or that its reader broke; the table then has
+/// some rows. The errors are `Memory` if memory ran out, or if the list has 2^63 - 1 paragraphs or more, which cannot
+/// all be numbered, and else the fault of the tables (this project's own).
 pub fn fill_binaries<T: MergeTables, R: ReadParagraphs>(
     alloc: Global,
     tables: &mut T,

@@ -171,12 +171,12 @@ fn clear_all<T: MergeTables>(tables: &mut T) -> Result<(), MergeFault<T::Fault>>
     asked(tables.clear_scratch())
 }
 
-/// Merges an archive's lists into the records of the tables, paragraph by paragraph: Sources is read once, into its table, and
-/// then each part in its order, within a savepoint of its own. A part whose architecture was never added is not read and is
-/// refused with `UnknownArch`; one whose list is refused, or all if Sources is, changes nothing and says why. In the end no row
-/// of the lists is left and no savepoint. The errors are `Memory` if memory ran out, or if a list has 2^63 - 1 paragraphs or
-/// more, which cannot all be numbered, and else the first fault of the tables; the caller then takes its transaction back (this
-/// project's own).
+/// Merges an archive's lists, of which no paragraph was read before, into the records of the tables, paragraph by
+/// paragraph: Sources is read once, into its table, and then each part in its order, within a savepoint of its own. A
+/// part whose architecture was never added is not read and is refused with `UnknownArch`; one whose list is refused, or
+/// all if Sources is, changes nothing and says why. In the end no row of the lists is left and no savepoint. The errors
+/// are `Memory` if memory ran out, or if a list has 2^63 - 1 paragraphs or more, which cannot all be numbered, and else
+/// the first fault of the tables; the caller then takes its transaction back (this project's own).
 pub fn merge_lists<T: MergeTables, R: ReadParagraphs>(
     alloc: Global,
     tables: &mut T,

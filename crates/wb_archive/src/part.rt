@@ -96,9 +96,10 @@ fn keep<T: MergeTables>(
     Ok(PartEnd::Merged { counts })
 }
 
-/// Merges one part: its Packages list is read into its table, the records of its architecture are brought in line with both
-/// lists, and its rows are taken out. A part whose list is refused changes nothing. `archs` are the architectures for which
-/// the rows of Sources in the tables were chosen, this one among them (this project's own).
+/// Merges one part: its Packages list, of which no paragraph was read before, is read into its table, the records of its
+/// architecture are brought in line with both lists, and its rows are taken out. A part whose list is refused changes
+/// nothing. `archs` are the architectures for which the rows of Sources in the tables were chosen, this one among them
+/// (this project's own).
 pub fn merge_part<T: MergeTables, R: ReadParagraphs>(
     alloc: Global,
     tables: &mut T,
