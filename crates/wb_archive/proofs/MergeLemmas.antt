@@ -24,7 +24,7 @@ use Rattle.wb_step.specs.Parts.{end_with, listing_for, part_listing, part_replie
 use Rattle.wb_archive.specs.declared.fault.BadList.{BadList}
 use Rattle.wb_archive.specs.declared.merge.PartList.{PartList}
 use Rattle.wb_archive.specs.Faults.{refusal_of}
-use Rattle.wb_archive.specs.Merges.{ArePartsDone, IsGiven, IsMergeDone, IsMergeOfParts, IsPartMerged, IsPartOf, IsPartUnread, IsUnread, MayBeginAt, arch_of, archs_of}
+use Rattle.wb_archive.specs.Merges.{ArePartsDone, IsGiven, IsMergeOfParts, IsPartMerged, IsPartOf, IsPartUnread, IsUnread, MayBeginAt, arch_of, archs_of}
 use Rattle.wb_archive.specs.Parts.{IsListing, IsPartDone, binaries_at, listing_from}
 use Rattle.wb_archive.specs.Fills.{IsFilled, WithRows, sources_wanted}
 use Rattle.wb_archive.specs.Faults.{IsRefused}

@@ -1,5 +1,5 @@
 -- What is kept of the paragraphs that a reader has ahead.
-use Rattle.std.specs.Prelude.{◌≡◌, ℕ, ◌+◌, List, Option, None, Some, Result, Ok, Err}
+use Rattle.std.specs.Prelude.{◌≡◌, ℕ, List, Option, None, Some, Result, Ok, Err}
 use Rattle.deb_control.specs.declared.fault.ControlFaultKind.TheVariants.{Ended}
 use Rattle.deb_control.specs.Fields.{FieldText}
 use Rattle.deb_control.specs.Paragraphs.{Answer, ReaderState, step}

@@ -1,7 +1,6 @@
 //! The merge of an archive's lists: Sources is read once, and then each part in its order.
-ghost use Rattle.std.specs.Prelude.{◌≡◌, ◌++◌, ◌⊎◌, ℕ, List, [], ◌∷◌, None, Some, Err, IfOk, IfErr, OnOk};
+ghost use Rattle.std.specs.Prelude.{◌≡◌, ◌++◌, ℕ, List, [], ◌∷◌, None, Some, Err, IfOk, IfErr, OnOk};
 ghost use Rattle.std.specs.List.{AllByRecursion};
-ghost use Rattle.deb_control.specs.declared.fault.ControlFault.{ControlFault};
 ghost use Rattle.deb_relations.specs.declared.arch.ArchWords.{ArchWords};
 ghost use Rattle.wb_states.specs.Machine.{Machine};
 ghost use Rattle.wb_step.specs.Parts.{part_listing};

@@ -1,5 +1,5 @@
 //! One part of a merge: the Packages list of an architecture, merged into the tables or taken back.
-ghost use Rattle.std.specs.Prelude.{◌≡◌, ◌≢◌, ℕ, List, [], None, Some, IfOk, IfErr, OnOk};
+ghost use Rattle.std.specs.Prelude.{◌≡◌, ◌≢◌, List, [], None, Some, IfOk, IfErr, OnOk};
 ghost use Rattle.deb_relations.specs.declared.arch.ArchWords.{ArchWords};
 ghost use Rattle.deb_text.specs.Lists.{IsIn};
 ghost use Rattle.wb_states.specs.declared.reply.PartEnd.TheVariants.{Merged, Refused};
