@@ -1,4 +1,4 @@
-use Rattle.std.proofs.Common.{◌+◌, [], ◌∷◌, refl, subst}
+use Rattle.std.proofs.Common.{◌+◌, [], ◌∷◌, refl, subst, rules}
 use Rattle.std.specs.BTreeSet.{contains}
 use Rattle.deb_text.specs.Text.{text_cmp}
 use Rattle.wb_states.specs.declared.refusal.ListKind.TheVariants.{Packages}
@@ -7,6 +7,7 @@ use Rattle.wb_merge.specs.Scratch.{binary_row_at}
 use Rattle.wb_archive.specs.Fills.{binaries_wanted}
 use Rattle.wb_archive.specs.Tables.{with_binaries}
 use Rattle.wb_archive.proofs.FillLemmas.{binary-after, half-ended, half-refused, half-start, half-step, binary-numbered, binaries-split}
+use Rattle.wb_archive.proofs.StopLemmas.{stops-on}
 use Rattle.wb_archive.proofs.fill.fill_binaries.Goals as goal
 
 pub returns-in-Ok-None-clause-value : goal.returns-in-Ok-None-clause-value
@@ -51,3 +52,12 @@ loop-passed-preserved g c =
           (binary-after (c.loop-passed.passed + 1) row (binaries_wanted (contains text_cmp c.args.waited.now) half.done) number half.below))
           (binary-numbered (contains text_cmp c.args.waited.now) (c.loop-passed.passed + 1) row number);
     }
+
+pub returns-in_err-keep_binary-in-Ok-Some-clause-stops : goal.returns-in_err-keep_binary-in-Ok-Some-clause-stops
+returns-in_err-keep_binary-in-Ok-Some-clause-stops g c =
+    let tables = g.T.MergeTables in
+    let laws = g.met.T.MergeTables in
+    let stopped = c.in_err-keep_binary-in-Ok-Some in
+    let stops = stops-on tables.follows tables.fails laws.follows_on laws.fails_on c.args.tables.now c.loop-passed.tables c.keep_binary.new.tables stopped.field-0.0
+    c.loop-passed.invariant.follows stopped.ensures.stops in
+    search (rules, stops, c.from_residual.ensures)

@@ -1,4 +1,4 @@
-use Rattle.std.proofs.Common.{◌<◌, ◌+◌, [], ◌∷◌, refl, sym, subst}
+use Rattle.std.proofs.Common.{◌<◌, ◌+◌, [], ◌∷◌, refl, sym, subst, rules}
 use Rattle.std.specs.List.{AllByRecursion}
 use Rattle.wb_states.specs.declared.refusal.ListKind.TheVariants.{Sources}
 use Rattle.wb_states.specs.declared.scratch.SourceRow.{SourceRow}
@@ -6,6 +6,7 @@ use Rattle.wb_merge.specs.Scratch.{source_row_at}
 use Rattle.wb_archive.specs.Fills.{sources_wanted}
 use Rattle.wb_archive.specs.Tables.{with_sources}
 use Rattle.wb_archive.proofs.FillLemmas.{half-ended, half-refused, half-start, half-step, source-numbered, sources-split}
+use Rattle.wb_archive.proofs.StopLemmas.{stops-on}
 use Rattle.wb_archive.proofs.fill.fill_sources.Goals as goal
 
 pub returns-in-Ok-None-clause-value : goal.returns-in-Ok-None-clause-value
@@ -50,3 +51,12 @@ loop-passed-preserved g c =
           (subst (λ n. AllByRecursion (λ (r : SourceRow). r.seq < n) (sources_wanted c.args.archs.now half.done)) (sym number) half.below))
           (source-numbered c.args.archs.now (c.loop-passed.passed + 1) row number);
     }
+
+pub returns-in_err-keep_source-in-Ok-Some-clause-stops : goal.returns-in_err-keep_source-in-Ok-Some-clause-stops
+returns-in_err-keep_source-in-Ok-Some-clause-stops g c =
+    let tables = g.T.MergeTables in
+    let laws = g.met.T.MergeTables in
+    let stopped = c.in_err-keep_source-in-Ok-Some in
+    let stops = stops-on tables.follows tables.fails laws.follows_on laws.fails_on c.args.tables.now c.loop-passed.tables c.keep_source.new.tables stopped.field-0.0
+    c.loop-passed.invariant.follows stopped.ensures.stops in
+    search (rules, stops, c.from_residual.ensures)
