@@ -1,11 +1,10 @@
 -- Where a feed may stand, and what it answers from there.
-use Rattle.std.proofs.Common.{◌≡◌, ◌≢◌, ◌∙◌, sym, ap, refl, ℕ, length, List, [], ◌∷◌, ◌++◌, ◌⊎◌, inl, inr, Option, None, Some, Ok, Err, subst}
-use Rattle.deb_control.specs.declared.fault.ControlFault.{ControlFault}
+use Rattle.std.proofs.Common.{◌≡◌, ◌≢◌, ◌∙◌, sym, ap, refl, ℕ, length, List, [], ◌∷◌, ◌++◌, ◌⊎◌, inl, inr, Option, None, Some, subst, append-nil}
 use Rattle.deb_control.specs.declared.fault.ControlFaultKind.{ControlFaultKind}
-use Rattle.deb_control.specs.declared.fault.ControlFaultKind.TheVariants.{Read}
+use Rattle.deb_control.specs.declared.fault.ControlFaultKind.TheVariants.{TooLarge, NotUtf8, Orphan, NoColon, BadName, Duplicate, Read, Memory, Ended}
 use Rattle.deb_control.specs.Lines.{lines_of, paragraphs_in}
 use Rattle.deb_control.specs.Paragraphs.{Answer, ReaderState, begun, step, answers_of}
-use Rattle.deb_control.specs.Source.{Source, Gives, MayBeLeft}
+use Rattle.deb_control.specs.Source.{Gives, MayBeLeft, Takes}
 use Rattle.deb_control.specs.FeedState.{FeedState, fresh}
 use Rattle.deb_control.specs.Feed.{AnswersFor, HaveAnswersFor, MayStandAt, place_in}
 use Rattle.deb_control.proofs.GivesLemmas.{gives-same, gives-then, left-before}
@@ -56,3 +55,28 @@ given-from (answer ∷ later) old last have =
 pub answers-of-given : (bytes : Option (List ℕ)) (answers : List Answer) (last : FeedState) → HaveAnswersFor answers (fresh bytes) last
     → Gives (fresh bytes).source last.source (λ text _. answers ≡ answers_of (length answers) (begun (paragraphs_in (lines_of text))))
 answers-of-given bytes answers last have = given-from answers (fresh bytes) last have
+
+-- at the end of the input, for all that was given
+pub answers-of-whole : (bytes : Option (List ℕ)) (answers : List Answer) (last : FeedState) → HaveAnswersFor answers (fresh bytes) last → last.source.bytes ≡ Some []
+    → (text : List ℕ) × (Takes (fresh bytes).source last.source text × (answers ≡ answers_of (length answers) (begun (paragraphs_in (lines_of text)))))
+answers-of-whole bytes answers last have at_end =
+    let given = answers-of-given bytes answers last have in (
+      given.piece,
+      (
+        given.taken,
+        subst (λ (v : List ℕ). answers ≡ answers_of (length answers) (begun (paragraphs_in (lines_of v)))) (append-nil given.piece)
+            (given.value [] (subst (λ (b : Option (List ℕ)). MayBeLeft b []) (sym at_end) refl)),
+      ),
+    )
+
+-- a fault is that of a read or another
+pub is-read-or-not : (kind : ControlFaultKind) → (kind ≡ Read) ⊎ (kind ≢ Read)
+is-read-or-not Read = inl refl
+is-read-or-not TooLarge = inr (λ is. absurd cc)
+is-read-or-not NotUtf8 = inr (λ is. absurd cc)
+is-read-or-not Orphan = inr (λ is. absurd cc)
+is-read-or-not NoColon = inr (λ is. absurd cc)
+is-read-or-not BadName = inr (λ is. absurd cc)
+is-read-or-not Duplicate = inr (λ is. absurd cc)
+is-read-or-not Memory = inr (λ is. absurd cc)
+is-read-or-not Ended = inr (λ is. absurd cc)

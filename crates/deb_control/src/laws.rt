@@ -8,7 +8,7 @@ ghost use Rattle.deb_control.specs.Lines.{lines_of, HaveLines, paragraphs_in, Ha
 ghost use Rattle.std.specs.Str.{str_to_ascii_lowercase};
 ghost use Rattle.deb_control.specs.Fields.{FieldText, field_named, folded_of, reading_of, IsReading, IsFault};
 ghost use Rattle.deb_control.specs.Paragraphs.{Answer, ReaderState, begun, step, has_reading, answer_after, answer_for, answers_of};
-ghost use Rattle.deb_control.specs.Source.{Gives, TakesSome};
+ghost use Rattle.deb_control.specs.Source.{Gives, Takes, TakesSome};
 ghost use Rattle.deb_control.specs.FeedState.{FeedState, feed_limit, fresh};
 ghost use Rattle.deb_control.specs.Feed.{AnswersFor, HaveAnswers, HaveAnswersFor, MayStandAt, ReadEnds};
 
@@ -83,11 +83,16 @@ pub fn feeds_answer_as_paragraphs()
 
 /// Call by call a feed answers for the bytes that its reader gave, with whatever may be left after them, what a reader of the
 /// same bytes in memory answers; if the bytes of the reader are not known before they are read, as those of a file or a pipe, any
-/// may be left, and none once it answered that it is at its end (this project's own).
+/// may be left, and none once it answered that it is at its end: the bytes that it gave are then its whole input (this project's
+/// own).
 pub fn feeds_answer_for_what_was_given()
-    ensures { (bytes : Option (List ℕ)) (answers : List Answer) (last : FeedState) →
+    ensures given { (bytes : Option (List ℕ)) (answers : List Answer) (last : FeedState) →
         HaveAnswersFor answers (fresh bytes) last → Gives (fresh bytes).source last.source
         (λ text _. answers ≡ answers_of (length answers) (begun (paragraphs_in (lines_of text)))) }
+    ensures whole { (bytes : Option (List ℕ)) (answers : List Answer) (last : FeedState) →
+        HaveAnswersFor answers (fresh bytes) last → last.source.bytes ≡ Some [] →
+        (text : List ℕ) × (Takes (fresh bytes).source last.source text
+        × (answers ≡ answers_of (length answers) (begun (paragraphs_in (lines_of text))))) }
 {}
 
 /// A feed may stand somewhere, and went through as many paragraphs wherever it may stand. Wherever it may stand after a call,
