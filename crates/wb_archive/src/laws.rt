@@ -1,7 +1,9 @@
 //! Laws of a merge of an archive's lists, each on a function that does nothing.
-ghost use Rattle.std.specs.Prelude.{◌≡◌, ℕ, List};
+ghost use Rattle.std.specs.Prelude.{◌≡◌, ℕ, List, Option, Some};
 ghost use Rattle.std.specs.List.{AllByRecursion, AllZip};
 ghost use Rattle.deb_control.specs.declared.fault.ControlFault.{ControlFault};
+ghost use Rattle.deb_control.specs.Feed.{MayStandAt};
+ghost use Rattle.deb_control.specs.FeedState.{fresh};
 ghost use Rattle.deb_control.specs.Lines.{lines_of, paragraphs_in};
 ghost use Rattle.deb_control.specs.Paragraphs.{ReaderState, begun};
 ghost use Rattle.wb_states.specs.declared.command.Part.{Part};
@@ -43,4 +45,11 @@ pub fn texts_in_memory_are_known()
         (begun (paragraphs_in (lines_of text))) text }
     ensures breaks { (reader : ReaderState) (fault : ControlFault)
         → ⟦<Paragraphs<'static> as ReadParagraphs>⟧.breaks reader fault → ⊥ }
+{}
+
+/// A feed before its first call was not read, whatever its reader is; and if the bytes of its reader are known, it begins at them,
+/// and may begin at no other text.
+pub fn feeds_begin_at_their_bytes()
+    ensures unread { (bytes : Option (List ℕ)) → IsUnread MayStandAt (fresh bytes) }
+    ensures begins { (text : List ℕ) → BeginsAt MayStandAt (fresh (Some text)) text }
 {}

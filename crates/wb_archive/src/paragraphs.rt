@@ -1,13 +1,17 @@
 //! What a merge asks of a reader of paragraphs.
-ghost use Rattle.std.specs.Prelude.{◌≡◌, ◌≢◌, ◌⊎◌, ℕ, IsTrue, IfOk, IfErr, Ok, Err, option_map, refl};
+ghost use Rattle.std.specs.Prelude.{◌≡◌, ◌≢◌, ◌⊎◌, ℕ, ◌<◌, IsTrue, IfOk, IfErr, IfSome, Ok, Err, length, option_map, refl};
 ghost use Rattle.std.proofs.Common.{sym};
 ghost use Rattle.deb_control.specs.declared.fault.ControlFault.{ControlFault};
 ghost use Rattle.deb_control.specs.declared.fault.ControlFaultKind.TheVariants.{Memory};
+ghost use Rattle.deb_control.specs.Feed.{MayStandAt};
 ghost use Rattle.deb_control.specs.Paragraphs.{ReaderState, step, wants_memory};
+ghost use Rattle.deb_control.proofs.StandLemmas.{stands-counted, stands-somewhere};
+ghost use Rattle.wb_archive.specs.Feeds.{IsFeedBreak};
 ghost use Rattle.wb_archive.specs.Reads.{AnswersFrom, MayStandWhere};
 
-use deb_control::{ControlFault, Fields, Paragraph, Paragraphs};
+use deb_control::{ControlFault, Feed, Fields, OwnedParagraph, Paragraph, Paragraphs};
 use std::alloc::Global;
+use std::io::BufRead;
 
 /// A reader of the paragraphs of control data, in their order (Debian Policy 5.1). What its bytes are need not be known before
 /// they are read: its clauses say of each place at which it may stand after a call where it may have stood before it.
@@ -60,5 +64,25 @@ impl<'a> ReadParagraphs for Paragraphs<'a> {
 
     fn next(&mut self, alloc: Global) -> Result<Option<Paragraph<'a>>, ControlFault> {
         Paragraphs::next(self, alloc)
+    }
+}
+
+impl<B: BufRead + Drop> ReadParagraphs for Feed<B> {
+    type Found = OwnedParagraph;
+
+    ghost may_stand_at = { MayStandAt };
+
+    ghost passed = { λ feed. feed.passed };
+
+    ghost breaks = { IsFeedBreak };
+
+    ghost may_want_memory = { λ feed. IfSome feed.source.bytes (λ text. 0 < length text) };
+
+    ghost stands = { stands-somewhere };
+
+    ghost counts = { stands-counted };
+
+    fn next(&mut self, alloc: Global) -> Result<Option<OwnedParagraph>, ControlFault> {
+        Feed::next(self, alloc)
     }
 }
