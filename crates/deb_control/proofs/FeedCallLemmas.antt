@@ -5,9 +5,9 @@ use Rattle.std.proofs.lemmas.List.{length-append}
 use Rattle.deb_control.specs.declared.fault.ControlFault.{ControlFault}
 use Rattle.deb_control.specs.Lines.{lines_of, paragraphs_in}
 use Rattle.deb_control.specs.Paragraphs.{Answer, ReaderState, begun, step, answers_of}
-use Rattle.deb_control.specs.Source.{Source, IfKnown, IsCut, Takes, TakesSome}
+use Rattle.deb_control.specs.Source.{IfKnown, IsCut, TakesSome}
 use Rattle.deb_control.specs.FeedState.{FeedState, feed_limit, fresh}
-use Rattle.deb_control.specs.Feed.{AnswersAs, HaveAnswers, ReadEnds, place_in}
+use Rattle.deb_control.specs.Feed.{HaveAnswers, ReadEnds, place_in}
 use Rattle.deb_control.proofs.SourceLemmas.{takes-then}
 
 -- from a feed that has these bytes left

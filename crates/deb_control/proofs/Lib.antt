@@ -15,8 +15,10 @@ pub mod RoomLemmas
 pub mod TextLineLemmas
 pub mod FoundLemmas
 pub mod SourceLemmas
+pub mod GivesLemmas
 pub mod LineReadLemmas
 pub mod ParagraphReadLemmas
 pub mod OwnedLemmas
 pub mod FeedLemmas
 pub mod FeedCallLemmas
+pub mod StandLemmas

@@ -1,7 +1,6 @@
 -- What a read of a line gives: the line, of which blanks at its start may have been left out, and what it is.
-use Rattle.std.proofs.Common.{◌≡◌, ◌≢◌, ◌∙◌, sym, ap, refl, ℕ, ◌+◌, ◌<◌, ◌≤◌, Bool, true, false, length, take, drop, List, [], ◌∷◌, ◌++◌, ◌⊎◌, inl, inr, arith, append-nil, append_assoc, Option, None, Some}
+use Rattle.std.proofs.Common.{◌≡◌, ◌≢◌, ◌∙◌, sym, ap, refl, ℕ, ◌+◌, ◌<◌, ◌≤◌, Bool, true, false, length, take, drop, List, [], ◌∷◌, ◌++◌, ◌⊎◌, inl, inr, arith, append-nil, append_assoc}
 use Rattle.std.specs.List.{list_any, list_all}
-use Rattle.std.specs.Io.KnownBytes.{Consumes}
 use Rattle.std.proofs.lemmas.Bool.{cases_Bool, or_parts, and_parts}
 use Rattle.std.proofs.lemmas.Bool.Decides.{nat_tests}
 use Rattle.std.proofs.lemmas.List.{length-append}
@@ -9,14 +8,15 @@ use Rattle.std.proofs.lemmas.List.Folds.{list_all-append}
 use Rattle.std.proofs.Transfers.{drop-appended}
 use Rattle.deb_control.specs.Lines.{is_line_feed, is_blank, body_of, is_separator, lines_of, IsLine, HaveLines}
 use Rattle.deb_control.specs.Fields.{paragraph_limit}
-use Rattle.deb_control.specs.Source.{Source, IfKnown, Takes, CutsIf}
+use Rattle.deb_control.specs.Source.{Source, Takes, CutsIf}
 use Rattle.deb_control.specs.Pieces.{AddsLine, BeginsWith, TakesLine, FailsLine, IsReadLine, EndsLine, EndsLast, EndsCut, ReadsLine}
 use Rattle.deb_control.specs.declared.source.LineEnd.TheVariants.{Ended, Last, Full, Cut}
 use Rattle.deb_control.specs.declared.source.LineRead.{LineRead}
 use Rattle.deb_control.specs.declared.source.LineRead.TheVariants.{Failed, End, Separator, Whole, Long}
 use Rattle.deb_control.proofs.LineLemmas.{before-other}
 use Rattle.deb_control.proofs.TextLineLemmas.{lines-are}
-use Rattle.deb_control.proofs.SourceLemmas.{takes-nil, takes-then, free-both, known-after, cuts-after}
+use Rattle.deb_control.proofs.SourceLemmas.{takes-nil, takes-then, free-both, cuts-after}
+use Rattle.deb_control.proofs.GivesLemmas.{none-left}
 
 -- ---- lists
 
@@ -83,24 +83,6 @@ longer-by seen rest (line ∷ lines) free some have = record {
 longer : (seen rest : List ℕ) → list_any is_line_feed seen ≡ false → 0 < length seen → Longer seen rest
 longer seen rest free some = longer-by seen rest (lines_of rest) free some (lines-are rest)
 
--- ---- bytes that are known
-
-pub known-from : (a b : Option (List ℕ)) (piece : List ℕ) (P : List ℕ → List ℕ → Type 0) → Consumes a b piece → ((text rest : List ℕ) → text ≡ piece ++ rest → P text rest) → IfKnown a b P
-known-from None b piece P taken is = tt
-known-from (Some text) None piece P taken is = absurd taken
-known-from (Some text) (Some rest) piece P taken is = is text rest taken
-
-known-with : (a b : Option (List ℕ)) (piece : List ℕ) (Q : List ℕ → Type 0) (P : List ℕ → List ℕ → Type 0) → Consumes a b piece → IfKnown a b (λ _ rest. Q rest)
-    → ((text rest : List ℕ) → text ≡ piece ++ rest → Q rest → P text rest) → IfKnown a b P
-known-with None b piece Q P taken known is = tt
-known-with (Some text) None piece Q P taken known is = absurd taken
-known-with (Some text) (Some rest) piece Q P taken known is = is text rest taken known
-
-pub known-map : (a b : Option (List ℕ)) (P Q : List ℕ → List ℕ → Type 0) → IfKnown a b P → ((text rest : List ℕ) → P text rest → Q text rest) → IfKnown a b Q
-known-map None b P Q known is = tt
-known-map (Some text) None P Q known is = absurd known
-known-map (Some text) (Some rest) P Q known is = is text rest known
-
 -- ---- a line of which blanks were left out
 
 -- so far the text stands as it was, and blanks at the start of the line were left out
@@ -159,34 +141,29 @@ take-front [] ys = refl
 take-front (x ∷ xs) ys = ap (λ (v : List ℕ). x ∷ v) (take-front xs ys)
 
 -- what the line is settled to be
-line-settled : (read : LineRead) (before after text_then : List ℕ) (start : ℕ) (over : Bool) (a c : Source) (blanks piece : List ℕ) → WholeLine before after start over a c blanks piece
-    → IfKnown a.bytes c.bytes (BeginsWith (blanks ++ piece)) → EndsLine read start over after text_then → IfKnown a.bytes c.bytes (TakesLine read before text_then)
-line-settled Separator before after text_then start over a c blanks piece w known ends =
+line-settled : (read : LineRead) (before after text_then : List ℕ) (start : ℕ) (over : Bool) (a c : Source) (blanks piece text rest : List ℕ) → WholeLine before after start over a c blanks piece
+    → BeginsWith (blanks ++ piece) text rest → EndsLine read start over after text_then → TakesLine read before text_then text rest
+line-settled Separator before after text_then start over a c blanks piece text rest w is ends =
     let behind = piece-behind before after piece start w.from w.appended in
-    known-map a.bytes c.bytes (BeginsWith (blanks ++ piece)) (TakesLine Separator before text_then) known
-    (λ text rest is. (blanks ++ piece, is, is_separator-blanks blanks piece w.blank ∙ ap is_separator (sym behind) ∙ ends.0))
-line-settled Whole before after text_then start over a c blanks piece w known ends =
+    (blanks ++ piece, is, is_separator-blanks blanks piece w.blank ∙ ap is_separator (sym behind) ∙ ends.0)
+line-settled Whole before after text_then start over a c blanks piece text rest w is ends =
     let behind = piece-behind before after piece start w.from w.appended in
-    let none = w.none ends.2 in
-    known-map a.bytes c.bytes (BeginsWith (blanks ++ piece)) (TakesLine Whole before text_then) known
-    (λ text rest is. (
+    let none = w.none ends.2 in (
       blanks ++ piece,
       is,
       is_separator-blanks blanks piece w.blank ∙ ap is_separator (sym behind) ∙ ends.0,
       ends.1 ∙ w.appended ∙ ap (λ (v : List ℕ). before ++ (v ++ piece)) (sym none),
-    ))
-line-settled Long before after text_then start over a c blanks piece w known ends =
-    let behind = piece-behind before after piece start w.from w.appended in
-    known-map a.bytes c.bytes (BeginsWith (blanks ++ piece)) (TakesLine Long before text_then) known
-    (λ text rest is. (
+    )
+line-settled Long before after text_then start over a c blanks piece text rest w is ends =
+    let behind = piece-behind before after piece start w.from w.appended in (
       blanks ++ piece,
       rest,
       is,
       is_separator-blanks blanks piece w.blank ∙ ap is_separator (sym behind) ∙ ends.0,
       long-size before after blanks piece start over w.appended w.from w.some ends.1,
-    ))
-line-settled Failed before after text_then start over a c blanks piece w known ends = absurd ends
-line-settled End before after text_then start over a c blanks piece w known ends = absurd ends
+    )
+line-settled Failed before after text_then start over a c blanks piece text rest w is ends = absurd ends
+line-settled End before after text_then start over a c blanks piece text rest w is ends = absurd ends
 
 settled-size : (read : LineRead) (before after text_then : List ℕ) (start : ℕ) (over : Bool) (a c : Source) (blanks piece : List ℕ) → WholeLine before after start over a c blanks piece
     → 0 < length (blanks ++ piece) → EndsLine read start over after text_then → IsReadLine read before text_then a c
@@ -215,17 +192,18 @@ read-ended read before mid after text_then start over a b c d p same same' ends 
     let w = whole-line Ended before mid after start over a b c d p in
     let some : 0 < length (d.blanks ++ p.piece) = omega (arith, ap length p.kind.2, length-append p.kind.0 (10 ∷ []), length-append d.blanks p.piece) in
     record {
-      value =
-          line-settled read before after text_then start over a c d.blanks p.piece w
-          (known-from a.bytes c.bytes (d.blanks ++ p.piece) (BeginsWith (d.blanks ++ p.piece)) w.taken.bytes (λ text rest joined. record {
-            joined = joined;
-            line_is = record {
-              body = d.blanks ++ p.kind.0;
-              free = free-both d.blanks p.kind.0 (free-blanks d.blanks d.blank) p.kind.1;
-              ended = inl (ap (λ (v : List ℕ). d.blanks ++ v) p.kind.2 ∙ sym (append_assoc d.blanks p.kind.0 (10 ∷ [])));
-            };
-          })) ends;
-      taken = (d.blanks ++ p.piece, w.taken);
+      value = record {
+        piece = d.blanks ++ p.piece;
+        taken = w.taken;
+        value = λ rest may. line-settled read before after text_then start over a c d.blanks p.piece ((d.blanks ++ p.piece) ++ rest) rest w (record {
+          joined = refl;
+          line_is = record {
+            body = d.blanks ++ p.kind.0;
+            free = free-both d.blanks p.kind.0 (free-blanks d.blanks d.blank) p.kind.1;
+            ended = inl (ap (λ (v : List ℕ). d.blanks ++ v) p.kind.2 ∙ sym (append_assoc d.blanks p.kind.0 (10 ∷ [])));
+          };
+        }) ends;
+      };
       size = settled-size read before after text_then start over a c d.blanks p.piece w some ends;
       failed = settled-kept read after text_then start over a c (same' ∙ same) ends;
     }
@@ -248,15 +226,19 @@ last-line : (read : LineRead) (before mid after text_then : List ℕ) (start : �
 last-line read before mid after line start over a b c d p within same same' differ ends =
     let w = whole-line Last before mid after start over a b c d p in
     let some : 0 < length (d.blanks ++ p.piece) = some-line before mid after start over a b c d p within differ in
-    let known : IfKnown a.bytes c.bytes (λ _ rest. rest ≡ []) = known-after a.bytes b.bytes c.bytes d.blanks (λ rest. rest ≡ []) d.taken.bytes p.kind.1 in
     record {
-      value =
-          line-settled read before after line start over a c d.blanks p.piece w
-          (known-with a.bytes c.bytes (d.blanks ++ p.piece) (λ rest. rest ≡ []) (BeginsWith (d.blanks ++ p.piece)) w.taken.bytes known (λ text rest joined none. record {
-            joined = joined;
-            line_is = record { body = d.blanks ++ p.piece; free = free-both d.blanks p.piece (free-blanks d.blanks d.blank) p.kind.0; ended = inr (refl, some, none) };
-          })) ends;
-      taken = (d.blanks ++ p.piece, w.taken);
+      value = record {
+        piece = d.blanks ++ p.piece;
+        taken = w.taken;
+        value = λ rest may. line-settled read before after line start over a c d.blanks p.piece ((d.blanks ++ p.piece) ++ rest) rest w (record {
+          joined = refl;
+          line_is = record {
+            body = d.blanks ++ p.piece;
+            free = free-both d.blanks p.piece (free-blanks d.blanks d.blank) p.kind.0;
+            ended = inr (refl, some, none-left c.bytes rest p.kind.1 may);
+          };
+        }) ends;
+      };
       size = settled-size read before after line start over a c d.blanks p.piece w some ends;
       failed = settled-kept read after line start over a c (same' ∙ same) ends;
     }
@@ -267,13 +249,15 @@ read-last End before mid after line start over a b c d p within same same' ends 
     let w = whole-line Last before mid after start over a b c d p in
     let none : d.blanks ≡ [] = d.none ends.1 in
     let no_piece : p.piece ≡ [] = nothing p.piece (omega (arith, ends.0, ap length p.appended, ap length d.kept, length-append mid p.piece, d.from)) in
-    let known : IfKnown a.bytes c.bytes (λ _ rest. rest ≡ []) = known-after a.bytes b.bytes c.bytes d.blanks (λ rest. rest ≡ []) d.taken.bytes p.kind.1 in
     record {
-      value =
-          known-with a.bytes c.bytes (d.blanks ++ p.piece) (λ rest. rest ≡ []) (TakesLine End before line) w.taken.bytes known
-          (λ text rest joined at_end. (joined ∙ ap (λ (v : List ℕ). (v ++ p.piece) ++ rest) none ∙ ap (λ (v : List ℕ). v ++ rest) no_piece ∙ at_end, at_end));
-      taken = (d.blanks ++ p.piece, w.taken);
-      size = ends.2 ∙ w.appended ∙ ap (λ (v : List ℕ). before ++ v) no_piece ∙ append-nil before;
+      value = record {
+        piece = d.blanks ++ p.piece;
+        taken = w.taken;
+        value = λ rest may.
+            let at_end = none-left c.bytes rest p.kind.1 may in
+            (ap (λ (v : List ℕ). (v ++ p.piece) ++ rest) none ∙ ap (λ (v : List ℕ). v ++ rest) no_piece ∙ at_end, at_end);
+      };
+      size = (ends.2 ∙ w.appended ∙ ap (λ (v : List ℕ). before ++ v) no_piece ∙ append-nil before, p.kind.1);
       failed = same' ∙ same;
     }
 read-last Separator before mid after line start over a b c d p within same same' ends = last-line Separator before mid after line start over a b c d p within same same' ends.0 ends.1
@@ -289,15 +273,18 @@ some-text (c ∷ cs) other = omega arith
 seen-long : (before text_then : List ℕ) (a c : Source) (seen : List ℕ) → Takes a c seen → list_any is_line_feed seen ≡ false → list_all is_blank seen ≡ false
     → paragraph_limit < length before + length seen → ReadsLine Long before text_then a c
 seen-long before line a c seen taken free other over = record {
-  value = known-from a.bytes c.bytes seen (TakesLine Long before line) taken.bytes (λ text rest joined.
-      let l = longer seen rest free (some-text seen other) in (
-        seen ++ l.more,
-        l.behind,
-        record { joined = joined ∙ ap (λ (v : List ℕ). seen ++ v) l.joined ∙ sym (append_assoc seen l.more l.behind); line_is = l.line_is },
-        is_separator-more seen l.more free other,
-        omega (arith, over, length-append seen l.more),
-      ));
-  taken = (seen, taken);
+  value = record {
+    piece = seen;
+    taken = taken;
+    value = λ rest may.
+        let l = longer seen rest free (some-text seen other) in (
+          seen ++ l.more,
+          l.behind,
+          record { joined = ap (λ (v : List ℕ). seen ++ v) l.joined ∙ sym (append_assoc seen l.more l.behind); line_is = l.line_is },
+          is_separator-more seen l.more free other,
+          omega (arith, over, length-append seen l.more),
+        );
+  };
   size = tt;
   failed = tt;
 }
@@ -317,9 +304,11 @@ read-cut Failed before mid after start over a b c d p within same cut ends =
       | inr f ↦ inr (omega (arith, p.kind.1, ap length w.appended, length-append before p.piece, length-append d.blanks p.piece, ap length (d.none f)))
     ] in
     record {
-      value = known-from a.bytes c.bytes (d.blanks ++ p.piece) (TakesLine Failed before after) w.taken.bytes (λ text rest joined.
-          (d.blanks ++ p.piece, joined, free-both d.blanks p.piece (free-blanks d.blanks d.blank) p.kind.0, (omega (arith, within, d.from), small)));
-      taken = (d.blanks ++ p.piece, w.taken);
+      value = record {
+        piece = d.blanks ++ p.piece;
+        taken = w.taken;
+        value = λ rest may. (d.blanks ++ p.piece, refl, free-both d.blanks p.piece (free-blanks d.blanks d.blank) p.kind.0, (omega (arith, within, d.from), small));
+      };
       size = tt;
       failed = cuts-after true a b c d.blanks d.taken same cut;
     }

@@ -1,5 +1,5 @@
 -- What a read of a paragraph gives, line by line.
-use Rattle.std.proofs.Common.{◌≡◌, ◌∙◌, sym, ap, refl, ℕ, ◌+◌, ◌<◌, ◌≤◌, true, false, length, List, [], ◌∷◌, ◌++◌, ◌⊎◌, inl, inr, arith, append-nil, append_assoc, Option, None, Some, Vec, subst}
+use Rattle.std.proofs.Common.{◌≡◌, ◌∙◌, sym, ap, refl, ℕ, ◌+◌, ◌<◌, ◌≤◌, true, false, length, List, [], ◌∷◌, ◌++◌, ◌⊎◌, inl, inr, arith, append-nil, append_assoc, Vec, subst}
 use Rattle.std.specs.declared.alloc.Global.{Global}
 use Rattle.std.specs.List.{list_any, list_all, concat, slice_split, onto_first, filter}
 use Rattle.std.proofs.lemmas.Bool.{cases_Bool, and_parts}
@@ -7,27 +7,17 @@ use Rattle.std.proofs.lemmas.List.{length-append}
 use Rattle.std.proofs.lemmas.List.Folds.{list_all-append, list_any-append, concat-append}
 use Rattle.deb_control.specs.Lines.{is_line_feed, is_separator, lines_of, paragraphs_in, IsLine, IsFirstParagraph, is_nonempty}
 use Rattle.deb_control.specs.Fields.{paragraph_limit}
-use Rattle.deb_control.specs.Source.{Source, IfKnown, TakesSome}
+use Rattle.deb_control.specs.Source.{Source, Gives}
 use Rattle.deb_control.specs.Pieces.{BeginsWith, HasLargeParagraph, TakesLine, ReadsLine, TakesRun, ReadsRun}
 use Rattle.deb_control.specs.Unfinished.{IsSmall, StopsUnfinished}
 use Rattle.deb_control.specs.declared.source.LineRead.TheVariants.{Failed as FailedLine, End as NoLine, Separator, Whole, Long}
 use Rattle.deb_control.specs.declared.source.RunRead.{RunRead}
 use Rattle.deb_control.specs.declared.source.RunRead.TheVariants.{Failed as FailedRun, End as NoRun, Paragraph, TooLarge}
-use Rattle.deb_control.proofs.SourceLemmas.{takes-nil, takes-then, cuts-after}
+use Rattle.deb_control.proofs.SourceLemmas.{cuts-after}
+use Rattle.deb_control.proofs.GivesLemmas.{gives-same, gives-then}
 use Rattle.deb_control.proofs.LineLemmas.{concat-lines_of}
 use Rattle.deb_control.proofs.TextLineLemmas.{lines-are, lines-only}
 use Rattle.deb_control.proofs.RunLemmas.{paragraphs_in-separator, paragraphs_in-run}
-
--- what holds of two steps, one after the other
-pub known-then : (a b c : Option (List ℕ)) (P Q R : List ℕ → List ℕ → Type 0) → IfKnown a b P → IfKnown b c Q → ((x y z : List ℕ) → P x y → Q y z → R x z) → IfKnown a c R
-known-then None b c P Q R p q is = tt
-known-then (Some x) None c P Q R p q is = absurd p
-known-then (Some x) (Some y) None P Q R p q is = absurd q
-known-then (Some x) (Some y) (Some z) P Q R p q is = is x y z p q
-
-pub known-same : (a : Option (List ℕ)) (P : List ℕ → List ℕ → Type 0) → ((x : List ℕ) → P x x) → IfKnown a a P
-known-same None P is = tt
-known-same (Some x) P is = is x
 
 -- ---- a line at the front
 
@@ -274,54 +264,45 @@ unfinished run text left rest piece s joined free small = (
 
 -- what was read so far: separators and lines of a paragraph; no read failed
 pub record SoFar (run : List ℕ) (old new : Source) : Type 0 where
-  pub stands : IfKnown old.bytes new.bytes (Stands run)
-  pub taken : TakesSome old new
+  pub stands : Gives old new (Stands run)
   pub within : length run ≤ paragraph_limit
   pub fewer : 0 < length run → new.room < old.room
   pub failed : new.failed ≡ old.failed
 
 pub so-far-none : (run : List ℕ) (source : Source) → run ≡ [] → SoFar run source source
 so-far-none run source empty = record {
-  stands = known-same source.bytes (Stands run) (λ x. subst (λ (v : List ℕ). Stands v x x) (sym empty) (stands-none x));
-  taken = ([], takes-nil source);
+  stands = gives-same source (Stands run) (λ x. subst (λ (v : List ℕ). Stands v x x) (sym empty) (stands-none x));
   within = omega (arith, ap length empty);
   fewer = λ some. absurd (omega (arith, some, ap length empty));
   failed = refl;
 }
 
-some-then : (a b c : Source) → TakesSome a b → TakesSome b c → TakesSome a c
-some-then a b c p q = (p.0 ++ q.0, takes-then a b c p.0 q.0 p.1 q.1)
-
 pub so-far-line : (run run' : List ℕ) (a b c : Source) → SoFar run a b → ReadsLine Whole run run' b c → SoFar run' a c
 so-far-line run run' a b c s r = record {
-  stands = known-then a.bytes b.bytes c.bytes (Stands run) (TakesLine Whole run run') (Stands run') s.stands r.value (λ x y z p q. stands-line run run' x y z q.0 p q.1 q.2 q.3);
-  taken = some-then a b c s.taken r.taken;
+  stands = gives-then a b c (Stands run) (TakesLine Whole run run') (Stands run') s.stands r.value (λ x y z p q. stands-line run run' x y z q.0 p q.1 q.2 q.3);
   within = r.size.0;
-  fewer = λ _. omega (arith, r.size.1, s.taken.1.room);
+  fewer = λ _. omega (arith, r.size.1, s.stands.taken.room);
   failed = r.failed ∙ s.failed;
 }
 
 pub so-far-separator : (run run' : List ℕ) (a b c : Source) → SoFar run a b → ReadsLine Separator run run' b c → run' ≡ [] → SoFar run' a c
 so-far-separator run run' a b c s r empty = record {
-  stands = known-then a.bytes b.bytes c.bytes (Stands run) (TakesLine Separator run run') (Stands run') s.stands r.value (λ x y z p q. stands-separator run run' x y z q.0 p q.1 q.2 (sym r.size.0 ∙ empty) r.size.0);
-  taken = some-then a b c s.taken r.taken;
+  stands = gives-then a b c (Stands run) (TakesLine Separator run run') (Stands run') s.stands r.value (λ x y z p q. stands-separator run run' x y z q.0 p q.1 q.2 (sym r.size.0 ∙ empty) r.size.0);
   within = omega (arith, ap length empty);
-  fewer = λ _. omega (arith, r.size.1, s.taken.1.room);
+  fewer = λ _. omega (arith, r.size.1, s.stands.taken.room);
   failed = r.failed ∙ s.failed;
 }
 
 pub run-failed : (run run' : List ℕ) (a b c : Source) → SoFar run a b → ReadsLine FailedLine run run' b c → ReadsRun FailedRun a c
 run-failed run run' a b c s r = record {
-  value = known-then a.bytes b.bytes c.bytes (Stands run) (TakesLine FailedLine run run') (TakesRun FailedRun) s.stands r.value (λ x y z p q. unfinished run x y z q.0 p q.1 q.2 q.3);
-  taken = some-then a b c s.taken r.taken;
+  value = gives-then a b c (Stands run) (TakesLine FailedLine run run') (TakesRun FailedRun) s.stands r.value (λ x y z p q. unfinished run x y z q.0 p q.1 q.2 q.3);
   size = tt;
-  failed = cuts-after true a b c s.taken.0 s.taken.1 s.failed r.failed;
+  failed = cuts-after true a b c s.stands.piece s.stands.taken s.failed r.failed;
 }
 
 pub run-large : (run run' : List ℕ) (a b c : Source) → SoFar run a b → ReadsLine Long run run' b c → ReadsRun TooLarge a c
 run-large run run' a b c s r = record {
-  value = known-then a.bytes b.bytes c.bytes (Stands run) (TakesLine Long run run') (TakesRun TooLarge) s.stands r.value (λ x y z p q. large run x y q.1 q.0 p q.2 q.3 q.4);
-  taken = some-then a b c s.taken r.taken;
+  value = gives-then a b c (Stands run) (TakesLine Long run run') (TakesRun TooLarge) s.stands r.value (λ x y z p q. large run x y q.1 q.0 p q.2 q.3 q.4);
   size = tt;
   failed = tt;
 }
@@ -335,9 +316,8 @@ pub run-ended : (run : List ℕ) (text : Vec ℕ Global) (a b c : Source) → So
 run-ended run text a b c s r some =
     let longer : 0 < length run = omega (arith, some, ap length r.size.0) in
     record {
-      value = known-then a.bytes b.bytes c.bytes (Stands run) (TakesLine Separator run text.items) (TakesRun (Paragraph text)) s.stands r.value
+      value = gives-then a b c (Stands run) (TakesLine Separator run text.items) (TakesRun (Paragraph text)) s.stands r.value
           (λ x y z p q. subst (λ (v : List ℕ). IsFirstParagraph x v z) (sym r.size.0) (first-ended run x y z q.0 p q.1 q.2 longer));
-      taken = some-then a b c s.taken r.taken;
       size = (omega (arith, s.within, ap length r.size.0), omega (arith, s.fewer longer, r.size.1));
       failed = r.failed ∙ s.failed;
     }
@@ -347,18 +327,16 @@ pub run-last : (run : List ℕ) (text : Vec ℕ Global) (read : RunRead) (a b c 
     → (0 < length text.items → read ≡ Paragraph text) → ReadsRun read a c
 run-last run text read a b c s r none some = elim (empty-or-some text.items) [
   | inl empty ↦ subst (λ (v : RunRead). ReadsRun v a c) (sym (none empty)) (record {
-    value = known-then a.bytes b.bytes c.bytes (Stands run) (TakesLine NoLine run text.items) (TakesRun NoRun) s.stands r.value
-        (λ x y z p q. (no-paragraph run x y p q.0 (sym r.size ∙ empty), q.1));
-    taken = some-then a b c s.taken r.taken;
-    size = tt;
+    value = gives-then a b c (Stands run) (TakesLine NoLine run text.items) (TakesRun NoRun) s.stands r.value
+        (λ x y z p q. (no-paragraph run x y p q.0 (sym r.size.0 ∙ empty), q.1));
+    size = r.size.1;
     failed = r.failed ∙ s.failed;
   })
   | inr filled ↦ subst (λ (v : RunRead). ReadsRun v a c) (sym (some filled)) (record {
-    value = known-then a.bytes b.bytes c.bytes (Stands run) (TakesLine NoLine run text.items) (TakesRun (Paragraph text)) s.stands r.value
+    value = gives-then a b c (Stands run) (TakesLine NoLine run text.items) (TakesRun (Paragraph text)) s.stands r.value
         (λ x y z p q. subst (λ (v : List ℕ). IsFirstParagraph x text.items v) (q.0 ∙ sym q.1)
-        (subst (λ (v : List ℕ). IsFirstParagraph x v y) (sym r.size) (first-last run x y p q.0 (omega (arith, filled, ap length r.size)))));
-    taken = some-then a b c s.taken r.taken;
-    size = (omega (arith, s.within, ap length r.size), omega (arith, s.fewer (omega (arith, filled, ap length r.size)), r.taken.1.room));
+        (subst (λ (v : List ℕ). IsFirstParagraph x v y) (sym r.size.0) (first-last run x y p q.0 (omega (arith, filled, ap length r.size.0)))));
+    size = (omega (arith, s.within, ap length r.size.0), omega (arith, s.fewer (omega (arith, filled, ap length r.size.0)), r.value.taken.room));
     failed = r.failed ∙ s.failed;
   })
 ]

@@ -1,5 +1,5 @@
 -- What is taken of the bytes that a reader shows: pieces of lines, and lines.
-use Rattle.std.proofs.Common.{◌≡◌, ◌∙◌, sym, ap, refl, ℕ, ◌+◌, ◌<◌, ◌≤◌, min, Bool, true, false, length, take, List, [], ◌∷◌, ◌++◌, inl, inr, arith, append-nil, append_assoc, Option, None, Some, IfSome, cond, subst}
+use Rattle.std.proofs.Common.{◌≡◌, ◌∙◌, sym, ap, refl, ℕ, ◌+◌, ◌<◌, ◌≤◌, min, Bool, true, false, length, take, List, [], ◌∷◌, ◌++◌, inl, inr, arith, append-nil, append_assoc, Option, None, Some, IfSome, cond}
 use Rattle.std.specs.Prelude.{nat_lt, position}
 use Rattle.std.specs.List.{position_or_len, before_first, list_any}
 use Rattle.std.proofs.lemmas.Bool.{cases_Bool}
@@ -11,11 +11,10 @@ use Rattle.std.specs.Io.KnownBytes.{Keeps, Consumes}
 use Rattle.std.proofs.KnownBytes.{Consumes-nil, Consumes-kept, Consumes-trans}
 use Rattle.deb_control.specs.Lines.{is_line_feed, front_line}
 use Rattle.deb_control.specs.Pieces.{IsEnded, TakesPiece, AddsPiece, AddsLine}
-use Rattle.deb_control.specs.Source.{IfKnown, Takes, IsCut, CutsIf, Source}
+use Rattle.deb_control.specs.Source.{IfKnown, Takes, CutsIf, Source}
 use Rattle.deb_control.specs.Fields.{paragraph_limit}
 use Rattle.deb_control.specs.declared.source.Shown.TheVariants.{Failed, End, Part, Line}
 use Rattle.deb_control.specs.declared.source.LineEnd.TheVariants.{Ended, Last, Full, Cut}
-use Rattle.deb_control.specs.declared.source.Shown.{Shown}
 use Rattle.deb_control.proofs.LineLemmas.{before-feed, before-other, front_line-feed, front_line-other}
 
 any-other : (c : ℕ) (cs : List ℕ) → is_line_feed c ≡ false → list_any is_line_feed cs ≡ false → list_any is_line_feed (c ∷ cs) ≡ false
@@ -88,13 +87,6 @@ takes_none text most old new shown none end kept = record {
     is None h = tt
     is (Some left) h = h none
 
--- where nothing was taken, as much is left
-pub some-left : (old new : Option (List ℕ)) (piece : List ℕ) → length piece ≡ 0 → Consumes old new piece → IfSome old (λ left. 0 < length left)
-    → IfKnown old new (λ _ rest. 0 < length rest)
-some-left None new piece none taken some = tt
-some-left (Some text) None piece none taken some = absurd taken
-some-left (Some text) (Some rest) piece none taken some = omega (arith, ap length taken, length-append piece rest)
-
 pub length-within : (text : List ℕ) (within most : ℕ) → 0 < length text → within ≡ min (length text) most → 0 < most → 0 < length (take within text)
 length-within text within most some is room = omega (arith, length-take-le within text (omega arith))
 
@@ -102,14 +94,6 @@ pub take-within : (text : List ℕ) (within place : ℕ) → Some place ≡ posi
 take-within text within place is =
     let at = place-is (position_or_len is_line_feed (take within text)) (length (take within text)) place is in
     take-take (place + 1) within text (omega (arith, at.0, at.1, length-take within text))
-
--- where as much was read as may be, and more follows, the reader is cut
-pub cut-over : (old new : Source) (bytes : Option (List ℕ)) (shown : Shown) (most : ℕ) (before after : List ℕ) → bytes ≡ old.bytes → shown ≡ Part
-    → TakesPiece shown most before after bytes new.bytes → most ≤ new.room → new.room ≡ 0 → IsCut old new
-cut-over old new bytes shown most before after same part takes within none =
-    let p : TakesPiece Part most before after bytes new.bytes = subst (λ (s : Shown). TakesPiece s most before after bytes new.bytes) part takes in
-    let left : IfKnown bytes new.bytes (λ _ rest. 0 < length rest) = some-left bytes new.bytes p.piece (omega (arith, p.size)) p.taken p.kind.2 in
-    inr (none, subst (λ (b : Option (List ℕ)). IfKnown b new.bytes (λ _ rest. 0 < length rest)) same left)
 
 -- nothing was taken yet
 pub takes-nil : (source : Source) → Takes source source []
@@ -128,12 +112,6 @@ known-after None b c piece P taken known = tt
 known-after (Some text) None c piece P taken known = absurd taken
 known-after (Some text) (Some left) None piece P taken known = absurd known
 known-after (Some text) (Some left) (Some rest) piece P taken known = known
-
--- where bytes are left after a step, there were bytes before it
-pub some-before : (a b : Option (List ℕ)) (piece : List ℕ) → Consumes a b piece → IfSome b (λ left. 0 < length left) → IfSome a (λ left. 0 < length left)
-some-before None b piece taken some = tt
-some-before (Some text) None piece taken some = absurd taken
-some-before (Some text) (Some left) piece taken some = omega (arith, ap length taken, length-append piece left)
 
 -- a step that ends cut is so seen from before the step in front of it
 pub cuts-after : (cut : Bool) (a b c : Source) (piece : List ℕ) → Takes a b piece → b.failed ≡ a.failed → CutsIf cut b c → CutsIf cut a c
@@ -182,7 +160,7 @@ piece-last before mid after a b c p q =
       piece = p.piece ++ q.piece;
       appended = m.0;
       taken = m.1;
-      kind = (free-both p.piece q.piece p.free q.kind.0, known-after a.bytes b.bytes c.bytes p.piece (λ rest. rest ≡ []) p.taken.bytes q.kind.1);
+      kind = (free-both p.piece q.piece p.free q.kind.0, q.kind.1);
     }
 
 pub piece-cut : (before mid after : List ℕ) (a b c : Source) → Piece before mid a b → AddsPiece Failed mid after b c → length mid ≤ paragraph_limit → AddsLine Cut before after a c

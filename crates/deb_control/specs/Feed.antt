@@ -5,7 +5,7 @@ use Rattle.deb_control.specs.declared.fault.ControlFaultKind.{ControlFaultKind}
 use Rattle.deb_control.specs.Lines.{lines_of, paragraphs_in}
 use Rattle.deb_control.specs.Fields.{FieldText, reading_of}
 use Rattle.deb_control.specs.Paragraphs.{ReaderState, Answer, step}
-use Rattle.deb_control.specs.Source.{IfKnown, IsCut}
+use Rattle.deb_control.specs.Source.{Gives, IfKnown, IsCut, MayBeLeft}
 use Rattle.deb_control.specs.FeedState.{FeedState}
 use Rattle.deb_control.specs.Unfinished.{StopsUnfinished}
 
@@ -21,6 +21,19 @@ place_in feed text = record { passed = feed.passed; ahead = ahead_in feed.ended 
 -- a call answers as a reader of the bytes that are left does, and goes on as it does, if these bytes are known (Policy 5.1)
 abbrev pub AnswersAs : Answer → FeedState → FeedState → Type 0
 AnswersAs answer old new = IfKnown old.source.bytes new.source.bytes (λ text rest. step (place_in old text) ≡ (answer, place_in new rest))
+
+-- a call answers for the bytes that its reader gave and whatever may be left after them, and goes on from what is left (Policy 5.1)
+abbrev pub AnswersFor : Answer → FeedState → FeedState → Type 0
+AnswersFor answer old new = Gives old.source new.source (λ text rest. step (place_in old text) ≡ (answer, place_in new rest))
+
+-- where a feed may stand: before the paragraphs of bytes that may be left (Policy 5.1)
+abbrev pub MayStandAt : FeedState → ReaderState → Type 0
+MayStandAt feed place = (text : List ℕ) × MayBeLeft feed.source.bytes text × (place ≡ place_in feed text)
+
+-- calls of a feed, one after the other, gave these answers, each of them for the bytes that its reader gave
+abbrev pub HaveAnswersFor : List Answer → FeedState → FeedState → Type 0
+HaveAnswersFor [] old new = new ≡ old
+HaveAnswersFor (answer ∷ later) old new = (next : FeedState) × AnswersFor answer old next × HaveAnswersFor later next new
 
 -- calls of a feed, one after the other, gave these answers, each of them an answer for the bytes
 abbrev pub HaveAnswers : List Answer → FeedState → FeedState → Type 0

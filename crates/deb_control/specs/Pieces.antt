@@ -1,8 +1,8 @@
 -- What is taken of the bytes of a reader: pieces of lines, lines and paragraphs, after Debian Policy 5.1.
-use Rattle.std.specs.Prelude.{◌≡◌, ◌≢◌, ℕ, ◌+◌, ◌<◌, ◌≤◌, Bool, true, false, List, [], ◌∷◌, ◌++◌, length, take, drop, Option, IfSome, ⊤, codes}
+use Rattle.std.specs.Prelude.{◌≡◌, ◌≢◌, ℕ, ◌+◌, ◌<◌, ◌≤◌, Bool, true, false, List, [], ◌∷◌, ◌++◌, length, take, drop, Option, Some, IfSome, ⊤, codes}
 use Rattle.std.specs.List.{list_any, list_all, concat}
 use Rattle.std.specs.Io.KnownBytes.{Consumes}
-use Rattle.deb_control.specs.Source.{Source, IfKnown, Takes, TakesSome, IsCut}
+use Rattle.deb_control.specs.Source.{Source, Gives, IfKnown, Takes, IsCut}
 use Rattle.deb_control.specs.Unfinished.{IsSmall, StopsUnfinished}
 use Rattle.deb_control.specs.declared.source.Shown.{Shown}
 use Rattle.deb_control.specs.declared.source.Shown.TheVariants.{Failed, End, Part, Line}
@@ -48,7 +48,7 @@ is_failed_look _ = false
 -- what was taken of a line, by how much that is
 abbrev pub IsLinePiece : Shown → Source → Source → List ℕ → Type 0
 IsLinePiece Failed old new piece = piece ≡ []
-IsLinePiece End old new piece = (list_any is_line_feed piece ≡ false) × IfKnown old.bytes new.bytes (λ _ rest. rest ≡ [])
+IsLinePiece End old new piece = (list_any is_line_feed piece ≡ false) × (new.bytes ≡ Some [])
 IsLinePiece Part old new piece = (list_any is_line_feed piece ≡ false) × (0 < length piece)
 IsLinePiece Line old new piece = IsEnded piece
 
@@ -82,17 +82,16 @@ FailsLine FailedLine old new = IsCut old new
 FailsLine Long old new = ⊤
 FailsLine _ old new = new.failed ≡ old.failed
 
--- what a read of a line makes of the text before it, and that it takes some bytes: a text with a line is small enough for a paragraph
+-- what a read of a line makes of the text before it, and that it takes some bytes or meets the end: a text with a line is small enough for a paragraph
 abbrev pub IsReadLine : LineRead → List ℕ → List ℕ → Source → Source → Type 0
 IsReadLine Whole before after old new = (length after ≤ paragraph_limit) × (new.room < old.room)
 IsReadLine Separator before after old new = (after ≡ before) × (new.room < old.room)
-IsReadLine NoLine before after old new = after ≡ before
+IsReadLine NoLine before after old new = (after ≡ before) × (new.bytes ≡ Some [])
 IsReadLine _ before after old new = ⊤
 
--- a line was read: what it is of the bytes that the reader had, if these are known, and what the reader lost
+-- a line was read: what it is of the bytes that the reader gave, whatever may be left after them
 pub record ReadsLine (read : LineRead) (before after : List ℕ) (old new : Source) : Type 0 where
-  pub value : IfKnown old.bytes new.bytes (TakesLine read before after)
-  pub taken : TakesSome old new
+  pub value : Gives old new (TakesLine read before after)
   pub size : IsReadLine read before after old new
   pub failed : FailsLine read old new
 
@@ -106,7 +105,7 @@ EndsLine _ start over old new = ⊥
 -- what the pieces of a line gave
 abbrev pub FillsLine : LineEnd → List ℕ → List ℕ → Source → Source → List ℕ → Type 0
 FillsLine Ended before after old new piece = IsEnded piece
-FillsLine Last before after old new piece = (list_any is_line_feed piece ≡ false) × IfKnown old.bytes new.bytes (λ _ rest. rest ≡ [])
+FillsLine Last before after old new piece = (list_any is_line_feed piece ≡ false) × (new.bytes ≡ Some [])
 FillsLine Full before after old new piece = (list_any is_line_feed piece ≡ false) × (paragraph_limit < length after)
 FillsLine Cut before after old new piece = (list_any is_line_feed piece ≡ false) × (length after ≤ paragraph_limit)
 
@@ -151,14 +150,14 @@ FailsRun FailedRun old new = IsCut old new
 FailsRun TooLarge old new = ⊤
 FailsRun _ old new = new.failed ≡ old.failed
 
--- a paragraph that was read is small enough, and took some bytes
+-- a paragraph that was read is small enough, and took some bytes; there is none at the end of the input
 abbrev pub IsReadRun : RunRead → Source → Source → Type 0
 IsReadRun (Paragraph bytes) old new = (length bytes.items ≤ paragraph_limit) × (new.room < old.room)
+IsReadRun NoRun old new = new.bytes ≡ Some []
 IsReadRun _ old new = ⊤
 
--- a paragraph was read: what it is of the bytes that the reader had, if these are known, and what the reader lost
+-- a paragraph was read: what it is of the bytes that the reader gave, whatever may be left after them
 pub record ReadsRun (read : RunRead) (old new : Source) : Type 0 where
-  pub value : IfKnown old.bytes new.bytes (TakesRun read)
-  pub taken : TakesSome old new
+  pub value : Gives old new (TakesRun read)
   pub size : IsReadRun read old new
   pub failed : FailsRun read old new

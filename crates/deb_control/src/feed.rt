@@ -1,10 +1,10 @@
 //! The paragraphs of what a reader gives, piece by piece.
-ghost use Rattle.std.specs.Prelude.{◌≡◌, ◌≢◌, ◌<◌, true, false, None, Some, Ok, Err, length, IfOk, IfErr, OnOk, IfSome, IsSome, is_err};
+ghost use Rattle.std.specs.Prelude.{◌≡◌, ◌≢◌, ◌<◌, [], true, false, None, Some, Ok, Err, length, IfOk, IfErr, OnOk, IfSome, IsSome, is_err};
 ghost use Rattle.deb_control.specs.declared.fault.ControlFaultKind.TheVariants.{Ended, Memory, Read, TooLarge};
-ghost use Rattle.deb_control.specs.Source.{IfKnown, IsCut, TakesSome};
+ghost use Rattle.deb_control.specs.Source.{Gives, IsCut, TakesSome};
 ghost use Rattle.deb_control.specs.Unfinished.{StopsUnfinished};
 ghost use Rattle.deb_control.specs.FeedState.{fresh};
-ghost use Rattle.deb_control.specs.Feed.{AnswersAs, FeedMemoryEnds, GivesNext, ReadEnds, RefusesNext};
+ghost use Rattle.deb_control.specs.Feed.{AnswersAs, AnswersFor, FeedMemoryEnds, GivesNext, ReadEnds, RefusesNext};
 
 use crate::owned::OwnedParagraph;
 use crate::source::{BoundedReader, RunRead};
@@ -21,17 +21,16 @@ fn read_next<R: BufRead + Drop>(
     source: &mut BoundedReader<R>,
     alloc: Global,
 ) -> Result<Option<OwnedParagraph>, ControlFaultKind>
-    ensures ok { IfOk result (λ found. IfKnown source.old.bytes source.new.bytes (GivesNext found)) }
+    ensures ok { IfOk result (λ found. Gives source.old source.new (GivesNext found)) }
     ensures refused { IfErr result (λ kind. kind ≢ Memory → kind ≢ Read →
-        IfKnown source.old.bytes source.new.bytes (λ text _. RefusesNext kind text)) }
+        Gives source.old source.new (λ text _. RefusesNext kind text)) }
     ensures read { IfErr result (λ kind. kind ≡ Read → IsCut source.old source.new
-        × IfKnown source.old.bytes source.new.bytes StopsUnfinished) }
+        × Gives source.old source.new StopsUnfinished) }
     ensures going { IfErr result (λ kind. kind ≢ Ended) }
     ensures memory { IfErr result (λ kind. kind ≡ Memory →
         IfSome source.old.bytes (λ left. 0 < length left)) }
     // of the reader
-    ensures taken { OnOk result (TakesSome source.old source.new) }
-    ensures lost { IfErr result (λ kind. kind ≢ Memory → TakesSome source.old source.new) }
+    ensures finished { IfOk result (λ found. found ≡ None → source.new.bytes ≡ Some []) }
     ensures fewer { IfOk result (λ found. IsSome found → source.new.room < source.old.room) }
     ensures kept { OnOk result (source.new.failed ≡ source.old.failed) }
     ensures same { IfErr result (λ kind. kind ≢ Read → kind ≢ TooLarge →
@@ -49,7 +48,8 @@ fn read_next<R: BufRead + Drop>(
 }
 
 /// A reader of the paragraphs of control data that another reader gives, in their order (Debian Policy 5.1). It holds one
-/// paragraph at a time, reads at most 2147483648 bytes, and ends at the first refusal.
+/// paragraph at a time, reads at most 2147483648 bytes, and ends at the first refusal. A reader that showed no byte is at its end
+/// and is not asked again, so a file that grows later ends where it ended.
 #[derive(Drop)]
 pub struct Feed<R: BufRead + Drop> {
     source: BoundedReader<R>,
@@ -81,7 +81,9 @@ impl<R: BufRead + Drop> Feed<R> {
     }
 
     /// The next paragraph, or none at the end, and again none after it: what
-    /// [`Paragraphs`](crate::Paragraphs) answers for the same bytes, however the reader cuts them.
+    /// [`Paragraphs`](crate::Paragraphs) answers for the same bytes, however the reader cuts them. They are the bytes that the
+    /// reader gave, with whatever it may give later: if they are not known before they are read, as those of a file or a pipe,
+    /// the answers are those for the bytes that were taken of it.
     ///
     /// Refuses a paragraph that is not one of Debian Policy 5.1, as `ControlFaultKind` says. `Read` comes if a read failed,
     /// an interrupted one too, or if more than 2147483648 bytes would have to be read, before the paragraph ended, whatever
@@ -96,6 +98,13 @@ impl<R: BufRead + Drop> Feed<R> {
         ensures read { IfErr result (λ fault. fault.kind ≡ Read → ReadEnds self.old fault self.new) }
         ensures memory { IfErr result (λ fault. fault.kind ≡ Memory →
             FeedMemoryEnds self.old fault self.new) }
+        // of the bytes that the reader gave, and whatever may be left after them
+        ensures gave { IfOk result (λ found. AnswersFor (Ok found) self.old self.new) }
+        ensures refuses { IfErr result (λ fault. fault.kind ≢ Memory → fault.kind ≢ Read →
+            AnswersFor (Err fault) self.old self.new) }
+        ensures stops { IfErr result (λ fault. fault.kind ≡ Read →
+            Gives self.old.source self.new.source StopsUnfinished) }
+        ensures finished { IfOk result (λ found. found ≡ None → self.new.source.bytes ≡ Some []) }
         // of all readers
         ensures ended { self.old.ended ≡ true → (self.new ≡ self.old)
             × (result ≡ Err (record { paragraph = self.old.passed; kind = Ended })) }

@@ -1,5 +1,5 @@
 //! Laws of the definitions that the contracts cite.
-ghost use Rattle.std.specs.Prelude.{◌≡◌, ◌≢◌, ◌+◌, ◌<◌, ◌⊎◌, ◌∷◌, ◌++◌, [], ℕ, List, codes, true, false, None, Some, Ok, Err, length};
+ghost use Rattle.std.specs.Prelude.{◌≡◌, ◌≢◌, ◌+◌, ◌<◌, ◌⊎◌, ◌∷◌, ◌++◌, [], ℕ, List, Option, codes, true, false, None, Some, Ok, Err, length};
 ghost use Rattle.std.specs.List.{list_all};
 ghost use Rattle.deb_control.specs.declared.fault.ControlFault.{ControlFault};
 ghost use Rattle.deb_control.specs.declared.fault.ControlFaultKind.{ControlFaultKind};
@@ -7,10 +7,10 @@ ghost use Rattle.deb_control.specs.declared.fault.ControlFaultKind.TheVariants.{
 ghost use Rattle.deb_control.specs.Lines.{lines_of, HaveLines, paragraphs_in, HaveParagraphs};
 ghost use Rattle.std.specs.Str.{str_to_ascii_lowercase};
 ghost use Rattle.deb_control.specs.Fields.{FieldText, field_named, folded_of, reading_of, IsReading, IsFault};
-ghost use Rattle.deb_control.specs.Paragraphs.{Answer, begun, has_reading, answer_after, answer_for, answers_of};
-ghost use Rattle.deb_control.specs.Source.{TakesSome};
+ghost use Rattle.deb_control.specs.Paragraphs.{Answer, ReaderState, begun, step, has_reading, answer_after, answer_for, answers_of};
+ghost use Rattle.deb_control.specs.Source.{Gives, Takes, TakesSome};
 ghost use Rattle.deb_control.specs.FeedState.{FeedState, feed_limit, fresh};
-ghost use Rattle.deb_control.specs.Feed.{HaveAnswers, ReadEnds};
+ghost use Rattle.deb_control.specs.Feed.{AnswersFor, HaveAnswers, HaveAnswersFor, MayStandAt, ReadEnds};
 
 /// The lines of a text are its pieces, each with the line feed that ends it,
 /// which the last may lack (Debian Policy 5.1).
@@ -79,6 +79,32 @@ pub fn feeds_answer_as_paragraphs()
     ensures { (text : List ℕ) (answers : List Answer) (last : FeedState) →
         HaveAnswers answers (fresh (Some text)) last →
         answers ≡ answers_of (length answers) (begun (paragraphs_in (lines_of text))) }
+{}
+
+/// Call by call a feed answers for the bytes that its reader gave, with whatever may be left after them, what a reader of the
+/// same bytes in memory answers; if the bytes of the reader are not known before they are read, as those of a file or a pipe, any
+/// may be left, and none once it answered that it is at its end: the bytes that it gave are then its whole input (this project's
+/// own).
+pub fn feeds_answer_for_what_was_given()
+    ensures given { (bytes : Option (List ℕ)) (answers : List Answer) (last : FeedState) →
+        HaveAnswersFor answers (fresh bytes) last → Gives (fresh bytes).source last.source
+        (λ text _. answers ≡ answers_of (length answers) (begun (paragraphs_in (lines_of text)))) }
+    ensures whole { (bytes : Option (List ℕ)) (answers : List Answer) (last : FeedState) →
+        HaveAnswersFor answers (fresh bytes) last → last.source.bytes ≡ Some [] →
+        (text : List ℕ) × (Takes (fresh bytes).source last.source text
+        × (answers ≡ answers_of (length answers) (begun (paragraphs_in (lines_of text))))) }
+{}
+
+/// A feed may stand somewhere, and went through as many paragraphs wherever it may stand. Wherever it may stand after a call,
+/// it may have stood before the call at a place of which a reader in memory answers the same and goes on to there (this
+/// project's own).
+pub fn feeds_stand_among_paragraphs()
+    ensures stands { (feed : FeedState) → (place : ReaderState) × MayStandAt feed place }
+    ensures counts { (feed : FeedState) (place : ReaderState) →
+        MayStandAt feed place → place.passed ≡ feed.passed }
+    ensures before { (answer : Answer) (old new : FeedState) (after : ReaderState) →
+        AnswersFor answer old new → MayStandAt new after →
+        (before : ReaderState) × (MayStandAt old before × (step before ≡ (answer, after))) }
 {}
 
 /// A feed answers `Read` only if a read failed, or if its reader has more bytes than a feed reads (this project's own).

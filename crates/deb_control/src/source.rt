@@ -169,19 +169,25 @@ fn paragraph_of(text: Vec<u8>) -> RunRead
 
 /// A reader of which a bounded number of bytes is read, and which reports whether a read of it failed, an interrupted
 /// one too. Only its one look at the reader sets the flag, and only if that failed: this can be read here, and is not proved.
+/// After the end of the input the reader is not asked again, so it has no bytes left, even if it would give more.
 #[derive(Drop)]
 pub(crate) struct BoundedReader<R: BufRead + Drop> {
     inner: R,
     room: usize,
     failed: bool,
+    finished: bool,
 }
 
 impl<R: BufRead + Drop> Model for BoundedReader<R> {
-    ghost use Rattle.deb_control.specs.Source.{Source};
+    ghost use Rattle.deb_control.specs.Source.{Source, left_of};
 
     ghost Value = { Source };
 
-    ghost view = { λ r. record { bytes = R.remaining r.inner; room = r.room; failed = r.failed } };
+    ghost view = { λ r. record {
+      bytes = left_of r.finished (R.remaining r.inner);
+      room = r.room;
+      failed = r.failed;
+    } };
 }
 
 impl<R: BufRead + Drop> BoundedReader<R> {
@@ -193,6 +199,7 @@ impl<R: BufRead + Drop> BoundedReader<R> {
             inner,
             room,
             failed: false,
+            finished: false,
         }
     }
 
@@ -207,12 +214,19 @@ impl<R: BufRead + Drop> BoundedReader<R> {
         ensures memory { OnErr result (IfSome self.old.bytes (λ left. 0 < length left)) }
         ensures kept { OnErr result (self.new.failed ≡ self.old.failed) }
     {
+        if self.finished {
+            return Ok(Shown::End);
+        }
         let start = text.len();
         let most = self.room.min(PARAGRAPH_LIMIT + 1 - start);
         match append_shown(&mut self.inner, text, most)? {
             Shown::Failed => {
                 self.failed = true;
                 Ok(Shown::Failed)
+            }
+            Shown::End => {
+                self.finished = true;
+                Ok(Shown::End)
             }
             Shown::Part if self.room == 0 => Ok(Shown::Failed),
             shown => {

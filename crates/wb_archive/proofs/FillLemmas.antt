@@ -17,7 +17,7 @@ use Rattle.wb_merge.specs.Scratch.{present}
 use Rattle.wb_archive.specs.declared.fault.BadList.{BadList}
 use Rattle.wb_archive.specs.Faults.{IsRefused}
 use Rattle.wb_archive.specs.Fills.{WithRows, binaries_wanted, is_binary_wanted, is_source_wanted, sources_wanted}
-use Rattle.wb_archive.specs.Reads.{GivesRow, kept_at}
+use Rattle.wb_archive.specs.Reads.{GivesRow, MayStandWhere, kept_at}
 use Rattle.wb_archive.specs.Tables.{IsAfterBinaries}
 
 -- ---- facts of each row
@@ -44,43 +44,40 @@ onto-none : {X : Type 0} (rows : Result (List X) Refusal) → rows ≡ onto_all 
 onto-none (Ok rows) = refl
 onto-none (Err refusal) = refl
 
--- so many paragraphs of a list were read, and the table has of their rows those that can matter
-pub record IsHalfFilled {X Y : Type 0} (which : ListKind) (row_at : ℕ → List FieldText → Result X Refusal) (wanted : List X → List Y) (number : Y → ℕ)
-    (Holds : List Y → Type 0) (Stands : ReaderState → Type 0) (kept : Result (List X) Refusal) (passed : ℕ) : Type 0 where
-  pub place : ReaderState
-  pub stands : Stands place
-  pub count : passed ≡ place.passed
+-- so many paragraphs of a list were read, and the table has of their rows those that can matter: wherever the reader may stand now, it may have begun at a list that has these rows first
+pub record IsHalfFilled {R X Y : Type 0} (MayStand : R → ReaderState → Type 0) (which : ListKind) (row_at : ℕ → List FieldText → Result X Refusal) (wanted : List X → List Y)
+    (number : Y → ℕ) (Holds : List Y → Type 0) (start : R) (list : R) (counted : ℕ) (passed : ℕ) : Type 0 where
+  pub count : passed ≡ counted
   pub done : List X
-  pub ahead : kept ≡ onto_all done (kept_at which row_at place)
+  pub ahead : (after : ReaderState) → MayStand list after → MayStandWhere MayStand start (λ place. kept_at which row_at place ≡ onto_all done (kept_at which row_at after))
   pub holds : Holds (wanted done)
   pub below : AllByRecursion (λ row. number row < passed + 1) (wanted done)
 
-module _ {X Y : Type 0} (which : ListKind) (row_at : ℕ → List FieldText → Result X Refusal) (wanted : List X → List Y) (number : Y → ℕ) where
+module _ {R X Y : Type 0} (MayStand : R → ReaderState → Type 0) (which : ListKind) (row_at : ℕ → List FieldText → Result X Refusal) (wanted : List X → List Y) (number : Y → ℕ) where
   -- before the first paragraph
-  pub half-start : (Holds : List Y → Type 0) (Stands : ReaderState → Type 0) (place : ReaderState) → Stands place → place.passed ≡ 0 → wanted [] ≡ [] → Holds []
-      → IsHalfFilled which row_at wanted number Holds Stands (kept_at which row_at place) 0
-  half-start Holds Stands place stands first none holds = record {
-    place = place;
-    stands = stands;
+  pub half-start : (Holds : List Y → Type 0) (start : R) (counted : ℕ) → counted ≡ 0 → wanted [] ≡ [] → Holds []
+      → IsHalfFilled MayStand which row_at wanted number Holds start start counted 0
+  half-start Holds start counted first none holds = record {
     count = sym first;
     done = [];
-    ahead = onto-none (kept_at which row_at place);
+    ahead = λ after here. (after, (here, onto-none (kept_at which row_at after)));
     holds = subst Holds (sym none) holds;
     below = subst (AllByRecursion (λ row. number row < 0 + 1)) (sym none) tt;
   }
 
   -- one paragraph more
-  pub half-step : {Holds More : List Y → Type 0} {Stands Stood : ReaderState → Type 0} (kept : Result (List X) Refusal) (passed : ℕ)
-      → (half : IsHalfFilled which row_at wanted number Holds Stands kept passed) (x : X) (next : ReaderState)
-      → GivesRow which row_at half.place x next → Stood next → wanted (half.done ++ x ∷ []) ≡ wanted half.done ++ wanted (x ∷ [])
+  pub half-step : {Holds More : List Y → Type 0} (start list next : R) (counted more_counted passed : ℕ)
+      → (half : IsHalfFilled MayStand which row_at wanted number Holds start list counted passed) (x : X)
+      → GivesRow MayStand which row_at list x next → more_counted ≡ counted + 1 → wanted (half.done ++ x ∷ []) ≡ wanted half.done ++ wanted (x ∷ [])
       → More (wanted half.done ++ wanted (x ∷ [])) → AllByRecursion (λ row. number row ≡ passed + 1) (wanted (x ∷ []))
-      → IsHalfFilled which row_at wanted number More Stood kept (passed + 1)
-  half-step {More = More} kept passed half x next gives stood split more numbered = record {
-    place = next;
-    stands = stood;
-    count = ap (λ n. n + 1) half.count ∙ sym gives.count;
+      → IsHalfFilled MayStand which row_at wanted number More start next more_counted (passed + 1)
+  half-step {More = More} start list next counted more_counted passed half x gives one split more numbered = record {
+    count = ap (λ n. n + 1) half.count ∙ sym one;
     done = half.done ++ x ∷ [];
-    ahead = half.ahead ∙ ap (onto_all half.done) gives.kept ∙ onto-row half.done x (kept_at which row_at next);
+    ahead = λ after here.
+        let middle = gives after here in
+        let before = half.ahead middle.0 middle.1.0 in
+        (before.0, (before.1.0, before.1.1 ∙ ap (onto_all half.done) middle.1.1 ∙ onto-row half.done x (kept_at which row_at after)));
     holds = subst More (sym split) more;
     below = subst (AllByRecursion (λ row. number row < passed + 1 + 1)) (sym split)
         (all-append (λ row. number row < passed + 1 + 1) (wanted half.done) (wanted (x ∷ []))
@@ -89,19 +86,26 @@ module _ {X Y : Type 0} (which : ListKind) (row_at : ℕ → List FieldText → 
   }
 
   -- after the last paragraph
-  pub half-ended : {Holds : List Y → Type 0} {Stands : ReaderState → Type 0} (kept : Result (List X) Refusal) (passed : ℕ)
-      → (half : IsHalfFilled which row_at wanted number Holds Stands kept passed) → kept_at which row_at half.place ≡ Ok []
-      → WithRows kept (λ rows. Holds (wanted rows))
-  half-ended {Holds = Holds} kept passed half ended =
-      let is : kept ≡ Ok half.done = half.ahead ∙ ap (onto_all half.done) ended ∙ ap (λ (l : List X). Ok l) (append-nil half.done) in
-      subst (λ k. WithRows k (λ rows. Holds (wanted rows))) (sym is) half.holds
+  pub half-ended : {Holds : List Y → Type 0} (start list : R) (counted passed : ℕ)
+      → (half : IsHalfFilled MayStand which row_at wanted number Holds start list counted passed) → MayStandWhere MayStand list (λ place. kept_at which row_at place ≡ Ok [])
+      → MayStandWhere MayStand start (λ place. WithRows (kept_at which row_at place) (λ rows. Holds (wanted rows)))
+  half-ended {Holds = Holds} start list counted passed half ended =
+      let before = half.ahead ended.0 ended.1.0 in
+      let is : kept_at which row_at before.0 ≡ Ok half.done = before.1.1 ∙ ap (onto_all half.done) ended.1.1 ∙ ap (λ (l : List X). Ok l) (append-nil half.done) in
+      (before.0, (before.1.0, subst (λ k. WithRows k (λ rows. Holds (wanted rows))) (sym is) half.holds))
 
-  -- a refusal of the paragraphs ahead is one of the list
-  pub half-refused : {R : Type 0} {Holds : List Y → Type 0} {Stands : ReaderState → Type 0} (Breaks : R → ControlFault → Type 0) (reader : R)
-      (kept : Result (List X) Refusal) (passed : ℕ) (bad : BadList) → (half : IsHalfFilled which row_at wanted number Holds Stands kept passed)
-      → IsRefused Breaks reader (kept_at which row_at half.place) bad → IsRefused Breaks reader kept bad
-  half-refused Breaks reader kept passed bad half (inl breaks) = inl breaks
-  half-refused Breaks reader kept passed bad half (inr e) = inr (half.ahead ∙ ap (onto_all half.done) e)
+  -- a refusal of the paragraphs ahead is one of the list, of which the table has some rows
+  pub half-refused : {Holds : List Y → Type 0} (Breaks : R → ControlFault → Type 0) (start list reader : R) (counted passed : ℕ) (bad : BadList)
+      → (half : IsHalfFilled MayStand which row_at wanted number Holds start list counted passed)
+      → MayStandWhere MayStand list (λ place. IsRefused Breaks reader (kept_at which row_at place) bad)
+      → MayStandWhere MayStand start (λ place. IsRefused Breaks reader (kept_at which row_at place) bad × ((left : List Y) × Holds left))
+  half-refused Breaks start list reader counted passed bad half refused =
+      let before = half.ahead refused.0 refused.1.0 in
+      (before.0, (before.1.0, (at before.0 before.1.1 refused.1.1, (wanted half.done, half.holds)))) where
+        at : (place : ReaderState) → kept_at which row_at place ≡ onto_all half.done (kept_at which row_at refused.0)
+            → IsRefused Breaks reader (kept_at which row_at refused.0) bad → IsRefused Breaks reader (kept_at which row_at place) bad
+        at place e (inl breaks) = inl breaks
+        at place e (inr is) = inr (e ∙ ap (onto_all half.done) is)
 
 -- ---- rows that can matter
 

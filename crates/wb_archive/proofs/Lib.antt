@@ -1,7 +1,9 @@
 pub mod DecideLemmas
+pub mod FeedReadLemmas
 pub mod FillLemmas
 pub mod FilterLemmas
 pub mod FittingLemmas
+pub mod KnownListLemmas
 pub mod MergeLemmas
 pub mod NameCountLemmas
 pub mod PartLemmas

@@ -1,7 +1,7 @@
 -- The parts of a merge, one after another.
 use Rattle.std.proofs.Common.{◌≡◌, ℕ, List, [], ◌∷◌, ◌++◌, Option, None, Some, Result, Ok, Err, refl, sym, ap, ap₂, subst, ◌∙◌, inl, inr, append_assoc, append-nil}
 use Rattle.std.specs.FinMap as finite
-use Rattle.std.specs.List.{AllZip}
+use Rattle.std.specs.List.{AllByRecursion, AllZip}
 use Rattle.deb_control.specs.declared.fault.ControlFault.{ControlFault}
 use Rattle.deb_control.specs.Lines.{lines_of, paragraphs_in}
 use Rattle.deb_control.specs.Paragraphs.{ReaderState, begun}
@@ -24,7 +24,7 @@ use Rattle.wb_step.specs.Parts.{end_with, listing_for, part_listing, part_replie
 use Rattle.wb_archive.specs.declared.fault.BadList.{BadList}
 use Rattle.wb_archive.specs.declared.merge.PartList.{PartList}
 use Rattle.wb_archive.specs.Faults.{refusal_of}
-use Rattle.wb_archive.specs.Merges.{ArePartsDone, IsGiven, IsMergeDone, IsPartOf, arch_of, archs_of}
+use Rattle.wb_archive.specs.Merges.{ArePartsDone, IsGiven, IsMergeOfParts, IsPartMerged, IsPartOf, IsPartUnread, IsUnread, MayBeginAt, arch_of, archs_of}
 use Rattle.wb_archive.specs.Parts.{IsListing, IsPartDone, binaries_at, listing_from}
 use Rattle.wb_archive.specs.Fills.{IsFilled, WithRows, sources_wanted}
 use Rattle.wb_archive.specs.Faults.{IsRefused}
@@ -64,7 +64,7 @@ part-without-sources Breaks Holds machine text archs table of words records bad 
   at (inr e) = inl (sym (listing-known machine text of words some
       ∙ ap (λ sources. listing_kept (with_words of.arch words) sources (kept_binaries (with_words of.arch words) of.packages)) e))
 
-binaries-begun : (arch : ArchWords) (packages : List ℕ) → binaries_at arch (begun (paragraphs_in (lines_of packages))) ≡ kept_binaries arch packages
+pub binaries-begun : (arch : ArchWords) (packages : List ℕ) → binaries_at arch (begun (paragraphs_in (lines_of packages))) ≡ kept_binaries arch packages
 unfolding kept_binaries
 binaries-begun arch packages = refl
 
@@ -89,75 +89,88 @@ part-with-sources Breaks reader Holds machine text of words records rows end som
   at (inl e) = inl (e ∙ same)
   at (inr broke) = inr (reader, broke)
 
+-- ---- the list of a part
+
+-- a text at which a reader that was not read may begin
+pub unread-text : {R : Type 0} (MayStand : R → ReaderState → Type 0) (reader : R) (place : ReaderState) → MayStand reader place → IsUnread MayStand reader
+    → (text : List ℕ) × ((place ≡ begun (paragraphs_in (lines_of text))) × MayBeginAt MayStand reader text)
+unread-text MayStand reader place here unread =
+    let text = unread place here in
+    (text.0, (text.1, subst (MayStand reader) text.1 here))
+
+-- a reader that was not read went through no paragraph
+pub unread-none : {R : Type 0} (MayStand : R → ReaderState → Type 0) (passed_by : R → ℕ) → ((reader : R) → (place : ReaderState) × MayStand reader place)
+    → ((reader : R) (place : ReaderState) → MayStand reader place → place.passed ≡ passed_by reader)
+    → (reader : R) → IsUnread MayStand reader → passed_by reader ≡ 0
+unread-none MayStand passed_by stands counts reader unread =
+    let here = stands reader in
+    sym (counts reader here.0 here.1) ∙ (λ i. ((unread here.0 here.1).1 i).passed)
+
 -- ---- the loop over the parts
 
--- so many parts are done, and these are left
-pub record IsHalfMerged {R : Type 0} (Stands : R → ReaderState → Type 0) (machine : Machine) (archs : List ArchWords) (Gives : Part → Result ArchiveListing Refusal → Type 0)
-    (Holds : Records → Type 0) (given : List Part) (start : Records) (replies : List PartReply) (parts : List (PartList R)) : Type 0 where
+-- parts, and what became of them
+abbrev pub AreMerged : {R : Type 0} → (R → ReaderState → Type 0) → Machine → (Part → Result ArchiveListing Refusal → Type 0) → List (PartList R) → Records → List PartReply → Records → Type 0
+AreMerged MayStand machine Gives parts records replies last =
+    (given : List Part) × (AllZip (IsPartOf (MayBeginAt MayStand) machine) parts given × ArePartsDone Gives given records replies last)
+
+-- so many of all parts are done, and these are left
+pub record IsHalfMerged {R : Type 0} (MayStand : R → ReaderState → Type 0) (machine : Machine) (archs : List ArchWords) (Gives : Part → Result ArchiveListing Refusal → Type 0)
+    (Holds : Records → Type 0) (all : List (PartList R)) (start : Records) (replies : List PartReply) (parts : List (PartList R)) : Type 0 where
   pub records : Records
   pub holds : Holds records
-  pub left : List Part
-  pub zip : AllZip (IsPartOf Stands machine) parts left
+  pub unread : AllByRecursion (IsPartUnread MayStand machine) parts
   pub known : AreAllKnown archs parts
-  pub goes : (more : List PartReply) (last : Records) → ArePartsDone Gives left records more last → ArePartsDone Gives given start (replies ++ more) last
+  pub goes : (more : List PartReply) (last : Records) → AreMerged MayStand machine Gives parts records more last → AreMerged MayStand machine Gives all start (replies ++ more) last
 
-module _ {R : Type 0} (Stands : R → ReaderState → Type 0) (machine : Machine) (archs : List ArchWords) (Gives : Part → Result ArchiveListing Refusal → Type 0) where
-  pub merged-start : (Holds : Records → Type 0) (given : List Part) (start : Records) (replies : List PartReply) (parts : List (PartList R)) → replies ≡ [] → Holds start
-      → AllZip (IsPartOf Stands machine) parts given → AreAllKnown archs parts
-      → IsHalfMerged Stands machine archs Gives Holds given start replies parts
-  merged-start Holds given start replies parts none holds zip known = record {
+module _ {R : Type 0} (MayStand : R → ReaderState → Type 0) (machine : Machine) (archs : List ArchWords) (Gives : Part → Result ArchiveListing Refusal → Type 0) where
+  pub merged-start : (Holds : Records → Type 0) (start : Records) (replies : List PartReply) (all parts : List (PartList R)) → replies ≡ [] → parts ≡ all → Holds start
+      → AllByRecursion (IsPartUnread MayStand machine) all → AreAllKnown archs all
+      → IsHalfMerged MayStand machine archs Gives Holds all start replies parts
+  merged-start Holds start replies all parts none same holds unread known = record {
     records = start;
     holds = holds;
-    left = given;
-    zip = zip;
-    known = known;
-    goes = λ more last done. subst (λ (r : List PartReply). ArePartsDone Gives given start (r ++ more) last) (sym none) done;
+    unread = subst (λ (l : List (PartList R)). AllByRecursion (IsPartUnread MayStand machine) l) (sym same) unread;
+    known = subst (λ (l : List (PartList R)). AreAllKnown archs l) (sym same) known;
+    goes = λ more last done.
+        subst (λ (r : List PartReply). AreMerged MayStand machine Gives all start (r ++ more) last) (sym none)
+        (subst (λ (l : List (PartList R)). AreMerged MayStand machine Gives l start more last) same done);
   }
 
-  -- the part that is next
-  abbrev next_of : (parts : List (PartList R)) (left : List Part) (part : PartList R) (later : List (PartList R)) → Type 0
-  next_of parts left part later = (of : Part) × ((ofs : List Part) × ((left ≡ of ∷ ofs) × (IsPartOf Stands machine part of × AllZip (IsPartOf Stands machine) later ofs)))
-
-  zip-next : (part : PartList R) (later : List (PartList R)) (left : List Part) → AllZip (IsPartOf Stands machine) (part ∷ later) left → next_of (part ∷ later) left part later
-  zip-next part later [] zip = absurd zip
-  zip-next part later (of ∷ ofs) zip = (of, (ofs, (refl, (zip.0, zip.1))))
-
-  pub merged-step : {Holds More : Records → Type 0} (given : List Part) (start : Records) (replies made : List PartReply) (parts later : List (PartList R)) (part : PartList R) (reply : PartReply)
-      → parts ≡ part ∷ later → made ≡ replies ++ reply ∷ [] → IsHalfMerged Stands machine archs Gives Holds given start replies parts
-      → ((of : Part) (records : Records) → Holds records → IsPartOf Stands machine part of → AreKnown archs part.arch part.words
-      → (reply.arch ≡ of.arch) × IsPartDone (Gives of) More records of.arch reply.end)
-      → IsHalfMerged Stands machine archs Gives More given start made later
-  merged-step {More = More} given start replies made parts later part reply split is half answer =
-      let next = zip-next part later half.left (subst (λ (l : List (PartList R)). AllZip (IsPartOf Stands machine) l half.left) split half.zip) in
+  pub merged-step : {Holds More : Records → Type 0} (all : List (PartList R)) (start : Records) (replies made : List PartReply) (parts later : List (PartList R)) (part : PartList R) (reply : PartReply)
+      → parts ≡ part ∷ later → made ≡ replies ++ reply ∷ [] → IsHalfMerged MayStand machine archs Gives Holds all start replies parts
+      → ((records : Records) → Holds records → IsPartUnread MayStand machine part → AreKnown archs part.arch part.words
+      → (reply.arch ≡ part.arch) × IsPartMerged MayStand machine Gives More part records reply.end)
+      → IsHalfMerged MayStand machine archs Gives More all start made later
+  merged-step {More = More} all start replies made parts later part reply split is half answer =
       let known = subst (λ (l : List (PartList R)). AreAllKnown archs l) split half.known in
-      let of = next.0 in
-      let told = answer of half.records half.holds next.1.1.1.0 known.0 in
-      let end = told.1 in
-      let reply_is : reply ≡ record { arch = of.arch; end = end_with half.records of.arch end.listing } = λ i. record { arch = told.0 i; end = end.is i } in
+      let unread = subst (λ (l : List (PartList R)). AllByRecursion (IsPartUnread MayStand machine) l) split half.unread in
+      let told = answer half.records half.holds unread.0 known.0 in
+      let of = told.1.of in
+      let end = told.1.done in
+      let arch_is : reply.arch ≡ of.arch = told.0 ∙ told.1.is.arch in
+      let reply_is : reply ≡ record { arch = of.arch; end = end_with half.records of.arch end.listing } = λ i. record { arch = arch_is i; end = end.is i } in
       record {
         records = records_with half.records of.arch end.listing;
         holds = end.holds;
-        left = next.1.0;
-        zip = next.1.1.1.1;
+        unread = unread.1;
         known = known.1;
         goes = λ more last done.
-            subst (λ (r : List PartReply). ArePartsDone Gives given start (r ++ more) last) (sym is)
-            (subst (λ (r : List PartReply). ArePartsDone Gives given start r last) (sym (append_assoc replies (reply ∷ []) more))
-            (half.goes (reply ∷ more) last (subst (λ (l : List Part). ArePartsDone Gives l half.records (reply ∷ more) last) (sym next.1.1.0)
-            (end.listing, (end.gives, (reply_is, done))))));
+            subst (λ (r : List PartReply). AreMerged MayStand machine Gives all start (r ++ more) last) (sym is)
+            (subst (λ (r : List PartReply). AreMerged MayStand machine Gives all start r last) (sym (append_assoc replies (reply ∷ []) more))
+            (half.goes (reply ∷ more) last (subst (λ (l : List (PartList R)). AreMerged MayStand machine Gives l half.records (reply ∷ more) last) (sym split)
+            (of ∷ done.0, ((told.1.is, done.1.0), (end.listing, (end.gives, (reply_is, done.1.1))))))));
       }
 
-  pub merged-done : {Holds : Records → Type 0} (given : List Part) (start : Records) (replies : List PartReply) (parts : List (PartList R)) → parts ≡ []
-      → IsHalfMerged Stands machine archs Gives Holds given start replies parts → IsMergeDone Gives Holds given start replies
-  merged-done given start replies parts none half = record {
-    last = half.records;
-    done = subst (λ (r : List PartReply). ArePartsDone Gives given start r half.records) (append-nil replies)
-        (half.goes [] half.records (at half.left (subst (λ (l : List (PartList R)). AllZip (IsPartOf Stands machine) l half.left) none half.zip)));
-    holds = half.holds;
-  } where
-    at : (left : List Part) → AllZip (IsPartOf Stands machine) [] left → ArePartsDone Gives left half.records [] half.records
-    at [] zip = refl
-    at (of ∷ ofs) zip = absurd zip
+  pub merged-done : {Holds : Records → Type 0} (all : List (PartList R)) (start : Records) (replies : List PartReply) (parts : List (PartList R)) → parts ≡ []
+      → IsHalfMerged MayStand machine archs Gives Holds all start replies parts → IsMergeOfParts MayStand machine Gives Holds all start replies
+  merged-done all start replies parts none half =
+      let merged = subst (λ (r : List PartReply). AreMerged MayStand machine Gives all start r half.records) (append-nil replies)
+      (half.goes [] half.records (subst (λ (l : List (PartList R)). AreMerged MayStand machine Gives l half.records [] half.records) (sym none) ([], (tt, refl)))) in
+      record {
+        given = merged.0;
+        are = merged.1.0;
+        done = record { last = half.records; done = merged.1.1; holds = half.holds };
+      }
 
 -- ---- the architectures of the parts
 
@@ -189,7 +202,7 @@ known-all (part ∷ parts) = (
 
 -- ---- Sources
 
-sources-begun : (text : List ℕ) → sources_at (begun (paragraphs_in (lines_of text))) ≡ kept_sources text
+pub sources-begun : (text : List ℕ) → sources_at (begun (paragraphs_in (lines_of text))) ≡ kept_sources text
 unfolding kept_sources
 sources-begun text = refl
 

@@ -1,12 +1,12 @@
 -- What a call of a reader says of what is kept of the paragraphs ahead.
-use Rattle.std.proofs.Common.{◌≡◌, ◌≢◌, ℕ, ◌+◌, true, false, cond, List, [], ◌∷◌, Option, None, Some, Result, Ok, Err, refl, sym, ap, subst, ◌∙◌, inl, inr, ◌⊎◌}
+use Rattle.std.proofs.Common.{◌≡◌, ◌≢◌, ℕ, ◌+◌, true, false, cond, List, [], ◌∷◌, Option, None, Some, Result, Ok, Err, refl, sym, ap, ap₂, subst, ◌∙◌, inl, inr, ◌⊎◌}
 use Rattle.std.specs.Prelude.{IfSome}
 use Rattle.std.specs.Result.{result_map_both}
 use Rattle.deb_control.specs.declared.fault.ControlFault.{ControlFault}
 use Rattle.deb_control.specs.declared.fault.ControlFaultKind.{ControlFaultKind}
 use Rattle.deb_control.specs.declared.fault.ControlFaultKind.TheVariants.{Ended, Memory as OutOfMemory}
 use Rattle.deb_control.specs.Fields.{FieldText, reading_of}
-use Rattle.deb_control.specs.Paragraphs.{ReaderState, answered, step, step_over}
+use Rattle.deb_control.specs.Paragraphs.{Answer, ReaderState, answered, step, step_over}
 use Rattle.deb_relations.specs.declared.arch.ArchWords.{ArchWords}
 use Rattle.deb_text.specs.Options.{ok_unless}
 use Rattle.wb_states.specs.declared.refusal.Refusal.{Refusal}
@@ -24,10 +24,32 @@ use Rattle.wb_archive.specs.declared.fault.BadList.{BadList}
 use Rattle.wb_archive.specs.declared.fault.ReadFault.{ReadFault}
 use Rattle.wb_archive.specs.declared.fault.ReadFault.TheVariants.{Memory as NoMemory, Bad}
 use Rattle.wb_archive.specs.Faults.{IfBad, IsRefused, control_bad, refusal_of}
-use Rattle.wb_archive.specs.Reads.{kept_ahead, kept_at}
+use Rattle.wb_archive.specs.Reads.{AnswersFrom, GivesRow, MayStandWhere, kept_ahead, kept_at}
 
 only-ok : {X E : Type 0} (x y : X) → ◌≡◌ {A = Result X E} (Ok x) (Ok y) → x ≡ y
 only-ok x y e = cc
+
+only-some : (x y : List FieldText) → ◌≡◌ {A = Answer} (Ok (Some x)) (Ok (Some y)) → x ≡ y
+only-some x y e = cc
+
+-- ---- the count of a reader
+
+-- a paragraph whose fields are read is counted
+pub step-counts : (place after : ReaderState) (fields : List FieldText) → step place ≡ (Ok (Some fields), after) → after.passed ≡ place.passed + 1
+step-counts place after fields steps = over place.ahead steps where
+  read : (later : List (List (List ℕ))) (reading : Result (List FieldText) ControlFaultKind) → answered (place.passed + 1) later reading ≡ (Ok (Some fields), after)
+      → after.passed ≡ place.passed + 1
+  read later (Ok others) e = λ i. ((sym e) i).1.passed
+  read later (Err kind) e = λ i. ((sym e) i).1.passed
+
+  over : (ahead : Option (List (List (List ℕ)))) → step_over place.passed ahead ≡ (Ok (Some fields), after) → after.passed ≡ place.passed + 1
+  over None e = absurd (go (λ i. (e i).0)) where
+    go : ◌≡◌ {A = Answer} (Err (record { paragraph = place.passed; kind = Ended })) (Ok (Some fields)) → ⊥
+    go e = cc
+  over (Some []) e = absurd (go (λ i. (e i).0)) where
+    go : ◌≡◌ {A = Answer} (Ok None) (Ok (Some fields)) → ⊥
+    go e = cc
+  over (Some (lines ∷ later)) e = read later (reading_of lines) e
 
 -- ---- the number of a row
 
@@ -95,30 +117,113 @@ module _ {X : Type 0} (which : ListKind) (row_at : ℕ → List FieldText → Re
     over (Some []) e = absurd cc
     over (Some (lines ∷ later)) e = read later (reading_of lines) e
 
+  -- a paragraph whose fields are read, and of which this is kept
+  pub kept-fields : (place after : ReaderState) (passed : ℕ) (fields : List FieldText) (row : X) → step place ≡ (Ok (Some fields), after)
+      → passed ≡ place.passed → row_at (passed + 1) fields ≡ Ok row → kept_at which row_at place ≡ onto_rows (Ok row) (kept_at which row_at after)
+  kept-fields place after passed fields row steps count is = over place.ahead steps where
+    at : row_at (place.passed + 1) fields ≡ Ok row
+    at = subst (λ n. row_at (n + 1) fields ≡ Ok row) count is
+
+    read : (later : List (List (List ℕ))) (reading : Result (List FieldText) ControlFaultKind) → answered (place.passed + 1) later reading ≡ (Ok (Some fields), after)
+        → onto_rows (kept_reading which (place.passed + 1) (row_at (place.passed + 1)) reading) (kept_behind which row_at (place.passed + 1) later)
+        ≡ onto_rows (Ok row) (kept_at which row_at after)
+    read later (Ok others) e =
+        let same : others ≡ fields = only-some others fields (λ i. (e i).0) in
+        let there : record { passed = place.passed + 1; ahead = Some later } ≡ after = λ i. (e i).1 in
+        ap₂ onto_rows (ap (row_at (place.passed + 1)) same ∙ at) (ap (kept_at which row_at) there)
+    read later (Err kind) e = absurd (err-ok kind (λ i. (e i).0)) where
+      err-ok : (kind : ControlFaultKind) → ◌≡◌ {A = Answer} (Err (record { paragraph = place.passed + 1; kind = kind })) (Ok (Some fields)) → ⊥
+      err-ok kind e = cc
+
+    over : (ahead : Option (List (List (List ℕ)))) → step_over place.passed ahead ≡ (Ok (Some fields), after)
+        → kept_ahead which row_at place.passed ahead ≡ onto_rows (Ok row) (kept_at which row_at after)
+    over None e = absurd (go (λ i. (e i).0)) where
+      go : ◌≡◌ {A = Answer} (Err (record { paragraph = place.passed; kind = Ended })) (Ok (Some fields)) → ⊥
+      go e = cc
+    over (Some []) e = absurd (go (λ i. (e i).0)) where
+      go : ◌≡◌ {A = Answer} (Ok None) (Ok (Some fields)) → ⊥
+      go e = cc
+    over (Some (lines ∷ later)) e = read later (reading_of lines) e
+
+  -- the end of a list
+  pub kept-none : (place : ReaderState) → (step place).0 ≡ Ok None → kept_at which row_at place ≡ Ok []
+  kept-none place steps = over place.ahead steps where
+    read : (later : List (List (List ℕ))) (reading : Result (List FieldText) ControlFaultKind) → (answered (place.passed + 1) later reading).0 ≡ Ok None
+        → onto_rows (kept_reading which (place.passed + 1) (row_at (place.passed + 1)) reading) (kept_behind which row_at (place.passed + 1) later) ≡ Ok []
+    read later (Ok others) e = absurd cc
+    read later (Err kind) e = absurd cc
+
+    over : (ahead : Option (List (List (List ℕ)))) → (step_over place.passed ahead).0 ≡ Ok None → kept_ahead which row_at place.passed ahead ≡ Ok []
+    over None e = absurd cc
+    over (Some []) e = refl
+    over (Some (lines ∷ later)) e = read later (reading_of lines) e
+
 -- ---- what a call answers
 
 bad-map : {P Q : BadList → Type 0} (fault : ReadFault) → ((bad : BadList) → P bad → Q bad) → IfBad fault P → IfBad fault Q
 bad-map NoMemory step is = tt
 bad-map (Bad bad) step is = step bad is
 
-module _ {R X : Type 0} (Breaks : R → ControlFault → Type 0) (reader : R) (which : ListKind) (row_at : ℕ → List FieldText → Result X Refusal) where
-  -- the fields of the next paragraph are refused
-  pub refuses-fields : (place : ReaderState) (passed : ℕ) (fields : List FieldText) (refusal : Refusal) (fault : ReadFault) → (step place).0 ≡ Ok (Some fields)
-      → passed ≡ place.passed → (refusal ≢ Memory → row_at (passed + 1) fields ≡ Err refusal) → IfBad fault (λ bad. refusal ≡ refusal_of bad)
-      → IfBad fault (IsRefused Breaks reader (kept_at which row_at place))
-  refuses-fields place passed fields refusal fault steps count is of = bad-map fault (λ bad e. inr
-      (refused-fields which row_at place passed fields refusal steps count (is (λ m. other bad (sym e ∙ m))) ∙ ap Err e)) of where
+-- a reader that may stand somewhere, and its places, each with the count of the reader
+module _ {R : Type 0} (MayStand : R → ReaderState → Type 0) (passed_by : R → ℕ) (stands : (reader : R) → (place : ReaderState) × MayStand reader place)
+    (counts : (reader : R) (place : ReaderState) → MayStand reader place → place.passed ≡ passed_by reader) where
+  -- a reader that gave the fields of a paragraph went through one more
+  pub counts-more : (old new : R) (fields : List FieldText) → AnswersFrom MayStand old new (Ok (Some fields)) → passed_by new ≡ passed_by old + 1
+  counts-more old new fields answers =
+      let after = stands new in
+      let before = answers after.0 after.1 in
+      sym (counts new after.0 after.1) ∙ step-counts before.0 after.0 fields before.1.1 ∙ ap (λ n. n + 1) (counts old before.0 before.1.0)
+
+  module _ {X : Type 0} (which : ListKind) (row_at : ℕ → List FieldText → Result X Refusal) where
+    -- the fields of the next paragraph are kept
+    pub gives-row : (old new : R) (passed : ℕ) (fields : List FieldText) (row : X) → AnswersFrom MayStand old new (Ok (Some fields))
+        → passed ≡ passed_by old → row_at (passed + 1) fields ≡ Ok row → GivesRow MayStand which row_at old row new
+    gives-row old new passed fields row answers count is = λ after here.
+        let before = answers after here in
+        (before.0, (before.1.0, kept-fields which row_at before.0 after passed fields row before.1.1 (count ∙ sym (counts old before.0 before.1.0)) is))
+
+    -- the list has ended
+    pub gives-end : (old new : R) → AnswersFrom MayStand old new (Ok None) → MayStandWhere MayStand old (λ place. kept_at which row_at place ≡ Ok [])
+    gives-end old new answers =
+        let after = stands new in
+        let before = answers after.0 after.1 in
+        (before.0, (before.1.0, kept-none which row_at before.0 (λ i. (before.1.1 i).0)))
+
+    module _ (Breaks : R → ControlFault → Type 0) where
+      -- what a list that is refused says of its reader
+      abbrev MayRefuse : R → R → BadList → Type 0
+      MayRefuse old new bad = MayStandWhere MayStand old (λ place. IsRefused Breaks new (kept_at which row_at place) bad)
+
+      -- the fields of the next paragraph are refused
+      pub refuses-fields : (old new : R) (passed : ℕ) (fields : List FieldText) (refusal : Refusal) (fault : ReadFault) → AnswersFrom MayStand old new (Ok (Some fields))
+          → passed ≡ passed_by old → (refusal ≢ Memory → row_at (passed + 1) fields ≡ Err refusal) → IfBad fault (λ bad. refusal ≡ refusal_of bad)
+          → IfBad fault (MayRefuse old new)
+      refuses-fields old new passed fields refusal fault answers count is of = bad-map fault each of where
         other : (bad : BadList) → refusal_of bad ≡ Memory → ⊥
         other bad e = cc
 
-  -- the reader refuses the next paragraph, or breaks
-  pub refuses-control : (place : ReaderState) (broke : ControlFault) (fault : ReadFault)
-      → (broke.kind ≢ OutOfMemory → Breaks reader broke ⊎ ((step place).0 ≡ Err broke))
-      → IfBad fault (λ bad. (broke.kind ≢ OutOfMemory) × (bad ≡ control_bad which broke))
-      → IfBad fault (IsRefused Breaks reader (kept_at which row_at place))
-  refuses-control place broke fault is of = bad-map fault each of where
-    each : (bad : BadList) → (broke.kind ≢ OutOfMemory) × (bad ≡ control_bad which broke) → IsRefused Breaks reader (kept_at which row_at place) bad
-    each bad e = (elim (is e.0) [
-      | inl breaks ↦ inl (record { broke = broke; breaks = breaks; is = e.1 ∙ ap (λ (b : BadList). control_bad b.which broke) (sym e.1) })
-      | inr steps ↦ inr (refused-control which row_at place broke steps ∙ ap (λ (b : BadList). Err (refusal_of b)) (sym e.1))
-    ])
+        each : (bad : BadList) → refusal ≡ refusal_of bad → MayRefuse old new bad
+        each bad e =
+            let after = stands new in
+            let before = answers after.0 after.1 in (
+              before.0,
+              (
+                before.1.0,
+                inr (refused-fields which row_at before.0 passed fields refusal (λ i. (before.1.1 i).0) (count ∙ sym (counts old before.0 before.1.0)) (is (λ m. other bad (sym e ∙ m)))
+                    ∙ ap Err e),
+              ),
+            )
+
+      -- the reader refuses the next paragraph, or breaks
+      pub refuses-control : (old new : R) (broke : ControlFault) (fault : ReadFault)
+          → (broke.kind ≢ OutOfMemory → Breaks new broke ⊎ MayStandWhere MayStand old (λ place. (step place).0 ≡ Err broke))
+          → IfBad fault (λ bad. (broke.kind ≢ OutOfMemory) × (bad ≡ control_bad which broke))
+          → IfBad fault (MayRefuse old new)
+      refuses-control old new broke fault is of = bad-map fault each of where
+        each : (bad : BadList) → (broke.kind ≢ OutOfMemory) × (bad ≡ control_bad which broke) → MayRefuse old new bad
+        each bad e = (elim (is e.0) [
+          | inl breaks ↦
+              ((stands old).0, ((stands old).1, inl (record { broke = broke; breaks = breaks; is = e.1 ∙ ap (λ (b : BadList). control_bad b.which broke) (sym e.1) })))
+          | inr place ↦
+              (place.0, (place.1.0, inr (refused-control which row_at place.0 broke place.1.1 ∙ ap (λ (b : BadList). Err (refusal_of b)) (sym e.1))))
+        ])

@@ -1,5 +1,6 @@
 pub mod Decides
 pub mod Faults
+pub mod Feeds
 pub mod Fills
 pub mod Merges
 pub mod Parts

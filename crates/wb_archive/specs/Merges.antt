@@ -1,6 +1,7 @@
 -- A whole merge: which parts its readers have, and what became of each.
 use Rattle.std.specs.Prelude.{◌≡◌, ◌⊎◌, ℕ, List, [], ◌∷◌, ◌++◌, Option, None, Some, Result, Err}
 use Rattle.std.specs.FinMap as finite
+use Rattle.std.specs.List.{AllZip}
 use Rattle.deb_control.specs.declared.fault.ControlFault.{ControlFault}
 use Rattle.deb_control.specs.Lines.{lines_of, paragraphs_in}
 use Rattle.deb_control.specs.Paragraphs.{ReaderState, begun}
@@ -8,24 +9,42 @@ use Rattle.deb_relations.specs.declared.arch.ArchWords.{ArchWords}
 use Rattle.wb_states.specs.declared.arch.OsCpu.{OsCpu}
 use Rattle.wb_states.specs.declared.command.Part.{Part}
 use Rattle.wb_states.specs.declared.refusal.Refusal.{Refusal}
+use Rattle.wb_states.specs.declared.reply.PartEnd.{PartEnd}
 use Rattle.wb_states.specs.declared.reply.PartReply.{PartReply}
 use Rattle.wb_states.specs.Machine.{Machine, with_words}
 use Rattle.wb_merge.specs.Listing.{ArchiveListing}
 use Rattle.wb_merge.specs.Merged.{Records}
-use Rattle.wb_step.specs.Parts.{end_with, records_with}
+use Rattle.wb_step.specs.Parts.{end_with, part_listing, records_with}
 use Rattle.wb_archive.specs.declared.fault.BadList.{BadList}
 use Rattle.wb_archive.specs.declared.merge.PartList.{PartList}
 use Rattle.wb_archive.specs.Faults.{IsBreak, refusal_of}
+use Rattle.wb_archive.specs.Parts.{IsPartDone}
 
--- a reader stands before the first paragraph of a text
+-- ---- the lists that readers have
+
+-- a reader may stand before the first paragraph of a text
+abbrev pub MayBeginAt : {R : Type 0} → (R → ReaderState → Type 0) → R → List ℕ → Type 0
+MayBeginAt MayStand reader text = MayStand reader (begun (paragraphs_in (lines_of text)))
+
+-- a reader stands before the first paragraph of a text, and may stand nowhere else
 abbrev pub BeginsAt : {R : Type 0} → (R → ReaderState → Type 0) → R → List ℕ → Type 0
-BeginsAt Stands reader text = Stands reader (begun (paragraphs_in (lines_of text)))
+BeginsAt MayStand reader text = (place : ReaderState) → MayStand reader place → place ≡ begun (paragraphs_in (lines_of text))
 
--- a part whose list is to be read is this part of a merge, with the words of its architecture in this office, if it was added
-pub record IsPartOf {R : Type 0} (Stands : R → ReaderState → Type 0) (machine : Machine) (part : PartList R) (of : Part) : Type 0 where
+-- a reader stands before the first paragraph, whatever its text is
+abbrev pub IsUnread : {R : Type 0} → (R → ReaderState → Type 0) → R → Type 0
+IsUnread MayStand reader =
+    (place : ReaderState) → MayStand reader place → (text : List ℕ) × (place ≡ begun (paragraphs_in (lines_of text)))
+
+-- a part whose list was not read yet, with the words of its architecture in this office, if it was added
+pub record IsPartUnread {R : Type 0} (MayStand : R → ReaderState → Type 0) (machine : Machine) (part : PartList R) : Type 0 where
+  pub words : part.words ≡ finite.get machine.archs part.arch
+  pub unread : IsUnread MayStand part.packages
+
+-- a part whose list is to be read is this part of a merge, with the words of its architecture in this office, if it was added, and with a text at which its reader begins
+pub record IsPartOf {R : Type 0} (Begins : R → List ℕ → Type 0) (machine : Machine) (part : PartList R) (of : Part) : Type 0 where
   pub arch : part.arch ≡ of.arch
   pub words : part.words ≡ finite.get machine.archs of.arch
-  pub begins : BeginsAt Stands part.packages of.packages
+  pub begins : Begins part.packages of.packages
 
 -- the architecture of a part, if it was added
 abbrev pub arch_of : List ℕ → Option OsCpu → List ArchWords
@@ -36,6 +55,8 @@ arch_of name (Some words) = with_words name words ∷ []
 abbrev pub archs_of : {R : Type 0} → List (PartList R) → List ArchWords
 archs_of [] = []
 archs_of (part ∷ parts) = arch_of part.arch part.words ++ archs_of parts
+
+-- ---- what became of them
 
 -- a part was given this listing: the one that its lists have, or a refusal since the reader of a list broke
 abbrev pub IsGiven : {R : Type 0} → (R → ControlFault → Type 0) → Result ArchiveListing Refusal → Result ArchiveListing Refusal → Type 0
@@ -57,3 +78,24 @@ pub record IsMergeDone (Gives : Part → Result ArchiveListing Refusal → Type 
   pub last : Records
   pub done : ArePartsDone Gives parts records replies last
   pub holds : Holds last
+
+-- a part was merged or refused, its list being a text at which its reader may have begun
+pub record IsPartMerged {R : Type 0} (MayStand : R → ReaderState → Type 0) (machine : Machine) (Gives : Part → Result ArchiveListing Refusal → Type 0) (Holds : Records → Type 0)
+    (part : PartList R) (records : Records) (end : PartEnd) : Type 0 where
+  pub of : Part
+  pub is : IsPartOf (MayBeginAt MayStand) machine part of
+  pub done : IsPartDone (Gives of) Holds records of.arch end
+
+-- the parts were merged or refused in their order, their lists being texts at which their readers may have begun
+pub record IsMergeOfParts {R : Type 0} (MayStand : R → ReaderState → Type 0) (machine : Machine) (Gives : Part → Result ArchiveListing Refusal → Type 0) (Holds : Records → Type 0)
+    (parts : List (PartList R)) (records : Records) (replies : List PartReply) : Type 0 where
+  pub given : List Part
+  pub are : AllZip (IsPartOf (MayBeginAt MayStand) machine) parts given
+  pub done : IsMergeDone Gives Holds given records replies
+
+-- lists were merged: there are a text of Sources and one of each part, at which their readers may have begun, and each part was merged or refused by the listing that these gave
+pub record IsMergeOfLists {R : Type 0} (MayStand : R → ReaderState → Type 0) (Breaks : R → ControlFault → Type 0) (machine : Machine) (Holds : Records → Type 0)
+    (sources : R) (parts : List (PartList R)) (records : Records) (replies : List PartReply) : Type 0 where
+  pub text : List ℕ
+  pub begins : MayBeginAt MayStand sources text
+  pub merged : IsMergeOfParts MayStand machine (λ of. IsGiven Breaks (part_listing machine text of)) Holds parts records replies

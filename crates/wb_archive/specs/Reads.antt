@@ -1,8 +1,8 @@
 -- What is kept of the paragraphs that a reader has ahead.
-use Rattle.std.specs.Prelude.{◌≡◌, ℕ, ◌+◌, List, Option, None, Some, Result, Ok, Err}
+use Rattle.std.specs.Prelude.{◌≡◌, ℕ, List, Option, None, Some, Result, Ok, Err}
 use Rattle.deb_control.specs.declared.fault.ControlFaultKind.TheVariants.{Ended}
 use Rattle.deb_control.specs.Fields.{FieldText}
-use Rattle.deb_control.specs.Paragraphs.{ReaderState}
+use Rattle.deb_control.specs.Paragraphs.{Answer, ReaderState, step}
 use Rattle.deb_relations.specs.declared.arch.ArchWords.{ArchWords}
 use Rattle.wb_states.specs.declared.refusal.Refusal.{Refusal}
 use Rattle.wb_states.specs.declared.refusal.Refusal.TheVariants.{BadListing}
@@ -13,6 +13,19 @@ use Rattle.wb_states.specs.declared.scratch.SourceRow.{SourceRow}
 use Rattle.wb_states.specs.declared.scratch.BinaryRow.{BinaryRow}
 use Rattle.wb_merge.specs.Rows.{onto_rows}
 use Rattle.wb_merge.specs.Scratch.{binary_row_at, kept_behind, source_row_at}
+
+-- ---- where a reader may stand
+
+-- a reader may stand at a place of which this is so
+abbrev pub MayStandWhere : {R : Type 0} → (R → ReaderState → Type 0) → R → (ReaderState → Type 0) → Type 0
+MayStandWhere MayStand reader P = (place : ReaderState) × (MayStand reader place × P place)
+
+-- a call of a reader gave this answer: wherever the reader may stand after it, it may have stood at a place whose answer this is and that leads there
+abbrev pub AnswersFrom : {R : Type 0} → (R → ReaderState → Type 0) → R → R → Answer → Type 0
+AnswersFrom MayStand old new answer =
+    (after : ReaderState) → MayStand new after → MayStandWhere MayStand old (λ before. step before ≡ (answer, after))
+
+-- ---- what is kept of what is ahead
 
 -- what is kept of each of the paragraphs ahead after so many, or the refusal for the first that has a fault; a reader that ended is refused
 abbrev pub kept_ahead : {X : Type 0} → ListKind → (ℕ → List FieldText → Result X Refusal) → ℕ → Option (List (List (List ℕ))) → Result (List X) Refusal
@@ -31,7 +44,8 @@ sources_at place = kept_at Sources source_row_at place
 abbrev pub packages_at : ArchWords → ReaderState → Result (List (Option BinaryRow)) Refusal
 packages_at arch place = kept_at Packages (binary_row_at arch) place
 
--- a reader that goes on by one paragraph, of which this is kept
-pub record GivesRow {X : Type 0} (which : ListKind) (row_at : ℕ → List FieldText → Result X Refusal) (old : ReaderState) (row : X) (new : ReaderState) : Type 0 where
-  pub kept : kept_at which row_at old ≡ onto_rows (Ok row) (kept_at which row_at new)
-  pub count : new.passed ≡ old.passed + 1
+-- a call of a reader gave a paragraph of which this is kept: wherever the reader may stand after it, it may have stood before that paragraph
+abbrev pub GivesRow : {R X : Type 0} → (R → ReaderState → Type 0) → ListKind → (ℕ → List FieldText → Result X Refusal) → R → X → R → Type 0
+GivesRow MayStand which row_at old row new =
+    (after : ReaderState) → MayStand new after
+    → MayStandWhere MayStand old (λ before. kept_at which row_at before ≡ onto_rows (Ok row) (kept_at which row_at after))

@@ -1,11 +1,10 @@
 //! A list, read into a table paragraph by paragraph.
 ghost use Rattle.std.specs.Prelude.{◌≡◌, ◌++◌, ◌∷◌, ◌<◌, ◌^◌, [], IfOk, IfErr, IfSome, OnOk};
 ghost use Rattle.std.specs.BTreeSet.{contains};
-ghost use Rattle.deb_control.specs.Paragraphs.{ReaderState};
 ghost use Rattle.deb_text.specs.Text.{text_cmp};
 ghost use Rattle.wb_archive.specs.Faults.{IsRefused, StopsAs};
 ghost use Rattle.wb_archive.specs.Fills.{IsFilled, binaries_wanted, is_binary_wanted, is_source_wanted, sources_wanted};
-ghost use Rattle.wb_archive.specs.Reads.{packages_at, sources_at};
+ghost use Rattle.wb_archive.specs.Reads.{MayStandWhere, packages_at, sources_at};
 ghost use Rattle.wb_archive.specs.Tables.{Tables, IsAfterBinaries, IsAfterSources, with_binaries, with_sources};
 
 use crate::fault::{BadList, MergeFault, ReadFault, asked};
@@ -74,21 +73,22 @@ fn keep_binary<T: MergeTables>(
     }
 }
 
-/// Reads a Sources list into its table, which is empty: of its rows those that can matter to a merge of these
-/// architectures. Each paragraph is read and checked all the same, and the first faulty one refuses the list, or that its
-/// reader broke; the table then has some rows. The errors are `Memory` if memory ran out, or if the list has 2^63 - 1
-/// paragraphs or more, which cannot all be numbered, and else the fault of the tables (this project's own).
+/// Reads a Sources list, of which no paragraph was read before, into its table, which is empty: of its rows those that
+/// can matter to a merge of these architectures. Each paragraph is read and checked all the same, and the first faulty
+/// one refuses the list, or that its reader broke; the table then has some rows. The errors are `Memory` if memory ran
+/// out, or if the list has 2^63 - 1 paragraphs or more, which cannot all be numbered, and else the fault of the tables
+/// (this project's own).
 pub fn fill_sources<T: MergeTables, R: ReadParagraphs>(
     alloc: Global,
     tables: &mut T,
     archs: &[ArchWords],
     list: &mut R,
 ) -> Result<Option<BadList>, MergeFault<T::Fault>>
-    ensures value { (at : Tables) (place : ReaderState) → T.is_clean tables.new → T.holds tables.old at
-        → R.stands_at list.old place → place.passed ≡ 0 → at.now.sources ≡ []
-        → IfOk result (IsFilled (sources_at place) (sources_wanted archs.now)
-        (λ rows. T.holds tables.new (with_sources rows at))
-        (IsRefused R.breaks list.new (sources_at place))) }
+    ensures value { (at : Tables) → T.is_clean tables.new → T.holds tables.old at
+        → R.passed list.old ≡ 0 → at.now.sources ≡ []
+        → IfOk result (λ bad. MayStandWhere R.may_stand_at list.old (λ place. IsFilled (sources_at place)
+        (sources_wanted archs.now) (λ rows. T.holds tables.new (with_sources rows at))
+        (IsRefused R.breaks list.new (sources_at place)) bad)) }
     ensures follows { OnOk result (T.follows tables.old tables.new) }
     ensures stops { IfErr result (StopsAs T.follows T.fails tables.old tables.new) }
 {
@@ -103,11 +103,11 @@ pub fn fill_sources<T: MergeTables, R: ReadParagraphs>(
     Err(MergeFault::Memory)
 }
 
-/// Reads the Packages list of an architecture into its table, which is empty: of its rows those that can matter, the
-/// architecture's own and those whose names are waited for. Each paragraph is read and checked all the same, and the first
-/// faulty one refuses the list, or that its reader broke; the table then has some rows. The errors are `Memory` if memory ran
-/// out, or if the list has 2^63 - 1 paragraphs or more, which cannot all be numbered, and else the fault of the tables (this
-/// project's own).
+/// Reads the Packages list of an architecture, of which no paragraph was read before, into its table, which is empty: of
+/// its rows those that can matter, the architecture's own and those whose names are waited for. Each paragraph is read
+/// and checked all the same, and the first faulty one refuses the list, or that its reader broke; the table then has
+/// some rows. The errors are `Memory` if memory ran out, or if the list has 2^63 - 1 paragraphs or more, which cannot
+/// all be numbered, and else the fault of the tables (this project's own).
 pub fn fill_binaries<T: MergeTables, R: ReadParagraphs>(
     alloc: Global,
     tables: &mut T,
@@ -115,11 +115,11 @@ pub fn fill_binaries<T: MergeTables, R: ReadParagraphs>(
     waited: &BTreeSet<Text>,
     list: &mut R,
 ) -> Result<Option<BadList>, MergeFault<T::Fault>>
-    ensures value { (at : Tables) (place : ReaderState) → T.is_clean tables.new → T.holds tables.old at
-        → R.stands_at list.old place → place.passed ≡ 0 → at.now.binaries ≡ []
-        → IfOk result (IsFilled (packages_at arch.now place) (binaries_wanted (contains text_cmp waited.now))
-        (λ rows. T.holds tables.new (with_binaries rows at))
-        (IsRefused R.breaks list.new (packages_at arch.now place))) }
+    ensures value { (at : Tables) → T.is_clean tables.new → T.holds tables.old at
+        → R.passed list.old ≡ 0 → at.now.binaries ≡ []
+        → IfOk result (λ bad. MayStandWhere R.may_stand_at list.old (λ place. IsFilled (packages_at arch.now place)
+        (binaries_wanted (contains text_cmp waited.now)) (λ rows. T.holds tables.new (with_binaries rows at))
+        (IsRefused R.breaks list.new (packages_at arch.now place)) bad)) }
     ensures follows { OnOk result (T.follows tables.old tables.new) }
     ensures stops { IfErr result (StopsAs T.follows T.fails tables.old tables.new) }
 {

@@ -1,14 +1,21 @@
 //! Laws of a merge of an archive's lists, each on a function that does nothing.
-ghost use Rattle.std.specs.Prelude.{◌≡◌, ℕ, List};
+ghost use Rattle.std.specs.Prelude.{◌≡◌, ℕ, List, Option, Some};
+ghost use Rattle.std.specs.List.{AllByRecursion, AllZip};
 ghost use Rattle.deb_control.specs.declared.fault.ControlFault.{ControlFault};
+ghost use Rattle.deb_control.specs.Feed.{MayStandAt};
+ghost use Rattle.deb_control.specs.FeedState.{fresh};
+ghost use Rattle.deb_control.specs.Lines.{lines_of, paragraphs_in};
+ghost use Rattle.deb_control.specs.Paragraphs.{ReaderState, begun};
 ghost use Rattle.wb_states.specs.declared.command.Part.{Part};
 ghost use Rattle.wb_states.specs.declared.reply.PartReply.{PartReply};
 ghost use Rattle.wb_states.specs.Machine.{Machine};
 ghost use Rattle.wb_merge.specs.Merged.{Records};
 ghost use Rattle.wb_step.specs.Parts.{part_listing, part_replies, records_after};
-ghost use Rattle.wb_archive.specs.Merges.{ArePartsDone, IsGiven};
+ghost use Rattle.wb_archive.specs.Merges.{ArePartsDone, BeginsAt, IsGiven, IsMergeDone, IsMergeOfLists, IsPartOf, IsPartUnread, IsUnread};
+ghost use Rattle.wb_archive.specs.declared.merge.PartList.{PartList};
 
 use crate::ReadParagraphs;
+use deb_control::Paragraphs;
 
 /// If no reader breaks, as none does that reads a text in memory, what a merge makes of its parts is what the lists say: the
 /// replies are those of the parts in their order, and the records those after them.
@@ -17,4 +24,32 @@ pub fn merges_are_those_of_the_lists<R: ReadParagraphs>()
         → (machine : Machine) (text : List ℕ) (given : List Part) (records last : Records) (replies : List PartReply)
         → ArePartsDone (λ of. IsGiven R.breaks (part_listing machine text of)) given records replies last
         → (replies ≡ part_replies machine text given records) × (last ≡ records_after machine text given records) }
+{}
+
+/// What a merge makes of lists of which each reader begins at a text and may begin at no other, as those of texts in memory do, is
+/// what it makes of these texts.
+pub fn merges_of_known_lists_are_those_of_their_texts<R: ReadParagraphs>()
+    ensures unread { (machine : Machine) (sources : R) (parts : List (PartList R)) (text : List ℕ) (given : List Part)
+        → BeginsAt R.may_stand_at sources text → AllZip (IsPartOf (BeginsAt R.may_stand_at) machine) parts given
+        → IsUnread R.may_stand_at sources × AllByRecursion (IsPartUnread R.may_stand_at machine) parts }
+    ensures value { (machine : Machine) (sources : R) (parts : List (PartList R)) (text : List ℕ) (given : List Part)
+        (records last : Records) (replies : List PartReply)
+        → BeginsAt R.may_stand_at sources text → AllZip (IsPartOf (BeginsAt R.may_stand_at) machine) parts given
+        → IsMergeOfLists R.may_stand_at R.breaks machine (λ end. end ≡ last) sources parts records replies
+        → IsMergeDone (λ of. IsGiven R.breaks (part_listing machine text of)) (λ end. end ≡ last) given records replies }
+{}
+
+/// A reader of a text in memory begins at that text, and may begin at no other; and it never breaks.
+pub fn texts_in_memory_are_known()
+    ensures begins { (text : List ℕ) → BeginsAt ⟦<Paragraphs<'static> as ReadParagraphs>⟧.may_stand_at
+        (begun (paragraphs_in (lines_of text))) text }
+    ensures breaks { (reader : ReaderState) (fault : ControlFault)
+        → ⟦<Paragraphs<'static> as ReadParagraphs>⟧.breaks reader fault → ⊥ }
+{}
+
+/// A feed before its first call was not read, whatever its reader is; and if the bytes of its reader are known, it begins at them,
+/// and may begin at no other text.
+pub fn feeds_begin_at_their_bytes()
+    ensures unread { (bytes : Option (List ℕ)) → IsUnread MayStandAt (fresh bytes) }
+    ensures begins { (text : List ℕ) → BeginsAt MayStandAt (fresh (Some text)) text }
 {}

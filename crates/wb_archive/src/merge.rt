@@ -1,16 +1,12 @@
 //! The merge of an archive's lists: Sources is read once, and then each part in its order.
-ghost use Rattle.std.specs.Prelude.{◌≡◌, ◌++◌, ◌⊎◌, ℕ, List, [], ◌∷◌, None, Some, Err, IfOk, IfErr, OnOk};
-ghost use Rattle.std.specs.FinMap as finite;
-ghost use Rattle.std.specs.List.{AllZip};
-ghost use Rattle.deb_control.specs.declared.fault.ControlFault.{ControlFault};
+ghost use Rattle.std.specs.Prelude.{◌≡◌, ◌++◌, ℕ, List, [], ◌∷◌, None, Some, Err, IfOk, IfErr, OnOk};
+ghost use Rattle.std.specs.List.{AllByRecursion};
 ghost use Rattle.deb_relations.specs.declared.arch.ArchWords.{ArchWords};
-ghost use Rattle.wb_states.specs.declared.command.Part.{Part};
 ghost use Rattle.wb_states.specs.Machine.{Machine};
-ghost use Rattle.wb_step.specs.Parts.{part_listing, part_replies, records_after};
+ghost use Rattle.wb_step.specs.Parts.{part_listing};
 ghost use Rattle.wb_states.specs.declared.reply.PartEnd.TheVariants.{Refused};
 ghost use Rattle.wb_archive.specs.Faults.{StopsAs, refusal_of};
-ghost use Rattle.wb_archive.specs.Parts.{IsPartDone};
-ghost use Rattle.wb_archive.specs.Merges.{BeginsAt, IsGiven, IsMergeDone, IsPartOf, arch_of, archs_of};
+ghost use Rattle.wb_archive.specs.Merges.{IsGiven, IsMergeOfLists, IsMergeOfParts, IsPartMerged, IsPartUnread, IsUnread, arch_of, archs_of};
 ghost use Rattle.wb_archive.specs.Sources.{AreAllKnown, AreKnown, HasSources};
 ghost use Rattle.wb_archive.specs.Tables.{Tables, with_binaries, with_records, with_sources};
 
@@ -82,12 +78,13 @@ fn merge_known<T: MergeTables, R: ReadParagraphs>(
     words: &Option<OsCpu>,
     packages: &mut R,
 ) -> Result<PartEnd, MergeFault<T::Fault>>
-    ensures value { (at : Tables) (machine : Machine) (text : List ℕ) (archs : List ArchWords) (of : Part)
+    ensures value { (at : Tables) (machine : Machine) (text : List ℕ) (archs : List ArchWords)
         → T.is_clean tables.new → T.holds tables.old at → at.saved ≡ None → at.now.binaries ≡ []
-        → name.now ≡ of.arch → words.now ≡ finite.get machine.archs of.arch → BeginsAt R.stands_at packages.old of.packages
+        → IsPartUnread R.may_stand_at machine (record { arch = name.now; words = words.now; packages = packages.old })
         → HasSources R.breaks text archs at.now.sources bad → AreKnown archs name.now words.now
-        → IfOk result (IsPartDone (IsGiven R.breaks (part_listing machine text of))
-        (λ records. T.holds tables.new (with_records records at)) at.now.machine.records of.arch) }
+        → IfOk result (IsPartMerged R.may_stand_at machine (λ of. IsGiven R.breaks (part_listing machine text of))
+        (λ records. T.holds tables.new (with_records records at))
+        (record { arch = name.now; words = words.now; packages = packages.old }) at.now.machine.records) }
     ensures follows { OnOk result (T.follows tables.old tables.new) }
     ensures stops { IfErr result (StopsAs T.follows T.fails tables.old tables.new) }
 {
@@ -111,12 +108,13 @@ fn reply_to<T: MergeTables, R: ReadParagraphs>(
     bad: Option<BadList>,
     part: PartList<R>,
 ) -> Result<PartReply, MergeFault<T::Fault>>
-    ensures value { (at : Tables) (machine : Machine) (text : List ℕ) (archs : List ArchWords) (of : Part)
+    ensures value { (at : Tables) (machine : Machine) (text : List ℕ) (archs : List ArchWords)
         → T.is_clean tables.new → T.holds tables.old at → at.saved ≡ None → at.now.binaries ≡ []
-        → IsPartOf R.stands_at machine part of → HasSources R.breaks text archs at.now.sources bad
+        → IsPartUnread R.may_stand_at machine part → HasSources R.breaks text archs at.now.sources bad
         → AreKnown archs part.arch part.words
-        → IfOk result (λ reply. (reply.arch ≡ of.arch) × IsPartDone (IsGiven R.breaks (part_listing machine text of))
-        (λ records. T.holds tables.new (with_records records at)) at.now.machine.records of.arch reply.end) }
+        → IfOk result (λ reply. (reply.arch ≡ part.arch) × IsPartMerged R.may_stand_at machine
+        (λ of. IsGiven R.breaks (part_listing machine text of)) (λ records. T.holds tables.new (with_records records at))
+        part at.now.machine.records reply.end) }
     ensures follows { OnOk result (T.follows tables.old tables.new) }
     ensures stops { IfErr result (StopsAs T.follows T.fails tables.old tables.new) }
 {
@@ -144,12 +142,13 @@ fn merge_parts<T: MergeTables, R: ReadParagraphs>(
     bad: Option<BadList>,
     parts: Vec<PartList<R>>,
 ) -> Result<Vec<PartReply>, MergeFault<T::Fault>>
-    ensures value { (at : Tables) (machine : Machine) (text : List ℕ) (archs : List ArchWords) (given : List Part)
+    ensures value { (at : Tables) (machine : Machine) (text : List ℕ) (archs : List ArchWords)
         → T.is_clean tables.new → T.holds tables.old at → at.saved ≡ None → at.now.binaries ≡ []
-        → AllZip (IsPartOf R.stands_at machine) parts.items given → HasSources R.breaks text archs at.now.sources bad
-        → AreAllKnown archs parts.items
-        → IfOk result (λ replies. IsMergeDone (λ of. IsGiven R.breaks (part_listing machine text of))
-        (λ records. T.holds tables.new (with_records records at)) given at.now.machine.records replies.items) }
+        → AllByRecursion (IsPartUnread R.may_stand_at machine) parts.items
+        → HasSources R.breaks text archs at.now.sources bad → AreAllKnown archs parts.items
+        → IfOk result (λ replies. IsMergeOfParts R.may_stand_at machine
+        (λ of. IsGiven R.breaks (part_listing machine text of)) (λ records. T.holds tables.new (with_records records at))
+        parts.items at.now.machine.records replies.items) }
     ensures follows { OnOk result (T.follows tables.old tables.new) }
     ensures stops { IfErr result (StopsAs T.follows T.fails tables.old tables.new) }
 {
@@ -171,24 +170,23 @@ fn clear_all<T: MergeTables>(tables: &mut T) -> Result<(), MergeFault<T::Fault>>
     asked(tables.clear_scratch())
 }
 
-/// Merges an archive's lists into the records of the tables, paragraph by paragraph: Sources is read once, into its table, and
-/// then each part in its order, within a savepoint of its own. A part whose architecture was never added is not read and is
-/// refused with `UnknownArch`; one whose list is refused, or all if Sources is, changes nothing and says why. In the end no row
-/// of the lists is left and no savepoint. The errors are `Memory` if memory ran out, or if a list has 2^63 - 1 paragraphs or
-/// more, which cannot all be numbered, and else the first fault of the tables; the caller then takes its transaction back (this
-/// project's own).
+/// Merges an archive's lists, of which no paragraph was read before, into the records of the tables, paragraph by
+/// paragraph: Sources is read once, into its table, and then each part in its order, within a savepoint of its own. A
+/// part whose architecture was never added is not read and is refused with `UnknownArch`; one whose list is refused, or
+/// all if Sources is, changes nothing and says why. In the end no row of the lists is left and no savepoint. The errors
+/// are `Memory` if memory ran out, or if a list has 2^63 - 1 paragraphs or more, which cannot all be numbered, and else
+/// the first fault of the tables; the caller then takes its transaction back (this project's own).
 pub fn merge_lists<T: MergeTables, R: ReadParagraphs>(
     alloc: Global,
     tables: &mut T,
     sources: &mut R,
     parts: Vec<PartList<R>>,
 ) -> Result<Vec<PartReply>, MergeFault<T::Fault>>
-    ensures value { (at : Tables) (machine : Machine) (text : List ℕ) (given : List Part)
-        → T.is_clean tables.new → T.holds tables.old at
+    ensures value { (at : Tables) (machine : Machine) → T.is_clean tables.new → T.holds tables.old at
         → at.saved ≡ None → at.now.sources ≡ [] → at.now.binaries ≡ []
-        → BeginsAt R.stands_at sources.old text → AllZip (IsPartOf R.stands_at machine) parts.items given
-        → IfOk result (λ replies. IsMergeDone (λ of. IsGiven R.breaks (part_listing machine text of))
-        (λ records. T.holds tables.new (with_records records at)) given at.now.machine.records replies.items) }
+        → IsUnread R.may_stand_at sources.old → AllByRecursion (IsPartUnread R.may_stand_at machine) parts.items
+        → IfOk result (λ replies. IsMergeOfLists R.may_stand_at R.breaks machine
+        (λ records. T.holds tables.new (with_records records at)) sources.old parts.items at.now.machine.records replies.items) }
     ensures follows { OnOk result (T.follows tables.old tables.new) }
     ensures stops { IfErr result (StopsAs T.follows T.fails tables.old tables.new) }
 {

@@ -1,6 +1,5 @@
 //! One part of a merge: the Packages list of an architecture, merged into the tables or taken back.
-ghost use Rattle.std.specs.Prelude.{◌≡◌, ◌≢◌, ℕ, List, [], None, Some, IfOk, IfErr, OnOk};
-ghost use Rattle.deb_control.specs.Paragraphs.{ReaderState};
+ghost use Rattle.std.specs.Prelude.{◌≡◌, ◌≢◌, List, [], None, Some, IfOk, IfErr, OnOk};
 ghost use Rattle.deb_relations.specs.declared.arch.ArchWords.{ArchWords};
 ghost use Rattle.deb_text.specs.Lists.{IsIn};
 ghost use Rattle.wb_states.specs.declared.reply.PartEnd.TheVariants.{Merged, Refused};
@@ -10,6 +9,7 @@ ghost use Rattle.wb_archive.specs.Decides.{listing_at};
 ghost use Rattle.wb_archive.specs.Faults.{StopsAs, refusal_of};
 ghost use Rattle.wb_archive.specs.Fills.{sources_wanted};
 ghost use Rattle.wb_archive.specs.Parts.{IsListing, IsPartDone, listing_from};
+ghost use Rattle.wb_archive.specs.Reads.{MayStandWhere};
 ghost use Rattle.wb_archive.specs.Tables.{Contents, Tables, back_at, with_binaries, with_records, with_savepoint, without_savepoint};
 
 use crate::deciding::decide;
@@ -96,20 +96,22 @@ fn keep<T: MergeTables>(
     Ok(PartEnd::Merged { counts })
 }
 
-/// Merges one part: its Packages list is read into its table, the records of its architecture are brought in line with both
-/// lists, and its rows are taken out. A part whose list is refused changes nothing. `archs` are the architectures for which
-/// the rows of Sources in the tables were chosen, this one among them (this project's own).
+/// Merges one part: its Packages list, of which no paragraph was read before, is read into its table, the records of its
+/// architecture are brought in line with both lists, and its rows are taken out. A part whose list is refused changes
+/// nothing. `archs` are the architectures for which the rows of Sources in the tables were chosen, this one among them
+/// (this project's own).
 pub fn merge_part<T: MergeTables, R: ReadParagraphs>(
     alloc: Global,
     tables: &mut T,
     arch: &ArchWords,
     packages: &mut R,
 ) -> Result<PartEnd, MergeFault<T::Fault>>
-    ensures value { (at : Tables) (place : ReaderState) (archs : List ArchWords) (rows : List SourceRow)
-        → T.is_clean tables.new → T.holds tables.old at → R.stands_at packages.old place → place.passed ≡ 0
+    ensures value { (at : Tables) (archs : List ArchWords) (rows : List SourceRow)
+        → T.is_clean tables.new → T.holds tables.old at → R.passed packages.old ≡ 0
         → at.saved ≡ None → at.now.binaries ≡ [] → at.now.sources ≡ sources_wanted archs rows → IsIn arch.now archs
-        → IfOk result (IsPartDone (IsListing R.breaks packages.new (listing_from arch.now rows place))
-        (λ records. T.holds tables.new (with_records records at)) at.now.machine.records arch.now.name) }
+        → IfOk result (λ end. MayStandWhere R.may_stand_at packages.old (λ place.
+        IsPartDone (IsListing R.breaks packages.new (listing_from arch.now rows place))
+        (λ records. T.holds tables.new (with_records records at)) at.now.machine.records arch.now.name end)) }
     ensures follows { OnOk result (T.follows tables.old tables.new) }
     ensures stops { IfErr result (StopsAs T.follows T.fails tables.old tables.new) }
 {

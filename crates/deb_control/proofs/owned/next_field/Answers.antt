@@ -1,4 +1,4 @@
-use Rattle.std.proofs.Common.{◌≡◌, ◌<◌, ◌∙◌, sym, ap, arith, length, rules, List, ◌∷◌}
+use Rattle.std.proofs.Common.{◌≡◌, ◌<◌, ◌∙◌, sym, ap, arith, length, rules, ◌∷◌}
 use Rattle.deb_control.specs.Lines.{lines_in}
 use Rattle.deb_control.specs.Fields.{FieldText, fields_of}
 use Rattle.deb_control.proofs.OwnedLemmas.{fields_of-more, fields_of-first, fields_of-none}

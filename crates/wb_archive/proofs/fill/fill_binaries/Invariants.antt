@@ -1,12 +1,10 @@
 use Rattle.std.proofs.Common.{◌≡◌, []}
 use Rattle.std.specs.BTreeSet.{contains}
-use Rattle.deb_control.specs.Paragraphs.{ReaderState}
 use Rattle.deb_text.specs.Text.{text_cmp}
 use Rattle.wb_states.specs.declared.refusal.ListKind.TheVariants.{Packages}
 use Rattle.wb_states.specs.declared.scratch.BinaryRow.{BinaryRow}
 use Rattle.wb_merge.specs.Scratch.{binary_row_at}
 use Rattle.wb_archive.specs.Fills.{binaries_wanted}
-use Rattle.wb_archive.specs.Reads.{packages_at}
 use Rattle.wb_archive.specs.Tables.{Tables, with_binaries}
 use Rattle.wb_archive.proofs.FillLemmas.{IsHalfFilled}
 use Rattle.wb_archive.proofs.fill.fill_binaries.Given as goal
@@ -14,8 +12,8 @@ use Rattle.wb_archive.proofs.fill.fill_binaries.Given as goal
 abbrev pub invariant-loop-passed : goal.invariant-loop-passed
 invariant-loop-passed g l = record {
   follows : g.T.MergeTables.follows l.fn.tables l.tables;
-  half : (at : Tables) (place : ReaderState) → g.T.MergeTables.is_clean l.tables → g.T.MergeTables.holds l.fn.tables at
-      → g.R.ReadParagraphs.stands_at l.fn.list place → place.passed ≡ 0 → at.now.binaries ≡ []
-      → IsHalfFilled Packages (binary_row_at l.arch) (binaries_wanted (contains text_cmp l.waited)) (λ (row : BinaryRow). row.seq)
-      (λ rows. g.T.MergeTables.holds l.tables (with_binaries rows at)) (g.R.ReadParagraphs.stands_at l.list) (packages_at l.arch place) l.passed;
+  half : (at : Tables) → g.T.MergeTables.is_clean l.tables → g.T.MergeTables.holds l.fn.tables at
+      → g.R.ReadParagraphs.passed l.fn.list ≡ 0 → at.now.binaries ≡ []
+      → IsHalfFilled g.R.ReadParagraphs.may_stand_at Packages (binary_row_at l.arch) (binaries_wanted (contains text_cmp l.waited)) (λ (row : BinaryRow). row.seq)
+      (λ rows. g.T.MergeTables.holds l.tables (with_binaries rows at)) l.fn.list l.list (g.R.ReadParagraphs.passed l.list) l.passed;
 }

@@ -1,10 +1,8 @@
 use Rattle.std.proofs.Common.{◌≡◌, []}
-use Rattle.deb_control.specs.Paragraphs.{ReaderState}
 use Rattle.wb_states.specs.declared.refusal.ListKind.TheVariants.{Sources}
 use Rattle.wb_states.specs.declared.scratch.SourceRow.{SourceRow}
 use Rattle.wb_merge.specs.Scratch.{source_row_at}
 use Rattle.wb_archive.specs.Fills.{sources_wanted}
-use Rattle.wb_archive.specs.Reads.{sources_at}
 use Rattle.wb_archive.specs.Tables.{Tables, with_sources}
 use Rattle.wb_archive.proofs.FillLemmas.{IsHalfFilled}
 use Rattle.wb_archive.proofs.fill.fill_sources.Given as goal
@@ -12,8 +10,8 @@ use Rattle.wb_archive.proofs.fill.fill_sources.Given as goal
 abbrev pub invariant-loop-passed : goal.invariant-loop-passed
 invariant-loop-passed g l = record {
   follows : g.T.MergeTables.follows l.fn.tables l.tables;
-  half : (at : Tables) (place : ReaderState) → g.T.MergeTables.is_clean l.tables → g.T.MergeTables.holds l.fn.tables at
-      → g.R.ReadParagraphs.stands_at l.fn.list place → place.passed ≡ 0 → at.now.sources ≡ []
-      → IsHalfFilled Sources source_row_at (sources_wanted l.archs) (λ (row : SourceRow). row.seq) (λ rows. g.T.MergeTables.holds l.tables (with_sources rows at))
-      (g.R.ReadParagraphs.stands_at l.list) (sources_at place) l.passed;
+  half : (at : Tables) → g.T.MergeTables.is_clean l.tables → g.T.MergeTables.holds l.fn.tables at
+      → g.R.ReadParagraphs.passed l.fn.list ≡ 0 → at.now.sources ≡ []
+      → IsHalfFilled g.R.ReadParagraphs.may_stand_at Sources source_row_at (sources_wanted l.archs) (λ (row : SourceRow). row.seq)
+      (λ rows. g.T.MergeTables.holds l.tables (with_sources rows at)) l.fn.list l.list (g.R.ReadParagraphs.passed l.list) l.passed;
 }

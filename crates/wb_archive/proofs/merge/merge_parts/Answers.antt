@@ -1,11 +1,9 @@
-use Rattle.std.proofs.Common.{◌≡◌, [], ◌∷◌, sym, subst, rules, arith}
+use Rattle.std.proofs.Common.{◌≡◌, [], ◌∷◌, rules, arith}
 use Rattle.std.proofs.lemmas.Grind.{common_steps}
 use Rattle.std.proofs.lemmas.List.{nil_from_length}
-use Rattle.std.specs.List.{AllZip}
 use Rattle.wb_merge.specs.Merged.{Records}
 use Rattle.wb_step.specs.Parts.{part_listing}
-use Rattle.wb_archive.specs.Merges.{IsGiven, IsPartOf}
-use Rattle.wb_archive.specs.Sources.{AreAllKnown}
+use Rattle.wb_archive.specs.Merges.{IsGiven}
 use Rattle.wb_archive.specs.Tables.{with_records}
 use Rattle.wb_archive.proofs.MergeLemmas.{merged-done, merged-start, merged-step}
 use Rattle.wb_archive.proofs.merge.merge_parts.Goals as goal
@@ -15,11 +13,10 @@ loop-part-init g c =
     let all : c.into_iter-part-iterator.result.rest.items ≡ c.args.parts.items = search rules in
     record {
       follows = g.met.T.MergeTables.follows_itself c.args.tables.now;
-      half = λ at machine text archs given clean holds unsaved empty zip has known.
-          merged-start g.R.ReadParagraphs.stands_at machine archs (λ of. IsGiven g.R.ReadParagraphs.breaks (part_listing machine text of))
-          (λ (records : Records). g.T.MergeTables.holds c.args.tables.now (with_records records at)) given at.now.machine.records c.new-replies.result.items
-          c.into_iter-part-iterator.result.rest.items c.new-replies.ensures.items holds
-          (subst (λ l. AllZip (IsPartOf g.R.ReadParagraphs.stands_at machine) l given) (sym all) zip) (subst (λ l. AreAllKnown archs l) (sym all) known);
+      half = λ at machine text archs clean holds unsaved empty unread has known.
+          merged-start g.R.ReadParagraphs.may_stand_at machine archs (λ of. IsGiven g.R.ReadParagraphs.breaks (part_listing machine text of))
+          (λ (records : Records). g.T.MergeTables.holds c.args.tables.now (with_records records at)) at.now.machine.records c.new-replies.result.items
+          c.args.parts.items c.into_iter-part-iterator.result.rest.items c.new-replies.ensures.items all holds unread known;
     }
 
 pub loop-part-preserved : goal.loop-part-preserved
@@ -29,16 +26,16 @@ loop-part-preserved g c =
     let split : c.loop-part.part-iterator.rest.items ≡ c.in-Some.part ∷ c.next.new.self.rest.items = search rules in
     record {
       follows = laws.follows_on c.args.tables.now c.loop-part.tables c.reply_to.new.tables c.loop-part.invariant.follows went;
-      half = λ at machine text archs given clean holds unsaved empty zip has known.
-          let half = c.loop-part.invariant.half at machine text archs given (laws.clean c.loop-part.tables c.reply_to.new.tables went clean) holds unsaved empty zip has known in
-          merged-step g.R.ReadParagraphs.stands_at machine archs (λ of. IsGiven g.R.ReadParagraphs.breaks (part_listing machine text of))
-          {More = λ (records : Records). g.T.MergeTables.holds c.reply_to.new.tables (with_records records at)} given at.now.machine.records c.loop-part.replies.items c.add_reply.new.replies.items
+      half = λ at machine text archs clean holds unsaved empty unread has known.
+          let half = c.loop-part.invariant.half at machine text archs (laws.clean c.loop-part.tables c.reply_to.new.tables went clean) holds unsaved empty unread has known in
+          merged-step g.R.ReadParagraphs.may_stand_at machine archs (λ of. IsGiven g.R.ReadParagraphs.breaks (part_listing machine text of))
+          {More = λ (records : Records). g.T.MergeTables.holds c.reply_to.new.tables (with_records records at)} c.args.parts.items at.now.machine.records c.loop-part.replies.items c.add_reply.new.replies.items
           c.loop-part.part-iterator.rest.items c.next.new.self.rest.items c.in-Some.part c.in_ok-reply.reply split c.in_ok-add_reply.ensures.value half
-          (λ of records held is part_known. c.in_ok-reply.ensures.value (with_records records at) machine text archs of clean held unsaved empty is has part_known);
+          (λ records held part_unread part_known. c.in_ok-reply.ensures.value (with_records records at) machine text archs clean held unsaved empty part_unread has part_known);
     }
 
 pub returns-clause-value : goal.returns-clause-value
-returns-clause-value g c = λ at machine text archs given clean holds unsaved empty zip has known.
+returns-clause-value g c = λ at machine text archs clean holds unsaved empty unread has known.
     let none : c.loop-part.part-iterator.rest.items ≡ [] = grind (arith, common_steps, nil_from_length) in
-    merged-done g.R.ReadParagraphs.stands_at machine archs (λ of. IsGiven g.R.ReadParagraphs.breaks (part_listing machine text of)) given at.now.machine.records c.loop-part.replies.items
-    c.loop-part.part-iterator.rest.items none (c.loop-part.invariant.half at machine text archs given clean holds unsaved empty zip has known)
+    merged-done g.R.ReadParagraphs.may_stand_at machine archs (λ of. IsGiven g.R.ReadParagraphs.breaks (part_listing machine text of)) c.args.parts.items at.now.machine.records
+    c.loop-part.replies.items c.loop-part.part-iterator.rest.items none (c.loop-part.invariant.half at machine text archs clean holds unsaved empty unread has known)

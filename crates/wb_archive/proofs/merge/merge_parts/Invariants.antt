@@ -1,10 +1,9 @@
 use Rattle.std.proofs.Common.{◌≡◌, ℕ, List, [], None}
-use Rattle.std.specs.List.{AllZip}
+use Rattle.std.specs.List.{AllByRecursion}
 use Rattle.deb_relations.specs.declared.arch.ArchWords.{ArchWords}
-use Rattle.wb_states.specs.declared.command.Part.{Part}
 use Rattle.wb_states.specs.Machine.{Machine}
 use Rattle.wb_step.specs.Parts.{part_listing}
-use Rattle.wb_archive.specs.Merges.{IsGiven, IsPartOf}
+use Rattle.wb_archive.specs.Merges.{IsGiven, IsPartUnread}
 use Rattle.wb_archive.specs.Sources.{AreAllKnown, HasSources}
 use Rattle.wb_archive.specs.Tables.{Tables, with_records}
 use Rattle.wb_archive.proofs.MergeLemmas.{IsHalfMerged}
@@ -13,9 +12,9 @@ use Rattle.wb_archive.proofs.merge.merge_parts.Given as goal
 abbrev pub invariant-loop-part : goal.invariant-loop-part
 invariant-loop-part g l = record {
   follows : g.T.MergeTables.follows l.fn.tables l.tables;
-  half : (at : Tables) (machine : Machine) (text : List ℕ) (archs : List ArchWords) (given : List Part) → g.T.MergeTables.is_clean l.tables → g.T.MergeTables.holds l.fn.tables at
-      → at.saved ≡ None → at.now.binaries ≡ [] → AllZip (IsPartOf g.R.ReadParagraphs.stands_at machine) l.fn.parts.items given
+  half : (at : Tables) (machine : Machine) (text : List ℕ) (archs : List ArchWords) → g.T.MergeTables.is_clean l.tables → g.T.MergeTables.holds l.fn.tables at
+      → at.saved ≡ None → at.now.binaries ≡ [] → AllByRecursion (IsPartUnread g.R.ReadParagraphs.may_stand_at machine) l.fn.parts.items
       → HasSources g.R.ReadParagraphs.breaks text archs at.now.sources l.bad → AreAllKnown archs l.fn.parts.items
-      → IsHalfMerged g.R.ReadParagraphs.stands_at machine archs (λ of. IsGiven g.R.ReadParagraphs.breaks (part_listing machine text of))
-      (λ records. g.T.MergeTables.holds l.tables (with_records records at)) given at.now.machine.records l.replies.items l.part-iterator.rest.items;
+      → IsHalfMerged g.R.ReadParagraphs.may_stand_at machine archs (λ of. IsGiven g.R.ReadParagraphs.breaks (part_listing machine text of))
+      (λ records. g.T.MergeTables.holds l.tables (with_records records at)) l.fn.parts.items at.now.machine.records l.replies.items l.part-iterator.rest.items;
 }

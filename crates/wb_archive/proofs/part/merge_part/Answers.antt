@@ -16,7 +16,7 @@ some-none : (saved : Contents) → Some saved ≡ None → ⊥
 some-none saved e = cc
 
 pub returns-in-Some-clause-value : goal.returns-in-Some-clause-value
-returns-in-Some-clause-value g c = λ at place archs rows clean holds stands first unsaved empty sources there.
+returns-in-Some-clause-value g c = λ at archs rows clean holds first unsaved empty sources there.
     let laws = g.met.T.MergeTables in
     if-ok-from _ c.take_back.result (λ (end : PartEnd) done.
     let went = on-ok-at _ c.take_back.result end done c.take_back.ensures.follows in
@@ -25,15 +25,20 @@ returns-in-Some-clause-value g c = λ at place archs rows clean holds stands fir
     let at_save = laws.clean c.save.new.tables c.waited_names.new.tables c.in_ok-waited.ensures.follows at_waited in
     let saved = c.in_ok-save.ensures.value at at_save holds unsaved in
     let kept = c.in_ok-waited.ensures.same (with_savepoint at) at_waited saved in
-    let filled = rw c.in-Some.is at (c.in_ok-bad.ensures.value (with_savepoint at) place at_fill kept stands first empty) in
-    let back = on-ok-at _ c.take_back.result end done (c.take_back.ensures.value (with_binaries filled.1.0 (with_savepoint at)) at.now clean filled.1.1 refl) in
-    let as_was : record { now = at.now; saved = None } ≡ at = λ i. record { now = at.now; saved = sym unsaved i } in
-    part-refused g.R.ReadParagraphs.breaks c.fill_binaries.new.list (λ (records : Records). g.T.MergeTables.holds c.take_back.new.tables (with_records records at))
-    c.args.arch.now at.now.machine.records rows place c.in-Some.bad end filled.0 (if-ok-at _ c.take_back.result end done c.take_back.ensures.end)
-    (subst (λ (t : Tables). g.T.MergeTables.holds c.take_back.new.tables t) as_was back))
+    let filled = rw c.in-Some.is at (c.in_ok-bad.ensures.value (with_savepoint at) at_fill kept first empty) in
+    let back = on-ok-at _ c.take_back.result end done (c.take_back.ensures.value (with_binaries filled.1.1.1.0 (with_savepoint at)) at.now clean filled.1.1.1.1 refl) in
+    let as_was : record { now = at.now; saved = None } ≡ at = λ i. record { now = at.now; saved = sym unsaved i } in (
+      filled.0,
+      (
+        filled.1.0,
+        part-refused g.R.ReadParagraphs.breaks c.fill_binaries.new.list (λ (records : Records). g.T.MergeTables.holds c.take_back.new.tables (with_records records at))
+            c.args.arch.now at.now.machine.records rows filled.0 c.in-Some.bad end filled.1.1.0 (if-ok-at _ c.take_back.result end done c.take_back.ensures.end)
+            (subst (λ (t : Tables). g.T.MergeTables.holds c.take_back.new.tables t) as_was back),
+      ),
+    ))
 
 pub returns-clause-value : goal.returns-clause-value
-returns-clause-value g c = λ at place archs rows clean holds stands first unsaved empty sources there.
+returns-clause-value g c = λ at archs rows clean holds first unsaved empty sources there.
     let laws = g.met.T.MergeTables in
     if-ok-from _ c.keep.result (λ (end : PartEnd) done.
     let went = on-ok-at _ c.keep.result end done c.keep.ensures.follows in
@@ -42,18 +47,23 @@ returns-clause-value g c = λ at place archs rows clean holds stands first unsav
     let at_save = laws.clean c.save.new.tables c.waited_names.new.tables c.in_ok-waited.ensures.follows at_waited in
     let saved = c.in_ok-save.ensures.value at at_save holds unsaved in
     let kept = c.in_ok-waited.ensures.same (with_savepoint at) at_waited saved in
-    let filled = rw c.in-None.is at (c.in_ok-bad.ensures.value (with_savepoint at) place at_fill kept stands first empty) in
-    part-kept g.R.ReadParagraphs.breaks c.fill_binaries.new.list (λ (records : Records). g.T.MergeTables.holds c.keep.new.tables (with_records records at))
-    (λ (binaries : List BinaryRow). g.T.MergeTables.holds c.fill_binaries.new.tables (with_binaries binaries (with_savepoint at)))
-    c.args.arch.now archs (contains text_cmp c.in_ok-waited.waited) at.now.machine.records rows place end there
-    (c.in_ok-waited.ensures.value (with_savepoint at) at_waited saved) filled
-    (λ binaries stood.
-    let held = on-ok-at _ c.keep.result end done (c.keep.ensures.value (with_binaries binaries (with_savepoint at)) clean stood (some-none at.now)) in
-    let told = if-ok-at _ c.keep.result end done (c.keep.ensures.end (with_binaries binaries (with_savepoint at)) clean stood) in
-    let m = merged at.now.machine.records c.args.arch.now.name (listing_of_kept c.args.arch.now at.now.sources binaries) in
-    let emptied : record { now = record { machine = record at.now.machine { records = m }; sources = at.now.sources; binaries = [] }; saved = None } ≡ with_records m at =
-    λ i. record { now = record { machine = record at.now.machine { records = m }; sources = at.now.sources; binaries = sym empty i }; saved = sym unsaved i } in (
-      subst (λ (s : List SourceRow). end ≡ Merged (merge_counts at.now.machine.records c.args.arch.now.name (listing_of_kept c.args.arch.now s binaries))) sources told,
-      subst (λ (s : List SourceRow). g.T.MergeTables.holds c.keep.new.tables (with_records (merged at.now.machine.records c.args.arch.now.name (listing_of_kept c.args.arch.now s binaries)) at)) sources
-          (subst (λ (t : Tables). g.T.MergeTables.holds c.keep.new.tables t) emptied held),
-    )))
+    let filled = rw c.in-None.is at (c.in_ok-bad.ensures.value (with_savepoint at) at_fill kept first empty) in (
+      filled.0,
+      (
+        filled.1.0,
+        part-kept g.R.ReadParagraphs.breaks c.fill_binaries.new.list (λ (records : Records). g.T.MergeTables.holds c.keep.new.tables (with_records records at))
+            (λ (binaries : List BinaryRow). g.T.MergeTables.holds c.fill_binaries.new.tables (with_binaries binaries (with_savepoint at)))
+            c.args.arch.now archs (contains text_cmp c.in_ok-waited.waited) at.now.machine.records rows filled.0 end there
+            (c.in_ok-waited.ensures.value (with_savepoint at) at_waited saved) filled.1.1
+            (λ binaries stood.
+            let held = on-ok-at _ c.keep.result end done (c.keep.ensures.value (with_binaries binaries (with_savepoint at)) clean stood (some-none at.now)) in
+            let told = if-ok-at _ c.keep.result end done (c.keep.ensures.end (with_binaries binaries (with_savepoint at)) clean stood) in
+            let m = merged at.now.machine.records c.args.arch.now.name (listing_of_kept c.args.arch.now at.now.sources binaries) in
+            let emptied : record { now = record { machine = record at.now.machine { records = m }; sources = at.now.sources; binaries = [] }; saved = None } ≡ with_records m at =
+            λ i. record { now = record { machine = record at.now.machine { records = m }; sources = at.now.sources; binaries = sym empty i }; saved = sym unsaved i } in (
+              subst (λ (s : List SourceRow). end ≡ Merged (merge_counts at.now.machine.records c.args.arch.now.name (listing_of_kept c.args.arch.now s binaries))) sources told,
+              subst (λ (s : List SourceRow). g.T.MergeTables.holds c.keep.new.tables (with_records (merged at.now.machine.records c.args.arch.now.name (listing_of_kept c.args.arch.now s binaries)) at)) sources
+                  (subst (λ (t : Tables). g.T.MergeTables.holds c.keep.new.tables t) emptied held),
+            )),
+      ),
+    ))

@@ -1,0 +1,119 @@
+-- Merges of lists whose texts are known: what a merge made of lists is what it makes of these texts.
+use Rattle.std.proofs.Common.{◌≡◌, ℕ, List, [], ◌∷◌, Option, None, Some, Result, refl, sym, ap, subst, ◌∙◌}
+use Rattle.std.specs.Prelude.{IfOk}
+use Rattle.std.specs.FinMap as finite
+use Rattle.std.specs.List.{AllByRecursion, AllZip}
+use Rattle.deb_control.specs.declared.fault.ControlFault.{ControlFault}
+use Rattle.deb_control.specs.Lines.{lines_of, paragraphs_in}
+use Rattle.deb_control.specs.Paragraphs.{ReaderState, begun}
+use Rattle.deb_relations.specs.declared.arch.ArchWords.{ArchWords}
+use Rattle.wb_states.specs.declared.arch.OsCpu.{OsCpu}
+use Rattle.wb_states.specs.declared.command.Part.{Part}
+use Rattle.wb_states.specs.declared.reply.PartReply.{PartReply}
+use Rattle.wb_states.specs.Machine.{Machine, with_words}
+use Rattle.wb_merge.specs.Merged.{Records}
+use Rattle.wb_merge.specs.Scratch.{kept_binaries, kept_sources, listing_kept}
+use Rattle.wb_merge.proofs.ScratchLemmas.{listing_of-kept}
+use Rattle.wb_step.specs.Parts.{end_with, listing_for, part_listing, records_with}
+use Rattle.wb_archive.specs.declared.merge.PartList.{PartList}
+use Rattle.wb_archive.specs.Merges.{ArePartsDone, BeginsAt, IsGiven, IsMergeDone, IsMergeOfLists, IsPartOf, IsPartUnread, IsUnread, MayBeginAt}
+use Rattle.wb_archive.specs.Parts.{binaries_at}
+use Rattle.wb_archive.specs.Reads.{sources_at}
+use Rattle.wb_archive.proofs.MergeLemmas.{binaries-begun, sources-begun}
+use Rattle.wb_archive.proofs.StopLemmas.{if-ok-map}
+
+-- ---- lists with the same paragraphs
+
+-- the texts of two lists have the same paragraphs
+abbrev AreAlike : List ℕ → List ℕ → Type 0
+AreAlike text other = begun (paragraphs_in (lines_of text)) ≡ begun (paragraphs_in (lines_of other))
+
+sources-alike : (text other : List ℕ) → AreAlike text other → kept_sources text ≡ kept_sources other
+sources-alike text other alike = sym (sources-begun text) ∙ ap sources_at alike ∙ sources-begun other
+
+binaries-alike : (arch : ArchWords) (text other : List ℕ) → AreAlike text other → kept_binaries arch text ≡ kept_binaries arch other
+binaries-alike arch text other alike = sym (binaries-begun arch text) ∙ ap (binaries_at arch) alike ∙ binaries-begun arch other
+
+words-alike : (text other : List ℕ) (part given : Part) (words : Option OsCpu) → AreAlike text other → part.arch ≡ given.arch → AreAlike part.packages given.packages
+    → listing_for text part words ≡ listing_for other given words
+words-alike text other part given None alike same packages = refl
+words-alike text other part given (Some words) alike same packages =
+    listing_of-kept text part.packages (with_words part.arch words)
+    ∙ (λ i. listing_kept (with_words part.arch words) (sources-alike text other alike i) (binaries-alike (with_words part.arch words) part.packages given.packages packages i))
+    ∙ (λ i. listing_kept (with_words (same i) words) (kept_sources other) (kept_binaries (with_words (same i) words) given.packages))
+    ∙ sym (listing_of-kept other given.packages (with_words given.arch words))
+
+listing-alike : (machine : Machine) (text other : List ℕ) (part given : Part) → AreAlike text other → part.arch ≡ given.arch → AreAlike part.packages given.packages
+    → part_listing machine text part ≡ part_listing machine other given
+unfolding part_listing
+listing-alike machine text other part given alike same packages =
+    ap (λ arch. listing_for text part (finite.get machine.archs arch)) same ∙ words-alike text other part given (finite.get machine.archs given.arch) alike same packages
+
+-- ---- readers that begin at a text and may begin at no other
+
+-- a reader that begins at a text was not read
+pub begins-unread : {R : Type 0} (MayStand : R → ReaderState → Type 0) (reader : R) (text : List ℕ) → BeginsAt MayStand reader text → IsUnread MayStand reader
+begins-unread MayStand reader text begins = λ place here. (text, begins place here)
+
+-- the lists of parts that begin at their texts were not read
+pub parts-unread : {R : Type 0} (MayStand : R → ReaderState → Type 0) (machine : Machine) (parts : List (PartList R)) (given : List Part)
+    → AllZip (IsPartOf (BeginsAt MayStand) machine) parts given → AllByRecursion (IsPartUnread MayStand machine) parts
+parts-unread MayStand machine [] given zip = tt
+parts-unread MayStand machine (part ∷ parts) [] zip = absurd zip
+parts-unread MayStand machine (part ∷ parts) (of ∷ given) zip = (
+  record { words = zip.0.words ∙ ap (finite.get machine.archs) (sym zip.0.arch); unread = begins-unread MayStand part.packages of.packages zip.0.begins },
+  parts-unread MayStand machine parts given zip.1,
+)
+
+module _ {R : Type 0} (MayStand : R → ReaderState → Type 0) (Breaks : R → ControlFault → Type 0) (machine : Machine) (text known : List ℕ) (alike : AreAlike text known) where
+  -- what became of the parts, by the texts at which their readers begin
+  parts-known : (parts : List (PartList R)) (found given : List Part) (records last : Records) (replies : List PartReply)
+      → AllZip (IsPartOf (MayBeginAt MayStand) machine) parts found → AllZip (IsPartOf (BeginsAt MayStand) machine) parts given
+      → ArePartsDone (λ of. IsGiven Breaks (part_listing machine text of)) found records replies last
+      → ArePartsDone (λ of. IsGiven Breaks (part_listing machine known of)) given records replies last
+  parts-known [] [] [] records last [] may begins done = done
+  parts-known [] [] [] records last (reply ∷ replies) may begins done = absurd done
+  parts-known [] (of ∷ found) given records last replies may begins done = absurd may
+  parts-known [] [] (of ∷ given) records last replies may begins done = absurd begins
+  parts-known (part ∷ parts) [] given records last replies may begins done = absurd may
+  parts-known (part ∷ parts) (of ∷ found) [] records last replies may begins done = absurd begins
+  parts-known (part ∷ parts) (of ∷ found) (is ∷ given) records last [] may begins done = absurd done
+  parts-known (part ∷ parts) (of ∷ found) (is ∷ given) records last (reply ∷ replies) may begins done =
+      let same : of.arch ≡ is.arch = sym may.0.arch ∙ begins.0.arch in
+      let listing = listing-alike machine text known of is alike same (begins.0.begins (begun (paragraphs_in (lines_of of.packages))) may.0.begins) in (
+        done.0,
+        (
+          subst (λ l. IsGiven Breaks l done.0) listing done.1.0,
+          (
+            done.1.1.0 ∙ (λ i. record { arch = same i; end = end_with records (same i) done.0 }),
+            parts-known parts found given (records_with records is.arch done.0) last replies may.1 begins.1
+                (subst (λ arch. ArePartsDone (λ of. IsGiven Breaks (part_listing machine text of)) found (records_with records arch done.0) replies last) same done.1.1.1),
+          ),
+        ),
+      )
+
+-- a merge of lists of which each begins at a text is the merge of these texts
+pub merge-known : {R : Type 0} (MayStand : R → ReaderState → Type 0) (Breaks : R → ControlFault → Type 0) (machine : Machine) (Holds : Records → Type 0) (sources : R)
+    (parts : List (PartList R)) (records : Records) (replies : List PartReply) (text : List ℕ) (given : List Part)
+    → BeginsAt MayStand sources text → AllZip (IsPartOf (BeginsAt MayStand) machine) parts given
+    → IsMergeOfLists MayStand Breaks machine Holds sources parts records replies
+    → IsMergeDone (λ of. IsGiven Breaks (part_listing machine text of)) Holds given records replies
+merge-known MayStand Breaks machine Holds sources parts records replies text given begins zip lists =
+    let done = lists.merged.done in
+    record {
+      last = done.last;
+      done = parts-known MayStand Breaks machine lists.text text (begins (begun (paragraphs_in (lines_of lists.text))) lists.begins) parts lists.merged.given given records done.last replies
+          lists.merged.are zip done.done;
+      holds = done.holds;
+    }
+
+-- what a merge answers for lists of which each begins at a text, from what it answers for lists that were not read
+pub answer-known : {R X F : Type 0} (MayStand : R → ReaderState → Type 0) (Breaks : R → ControlFault → Type 0) (machine : Machine) (Holds : Records → Type 0) (sources : R)
+    (parts : List (PartList R)) (records : Records) (replies_of : X → List PartReply) (answer : Result X F) (text : List ℕ) (given : List Part)
+    → BeginsAt MayStand sources text → AllZip (IsPartOf (BeginsAt MayStand) machine) parts given
+    → (IsUnread MayStand sources → AllByRecursion (IsPartUnread MayStand machine) parts
+    → IfOk answer (λ x. IsMergeOfLists MayStand Breaks machine Holds sources parts records (replies_of x)))
+    → IfOk answer (λ x. IsMergeDone (λ of. IsGiven Breaks (part_listing machine text of)) Holds given records (replies_of x))
+answer-known MayStand Breaks machine Holds sources parts records replies_of answer text given begins zip merged =
+    if-ok-map _ _ answer (λ x lists. merge-known MayStand Breaks machine Holds sources parts records (replies_of x) text given begins zip lists)
+    (merged (begins-unread MayStand sources text begins) (parts-unread MayStand machine parts given zip))
