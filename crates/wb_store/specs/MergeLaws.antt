@@ -62,7 +62,11 @@ runs_to_then g a b c (inr one) (inr two) = inr (goes_on_then (state g a) (state 
 module _ {S : Type 0} {g : Ghosts S} where
   -- no call
   pub runs_itself : (is_saved : Bool) (held : Held S) → RunsOn g is_saved held is_saved held
-  runs_itself is_saved held = record { runs = λ clean merging. (merging, inl refl); survives = survives_itself (state g held) }
+  runs_itself is_saved held = record {
+    runs = λ clean merging. (merging, inl refl);
+    savepoints = λ clean merging others has. has;
+    survives = survives_itself (state g held);
+  }
 
   -- the disk was clean before
   pub clean_before : (b c : Bool) (old new : Held S) → RunsOn g b old c new → HasCleanDisk (state g new) → HasCleanDisk (state g old)
@@ -79,6 +83,9 @@ module _ {S : Type 0} {g : Ghosts S} where
         let before = one.runs (clean_before b c second third two clean) merging in
         let after = two.runs clean before.0 in
         (after.0, runs_to_then g first second third before.1 after.1);
+    savepoints = λ clean merging others has.
+        let at = clean_before b c second third two clean in
+        two.savepoints clean (one.runs at merging).0 others (one.savepoints at merging others has);
     survives = survives_then (state g first) (state g second) (state g third) _ _ _ (λ clean db never. never)
         (λ clean db never. never_before a b first second one (clean_before b c second third two clean) never) one.survives two.survives;
   }

@@ -170,7 +170,11 @@ impl<S: Alter + Drop> MergeTables for Writing<'_, S> {
         changes::remove(&mut store.conn, arch, source)
     }
 
+    // A savepoint that was set stays where it is.
     fn save(&mut self) -> Result<(), StoreFault> {
+        if self.is_saved {
+            return Ok(());
+        }
         let store = &mut *self.store;
         savepoint::save(&mut store.conn)?;
         self.is_saved = true;
