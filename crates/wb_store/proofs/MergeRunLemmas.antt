@@ -1,5 +1,5 @@
 -- What each call of a merge in a transaction of the office leaves of its tables, and why it fails.
-use Rattle.std.proofs.Common.{◌≡◌, ◌⊎◌, Bool, true, false, List, ◌++◌, ◌∷◌, [], ℕ, Option, None, Some, inl, inr, Result, Ok, Err, IfOk, IfErr, IfSome, IsErrAnd, OnOk, IsTrue, refl, sym, ap, subst, ◌∙◌, arith}
+use Rattle.std.proofs.Common.{◌≡◌, Bool, true, false, List, ◌∷◌, [], ℕ, Option, None, Some, inl, inr, Result, Ok, Err, IfOk, IfErr, IfSome, IsErrAnd, OnOk, IsTrue, refl, sym, subst, ◌∙◌}
 use Rattle.std.specs.Bool.{⊤}
 use Rattle.sqlite_trees.specs.declared.store.Store.{Ghosts}
 use Rattle.sqlite.specs.Effect.{Database}
@@ -20,7 +20,7 @@ use Rattle.wb_states.specs.declared.store_fault.Table.TheVariants.{SourceRecord}
 use Rattle.wb_states.specs.Machine.{Key, Machine}
 use Rattle.std.specs.FinMap as map
 use Rattle.wb_archive.specs.Tables.{Contents, HasFittingTake, Tables, back_at, with_savepoint, without_savepoint}
-use Rattle.wb_store.specs.Calls.{BecomesWith, Changes, FailsToLookUp, LooksUp}
+use Rattle.wb_store.specs.Calls.{BecomesWith, Changes, LooksUp}
 use Rattle.wb_store.specs.Faults.{unfit}
 use Rattle.wb_store.specs.MergeRuns.{AllTakesFit, FailsAfter, FailsAtCall, FailsIn, GoesOn, HasSavepoint, HasSavepoints, HoldsContents, HoldsSome, HoldsTables, IsMerging, IsOfRecord, IsSavedWith, RunsOn, RunsTo, scratch_of}
 use Rattle.wb_store.specs.Merging.{Scratch}
@@ -30,7 +30,6 @@ use Rattle.wb_store.specs.Queries as ask
 use Rattle.wb_store.specs.Savepoints.{CallsPart}
 use Rattle.wb_store.specs.ScratchLookups.{LooksUpScratch}
 use Rattle.wb_store.specs.ScratchWrites.{Allows, ChangesScratch, ClearsScratch, FailsToClear, ReachesScratch, ScratchWrite, after_write}
-use Rattle.wb_store.specs.Stands.{StandsWith}
 use Rattle.wb_store.specs.Writes.{OfficeWrite}
 use Rattle.wb_store.proofs.OthersLemmas.{others_same, others_then, others_equal, others_still}
 

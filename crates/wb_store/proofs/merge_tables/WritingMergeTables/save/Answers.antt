@@ -1,4 +1,4 @@
-use Rattle.std.proofs.Common.{refl, ◌∙◌}
+use Rattle.std.proofs.Common.{refl}
 use Rattle.wb_store.proofs.MergeRunLemmas.{handed_fault, save_fails, save_holds, save_runs}
 use Rattle.wb_store.proofs.merge_tables.WritingMergeTables.save.Goals as goal
 
