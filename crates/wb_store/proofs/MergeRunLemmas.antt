@@ -449,13 +449,3 @@ module _ {S A : Type 0} (g : Ghosts S) (old new : Held S) where
     savepoints = λ clean merging others has. (h.ok clean (needs_saved g old new merging)).marks others has.0 has.1;
     survives = survives_merge g true old new (λ db lacks merging. lacks (needs_saved g old new merging)) h.survives;
   }
-
-pub none_saved : (s : State) (tables : Tables) (saved : Contents) → HoldsTables false tables s → tables.saved ≡ Some saved → ⊥
-none_saved s tables saved h is = subst (λ o. HasSavepoint false o s) is h.saved
-
-pub not_saved : (s : State) (tables : Tables) → HoldsTables false tables s → tables.saved ≡ None
-not_saved s tables h = at tables.saved h.saved
-  where
-    at : (o : Option Contents) → HasSavepoint false o s → o ≡ None
-    at None h = refl
-    at (Some saved) h = absurd h
