@@ -22,7 +22,7 @@ use Rattle.std.specs.FinMap as map
 use Rattle.wb_archive.specs.Tables.{Contents, HasFittingTake, Tables, back_at, with_savepoint, without_savepoint}
 use Rattle.wb_store.specs.Calls.{BecomesWith, Changes, LooksUp}
 use Rattle.wb_store.specs.Faults.{unfit}
-use Rattle.wb_store.specs.MergeRuns.{AllTakesFit, FailsAfter, FailsAtCall, FailsIn, GoesOn, HasSavepoint, HasSavepoints, HoldsContents, HoldsSome, HoldsTables, IsMerging, IsOfRecord, IsSavedWith, RunsOn, RunsTo, scratch_of}
+use Rattle.wb_store.specs.MergeRuns.{AllTakesFit, FailsAfter, FailsAtCall, FailsIn, GoesOn, HasSavepoint, HasOtherSavepoints, HoldsContents, HoldsSome, HoldsTables, IsMerging, IsOfRecord, IsSavedWith, RunsOn, RunsTo, scratch_of}
 use Rattle.wb_store.specs.Merging.{Scratch}
 use Rattle.wb_store.specs.Others.{KeepsOthers}
 use Rattle.wb_store.specs.Queries.{OfficeQuery}
@@ -70,9 +70,9 @@ module _ (old new : State) where
   savepoint_stays true None marks others h = h
 
   -- the savepoints beside that of the merge stay where the transaction has the same ones
-  savepoints_stay : (is_saved : Bool) (others : List Savepoint) → new.marks ≡ old.marks → HasSavepoints is_saved others old → HasSavepoints is_saved others new
-  savepoints_stay false others marks has = marks ∙ has
-  savepoints_stay true others marks has = (has.0, marks ∙ has.1)
+  other_savepoints_stay : (is_saved : Bool) (others : List Savepoint) → new.marks ≡ old.marks → HasOtherSavepoints is_saved others old → HasOtherSavepoints is_saved others new
+  other_savepoints_stay false others marks has = marks ∙ has
+  other_savepoints_stay true others marks has = (has.0, marks ∙ has.1)
 
   goes_on_unchanged : IsUnchanged old new → GoesOn old new
   goes_on_unchanged same = record {
@@ -172,7 +172,7 @@ module _ {S A : Type 0} (g : Ghosts S) (is_saved : Bool) (old new : Held S) wher
       runs = λ clean merging.
           let same = h.same clean (has_office is_saved (state g old) merging) in
           ((merging.0, unchanged_holds (state g old) (state g new) is_saved merging.0 same merging.1), inr (goes_on_unchanged (state g old) (state g new) same));
-      savepoints = λ clean merging others has. savepoints_stay (state g old) (state g new) is_saved others (h.same clean (has_office is_saved (state g old) merging)).2 has;
+      savepoints = λ clean merging others has. other_savepoints_stay (state g old) (state g new) is_saved others (h.same clean (has_office is_saved (state g old) merging)).2 has;
       survives = survives_merge g is_saved old new (λ db lacks merging. lacks (has_office is_saved (state g old) merging)) h.survives;
     }
 
@@ -208,7 +208,7 @@ module _ {S A : Type 0} (g : Ghosts S) (is_saved : Bool) (old new : Held S) wher
       runs = λ clean merging.
           let same = h.same clean (has_office is_saved (state g old) merging) in
           ((merging.0, unchanged_holds (state g old) (state g new) is_saved merging.0 same merging.1), inr (goes_on_unchanged (state g old) (state g new) same));
-      savepoints = λ clean merging others has. savepoints_stay (state g old) (state g new) is_saved others (h.same clean (has_office is_saved (state g old) merging)).2 has;
+      savepoints = λ clean merging others has. other_savepoints_stay (state g old) (state g new) is_saved others (h.same clean (has_office is_saved (state g old) merging)).2 has;
       survives = survives_merge g is_saved old new (λ db lacks merging. lacks (has_office is_saved (state g old) merging)) h.survives;
     }
 
@@ -247,7 +247,7 @@ module _ {S A : Type 0} (g : Ghosts S) (is_saved : Bool) (old new : Held S) wher
             inr (goes_on_becoming (state g old) (state g new) made),
           );
       savepoints = λ clean merging others has.
-          savepoints_stay (state g old) (state g new) is_saved others (h.beside clean merging.0.now.machine (scratch_of merging.0.now) merging.1.now tt).marks has;
+          other_savepoints_stay (state g old) (state g new) is_saved others (h.beside clean merging.0.now.machine (scratch_of merging.0.now) merging.1.now tt).marks has;
       survives = survives_merge g is_saved old new (λ db lacks merging. lacks (has_office is_saved (state g old) merging)) h.survives;
     }
 
@@ -278,7 +278,7 @@ module _ {S A : Type 0} (g : Ghosts S) (is_saved : Bool) (old new : Held S) wher
           );
       savepoints = λ clean merging others has.
           let allows = h.allowed clean merging.0.now.machine (scratch_of merging.0.now) merging.1.now in
-          savepoints_stay (state g old) (state g new) is_saved others (h.ok clean merging.0.now.machine (scratch_of merging.0.now) merging.1.now allows).marks has;
+          other_savepoints_stay (state g old) (state g new) is_saved others (h.ok clean merging.0.now.machine (scratch_of merging.0.now) merging.1.now allows).marks has;
       survives = survives_merge g is_saved old new (λ db lacks merging. lacks (has_office is_saved (state g old) merging)) h.survives;
     }
 
@@ -305,7 +305,7 @@ module _ {S A : Type 0} (g : Ghosts S) (is_saved : Bool) (old new : Held S) wher
             inr (goes_on_becoming (state g old) (state g new) made),
           );
       savepoints = λ clean merging others has.
-          savepoints_stay (state g old) (state g new) is_saved others (h.ok clean merging.0.now.machine (scratch_of merging.0.now) merging.1.now).marks has;
+          other_savepoints_stay (state g old) (state g new) is_saved others (h.ok clean merging.0.now.machine (scratch_of merging.0.now) merging.1.now).marks has;
       survives = survives_merge g is_saved old new (λ db never merging. never merging.0.now.machine (scratch_of merging.0.now) merging.1.now) h.survives;
     }
 
@@ -433,7 +433,7 @@ module _ {S A : Type 0} (g : Ghosts S) (old new : Held S) where
         let at = some_saved (state g old) merging in
         let made = went_back g old new merging.0 at.0 at.1 (h.ok clean tt) merging.1 in
         ((back_at at.0 merging.0, made.0), inr made.1);
-    savepoints = λ clean merging others has. savepoints_stay (state g old) (state g new) true others (h.ok clean tt others has.0 has.1).marks has;
+    savepoints = λ clean merging others has. other_savepoints_stay (state g old) (state g new) true others (h.ok clean tt others has.0 has.1).marks has;
     survives = survives_merge g true old new (λ db lacks merging. lacks tt) h.survives;
   }
 

@@ -54,6 +54,7 @@ survives_itself s = record {
   crash = λ clean db may. inl may;
 }
 
+-- going on, and then again
 pub runs_to_then : {S : Type 0} (g : Ghosts S) (a b c : Held S) → RunsTo g a b → RunsTo g b c → RunsTo g a c
 runs_to_then g a b c (inl same) two = subst (λ h. RunsTo g h c) (sym same) two
 runs_to_then g a b c (inr one) (inl same) = subst (λ h. RunsTo g a h) same (inr one)

@@ -77,16 +77,16 @@ abbrev pub RunsTo : {S : Type 0} → Ghosts S → Held S → Held S → Type 0
 RunsTo g old new = (old ≡ new) ⊎ GoesOn (state g old) (state g new)
 
 -- the transaction has these savepoints, and after them that of the merge, if it set one
-abbrev pub HasSavepoints : Bool → List Savepoint → State → Type 0
-HasSavepoints false others s = s.marks ≡ others
-HasSavepoints true others s = (was : Database) × IsSavedAs others was s
+abbrev pub HasOtherSavepoints : Bool → List Savepoint → State → Type 0
+HasOtherSavepoints false others s = s.marks ≡ others
+HasOtherSavepoints true others s = (was : Database) × IsSavedAs others was s
 
 -- calls of a merge in a transaction succeeded: the tables are still those of a merge, the transaction went on, and it has the same savepoints beside that
 -- of the merge; and a crash leaves no more than before
 pub record RunsOn {S : Type 0} (g : Ghosts S) (was_saved : Bool) (old : Held S) (is_saved : Bool) (new : Held S) : Type 0 where
   pub runs : HasCleanDisk (state g new) → IsMerging was_saved (state g old) → IsMerging is_saved (state g new) × RunsTo g old new
   pub savepoints : HasCleanDisk (state g new) → IsMerging was_saved (state g old)
-      → (others : List Savepoint) → HasSavepoints was_saved others (state g old) → HasSavepoints is_saved others (state g new)
+      → (others : List Savepoint) → HasOtherSavepoints was_saved others (state g old) → HasOtherSavepoints is_saved others (state g new)
   pub survives : Survives (state g old) (state g new) (λ _. ¬ IsMerging was_saved (state g old))
 
 -- ---- a call that failed
