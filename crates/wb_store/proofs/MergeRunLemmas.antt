@@ -22,7 +22,7 @@ use Rattle.std.specs.FinMap as map
 use Rattle.wb_archive.specs.Tables.{Contents, HasFittingTake, Tables, back_at, with_savepoint, without_savepoint}
 use Rattle.wb_store.specs.Calls.{BecomesWith, Changes, LooksUp}
 use Rattle.wb_store.specs.Faults.{unfit}
-use Rattle.wb_store.specs.MergeRuns.{AllTakesFit, FailsAfter, FailsAtCall, FailsIn, GoesOn, HasSavepoint, HasOtherSavepoints, HoldsContents, HoldsSome, HoldsTables, IsMerging, IsOfRecord, IsSavedWith, RunsOn, RunsTo, scratch_of}
+use Rattle.wb_store.specs.MergeRuns.{AllTakesFit, FailsAfter, FailsAtCall, FailsIn, GoesOn, HasSavepoint, HasOtherSavepoints, HoldsContents, HoldsSome, HoldsTables, IsMerging, IsOfRecord, IsSavedWith, RunsOn, RunsTo, SavepointText, scratch_of}
 use Rattle.wb_store.specs.Merging.{Scratch}
 use Rattle.wb_store.specs.Others.{KeepsOthers}
 use Rattle.wb_store.specs.Queries.{OfficeQuery}
@@ -390,22 +390,22 @@ module _ {S : Type 0} (g : Ghosts S) (old new : Held S) where
   released tables made h = record { now = subst (HoldsContents tables.now) (sym made.shown.now_is) h.now; saved = tt }
 
 module _ {S A : Type 0} (g : Ghosts S) (old new : Held S) where
-  part_fails : {sql : List ℕ} {Needs : State → Type 0} {Done : State → State → Type 0} (is_saved : Bool) → (IsMerging is_saved (state g old) → Needs (state g old))
-      → (r : Result A StoreFault) → CallsPart g sql Needs Done old new r → IfErr r (FailsIn g is_saved old new)
-  part_fails is_saved needs (Ok x) h = tt
-  part_fails {sql = sql} is_saved needs (Err fault) h = record {
-    cause = λ clean merging inside. fails_here g is_saved old new fault merging (inr (inr (inr (inr (inl (sql, h.err clean inside))))));
+  part_fails : (text : SavepointText) {Needs : State → Type 0} {Done : State → State → Type 0} (is_saved : Bool) → (IsMerging is_saved (state g old) → Needs (state g old))
+      → (r : Result A StoreFault) → CallsPart g text.0 Needs Done old new r → IfErr r (FailsIn g is_saved old new)
+  part_fails text is_saved needs (Ok x) h = tt
+  part_fails text is_saved needs (Err fault) h = record {
+    cause = λ clean merging inside. fails_here g is_saved old new fault merging (inr (inr (inr (inr (inl (text, h.err clean inside))))));
     survives = survives_merge g is_saved old new (λ db lacks merging. lacks (needs merging)) h.survives;
   }
 
   pub save_fails : (is_saved : Bool) (r : Result A StoreFault) → CallsPart g save_text IsAny Saves old new r → IfErr r (FailsIn g is_saved old new)
-  save_fails is_saved = part_fails is_saved (λ merging. tt)
+  save_fails is_saved = part_fails (save_text, inl refl) is_saved (λ merging. tt)
 
   pub back_fails : (is_saved : Bool) (r : Result A StoreFault) → CallsPart g back_text IsAny GoesBack old new r → IfErr r (FailsIn g is_saved old new)
-  back_fails is_saved = part_fails is_saved (λ merging. tt)
+  back_fails is_saved = part_fails (back_text, inr (inl refl)) is_saved (λ merging. tt)
 
   pub release_fails : (r : Result A StoreFault) → CallsPart g release_text IsSaved Releases old new r → IfErr r (FailsIn g true old new)
-  release_fails = part_fails true (needs_saved g old new)
+  release_fails = part_fails (release_text, inr (inr refl)) true (needs_saved g old new)
 
   pub save_holds : {x : A} → CallsPart g save_text IsAny Saves old new (Ok x) → HasCleanDisk (state g new) → (tables : Tables) → HoldsTables false tables (state g old)
       → HoldsTables true (with_savepoint tables) (state g new)
