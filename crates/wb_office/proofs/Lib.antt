@@ -4,6 +4,7 @@ pub mod AskLemmas
 pub mod CarryLemmas
 pub mod KnownLemmas
 pub mod LifeLemmas
+pub mod PartListLemmas
 pub mod ReportLemmas
 pub mod RowsCarryLemmas
 pub mod RowsWriteLemmas
