@@ -4,6 +4,7 @@ pub mod AskLemmas
 pub mod CarryLemmas
 pub mod KnownLemmas
 pub mod LifeLemmas
+pub mod MergeAnswerLemmas
 pub mod MergeCarryLemmas
 pub mod MergeInLemmas
 pub mod PartListLemmas
