@@ -1,5 +1,5 @@
 -- What each call of a merge in a transaction of the office leaves of its tables, and why it fails.
-use Rattle.std.proofs.Common.{◌≡◌, Bool, true, false, List, ◌∷◌, [], ℕ, Option, None, Some, inl, inr, Result, Ok, Err, IfOk, IfErr, IfSome, IsErrAnd, OnOk, IsTrue, refl, sym, subst, ◌∙◌}
+use Rattle.std.proofs.Common.{◌≡◌, Bool, true, false, List, ◌∷◌, [], Option, None, Some, inl, inr, Result, Ok, Err, IfOk, IfErr, IfSome, IsErrAnd, OnOk, IsTrue, refl, sym, subst, ◌∙◌}
 use Rattle.std.specs.Bool.{⊤}
 use Rattle.sqlite_trees.specs.declared.store.Store.{Ghosts}
 use Rattle.sqlite.specs.Effect.{Database}

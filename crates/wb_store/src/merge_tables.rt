@@ -98,21 +98,21 @@ impl<S: Alter + Drop> MergeTables for Writing<'_, S> {
     ghost fails = { λ old new fault. (new.store.ghost_name ≡ old.store.ghost_name)
         × FailsIn S.Store old.is_saved old.store.now new.store.now fault };
 
-    ghost follows_itself = { λ it. (refl, runs_itself it.is_saved it.store.now) };
+    ghost follows_itself = { λ it. (refl, runs_itself _ it.is_saved it.store.now) };
 
     ghost follows_on = { λ first second third one two. (
       two.0 ∙ one.0,
-      runs_then first.is_saved second.is_saved third.is_saved
+      runs_then _ first.is_saved second.is_saved third.is_saved
           first.store.now second.store.now third.store.now one.1 two.1,
     ) };
 
     ghost fails_on = { λ first second third fault one two. (
       two.0 ∙ one.0,
-      fails_then first.is_saved second.is_saved
+      fails_then _ first.is_saved second.is_saved
           first.store.now second.store.now third.store.now fault one.1 two.1,
     ) };
 
-    ghost clean = { λ first second one. clean_before first.is_saved second.is_saved first.store.now second.store.now one.1 };
+    ghost clean = { λ first second one. clean_before _ first.is_saved second.is_saved first.store.now second.store.now one.1 };
 
     fn record(&mut self, arch: &Text, source: &Text) -> Result<Option<Record>, StoreFault> {
         let found = self.store.get(arch, source)?;
