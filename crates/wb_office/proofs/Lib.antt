@@ -4,6 +4,7 @@ pub mod AskLemmas
 pub mod CarryLemmas
 pub mod KnownLemmas
 pub mod LifeLemmas
+pub mod MergeCarryLemmas
 pub mod MergeInLemmas
 pub mod ReportLemmas
 pub mod RowsCarryLemmas

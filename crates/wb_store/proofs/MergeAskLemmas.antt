@@ -1,10 +1,9 @@
 -- What a merge looks up in a transaction of the office, and where it adds a row, as a merge says it.
-use Rattle.std.proofs.Common.{◌≡◌, ◌≢◌, ℕ, ◌<◌, Bool, true, false, ◌&&◌, ◌||◌, cond, inl, inr, List, [], ◌∷◌, ◌++◌, map, filter, bytes_eq, nat_eq, Some, Ordering, Less, refl, sym, ap, ap₂, subst, ◌∙◌, arith}
-use Rattle.std.specs.List.{AllByRecursion, Contains, list_any}
+use Rattle.std.proofs.Common.{◌≡◌, ◌≢◌, ℕ, ◌<◌, Bool, true, false, ◌&&◌, ◌||◌, cond, inl, inr, List, [], ◌∷◌, ◌++◌, map, filter, bytes_eq, nat_eq, Less, refl, sym, ap, ap₂, subst, ◌∙◌, arith}
+use Rattle.std.specs.List.{AllByRecursion, list_any}
 use Rattle.std.specs.List.Sorted.{IsStrictlySortedBy}
 use Rattle.std.specs.FinMap as finite
 use Rattle.std.specs.Ordering.{nat_cmp, is_eq, is_lt}
-use Rattle.std.proofs.lemmas.Bool.{eqb-true, eq-eqb}
 use Rattle.std.proofs.lemmas.Slice.Eq.{bytes_eq-Decides}
 use Rattle.std.proofs.lemmas.Map.Views.{Contains-from_any, list_any-from_Contains}
 use Rattle.sqlite_keyed.proofs.ListLemmas.{filter-map, filter_same, map-map}
@@ -12,7 +11,6 @@ use Rattle.deb_text.specs.Lists.{IsIn, with_item}
 use Rattle.deb_text.specs.Text.{text_cmp}
 use Rattle.deb_text.proofs.SortedLemmas.{IsIn-filter}
 use Rattle.wb_states.specs.declared.keyed.KeyedRecord.{KeyedRecord}
-use Rattle.wb_states.specs.declared.record.Record.{Record}
 use Rattle.wb_states.specs.declared.scratch.BinaryRow.{BinaryRow}
 use Rattle.wb_states.specs.declared.scratch.SourceRow.{SourceRow}
 use Rattle.wb_states.specs.declared.state.State.{State}
@@ -22,10 +20,9 @@ use Rattle.wb_states.specs.Machine.{Machine}
 use Rattle.wb_states.specs.Queue.{Entry}
 use Rattle.wb_states.specs.State.{code_of, is_dep_wait}
 use Rattle.wb_states.proofs.QueueLemmas.{IsIn-entries}
-use Rattle.wb_merge.specs.Merged.{Records, recorded_names}
+use Rattle.wb_merge.specs.Merged.{recorded_names}
 use Rattle.wb_merge.specs.Scratch.{versions_in}
 use Rattle.wb_archive.specs.Tables.{AreApart, AreNamesOf, HaveWaiting}
-use Rattle.wb_store.specs.Merging as merge
 use Rattle.wb_store.specs.Merging.{ListsNames}
 use Rattle.wb_store.proofs.NameLemmas.{bytes_eq_equiv, ties}
 use Rattle.wb_store.proofs.PlaceLemmas.{less_of}

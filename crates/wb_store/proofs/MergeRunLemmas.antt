@@ -1,5 +1,5 @@
 -- What each call of a merge in a transaction of the office leaves of its tables, and why it fails.
-use Rattle.std.proofs.Common.{◌≡◌, ◌⊎◌, Bool, true, false, List, ◌++◌, ◌∷◌, [], ℕ, Option, None, Some, inl, inr, Result, Ok, Err, IfOk, IfErr, IfSome, IsErrAnd, OnOk, IsTrue, refl, sym, ap, subst, ◌∙◌, arith}
+use Rattle.std.proofs.Common.{◌≡◌, Bool, true, false, List, ◌∷◌, [], ℕ, Option, None, Some, inl, inr, Result, Ok, Err, IfOk, IfErr, IfSome, IsErrAnd, OnOk, IsTrue, refl, sym, subst, ◌∙◌}
 use Rattle.std.specs.Bool.{⊤}
 use Rattle.sqlite_trees.specs.declared.store.Store.{Ghosts}
 use Rattle.sqlite.specs.Effect.{Database}
@@ -20,9 +20,9 @@ use Rattle.wb_states.specs.declared.store_fault.Table.TheVariants.{SourceRecord}
 use Rattle.wb_states.specs.Machine.{Key, Machine}
 use Rattle.std.specs.FinMap as map
 use Rattle.wb_archive.specs.Tables.{Contents, HasFittingTake, Tables, back_at, with_savepoint, without_savepoint}
-use Rattle.wb_store.specs.Calls.{BecomesWith, Changes, FailsToLookUp, LooksUp}
+use Rattle.wb_store.specs.Calls.{BecomesWith, Changes, LooksUp}
 use Rattle.wb_store.specs.Faults.{unfit}
-use Rattle.wb_store.specs.MergeRuns.{AllTakesFit, FailsAfter, FailsAtCall, FailsIn, GoesOn, HasSavepoint, HoldsContents, HoldsSome, HoldsTables, IsMerging, IsOfRecord, IsSavedWith, RunsOn, RunsTo, scratch_of}
+use Rattle.wb_store.specs.MergeRuns.{AllTakesFit, FailsAfter, FailsAtCall, FailsIn, GoesOn, HasSavepoint, HasOtherSavepoints, HoldsContents, HoldsSome, HoldsTables, IsMerging, IsOfRecord, IsSavedWith, RunsOn, RunsTo, SavepointText, scratch_of}
 use Rattle.wb_store.specs.Merging.{Scratch}
 use Rattle.wb_store.specs.Others.{KeepsOthers}
 use Rattle.wb_store.specs.Queries.{OfficeQuery}
@@ -30,7 +30,6 @@ use Rattle.wb_store.specs.Queries as ask
 use Rattle.wb_store.specs.Savepoints.{CallsPart}
 use Rattle.wb_store.specs.ScratchLookups.{LooksUpScratch}
 use Rattle.wb_store.specs.ScratchWrites.{Allows, ChangesScratch, ClearsScratch, FailsToClear, ReachesScratch, ScratchWrite, after_write}
-use Rattle.wb_store.specs.Stands.{StandsWith}
 use Rattle.wb_store.specs.Writes.{OfficeWrite}
 use Rattle.wb_store.proofs.OthersLemmas.{others_same, others_then, others_equal, others_still}
 
@@ -69,6 +68,11 @@ module _ (old new : State) where
   }
   savepoint_stays false (Some saved) marks others h = h
   savepoint_stays true None marks others h = h
+
+  -- the savepoints beside that of the merge stay where the transaction has the same ones
+  other_savepoints_stay : (is_saved : Bool) (others : List Savepoint) → new.marks ≡ old.marks → HasOtherSavepoints is_saved others old → HasOtherSavepoints is_saved others new
+  other_savepoints_stay false others marks has = marks ∙ has
+  other_savepoints_stay true others marks has = (has.0, marks ∙ has.1)
 
   goes_on_unchanged : IsUnchanged old new → GoesOn old new
   goes_on_unchanged same = record {
@@ -168,6 +172,7 @@ module _ {S A : Type 0} (g : Ghosts S) (is_saved : Bool) (old new : Held S) wher
       runs = λ clean merging.
           let same = h.same clean (has_office is_saved (state g old) merging) in
           ((merging.0, unchanged_holds (state g old) (state g new) is_saved merging.0 same merging.1), inr (goes_on_unchanged (state g old) (state g new) same));
+      savepoints = λ clean merging others has. other_savepoints_stay (state g old) (state g new) is_saved others (h.same clean (has_office is_saved (state g old) merging)).2 has;
       survives = survives_merge g is_saved old new (λ db lacks merging. lacks (has_office is_saved (state g old) merging)) h.survives;
     }
 
@@ -203,6 +208,7 @@ module _ {S A : Type 0} (g : Ghosts S) (is_saved : Bool) (old new : Held S) wher
       runs = λ clean merging.
           let same = h.same clean (has_office is_saved (state g old) merging) in
           ((merging.0, unchanged_holds (state g old) (state g new) is_saved merging.0 same merging.1), inr (goes_on_unchanged (state g old) (state g new) same));
+      savepoints = λ clean merging others has. other_savepoints_stay (state g old) (state g new) is_saved others (h.same clean (has_office is_saved (state g old) merging)).2 has;
       survives = survives_merge g is_saved old new (λ db lacks merging. lacks (has_office is_saved (state g old) merging)) h.survives;
     }
 
@@ -240,6 +246,8 @@ module _ {S A : Type 0} (g : Ghosts S) (is_saved : Bool) (old new : Held S) wher
             ),
             inr (goes_on_becoming (state g old) (state g new) made),
           );
+      savepoints = λ clean merging others has.
+          other_savepoints_stay (state g old) (state g new) is_saved others (h.beside clean merging.0.now.machine (scratch_of merging.0.now) merging.1.now tt).marks has;
       survives = survives_merge g is_saved old new (λ db lacks merging. lacks (has_office is_saved (state g old) merging)) h.survives;
     }
 
@@ -268,6 +276,9 @@ module _ {S A : Type 0} (g : Ghosts S) (is_saved : Bool) (old new : Held S) wher
             (record merging.0 { now = contents_with (after_write write) merging.0.now }, becoming_holds (state g old) (state g new) is_saved merging.0 (contents_with (after_write write) merging.0.now) made merging.1),
             inr (goes_on_becoming (state g old) (state g new) made),
           );
+      savepoints = λ clean merging others has.
+          let allows = h.allowed clean merging.0.now.machine (scratch_of merging.0.now) merging.1.now in
+          other_savepoints_stay (state g old) (state g new) is_saved others (h.ok clean merging.0.now.machine (scratch_of merging.0.now) merging.1.now allows).marks has;
       survives = survives_merge g is_saved old new (λ db lacks merging. lacks (has_office is_saved (state g old) merging)) h.survives;
     }
 
@@ -293,6 +304,8 @@ module _ {S A : Type 0} (g : Ghosts S) (is_saved : Bool) (old new : Held S) wher
             (record merging.0 { now = contents_with after merging.0.now }, becoming_holds (state g old) (state g new) is_saved merging.0 (contents_with after merging.0.now) made merging.1),
             inr (goes_on_becoming (state g old) (state g new) made),
           );
+      savepoints = λ clean merging others has.
+          other_savepoints_stay (state g old) (state g new) is_saved others (h.ok clean merging.0.now.machine (scratch_of merging.0.now) merging.1.now).marks has;
       survives = survives_merge g is_saved old new (λ db never merging. never merging.0.now.machine (scratch_of merging.0.now) merging.1.now) h.survives;
     }
 
@@ -377,33 +390,35 @@ module _ {S : Type 0} (g : Ghosts S) (old new : Held S) where
   released tables made h = record { now = subst (HoldsContents tables.now) (sym made.shown.now_is) h.now; saved = tt }
 
 module _ {S A : Type 0} (g : Ghosts S) (old new : Held S) where
-  part_fails : {sql : List ℕ} {Needs : State → Type 0} {Done : State → State → Type 0} (is_saved : Bool) → (IsMerging is_saved (state g old) → Needs (state g old))
-      → (r : Result A StoreFault) → CallsPart g sql Needs Done old new r → IfErr r (FailsIn g is_saved old new)
-  part_fails is_saved needs (Ok x) h = tt
-  part_fails {sql = sql} is_saved needs (Err fault) h = record {
-    cause = λ clean merging inside. fails_here g is_saved old new fault merging (inr (inr (inr (inr (inl (sql, h.err clean inside))))));
+  part_fails : (text : SavepointText) {Needs : State → Type 0} {Done : State → State → Type 0} (is_saved : Bool) → (IsMerging is_saved (state g old) → Needs (state g old))
+      → (r : Result A StoreFault) → CallsPart g text.0 Needs Done old new r → IfErr r (FailsIn g is_saved old new)
+  part_fails text is_saved needs (Ok x) h = tt
+  part_fails text is_saved needs (Err fault) h = record {
+    cause = λ clean merging inside. fails_here g is_saved old new fault merging (inr (inr (inr (inr (inl (text, h.err clean inside))))));
     survives = survives_merge g is_saved old new (λ db lacks merging. lacks (needs merging)) h.survives;
   }
 
   pub save_fails : (is_saved : Bool) (r : Result A StoreFault) → CallsPart g save_text IsAny Saves old new r → IfErr r (FailsIn g is_saved old new)
-  save_fails is_saved = part_fails is_saved (λ merging. tt)
+  save_fails is_saved = part_fails (save_text, inl refl) is_saved (λ merging. tt)
 
   pub back_fails : (is_saved : Bool) (r : Result A StoreFault) → CallsPart g back_text IsAny GoesBack old new r → IfErr r (FailsIn g is_saved old new)
-  back_fails is_saved = part_fails is_saved (λ merging. tt)
+  back_fails is_saved = part_fails (back_text, inr (inl refl)) is_saved (λ merging. tt)
 
   pub release_fails : (r : Result A StoreFault) → CallsPart g release_text IsSaved Releases old new r → IfErr r (FailsIn g true old new)
-  release_fails = part_fails true (needs_saved g old new)
+  release_fails = part_fails (release_text, inr (inr refl)) true (needs_saved g old new)
 
-  pub save_holds : {x : A} (was_saved : Bool) → CallsPart g save_text IsAny Saves old new (Ok x) → HasCleanDisk (state g new) → (tables : Tables) → HoldsTables was_saved tables (state g old)
+  pub save_holds : {x : A} → CallsPart g save_text IsAny Saves old new (Ok x) → HasCleanDisk (state g new) → (tables : Tables) → HoldsTables false tables (state g old)
       → HoldsTables true (with_savepoint tables) (state g new)
-  save_holds was_saved h clean tables holds = saved_now g old new tables was_saved (h.ok clean tt) holds
+  save_holds h clean tables holds = saved_now g old new tables false (h.ok clean tt) holds
 
-  pub save_runs : {x : A} (was_saved : Bool) → CallsPart g save_text IsAny Saves old new (Ok x) → RunsOn g was_saved old true new
-  save_runs was_saved h = record {
+  pub save_runs : {x : A} → CallsPart g save_text IsAny Saves old new (Ok x) → RunsOn g false old true new
+  save_runs h = record {
     runs = λ clean merging.
         let made = h.ok clean tt in
-        ((with_savepoint merging.0, saved_now g old new merging.0 was_saved made merging.1), inr (goes_on_showing g old new made.shown (others_same (state g old).now)));
-    survives = survives_merge g was_saved old new (λ db lacks merging. lacks tt) h.survives;
+        ((with_savepoint merging.0, saved_now g old new merging.0 false made merging.1), inr (goes_on_showing g old new made.shown (others_same (state g old).now)));
+    savepoints = λ clean merging others has.
+        ((state g old).now, subst (λ (marks : List Savepoint). IsSavedAs marks (state g old).now (state g new)) has (h.ok clean tt).saved);
+    survives = survives_merge g false old new (λ db lacks merging. lacks tt) h.survives;
   }
 
   pub back_holds : (r : Result A StoreFault) → CallsPart g back_text IsAny GoesBack old new r → HasCleanDisk (state g new) → (tables : Tables) (saved : Contents) → HoldsTables true tables (state g old)
@@ -418,6 +433,7 @@ module _ {S A : Type 0} (g : Ghosts S) (old new : Held S) where
         let at = some_saved (state g old) merging in
         let made = went_back g old new merging.0 at.0 at.1 (h.ok clean tt) merging.1 in
         ((back_at at.0 merging.0, made.0), inr made.1);
+    savepoints = λ clean merging others has. other_savepoints_stay (state g old) (state g new) true others (h.ok clean tt others has.0 has.1).marks has;
     survives = survives_merge g true old new (λ db lacks merging. lacks tt) h.survives;
   }
 
@@ -430,15 +446,6 @@ module _ {S A : Type 0} (g : Ghosts S) (old new : Held S) where
     runs = λ clean merging.
         let made = h.ok clean (needs_saved g old new merging) in
         ((without_savepoint merging.0, released g old new merging.0 made merging.1), inr (goes_on_showing g old new made.shown (others_same (state g old).now)));
+    savepoints = λ clean merging others has. (h.ok clean (needs_saved g old new merging)).marks others has.0 has.1;
     survives = survives_merge g true old new (λ db lacks merging. lacks (needs_saved g old new merging)) h.survives;
   }
-
-pub none_saved : (s : State) (tables : Tables) (saved : Contents) → HoldsTables false tables s → tables.saved ≡ Some saved → ⊥
-none_saved s tables saved h is = subst (λ o. HasSavepoint false o s) is h.saved
-
-pub not_saved : (s : State) (tables : Tables) → HoldsTables false tables s → tables.saved ≡ None
-not_saved s tables h = at tables.saved h.saved
-  where
-    at : (o : Option Contents) → HasSavepoint false o s → o ≡ None
-    at None h = refl
-    at (Some saved) h = absurd h

@@ -54,15 +54,20 @@ survives_itself s = record {
   crash = λ clean db may. inl may;
 }
 
-module _ {S : Type 0} (g : Ghosts S) where
-  pub runs_to_then : (a b c : Held S) → RunsTo g a b → RunsTo g b c → RunsTo g a c
-  runs_to_then a b c (inl same) two = subst (λ h. RunsTo g h c) (sym same) two
-  runs_to_then a b c (inr one) (inl same) = subst (λ h. RunsTo g a h) same (inr one)
-  runs_to_then a b c (inr one) (inr two) = inr (goes_on_then (state g a) (state g b) (state g c) one two)
+-- going on, and then again
+pub runs_to_then : {S : Type 0} (g : Ghosts S) (a b c : Held S) → RunsTo g a b → RunsTo g b c → RunsTo g a c
+runs_to_then g a b c (inl same) two = subst (λ h. RunsTo g h c) (sym same) two
+runs_to_then g a b c (inr one) (inl same) = subst (λ h. RunsTo g a h) same (inr one)
+runs_to_then g a b c (inr one) (inr two) = inr (goes_on_then (state g a) (state g b) (state g c) one two)
 
+module _ {S : Type 0} {g : Ghosts S} where
   -- no call
   pub runs_itself : (is_saved : Bool) (held : Held S) → RunsOn g is_saved held is_saved held
-  runs_itself is_saved held = record { runs = λ clean merging. (merging, inl refl); survives = survives_itself (state g held) }
+  runs_itself is_saved held = record {
+    runs = λ clean merging. (merging, inl refl);
+    savepoints = λ clean merging others has. has;
+    survives = survives_itself (state g held);
+  }
 
   -- the disk was clean before
   pub clean_before : (b c : Bool) (old new : Held S) → RunsOn g b old c new → HasCleanDisk (state g new) → HasCleanDisk (state g old)
@@ -78,7 +83,10 @@ module _ {S : Type 0} (g : Ghosts S) where
     runs = λ clean merging.
         let before = one.runs (clean_before b c second third two clean) merging in
         let after = two.runs clean before.0 in
-        (after.0, runs_to_then first second third before.1 after.1);
+        (after.0, runs_to_then g first second third before.1 after.1);
+    savepoints = λ clean merging others has.
+        let at = clean_before b c second third two clean in
+        two.savepoints clean (one.runs at merging).0 others (one.savepoints at merging others has);
     survives = survives_then (state g first) (state g second) (state g third) _ _ _ (λ clean db never. never)
         (λ clean db never. never_before a b first second one (clean_before b c second third two clean) never) one.survives two.survives;
   }
@@ -90,7 +98,7 @@ module _ {S : Type 0} (g : Ghosts S) where
         let at = was_clean (state g second) (state g third) two.survives clean in
         let before = one.runs at merging in
         let failed = two.cause clean before.0 (still_inside before.1 inside) in
-        (failed.0, (runs_to_then first second failed.0 before.1 failed.1.0, failed.1.1));
+        (failed.0, (runs_to_then g first second failed.0 before.1 failed.1.0, failed.1.1));
     survives = survives_then (state g first) (state g second) (state g third) _ _ _ (λ clean db never. never)
         (λ clean db never. never_before a b first second one (was_clean (state g second) (state g third) two.survives clean) never) one.survives two.survives;
   }

@@ -5,7 +5,7 @@ use Rattle.sqlite_trees.specs.declared.store.Store.{Ghosts}
 use Rattle.sqlite.specs.Effect.{Database}
 use Rattle.sqlite.specs.Held.{Held, state}
 use Rattle.sqlite.specs.State.{State, Savepoint, HasCleanDisk, IsUnchanged, Survives}
-use Rattle.wb_sql.specs.Savepoints.{IsSavedAs}
+use Rattle.wb_sql.specs.Savepoints.{IsSavedAs, back_text, release_text, save_text}
 use Rattle.wb_states.specs.declared.record.Record.{Record}
 use Rattle.wb_states.specs.declared.store_fault.StoreFault.{StoreFault}
 use Rattle.wb_states.specs.declared.store_fault.Table.TheVariants.{SourceRecord}
@@ -76,9 +76,17 @@ pub record GoesOn (old new : State) : Type 0 where
 abbrev pub RunsTo : {S : Type 0} → Ghosts S → Held S → Held S → Type 0
 RunsTo g old new = (old ≡ new) ⊎ GoesOn (state g old) (state g new)
 
--- calls of a merge in a transaction succeeded: the tables are still those of a merge, and the transaction went on; and a crash leaves no more than before
+-- the transaction has these savepoints, and after them that of the merge, if it set one
+abbrev pub HasOtherSavepoints : Bool → List Savepoint → State → Type 0
+HasOtherSavepoints false others s = s.marks ≡ others
+HasOtherSavepoints true others s = (was : Database) × IsSavedAs others was s
+
+-- calls of a merge in a transaction succeeded: the tables are still those of a merge, the transaction went on, and it has the same savepoints beside that
+-- of the merge; and a crash leaves no more than before
 pub record RunsOn {S : Type 0} (g : Ghosts S) (was_saved : Bool) (old : Held S) (is_saved : Bool) (new : Held S) : Type 0 where
   pub runs : HasCleanDisk (state g new) → IsMerging was_saved (state g old) → IsMerging is_saved (state g new) × RunsTo g old new
+  pub savepoints : HasCleanDisk (state g new) → IsMerging was_saved (state g old)
+      → (others : List Savepoint) → HasOtherSavepoints was_saved others (state g old) → HasOtherSavepoints is_saved others (state g new)
   pub survives : Survives (state g old) (state g new) (λ _. ¬ IsMerging was_saved (state g old))
 
 -- ---- a call that failed
@@ -94,10 +102,14 @@ abbrev pub AllTakesFit : Machine → Type 0
 AllTakesFit machine = (key : Key) (current : Record) → map.get machine.records key ≡ Some current → HasFittingTake current
 
 -- a record that was looked up has a take number above the limit, for which no row of its table is blamed; the database stays as it is
-pub record HasTakeOverLimit (old new : State) (fault : StoreFault) : Type 0 where
+pub record FindsTakeOverLimit (old new : State) (fault : StoreFault) : Type 0 where
   pub fault_is : fault ≡ unfit SourceRecord
   pub same : IsUnchanged old new
   pub over : (machine : Machine) (kept : Scratch) → StandsWith machine kept old.now → ¬ AllTakesFit machine
+
+-- the text of a statement on the savepoint
+abbrev pub SavepointText : Type 0
+SavepointText = (sql : List ℕ) × ((sql ≡ save_text) ⊎ ((sql ≡ back_text) ⊎ (sql ≡ release_text)))
 
 -- a call of a merge failed with this fault: a write of a record or of a row of the lists, a look-up of the one or the other, or a statement on the
 -- savepoint; or a record that was looked up has a take number above the limit
@@ -107,8 +119,8 @@ FailsAtCall old new fault =
     ⊎ (((it : ScratchWrite) × scratch_write.FailsToWrite it old new fault)
     ⊎ (((query : OfficeQuery) × FailsToLookUp query old new fault)
     ⊎ (((query : OfficeQuery) × scratch.FailsToLookUp query old new fault)
-    ⊎ (((sql : List ℕ) × IsFaultOnPart sql old new fault)
-    ⊎ HasTakeOverLimit old new fault))))
+    ⊎ (((text : SavepointText) × IsFaultOnPart text.0 old new fault)
+    ⊎ FindsTakeOverLimit old new fault))))
 
 -- a call of a merge failed with this fault, after others that succeeded
 abbrev pub FailsAfter : {S : Type 0} → Ghosts S → Held S → Held S → StoreFault → Type 0

@@ -2,10 +2,11 @@
 //! and makes it stand for the state after the change. The fault of each is that of its statement, with its table: `Damaged`
 //! with row 0 also if the transaction is over. The caller then rolls back.
 
-ghost use Rattle.std.specs.Prelude.{◌≡◌, ◌≤◌, ⊤, false, None, IsSome, IfSome};
+ghost use Rattle.std.specs.Prelude.{◌≡◌, ◌↔◌, ◌≤◌, ⊤, false, None, IsSome, IsTrue, IfSome};
 ghost use Rattle.std.specs.FinMap as map;
 ghost use Rattle.std.specs.FinSet as set;
 ghost use Rattle.wb_states.specs.Limits.{count_limit};
+ghost use Rattle.wb_archive.specs.Tables.{HasFittingTake};
 ghost use Rattle.wb_store.specs.Calls.{Changes};
 ghost use Rattle.wb_store.specs.Writes as write;
 
@@ -14,7 +15,7 @@ use deb_text::Text;
 use sqlite::{Alter, Connection, params};
 use wb_rows::{arch_values, builder_values, record_values};
 use wb_sql::{delete, insert, statements, update, upsert};
-use wb_states::{Counts, OsCpu, Record, StoreFault, Table};
+use wb_states::{COUNT_LIMIT, Counts, OsCpu, Record, StoreFault, Table};
 
 /// Sets both counts of the office, each at most [`wb_states::COUNT_LIMIT`]; all else stays. The fault is
 /// that of the statement on the table of the office (this project's own).
@@ -87,6 +88,17 @@ pub(crate) fn remove<S: Alter>(
         params![arch.as_str(), source.as_str()],
     );
     answer_on(answered, Table::SourceRecord)
+}
+
+/// Whether the take number of the record, if it has one, is at most [`wb_states::COUNT_LIMIT`], as
+/// [`put`](crate::Writing::put) and [`replace`](crate::Writing::replace) ask of it. Takes no memory (this project's own).
+pub fn has_fitting_take(current: &Record) -> bool
+    ensures value { IsTrue result ↔ HasFittingTake current.now }
+{
+    match current.take {
+        Some(take_number) => take_number <= COUNT_LIMIT,
+        None => true,
+    }
 }
 
 /// Gives the source package `source` on the architecture `arch` the record `current`, in place of the one that it had,

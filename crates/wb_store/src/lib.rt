@@ -26,6 +26,7 @@ mod store;
 mod writing;
 mod writing_merge;
 
+pub use changes::has_fitting_take;
 pub use checks::{check_archs, check_builders, check_counts, check_records};
 pub use fault::{fault_of, opening_fault, unfit};
 pub use scratch::{has_scratch_binaries, has_scratch_sources};

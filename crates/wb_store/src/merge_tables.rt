@@ -1,5 +1,11 @@
 //! The tables of an office in a transaction, as those in which a merge runs.
-ghost use Rattle.std.specs.Prelude.{◌≡◌, ◌<◌, ◌^◌, false, true, IfErr, IfOk, IfSome, map as each};
+//!
+//! What stands in them is the state of the office with the rows of the merge, and, once the merge set its savepoint, what stood
+//! in them then. Each call is one statement of the transaction, or several that clear rows. Its fault is that of its statement,
+//! with its table, and for the savepoint that of the office; or `Memory`; or `Damaged` with row 0 of the records for a record
+//! that was looked up, if its take number is above the limit. After a fault the caller takes the transaction back (this
+//! project's own).
+ghost use Rattle.std.specs.Prelude.{◌≡◌, ◌↔◌, ◌<◌, ◌^◌, IfErr, IfOk, IfSome, IsTrue, map as each};
 ghost use Rattle.sqlite.specs.Held.{state};
 ghost use Rattle.sqlite.specs.State.{HasCleanDisk};
 ghost use Rattle.wb_states.specs.declared.store_fault.Table.TheVariants.{SourceRecord};
@@ -9,6 +15,7 @@ ghost use Rattle.wb_store.specs.MergeRuns.{FailsIn, HoldsTables, RunsOn};
 ghost use Rattle.std.proofs.Common.{refl, ◌∙◌};
 ghost use Rattle.wb_store.specs.MergeLaws.{clean_before, fails_then, runs_itself, runs_then};
 
+use crate::changes::has_fitting_take;
 use crate::fault::unfit;
 use crate::writing::Writing;
 use crate::{changes, merging, packages, savepoint};
@@ -17,7 +24,7 @@ use deb_version::Version;
 use sqlite::Alter;
 use std::alloc::AllocError;
 use wb_archive::MergeTables;
-use wb_states::{BinaryRow, COUNT_LIMIT, KeyedRecord, Record, SourceRow, State, StoreFault, Table};
+use wb_states::{BinaryRow, KeyedRecord, Record, SourceRow, State, StoreFault, Table};
 
 /// The greatest place that a row of a merge can have.
 const GREATEST_PLACE: u64 = i64::MAX as u64;
@@ -33,24 +40,20 @@ fn within(place: u64) -> u64
     }
 }
 
-/// Whether the take number of the record, if there are both, is at most the limit.
+/// Whether the take number of the record that was looked up, if there are both, is at most the limit.
 fn fits(found: &Option<Record>) -> bool
-    ensures value { result ≡ true → IfSome found.now HasFittingTake }
-    ensures over { result ≡ false → ¬ IfSome found.now HasFittingTake }
+    ensures value { IsTrue result ↔ IfSome found.now HasFittingTake }
 {
     match found {
-        Some(current) => match current.take {
-            Some(take_number) => take_number <= COUNT_LIMIT,
-            None => true,
-        },
+        Some(current) => has_fitting_take(current),
         None => true,
     }
 }
 
-/// The record that was looked up, if there is one, if its take number fits. The fault is `Damaged` with row 0 of the records if
-/// it does not.
+/// The record that was looked up, if there is one, if its take number is at most the limit. The fault is `Damaged` with row 0 of
+/// the records if it is not.
 fn fitting(found: Option<Record>) -> Result<Option<Record>, StoreFault>
-    ensures value { IfOk result (λ told. (told ≡ found) × IfSome told HasFittingTake) }
+    ensures value { IfOk result (λ answered. (answered ≡ found) × IfSome answered HasFittingTake) }
     ensures fault { IfErr result (λ fault. (fault ≡ unfit SourceRecord) × ¬ IfSome found HasFittingTake) }
 {
     if fits(&found) {
@@ -95,21 +98,21 @@ impl<S: Alter + Drop> MergeTables for Writing<'_, S> {
     ghost fails = { λ old new fault. (new.store.ghost_name ≡ old.store.ghost_name)
         × FailsIn S.Store old.is_saved old.store.now new.store.now fault };
 
-    ghost follows_itself = { λ it. (refl, runs_itself _ it.is_saved it.store.now) };
+    ghost follows_itself = { λ it. (refl, runs_itself it.is_saved it.store.now) };
 
     ghost follows_on = { λ first second third one two. (
       two.0 ∙ one.0,
-      runs_then _ first.is_saved second.is_saved third.is_saved
+      runs_then first.is_saved second.is_saved third.is_saved
           first.store.now second.store.now third.store.now one.1 two.1,
     ) };
 
     ghost fails_on = { λ first second third fault one two. (
       two.0 ∙ one.0,
-      fails_then _ first.is_saved second.is_saved
+      fails_then first.is_saved second.is_saved
           first.store.now second.store.now third.store.now fault one.1 two.1,
     ) };
 
-    ghost clean = { λ first second one. clean_before _ first.is_saved second.is_saved first.store.now second.store.now one.1 };
+    ghost clean = { λ first second one. clean_before first.is_saved second.is_saved first.store.now second.store.now one.1 };
 
     fn record(&mut self, arch: &Text, source: &Text) -> Result<Option<Record>, StoreFault> {
         let found = self.store.get(arch, source)?;
@@ -170,7 +173,11 @@ impl<S: Alter + Drop> MergeTables for Writing<'_, S> {
         changes::remove(&mut store.conn, arch, source)
     }
 
+    // A savepoint that was set stays where it is.
     fn save(&mut self) -> Result<(), StoreFault> {
+        if self.is_saved {
+            return Ok(());
+        }
         let store = &mut *self.store;
         savepoint::save(&mut store.conn)?;
         self.is_saved = true;

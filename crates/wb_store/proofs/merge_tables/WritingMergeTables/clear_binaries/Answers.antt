@@ -1,4 +1,4 @@
-use Rattle.std.proofs.Common.{refl, ◌∙◌}
+use Rattle.std.proofs.Common.{refl}
 use Rattle.wb_store.proofs.MergeRunLemmas.{cleared_fails, cleared_holds, cleared_runs, fault_with_same, with_same}
 use Rattle.wb_store.proofs.merge_tables.WritingMergeTables.clear_binaries.Goals as goal
 

@@ -1,4 +1,4 @@
-use Rattle.std.proofs.Common.{refl, ◌∙◌}
+use Rattle.std.proofs.Common.{refl}
 use Rattle.std.proofs.lemmas.Result.{IfOk-weaker}
 use Rattle.wb_store.proofs.MergeRunLemmas.{fault_with_same, listed_fails, listed_holds, listed_runs, listed_value, with_same}
 use Rattle.wb_store.proofs.MergeAskLemmas.{names_listed}

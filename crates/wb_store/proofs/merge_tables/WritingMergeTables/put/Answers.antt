@@ -1,4 +1,4 @@
-use Rattle.std.proofs.Common.{refl, ◌∙◌}
+use Rattle.std.proofs.Common.{refl}
 use Rattle.wb_store.proofs.MergeRunLemmas.{changed_fails, changed_holds, changed_runs, fault_with_same, with_same}
 use Rattle.wb_store.proofs.merge_tables.WritingMergeTables.put.Goals as goal
 

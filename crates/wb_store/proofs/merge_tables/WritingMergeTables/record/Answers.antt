@@ -1,7 +1,6 @@
-use Rattle.std.proofs.Common.{◌≡◌, IfErr, IfOk, refl, ◌∙◌}
+use Rattle.std.proofs.Common.{refl, ◌∙◌}
 use Rattle.std.proofs.lemmas.Result.{IfErr-weaker, IfOk-weaker}
-use Rattle.sqlite.specs.Held.{state}
-use Rattle.wb_store.proofs.MergeRunLemmas.{handed_fault, looked_fails, looked_holds, looked_runs, looked_value, on_ok_of, unfit_fails}
+use Rattle.wb_store.proofs.MergeRunLemmas.{handed_fault, looked_fails, looked_runs, looked_value, on_ok_of, unfit_fails}
 use Rattle.wb_store.proofs.merge_tables.WritingMergeTables.record.Goals as goal
 
 pub returns-in_err-found-clause-fails : goal.returns-in_err-found-clause-fails

@@ -1,4 +1,4 @@
-use Rattle.std.proofs.Common.{refl, ◌∙◌}
+use Rattle.std.proofs.Common.{refl}
 use Rattle.std.proofs.lemmas.Result.{IfOk-weaker}
 use Rattle.wb_store.proofs.MergeRunLemmas.{fault_with_same, looked_fails, looked_holds, looked_runs, looked_value, with_same}
 use Rattle.wb_store.proofs.MergeAskLemmas.{records_waiting}
