@@ -231,7 +231,7 @@ module _ {S : Type 0} (g : Ghosts S) (command : Command) (old mid new : Held S) 
     left.0,
     elim left.1 [
       | inl s ↦ inl (s.0, s.1, s.2, stays_then g old mid s.0 same s.3, s.4, s.5)
-      | inr (inl m) ↦ inr (inl (m.0, m.1, m.2, m.3, m.4, stays_then g old mid m.0 same m.5, m.6, m.7, m.8))
+      | inr (inl m) ↦ inr (inl (m.0, m.1, m.2, stays_then g old mid m.0 same m.3, m.4, m.5, m.6))
       | inr (inr r) ↦ inr (inr (r.0, r.1, r.2, r.3, stays_then g old mid r.0 same r.4, r.5, r.6, r.7))
     ],
   )

@@ -6,6 +6,7 @@ pub mod KnownLemmas
 pub mod LifeLemmas
 pub mod MergeCarryLemmas
 pub mod MergeInLemmas
+pub mod PartListLemmas
 pub mod ReportLemmas
 pub mod RowsCarryLemmas
 pub mod RowsWriteLemmas
