@@ -36,6 +36,8 @@ pub mod RenewalLemmas
 pub mod ScratchLemmas
 pub mod ScratchChangeLemmas
 pub mod SettledLemmas
+pub mod ShowLemmas
 pub mod StateLemmas
 pub mod StaysLemmas
 pub mod TableLemmas
+pub mod TableRowLemmas
