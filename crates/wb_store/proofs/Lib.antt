@@ -16,6 +16,7 @@ pub mod LookupLemmas
 pub mod MapLemmas
 pub mod NameLemmas
 pub mod NumberedLemmas
+pub mod OneStateLemmas
 pub mod OpeningAfterLemmas
 pub mod OpeningBuilderLemmas
 pub mod OpeningCountLemmas
