@@ -9,6 +9,7 @@ mod change;
 mod commands;
 mod history;
 mod known;
+pub mod laws;
 mod life;
 mod merge;
 mod merge_part;
@@ -20,7 +21,7 @@ mod query;
 mod reporting;
 
 pub use commands::Outcome;
-pub use history::{LivesEnd, lives};
+pub use history::{Found, LivesEnd, lives};
 pub use life::{SessionEnd, session};
 pub use office::Office;
 pub use power::{Crashes, Power, cut_power};
