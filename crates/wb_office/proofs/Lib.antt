@@ -2,6 +2,10 @@ pub mod AnswerLemmas
 pub mod ApplyLemmas
 pub mod AskLemmas
 pub mod CarryLemmas
+pub mod DoubtLemmas
+pub mod FencingLemmas
+pub mod FoundLemmas
+pub mod HistoryLemmas
 pub mod KnownLemmas
 pub mod LifeLemmas
 pub mod MergeAnswerLemmas

@@ -4,7 +4,9 @@ pub mod Asks
 pub mod Carried
 pub mod Changed
 pub mod Failed
+pub mod Fencing
 pub mod Files
+pub mod History
 pub mod Keys
 pub mod Kinds
 pub mod Lives

@@ -1,42 +1,41 @@
 //! Commands that are carried out one after another.
-ghost use Rattle.std.specs.Prelude.{◌≡◌, ◌++◌, OnOk};
-ghost use Rattle.wb_office.specs.Lives.{IsLedThrough, is_last, leaves_for_some};
+ghost use Rattle.std.specs.Prelude.{◌≡◌, ◌+◌, ◌++◌, ◌∷◌, [], ◌<◌, ◌≤◌, length, vec_capacity, vec_len};
+ghost use Rattle.wb_office.specs.Lives.{IsLedThrough};
 
-use deb_text::Items;
-use std::alloc::AllocError;
 use wb_states::{Command, Refusal, Reply};
 use wb_step::CarryOut;
 
 /// What a command was answered.
 pub type Outcome = Result<Reply, Refusal>;
 
-/// Whether an office is closed after this outcome, so that it is asked no more.
-fn is_last(outcome: &Outcome) -> bool
-    ensures value { result ≡ is_last outcome.now }
-{
-    match outcome {
-        Ok(_) => false,
-        Err(refusal) => refusal.is_of_store(),
-    }
-}
-
-/// Has the office carry out the commands, one after another, up to the first whose answer is that the store failed or
-/// that the office is closed, and adds each answer to the outcomes. The only error is that there is no memory
-/// for an outcome.
+/// Has the office, which is open, carry out the commands, one after another, and adds each answer to the outcomes, for which
+/// there is room. Once it is closed, it is asked no more, and each command left is answered that it is closed.
 pub(crate) fn carry_out_all<O: CarryOut>(
     office: &mut O,
     commands: &[Command],
-    outcomes: &mut Items<Outcome>,
-) -> Result<(), AllocError>
-    ensures leads { OnOk result (IsLedThrough O.is_clean O.stands_at (leaves_for_some O.leaves) commands.now outcomes.old outcomes.new office.old office.new) }
+    outcomes: &mut Vec<Outcome>,
+)
+    requires opened { ¬ O.is_closed office.old }
+    requires room { vec_len outcomes.old + length commands.now ≤ vec_capacity outcomes.old }
+    ensures leads { IsLedThrough O.is_clean O.stands_at O.leaves commands.now outcomes.old.items outcomes.new.items
+        office.old office.new }
 {
     for command in commands {
-        let outcome = office.carry_out(command);
-        let is_last = is_last(&outcome);
-        outcomes.push(outcome)?;
-        if is_last {
-            return Ok(());
+        if office.closed() {
+            keep(outcomes, Err(Refusal::Closed));
+        } else {
+            let outcome = office.carry_out(command);
+            keep(outcomes, outcome);
         }
     }
-    Ok(())
+}
+
+/// Adds an answer to the outcomes, for which there is room.
+fn keep(outcomes: &mut Vec<Outcome>, outcome: Outcome)
+    requires room { vec_len outcomes.old < vec_capacity outcomes.old }
+    ensures added { outcomes.new.items ≡ outcomes.old.items ++ outcome ∷ [] }
+    ensures length { vec_len outcomes.new ≡ vec_len outcomes.old + 1 }
+    ensures room { vec_capacity outcomes.old ≤ vec_capacity outcomes.new }
+{
+    let _kept = outcomes.push(outcome);
 }

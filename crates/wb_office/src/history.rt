@@ -1,32 +1,49 @@
 //! The lives of an office over files, one after another.
-ghost use Rattle.std.specs.Prelude.{◌≡◌, ◌+◌, ◌≤◌, length, IfOk, IfErr, IsTrue, OnOk};
-ghost use Rattle.sqlite_wal.specs.Reads.{AreClean};
-ghost use Rattle.wb_states.specs.Machine.{Machine};
-ghost use Rattle.wb_office.specs.Offices.{HasCleanFiles, IsAt, IsOpenOffice};
-ghost use Rattle.wb_office.specs.Files.{FindsAfter, HoldOne, IsFaultOfLives};
+ghost use Rattle.std.specs.Prelude.{◌≡◌, ◌+◌, ◌++◌, ◌∷◌, [], ◌<◌, ◌≤◌, length, vec_capacity, vec_len, IfOk, IfErr, IfNone, IfSome, IsTrue};
+ghost use Rattle.wb_states.specs.declared.store_fault.StoreFault.TheVariants.{Memory};
+ghost use Rattle.wb_office.specs.History.{AreBack, HasLived, IsLivedOnce};
 
-use crate::Office;
 use crate::commands::Outcome;
-use crate::life::{SessionEnd, session};
+use crate::life::{Lived, SessionEnd, open_and_live};
 use crate::power::{Power, cut_power};
 use deb_text::Items;
-use sqlite::{FileStore, Files, Options};
+use sqlite::{Files, Options};
 use sqlite_disk::Disk;
 use std::alloc::Global;
+use wb_rows::TableRow;
 use wb_states::{Command, StoreFault};
 
-/// An office that was opened after lives of it.
+/// What the opening of a life finds, and what the life is answered.
 #[derive(Drop)]
-pub struct LivesEnd<D: Disk + Drop> {
-    /// What the commands of each life were answered, life by life.
-    pub outcomes: Items<Items<Outcome>>,
-    /// The office, opened once more.
-    pub office: Office<FileStore<D>>,
+pub enum Found {
+    /// The office was opened.
+    Opened {
+        /// How many commands were accepted, those of earlier lives and those before the first among them.
+        accepted: u64,
+        /// Each row of the office's tables, once, as [`Store::rows`](wb_store::Store::rows) has them.
+        rows: Items<TableRow>,
+        /// What each command of the life was answered.
+        outcomes: Items<Outcome>,
+    },
+    /// The opening was refused, or there was no memory for the rows or the outcomes.
+    Refused(StoreFault),
 }
 
-/// Has an office live once for each list of commands, and opens it once more. After each life the power is cut, so the next
-/// one begins with files that a crash may leave: there have to be as many cuts [left](Power::left) as there are lives. The
-/// faults are those of [`session`], and `Memory` if there is no memory for the files or the outcomes (this project's own).
+/// What lives of an office find and leave.
+#[derive(Drop)]
+pub struct LivesEnd<D: Disk + Drop> {
+    /// What was found, life by life, up to the first whose opening was refused or whose files were not given back.
+    pub found: Items<Found>,
+    /// The files after the last power cut, those that were handed in if there is no life; none if an opening was refused or
+    /// files were not given back.
+    pub files: Option<Files<D>>,
+}
+
+/// Has an office live once for each list of commands: it is opened, carries out the commands as in
+/// [`session`](crate::session), and is closed, and then the power is cut. So the next life begins with files that a crash
+/// may leave, and there have to be as many cuts [left](Power::left) as there are lives. The lives end with the first whose
+/// opening is refused or whose files are not given back, and what was found is told all the same. The room for what is found
+/// is taken first: the error is `Memory` alone, and then nothing was opened and no power was cut (this project's own).
 pub fn lives<D: Disk + Drop, P: Power<D>>(
     alloc: Global,
     files: Files<D>,
@@ -37,23 +54,108 @@ pub fn lives<D: Disk + Drop, P: Power<D>>(
     requires log { IsTrue (D.Disk.is_usable files.log) }
     requires db { IsTrue (D.Disk.is_usable files.db) }
     requires cuts { length lives.now ≤ P.cuts_left power.old }
-    ensures cut { OnOk result (P.cuts_left power.old ≡ P.cuts_left power.new + length lives.now) }
-    ensures opened { IfOk result (λ end. IsOpenOffice end.office) }
-    ensures clean { IfOk result (λ end. HasCleanFiles end.office → AreClean D.Disk files.log files.db) }
-    ensures found { IfOk result (λ end. HasCleanFiles end.office → (one other : Machine) → HoldOne D.Disk files one other
-        → FindsAfter IsAt one other lives.now end.outcomes end.office) }
-    ensures refused { IfErr result (IsFaultOfLives D.Disk) }
+    ensures lived { IfOk result (λ end. HasLived D.Disk files lives.now end.found end.files) }
+    ensures cut { IfOk result (λ end. IfSome end.files (λ _. P.cuts_left power.old ≡ P.cuts_left power.new + length end.found)) }
+    ensures uncut { IfOk result (λ end. IfNone end.files
+        (P.cuts_left power.old + 1 ≡ P.cuts_left power.new + length end.found)) }
+    ensures refused { IfErr result (λ fault. (fault ≡ Memory) × (P.cuts_left power.new ≡ P.cuts_left power.old)) }
 {
-    let mut outcomes = Items::new(alloc);
+    let mut found = Vec::with_capacity(alloc, lives.len())?;
+    let files = live_all(alloc, files, options, power, lives, &mut found);
+    Ok(LivesEnd {
+        found: Items::from(found),
+        files,
+    })
+}
+
+/// Has an office live once for each list of commands, and adds what each life finds, for which there is room.
+fn live_all<D: Disk + Drop, P: Power<D>>(
+    alloc: Global,
+    files: Files<D>,
+    options: Options,
+    power: &mut P,
+    lives: &[Items<Command>],
+    found: &mut Vec<Found>,
+) -> Option<Files<D>>
+    requires log { IsTrue (D.Disk.is_usable files.log) }
+    requires db { IsTrue (D.Disk.is_usable files.db) }
+    requires cuts { length lives.now ≤ P.cuts_left power.old }
+    requires room { length lives.now ≤ vec_capacity found.old }
+    requires empty { found.old.items ≡ [] }
+    ensures lived { HasLived D.Disk files lives.now found.new.items result }
+    ensures cut { IfSome result (λ _. P.cuts_left power.old ≡ P.cuts_left power.new + length found.new.items) }
+    ensures uncut { IfNone result (P.cuts_left power.old + 1 ≡ P.cuts_left power.new + length found.new.items) }
+{
     let mut current = files;
     for commands in lives {
-        let SessionEnd {
-            outcomes: answers,
-            files: left,
-        } = session(alloc, current, options, commands.as_slice())?;
-        outcomes.push(answers)?;
-        current = cut_power(power, left)?;
+        let (one, back) = live_once(alloc, current, options, power, commands.as_slice());
+        keep(found, one);
+        match back {
+            Some(files) => current = files,
+            None => return None,
+        }
     }
-    let office = Office::open(alloc, current, options)?;
-    Ok(LivesEnd { outcomes, office })
+    Some(current)
+}
+
+/// Has an office live once, and cuts the power after it, if its files were given back.
+fn live_once<D: Disk + Drop, P: Power<D>>(
+    alloc: Global,
+    files: Files<D>,
+    options: Options,
+    power: &mut P,
+    commands: &[Command],
+) -> (Found, Option<Files<D>>)
+    requires log { IsTrue (D.Disk.is_usable files.log) }
+    requires db { IsTrue (D.Disk.is_usable files.db) }
+    requires some { 0 < P.cuts_left power.old }
+    ensures lived { IsLivedOnce D.Disk files commands.now result.0 result.1 }
+    ensures cut { IfSome result.1 (λ _. P.cuts_left power.old ≡ P.cuts_left power.new + 1) }
+    ensures uncut { IfNone result.1 (P.cuts_left power.new ≡ P.cuts_left power.old) }
+    ensures usable { IfSome result.1 (λ back. IsTrue (D.Disk.is_usable back.log) × IsTrue (D.Disk.is_usable back.db)) }
+{
+    match open_and_live(alloc, files, options, commands) {
+        Ok(
+            Lived {
+                accepted,
+                rows,
+                end: SessionEnd { outcomes, files },
+            },
+        ) => (
+            Found::Opened {
+                accepted,
+                rows,
+                outcomes,
+            },
+            cut_after(power, files),
+        ),
+        Err(fault) => (Found::Refused(fault), None),
+    }
+}
+
+/// Cuts the power, if there are files.
+fn cut_after<D: Disk + Drop, P: Power<D>>(
+    power: &mut P,
+    files: Option<Files<D>>,
+) -> Option<Files<D>>
+    requires some { 0 < P.cuts_left power.old }
+    ensures back { AreBack D.Disk files result }
+    ensures cut { IfSome result (λ _. P.cuts_left power.old ≡ P.cuts_left power.new + 1) }
+    ensures uncut { IfNone result (P.cuts_left power.new ≡ P.cuts_left power.old) }
+    ensures usable { IfSome result (λ back. IsTrue (D.Disk.is_usable back.log) × IsTrue (D.Disk.is_usable back.db)) }
+{
+    match files {
+        Some(left) => Some(cut_power(power, left)),
+        None => None,
+    }
+}
+
+/// Adds what a life finds, for which there is room.
+fn keep(found: &mut Vec<Found>, one: Found)
+    requires room { vec_len found.old < vec_capacity found.old }
+    ensures added { found.new.items ≡ found.old.items ++ one ∷ [] }
+    ensures length { vec_len found.new ≡ vec_len found.old + 1 }
+    ensures room { vec_capacity found.old ≤ vec_capacity found.new }
+{
+    let _kept = found.push(one);
 }

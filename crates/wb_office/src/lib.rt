@@ -9,6 +9,7 @@ mod change;
 mod commands;
 mod history;
 mod known;
+pub mod laws;
 mod life;
 mod merge_lists;
 mod merging;
@@ -21,7 +22,7 @@ mod reporting;
 mod rows;
 
 pub use commands::Outcome;
-pub use history::{LivesEnd, lives};
+pub use history::{Found, LivesEnd, lives};
 pub use life::{SessionEnd, session};
 pub use office::Office;
 pub use power::{Crashes, Power, cut_power};

@@ -1,31 +1,41 @@
 //! One life of an office over files.
-ghost use Rattle.std.specs.Prelude.{◌≡◌, ◌⊎◌, IfOk, IfErr, IsTrue};
+ghost use Rattle.std.specs.Prelude.{◌≡◌, ◌⊎◌, ◌≤◌, [], false, length, vec_capacity, vec_len, IfOk, IfErr, IfSome, IsTrue};
 ghost use Rattle.sqlite_wal.specs.Reads.{AreClean};
 ghost use Rattle.wb_states.specs.Machine.{Machine};
 ghost use Rattle.wb_states.specs.declared.store_fault.StoreFault.TheVariants.{Memory};
-ghost use Rattle.wb_office.specs.Files.{HoldOne, IsFaultOfOpening, LeavesLife};
+ghost use Rattle.wb_office.specs.Files.{GivesUp, HoldOne, IsFaultOfLife, IsFaultOfOpening, IsLife, IsSession, LeavesLife, LivesOn};
 
 use crate::Office;
 use crate::commands::{Outcome, carry_out_all};
 use deb_text::Items;
-use sqlite::{Files, Options};
+use sqlite::{FileStore, Files, Options};
 use sqlite_disk::Disk;
 use std::alloc::Global;
+use wb_rows::TableRow;
 use wb_states::{Command, StoreFault};
+use wb_step::CarryOut;
 
 /// What a life of an office leaves.
 #[derive(Drop)]
 pub struct SessionEnd<D: Disk + Drop> {
-    /// What each command was answered, up to the first whose answer was that the store failed or that the office is
-    /// closed.
+    /// What each command was answered.
     pub outcomes: Items<Outcome>,
-    /// The files, given up as they were.
-    pub files: Files<D>,
+    /// The files. None if the office was open and its closing failed, which gives none back.
+    pub files: Option<Files<D>>,
 }
 
-/// Opens the office that the files hold, has it carry out the commands, one after another, until it is closed, and gives
-/// it up without closing it, as a stop of the machine does. The faults are those of [`Office::open`], and `Memory` if there
-/// is no memory for what is answered (this project's own).
+/// What the opening of a life finds, and what the life leaves.
+#[derive(Drop)]
+pub(crate) struct Lived<D: Disk + Drop> {
+    pub(crate) accepted: u64,
+    pub(crate) rows: Items<TableRow>,
+    pub(crate) end: SessionEnd<D>,
+}
+
+/// Opens the office that the files hold, has it carry out the commands, one after another, and closes it; one that a fault
+/// closed is given up as it is. Each command has an answer: after one at which the store failed each is `Closed`. The room
+/// for the answers is taken before the files are opened. The faults are those of [`Office::open`], and `Memory` if there is
+/// no room for the answers; nothing is then carried out (this project's own).
 pub fn session<D: Disk + Drop>(
     alloc: Global,
     files: Files<D>,
@@ -34,18 +44,68 @@ pub fn session<D: Disk + Drop>(
 ) -> Result<SessionEnd<D>, StoreFault>
     requires log { IsTrue (D.Disk.is_usable files.log) }
     requires db { IsTrue (D.Disk.is_usable files.db) }
-    ensures clean { IfOk result (λ session. AreClean D.Disk session.files.log session.files.db
-        → AreClean D.Disk files.log files.db) }
-    ensures left { IfOk result (λ session. AreClean D.Disk session.files.log session.files.db → (one other : Machine)
-        → HoldOne D.Disk files one other
-        → LeavesLife D.Disk one other commands.now session.outcomes session.files) }
+    ensures lived { IfOk result (λ session. IsSession D.Disk files commands.now session.outcomes session.files) }
+    ensures left { IfOk result (λ session. IfSome session.files (λ left. AreClean D.Disk left.log left.db
+        → (one other : Machine) → HoldOne D.Disk files one other
+        → LeavesLife D.Disk one other commands.now session.outcomes left)) }
     ensures refused { IfErr result (λ fault. (fault ≡ Memory) ⊎ IsFaultOfOpening D.Disk files fault) }
 {
-    let mut outcomes = Items::new(alloc);
+    let outcomes = Vec::with_capacity(alloc, commands.len())?;
+    let office = Office::open(alloc, files, options)?;
+    Ok(live(office, commands, outcomes))
+}
+
+/// The same, with what the opening finds: how many commands were accepted, and each row of the office's tables. The faults
+/// are also those of the rows.
+pub(crate) fn open_and_live<D: Disk + Drop>(
+    alloc: Global,
+    files: Files<D>,
+    options: Options,
+    commands: &[Command],
+) -> Result<Lived<D>, StoreFault>
+    requires log { IsTrue (D.Disk.is_usable files.log) }
+    requires db { IsTrue (D.Disk.is_usable files.db) }
+    ensures lived { IfOk result (λ life. IsLife D.Disk files commands.now life.accepted life.rows
+        life.end.outcomes life.end.files) }
+    ensures refused { IfErr result (IsFaultOfLife D.Disk files) }
+{
+    let outcomes = Vec::with_capacity(alloc, commands.len())?;
     let mut office = Office::open(alloc, files, options)?;
-    carry_out_all(&mut office, commands, &mut outcomes)?;
-    Ok(SessionEnd {
-        outcomes,
-        files: office.surrender(),
+    let accepted = office.accepted_count();
+    let rows = office.rows()?;
+    Ok(Lived {
+        accepted,
+        rows,
+        end: live(office, commands, outcomes),
     })
+}
+
+/// Has an open office carry out the commands, and closes it. There is room for the answers.
+fn live<D: Disk + Drop>(
+    office: Office<FileStore<D>>,
+    commands: &[Command],
+    outcomes: Vec<Outcome>,
+) -> SessionEnd<D>
+    requires opened { office.is_closed ≡ false }
+    requires empty { outcomes.items ≡ [] }
+    requires room { length commands.now ≤ vec_capacity outcomes }
+    ensures lives { LivesOn D.Disk office commands.now result.outcomes result.files }
+{
+    let mut office = office;
+    let mut outcomes = outcomes;
+    carry_out_all(&mut office, commands, &mut outcomes);
+    SessionEnd {
+        outcomes: Items::from(outcomes),
+        files: give_up(office),
+    }
+}
+
+/// Closes an office, and hands out its files; one that a fault closed is given up as it is.
+fn give_up<D: Disk + Drop>(office: Office<FileStore<D>>) -> Option<Files<D>>
+    ensures gives_up { GivesUp D.Disk office result }
+{
+    if office.closed() {
+        return Some(office.surrender());
+    }
+    office.close().ok()
 }

@@ -1,5 +1,5 @@
 //! The office over tables: each command is one transaction.
-ghost use Rattle.std.specs.Prelude.{◌≡◌, ◌⊎◌, false, true, None, Err, IfOk, IfErr, IsTrue};
+ghost use Rattle.std.specs.Prelude.{◌≡◌, ◌⊎◌, false, true, None, Err, map, IfOk, IfErr, IsTrue};
 ghost use Rattle.sqlite.specs.Files.{file_state};
 ghost use Rattle.sqlite.specs.Held.{state};
 ghost use Rattle.sqlite.specs.State.{HasCleanDisk};
@@ -15,7 +15,10 @@ ghost use Rattle.wb_store.specs.Formats.{IsNewer};
 ghost use Rattle.wb_store.specs.Opening.{HasNoScratchRows, IsRefusedFrom};
 ghost use Rattle.wb_store.specs.Files.{AreFoundAt, AreNew, FailsToOpen, IsFaultOfClosing, IsRefusedOver};
 ghost use Rattle.wb_store.specs.Files.{LeaveOffice};
+ghost use Rattle.wb_store.specs.Merging.{no_merge};
 ghost use Rattle.wb_store.specs.Preparing.{IsFoundAt};
+ghost use Rattle.wb_store.specs.TableRows.{FailsToShowOne, table_rows};
+ghost use Rattle.wb_rows.specs.Shown.{row_of};
 ghost use Rattle.wb_office.specs.declared.answer.Failure.TheVariants.{Uncommitted};
 ghost use Rattle.wb_states.specs.Queries.{answer_of, has_malformed_name};
 ghost use Rattle.wb_office.specs.Applies.{Applies, Ends, EndsWith, refusal_for};
@@ -27,9 +30,11 @@ use crate::answer::{Failure, answer};
 use crate::carry::CarryError;
 use crate::known::Known;
 use crate::query::find_answer;
+use deb_text::Items;
 use sqlite::{Alter, Connection, FileStore, Files, Options};
 use sqlite_disk::Disk;
 use std::alloc::Global;
+use wb_rows::TableRow;
 use wb_states::{Answer, Command, Query, Refusal, Reply, StoreFault};
 use wb_step::{CarryOut, check_texts};
 use wb_store::Store;
@@ -149,6 +154,21 @@ impl<S: Alter + Drop> Office<S> {
             }
         }
     }
+
+    /// Each row of the office's tables, once, as [`Store::rows`] has them, of an office that is open. The office is as it
+    /// was; after a fault it is given up.
+    pub(crate) fn rows(&mut self) -> Result<Items<TableRow>, StoreFault>
+        ensures kept { (self.new.is_closed ≡ self.old.is_closed) × (self.new.known ≡ self.old.known) }
+        ensures clean { HasCleanDisk (state S.Store self.new.store) → HasCleanDisk (state S.Store self.old.store) }
+        ensures shows { IfOk result (λ rows. HasCleanDisk (state S.Store self.new.store) → self.old.is_closed ≡ false
+            → (machine : Machine) → StandsAt machine self.old.is_closed self.old.known (state S.Store self.old.store)
+            → (map row_of rows ≡ table_rows machine no_merge)
+            × StandsAt machine self.new.is_closed self.new.known (state S.Store self.new.store)) }
+        ensures err { IfErr result (λ fault. HasCleanDisk (state S.Store self.new.store)
+            → HasOffice self.old.store.schema → FailsToShowOne S.Store self.old.store self.new.store fault) }
+    {
+        self.store.rows(self.alloc)
+    }
 }
 
 impl<D: Disk + Drop> Office<FileStore<D>> {
@@ -198,6 +218,7 @@ impl<D: Disk + Drop> Office<FileStore<D>> {
         ensures either { IfOk result (λ files. AreClean D.Disk files.log files.db → (before after : Machine)
             → LeavesOne before after self.is_closed (file_state self.store)
             → AreSettledAt D.Disk files before ⊎ AreSettledAt D.Disk files after) }
+        ensures clean { IfOk result (λ files. AreClean D.Disk files.log files.db → HasCleanDisk (file_state self.store)) }
         ensures usable { IfOk result (λ files. IsTrue (D.Disk.is_usable files.log) × IsTrue (D.Disk.is_usable files.db)) }
         ensures err { IfErr result (IsFaultOfClosing self.store) }
     {

@@ -5,5 +5,6 @@ pub mod ColumnLemmas
 pub mod ReadLemmas
 pub mod ScratchLemmas
 pub mod TextLemmas
+pub mod ShownLemmas
 pub mod ValueLemmas
 pub mod FormLemmas

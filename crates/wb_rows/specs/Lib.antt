@@ -2,3 +2,4 @@ pub mod Cells
 pub mod Forms
 pub mod Reading
 pub mod Scratch
+pub mod Shown

@@ -5,6 +5,7 @@ ghost use Rattle.wb_rows.specs.declared.fault.RowFault.TheVariants.{Malformed};
 
 use deb_version::VersionFault;
 use sqlite::{Error, ErrorCode};
+use std::alloc::AllocFailed;
 
 /// Why a row is not read as what an office keeps.
 #[derive(Clone, Copy, Debug, PartialEq, Eq)]
@@ -47,5 +48,15 @@ impl From<VersionFault> for RowFault {
             VersionFault::Memory => RowFault::Memory,
             _ => RowFault::Malformed,
         }
+    }
+}
+
+impl<T: Drop> From<AllocFailed<T>> for RowFault {
+    ghost use Rattle.wb_rows.specs.declared.fault.RowFault.TheVariants.{Memory};
+
+    ghost from_gives = { λ _ fault. fault ≡ Memory };
+
+    fn from(_refused: AllocFailed<T>) -> RowFault {
+        RowFault::Memory
     }
 }

@@ -31,6 +31,10 @@ builder_columns = (0, text (codes "name")) ∷ (1, text (codes "arch")) ∷ []
 abbrev pub office_columns : List (ℕ × Column)
 office_columns = (1, number (codes "format")) ∷ (2, number (codes "handed")) ∷ (3, number (codes "accepted")) ∷ []
 
+-- the columns of the whole row of the office
+abbrev pub whole_office_columns : List (ℕ × Column)
+whole_office_columns = (0, typed Integer false (codes "id")) ∷ (1, number (codes "format")) ∷ (2, number (codes "handed")) ∷ (3, number (codes "accepted")) ∷ []
+
 -- the columns of the place of a source or binary package of a merge
 abbrev pub scratch_columns : List (ℕ × Column)
 scratch_columns = (0, typed Integer false (codes "seq")) ∷ []
@@ -90,6 +94,13 @@ builder_columns_are tree = (record { named = refl; is = refl }, (record { named 
 pub office_columns_are : (tree : ℕ) → AreColumns (table_at tree office) office_columns
 unfolding same_name
 office_columns_are tree = (record { named = refl; is = refl }, (record { named = refl; is = refl }, (record { named = refl; is = refl }, tt)))
+
+pub whole_office_columns_are : (tree : ℕ) → AreColumns (table_at tree office) whole_office_columns
+unfolding same_name
+whole_office_columns_are tree = (
+  record { named = refl; is = refl },
+  (record { named = refl; is = refl }, (record { named = refl; is = refl }, (record { named = refl; is = refl }, tt))),
+)
 
 pub scratch_source_columns_are : (tree : ℕ) → AreColumns (table_at tree scratch_source) scratch_columns
 unfolding same_name

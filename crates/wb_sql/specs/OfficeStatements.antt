@@ -150,6 +150,10 @@ first_office_row = lit (Int (pos 1)) ∷ lit Null ∷ lit (Int (pos 2)) ∷ lit 
 abbrev pub office_counts : TableQuery
 office_counts = record { tree = 0; filter = []; project = cell 2 ∷ cell 3 ∷ cell 4 ∷ []; order = []; collations = []; limit = no_limit; offset = none_skipped }
 
+-- the row of the office: its id, which is the rowid, the format and the two counts
+abbrev pub office_row : TableQuery
+office_row = record { tree = 0; filter = []; project = cell 0 ∷ cell 2 ∷ cell 3 ∷ cell 4 ∷ []; order = []; collations = []; limit = no_limit; offset = none_skipped }
+
 -- the place of one row of a scratch table, whose rowid it is
 abbrev pub first_of_scratch : ℕ → TableQuery
 first_of_scratch tree = record { tree = tree; filter = []; project = cell 0 ∷ []; order = []; collations = []; limit = lit (Int (pos 1)); offset = none_skipped }

@@ -29,6 +29,14 @@ binary_cells = cell 0 ∷ cell 2 ∷ cell 3 ∷ cell 4 ∷ cell 5 ∷ cell 6 ∷
 abbrev pub shown_of : ℕ → List Term → List Term → List (Term × Key) → TableQuery
 shown_of tree tests columns order = record { tree = tree; filter = tests; project = columns; order = order; collations = []; limit = no_limit; offset = none_skipped }
 
+-- all source packages of a merge, by their place in the list
+abbrev pub all_sources : TableQuery
+all_sources = shown_of 9 [] source_cells (rising 0 ∷ [])
+
+-- all binary packages of a merge, by their place in the list
+abbrev pub all_binaries : TableQuery
+all_binaries = shown_of 11 [] binary_cells (rising 0 ∷ [])
+
 -- the source packages of a merge with a name, by their place in the list
 abbrev pub sources_named : TableQuery
 sources_named = shown_of 9 (equals 2 0 ∷ []) source_cells (rising 0 ∷ [])

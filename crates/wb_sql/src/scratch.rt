@@ -4,7 +4,7 @@
 ghost use Rattle.std.specs.Prelude.{[]};
 ghost use Rattle.wb_sql.specs.Tables.{scratch_source, scratch_binary};
 ghost use Rattle.wb_sql.specs.Among.{AsksAmong, InsertsAmong, DeletesAmong};
-ghost use Rattle.wb_sql.specs.ScratchStatements.{source_row, binary_row, sources_named, source_names, binaries_of_source, binaries_named, is_up_to_place};
+ghost use Rattle.wb_sql.specs.ScratchStatements.{all_binaries, all_sources, source_row, binary_row, sources_named, source_names, binaries_of_source, binaries_named, is_up_to_place};
 
 /// Puts a source package in. The parameters are its 9 columns.
 pub fn add_source() -> &'static str
@@ -20,6 +20,21 @@ pub fn add_binary() -> &'static str
 {
     "INSERT INTO scratch_binary(seq, name, version, source, source_version, number, own) \
      VALUES (?1, ?2, ?3, ?4, ?5, ?6, ?7)"
+}
+
+/// All source packages, by their place in the list.
+pub fn all_sources() -> &'static str
+    ensures { AsksAmong scratch_source result.now all_sources 0 }
+{
+    "SELECT seq, name, version, architecture, extra, priority, section, depends, depends_arch \
+     FROM scratch_source ORDER BY seq"
+}
+
+/// All binary packages, by their place in the list.
+pub fn all_binaries() -> &'static str
+    ensures { AsksAmong scratch_binary result.now all_binaries 0 }
+{
+    "SELECT seq, name, version, source, source_version, number, own FROM scratch_binary ORDER BY seq"
 }
 
 /// The source packages of a name, by their place in the list.

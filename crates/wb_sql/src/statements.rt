@@ -6,7 +6,7 @@ ghost use Rattle.wb_sql.specs.Among.{AsksAmong, InsertsAmong, UpsertsRecords, Up
 ghost use Rattle.wb_sql.specs.Format.{AsksFormat};
 ghost use Rattle.wb_sql.specs.OfficeStatements.{has_record_key, record_sets, record_of_key, queue_of, head_of};
 ghost use Rattle.wb_sql.specs.OfficeStatements.{record_of_take, held_by, records_in_state, records_of_arch, states_of_arch, all_records};
-ghost use Rattle.wb_sql.specs.OfficeStatements.{arch_row, arch_of_name, all_archs, office_sets, office_counts};
+ghost use Rattle.wb_sql.specs.OfficeStatements.{arch_row, arch_of_name, all_archs, office_sets, office_counts, office_row};
 ghost use Rattle.wb_sql.specs.OfficeStatements.{builder_row, pair_of_builder, pairs_of_builder, all_builders, first_source, first_binary};
 
 /// Puts a record in, or writes it over the one with its key. The parameters are its 16 columns.
@@ -157,6 +157,13 @@ pub fn office_counts() -> &'static str
     ensures { AsksAmong office result.now office_counts 0 }
 {
     "SELECT format, handed, accepted FROM office"
+}
+
+/// The row of the office: its id, the format and the two counts.
+pub fn office_row() -> &'static str
+    ensures { AsksAmong office result.now office_row 0 }
+{
+    "SELECT id, format, handed, accepted FROM office"
 }
 
 /// The format of the office, in each row of a table `office` that has such a column, whatever else the database has, as

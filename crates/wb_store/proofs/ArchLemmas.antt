@@ -92,14 +92,15 @@ module _ (machine : Machine) {scratch : Scratch} (db : Database) (stands : Stand
       ascending_weaker (λ (x y : List ℕ × OsCpu). text_cmp x.0 y.0 ≡ Less) (λ x y. IsBefore sql.all_archs [] (arch_cells x) (arch_cells y)) (λ x y less. text_order x.0 y.0 ∙ less) archs
       (entries_ascend text_cmp archs (finite.entries_sorted machine.archs))
 
-  answer_is : answer ≡ map arch_cells archs
-  answer_is =
+  -- the answer has the row of each architecture
+  pub archs_answer : answer ≡ map arch_cells archs
+  archs_answer =
       rising_answer arch_cells sql.all_archs [] (skips_archs []) (λ x. refl) refl archs (rows_in db tables.arch) answer stands.archs a archs ascend
       (IsPermutation-same _ _ (sym (filter_all (λ x. true) archs (all_of (λ x. true ≡ true) (λ x. refl) archs)))) refl
 
   -- the architectures that are read from the answer
   pub archs_found : (made : List (List ℕ × OsCpu)) → answer ≡ map arch_cells made → made ≡ archs
-  archs_found made is = map_injective arch_cells arch_cells-same made archs (sym is ∙ answer_is)
+  archs_found made is = map_injective arch_cells arch_cells-same made archs (sym is ∙ archs_answer)
 
   -- the answer has rows of architectures alone, if the office is consistent
   pub archs_readable : IsConsistent machine → AreArchs answer

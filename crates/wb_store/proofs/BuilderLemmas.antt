@@ -132,7 +132,7 @@ module _ (machine : Machine) where
   in_pairs : (pair : Key) → set.contains machine.builders pair ≡ true → IsIn pair pairs
   in_pairs pair there = any_in pair_cmp_total pair_cmp-same pair pairs (sym (contains-keys pair_cmp_total machine.builders pair) ∙ there)
 
-  pairs_readable : IsConsistent machine → AllByRecursion IsReadablePair pairs
+  pub pairs_readable : IsConsistent machine → AllByRecursion IsReadablePair pairs
   pairs_readable sound = all_from_in IsReadablePair pairs (λ pair within. kept_pair_readable machine sound pair (pair_in pair within))
 
   -- the pairs of a builder ascend by their architectures

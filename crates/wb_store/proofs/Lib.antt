@@ -18,6 +18,7 @@ pub mod MergeAskLemmas
 pub mod MergeRunLemmas
 pub mod NameLemmas
 pub mod NumberedLemmas
+pub mod OneStateLemmas
 pub mod OpeningAfterLemmas
 pub mod OpeningBuilderLemmas
 pub mod OpeningCountLemmas
@@ -38,6 +39,8 @@ pub mod RenewalLemmas
 pub mod ScratchLemmas
 pub mod ScratchChangeLemmas
 pub mod SettledLemmas
+pub mod ShowLemmas
 pub mod StateLemmas
 pub mod StaysLemmas
 pub mod TableLemmas
+pub mod TableRowLemmas

@@ -30,7 +30,8 @@ use Rattle.wb_rows.specs.Reading.{IsNoBuilder}
 use Rattle.wb_rows.proofs.CellsLemmas.{builder_cells-same}
 use Rattle.wb_store.specs.Lookups.{AreRowsOf}
 use Rattle.wb_store.specs.Checks.{AreBadRows, HoldsBuilders, IsFormedBuilder, IsRowOf, PassesWith, Tests, has_arch}
-use Rattle.wb_store.specs.Stands.{StandsFor, builder_pairs}
+use Rattle.wb_store.specs.Merging.{Scratch}
+use Rattle.wb_store.specs.Stands.{StandsWith, builder_pairs}
 use Rattle.wb_store.specs.Queries as ask
 use Rattle.wb_store.proofs.ArchLemmas.{name_test}
 use Rattle.wb_store.proofs.FormLemmas.{arch_known, arch_utf8, builder_utf8}
@@ -82,7 +83,7 @@ skips_pairs : (params : Row) → SkipsRowid sql.all_builders params
 skips_pairs params [] = (refl, refl)
 skips_pairs params (x ∷ row) = (refl, refl)
 
-module _ (machine : Machine) (db : Database) (stands : StandsFor machine db) (answer : List Row) (a : Answers sql.all_builders [] (rows_in db tables.builder) answer) where
+module _ (machine : Machine) {scratch : Scratch} (db : Database) (stands : StandsWith machine scratch db) (answer : List Row) (a : Answers sql.all_builders [] (rows_in db tables.builder) answer) where
   abbrev pairs : List Key
   pairs = builder_pairs machine
 
@@ -91,14 +92,15 @@ module _ (machine : Machine) (db : Database) (stands : StandsFor machine db) (an
       ascending_weaker (λ (x y : Key). pair_cmp x y ≡ Less) (λ x y. IsBefore sql.all_builders [] (builder_cells x) (builder_cells y))
       (λ x y less. ap₂ ordering_then (value_cmp-Text x.0 y.0) (text_order x.1 y.1) ∙ less) pairs (pairs_ascend machine)
 
-  answer_is : answer ≡ map builder_cells pairs
-  answer_is =
+  -- the answer has the row of each builder
+  pub builders_answer : answer ≡ map builder_cells pairs
+  builders_answer =
       rising_answer builder_cells sql.all_builders [] (skips_pairs []) (λ x. refl) refl pairs (rows_in db tables.builder) answer stands.builders a pairs ascend
       (IsPermutation-same _ _ (sym (filter_all (λ x. true) pairs (all_of (λ x. true ≡ true) (λ x. refl) pairs)))) refl
 
   -- the builders that are read from the answer
   pub builders_found : (made : List Key) → answer ≡ map builder_cells made → made ≡ pairs
-  builders_found made is = map_injective builder_cells builder_cells-same made pairs (sym is ∙ answer_is)
+  builders_found made is = map_injective builder_cells builder_cells-same made pairs (sym is ∙ builders_answer)
 
   builders_formed : IsConsistent machine → (archs : List (List ℕ × OsCpu)) → archs ≡ finite.entries machine.archs → AreRowsOf builder_cells (IsFormedBuilder archs) answer
   builders_formed sound archs is = subst (λ l. AreRowsOf builder_cells (IsFormedBuilder l) answer) (sym is)

@@ -38,7 +38,8 @@ use Rattle.wb_rows.specs.Reading.{IsNoRecord}
 use Rattle.wb_rows.proofs.CellsLemmas.{record_cells-same}
 use Rattle.wb_store.specs.Faults.{IsBadRow}
 use Rattle.wb_store.specs.Checks.{AllAfter, AreBadRecords, AreKept, FitsBeside, FitsRecords, HasGoodRecords, HasOwnTake, HoldsRecords, IsFormedRecord, IsRowOf, IsTestedRow, PassesWith, Tests, has_pair, words_among}
-use Rattle.wb_store.specs.Stands.{StandsFor, builder_pairs}
+use Rattle.wb_store.specs.Merging.{Scratch}
+use Rattle.wb_store.specs.Stands.{StandsWith, builder_pairs}
 use Rattle.wb_store.specs.Queries as ask
 use Rattle.wb_store.proofs.ArchLemmas.{name_test}
 use Rattle.wb_store.proofs.FormLemmas.{arch_known, formed_readable}
@@ -273,7 +274,7 @@ skips_records : (params : Row) → SkipsRowid sql.all_records params
 skips_records params [] = (refl, refl)
 skips_records params (x ∷ row) = (refl, refl)
 
-module _ (machine : Machine) (db : Database) (stands : StandsFor machine db) (answer : List Row) (a : Answers sql.all_records [] (rows_in db tables.source_record) answer) where
+module _ (machine : Machine) {scratch : Scratch} (db : Database) (stands : StandsWith machine scratch db) (answer : List Row) (a : Answers sql.all_records [] (rows_in db tables.source_record) answer) where
   abbrev records : List Entry
   records = finite.entries machine.records
 
@@ -282,8 +283,9 @@ module _ (machine : Machine) (db : Database) (stands : StandsFor machine db) (an
       ascending_weaker (λ (x y : Entry). pair_cmp x.0 y.0 ≡ Less) (λ x y. IsBefore sql.all_records [] (record_cells x) (record_cells y))
       (λ x y less. ap₂ ordering_then (value_cmp-Text x.0.0 y.0.0) (text_order x.0.1 y.0.1) ∙ less) records (entries_ascend pair_cmp records (finite.entries_sorted machine.records))
 
-  answer_is : answer ≡ map record_cells records
-  answer_is =
+  -- the answer has the row of each record
+  pub records_answer : answer ≡ map record_cells records
+  records_answer =
       rising_answer record_cells sql.all_records [] (skips_records []) (λ x. refl) refl records (rows_in db tables.source_record) answer stands.records a records ascend
       (IsPermutation-same _ _ (sym (filter_all (λ x. true) records (all_of (λ x. true ≡ true) (λ x. refl) records)))) refl
 
@@ -292,7 +294,7 @@ module _ (machine : Machine) (db : Database) (stands : StandsFor machine db) (an
   records_fit sound archs builders handed given =
       let fit = kept_fit machine sound [] records refl in (
         records,
-        answer_is,
+        records_answer,
         subst (λ l. AllAfter (FitsRecords l builders handed) [] records) (sym given.archs_are)
             (subst (λ l. AllAfter (FitsRecords (finite.entries machine.archs) l handed) [] records) (sym given.builders_are)
             (subst (λ n. AllAfter (FitsRecords (finite.entries machine.archs) (builder_pairs machine) n) [] records) (sym given.handed_is) fit)),
@@ -301,7 +303,7 @@ module _ (machine : Machine) (db : Database) (stands : StandsFor machine db) (an
   -- if the rows are those of records that fit, the state keeps good records
   pub records_good : (archs : List (List ℕ × OsCpu)) (builders : List Key) (handed : ℕ) → HoldsRecords archs builders handed answer → AreKept archs builders handed machine → HasGoodRecords machine
   records_good archs builders handed holds given =
-      let same : holds.0 ≡ records = map_injective record_cells record_cells-same holds.0 records (sym holds.1 ∙ answer_is) in
+      let same : holds.0 ≡ records = map_injective record_cells record_cells-same holds.0 records (sym holds.1 ∙ records_answer) in
       let all = subst (λ l. AllAfter (FitsRecords archs builders handed) [] l) same holds.2 in
       good_records machine (subst (λ l. AllAfter (FitsRecords l (builder_pairs machine) machine.handed) [] records) given.archs_are
       (subst (λ l. AllAfter (FitsRecords archs l machine.handed) [] records) given.builders_are

@@ -74,7 +74,7 @@ flag-same true false e = let same = number-same 1 0 e in absurd (omega arith)
 flag-same false true e = let same = number-same 0 1 e in absurd (omega arith)
 flag-same false false e = refl
 
-source_cells-same : (a b : SourceRow) → source_cells a ≡ source_cells b → a ≡ b
+pub source_cells-same : (a b : SourceRow) → source_cells a ≡ source_cells b → a ≡ b
 source_cells-same a b e =
     λ i. record {
       seq = number-same a.seq b.seq (ap (λ row. column row 0) e) i;
@@ -88,7 +88,7 @@ source_cells-same a b e =
       depends_arch = text-same a.depends_arch b.depends_arch (ap (λ row. column row 8) e) i;
     }
 
-binary_cells-same : (a b : BinaryRow) → binary_cells a ≡ binary_cells b → a ≡ b
+pub binary_cells-same : (a b : BinaryRow) → binary_cells a ≡ binary_cells b → a ≡ b
 binary_cells-same a b e =
     λ i. record {
       seq = number-same a.seq b.seq (ap (λ row. column row 0) e) i;

@@ -20,4 +20,5 @@ pub mod ScratchLookups
 pub mod ScratchWrites
 pub mod Settled
 pub mod Stands
+pub mod TableRows
 pub mod Writes

@@ -27,8 +27,9 @@ table_of on.ScratchBinary = tables.scratch_binary
 
 -- a query on one of the office's tables
 pub data OfficeQuery : Type 0 where
-  -- the row of the office
+  -- the counts of the office, and its whole row
   Office : OfficeQuery
+  OfficeRow : OfficeQuery
   -- all architectures, and that of a name
   Archs : OfficeQuery
   ArchNamed : List ℕ → OfficeQuery
@@ -47,6 +48,9 @@ pub data OfficeQuery : Type 0 where
   RecordAt : Key → OfficeQuery
   TakenAs : ℕ → OfficeQuery
   HeldBy : List ℕ → OfficeQuery
+  -- all source packages, and all binary packages, of a merge
+  Sources : OfficeQuery
+  Binaries : OfficeQuery
   -- one source package, and one binary package, of a merge
   OneSource : OfficeQuery
   OneBinary : OfficeQuery
@@ -59,6 +63,7 @@ pub data OfficeQuery : Type 0 where
 -- the table that it is on
 abbrev pub table_asked : OfficeQuery → Table
 table_asked Office = on.Office
+table_asked OfficeRow = on.Office
 table_asked Archs = on.Arch
 table_asked (ArchNamed name) = on.Arch
 table_asked Builders = on.Builder
@@ -73,6 +78,8 @@ table_asked (HeadOf arch) = on.SourceRecord
 table_asked (RecordAt key) = on.SourceRecord
 table_asked (TakenAs take_number) = on.SourceRecord
 table_asked (HeldBy builder) = on.SourceRecord
+table_asked Sources = on.ScratchSource
+table_asked Binaries = on.ScratchBinary
 table_asked OneSource = on.ScratchSource
 table_asked OneBinary = on.ScratchBinary
 table_asked SourceNames = on.ScratchSource
@@ -83,6 +90,7 @@ table_asked (BinariesNamed name) = on.ScratchBinary
 -- what it asks
 abbrev pub query_asked : OfficeQuery → TableQuery
 query_asked Office = sql.office_counts
+query_asked OfficeRow = sql.office_row
 query_asked Archs = sql.all_archs
 query_asked (ArchNamed name) = sql.arch_of_name
 query_asked Builders = sql.all_builders
@@ -97,6 +105,8 @@ query_asked (HeadOf arch) = sql.head_of
 query_asked (RecordAt key) = sql.record_of_key
 query_asked (TakenAs take_number) = sql.record_of_take
 query_asked (HeldBy builder) = sql.held_by
+query_asked Sources = merge.all_sources
+query_asked Binaries = merge.all_binaries
 query_asked OneSource = sql.first_source
 query_asked OneBinary = sql.first_binary
 query_asked SourceNames = merge.source_names
@@ -108,6 +118,7 @@ query_asked (BinariesNamed name) = merge.binaries_named
 -- asked as the greatest number, 2^63 - 1, which no record has
 abbrev pub given_to : OfficeQuery → Row
 given_to Office = []
+given_to OfficeRow = []
 given_to Archs = []
 given_to (ArchNamed name) = Text name ∷ []
 given_to Builders = []
@@ -122,6 +133,8 @@ given_to (HeadOf arch) = Text arch ∷ number 0 ∷ []
 given_to (RecordAt key) = Text key.0 ∷ Text key.1 ∷ []
 given_to (TakenAs take_number) = number (min take_number (2 ^ 63 - 1)) ∷ []
 given_to (HeldBy builder) = Text builder ∷ []
+given_to Sources = []
+given_to Binaries = []
 given_to OneSource = []
 given_to OneBinary = []
 given_to SourceNames = []

@@ -1,10 +1,12 @@
-//! Laws of the tables: one on a function that does nothing, and that of an opening, on the call that each opening is.
+//! Laws of the tables: two on functions that do nothing, and that of an opening, on the call that each opening is.
 ghost use Rattle.std.specs.Prelude.{◌≡◌, false};
 ghost use Rattle.sqlite.specs.Effect.{Database};
 ghost use Rattle.wb_states.specs.Machine.{IsConsistent, Machine};
 ghost use Rattle.wb_store.specs.Checks.{HasGoodRows};
 ghost use Rattle.wb_store.specs.Opening.{PreparesOffice};
+ghost use Rattle.wb_store.specs.Merging.{Scratch};
 ghost use Rattle.wb_store.specs.Stands.{StandsFor};
+ghost use Rattle.wb_store.specs.TableRows.{table_rows};
 
 use crate::checks::other_fault;
 use crate::fault_of;
@@ -20,6 +22,14 @@ use wb_states::{Counts, StoreFault, Table};
 pub fn good_rows_are_of_a_consistent_office()
     ensures consistent { (machine : Machine) (db : Database) → StandsFor machine db → HasGoodRows db
         → IsConsistent machine }
+{}
+
+/// No two states of an office, with the rows of a merge, have the same rows in their tables, so that who compares all rows
+/// compares the states.
+/// Source: this project's own.
+pub fn rows_are_of_one_state()
+    ensures same { (one other : Machine) (some more : Scratch)
+        → table_rows one some ≡ table_rows other more → (one ≡ other) × (some ≡ more) }
 {}
 
 /// Prepares the database of an office, and answers the two counts of the office that it holds, or of an empty one, whose

@@ -20,6 +20,7 @@ mod preparing;
 mod queue;
 mod reading;
 mod records;
+mod rows;
 mod savepoint;
 mod scratch;
 mod store;

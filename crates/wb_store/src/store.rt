@@ -172,6 +172,7 @@ impl<D: Disk + Drop> Store<FileStore<D>> {
         ensures either { IfOk result (λ files. AreClean D.Disk files.log files.db → (before after : Machine)
             → LeavesEither before after (file_state self)
             → AreSettledAt D.Disk files before ⊎ AreSettledAt D.Disk files after) }
+        ensures clean { IfOk result (λ files. AreClean D.Disk files.log files.db → HasCleanDisk (file_state self)) }
         ensures usable { IfOk result (λ files. IsTrue (D.Disk.is_usable files.log) × IsTrue (D.Disk.is_usable files.db)) }
         ensures err { IfErr result (IsFaultOfClosing self) }
     {
@@ -198,6 +199,7 @@ fn close<D: Disk + Drop>(conn: Connection<FileStore<D>>) -> Result<Files<D>, Sto
     ensures either { IfOk result (λ files. AreClean D.Disk files.log files.db → (before after : Machine)
         → LeavesEither before after (file_state conn)
         → AreSettledAt D.Disk files before ⊎ AreSettledAt D.Disk files after) }
+    ensures clean { IfOk result (λ files. AreClean D.Disk files.log files.db → HasCleanDisk (file_state conn)) }
     ensures usable { IfOk result (λ files. IsTrue (D.Disk.is_usable files.log) × IsTrue (D.Disk.is_usable files.db)) }
     ensures err { IfErr result (IsFaultOfClosing conn) }
 {

@@ -11,7 +11,7 @@ use std::io::Write;
 use std::rt::Files as FileHandle;
 use std::{fs, str};
 use wb_api::{refusal_json, reply_json};
-use wb_office::{Crashes, LivesEnd, Outcome, lives};
+use wb_office::{Crashes, Found, LivesEnd, Outcome, lives};
 use wb_states::Command;
 use wb_words::{Invocation, invocation_of};
 
@@ -27,9 +27,12 @@ pub(crate) fn show<F: FileHandle + AllocGlobal, W: Write>(
     for name in names.split_whitespace() {
         commands.push(commands_of(rt, alloc, name)?)?;
     }
-    let LivesEnd { outcomes, office } = lived(alloc, &commands)?;
-    show_lives(alloc, &commands, outcomes.as_slice(), output)?;
-    let images = Images::of(alloc, &office.surrender())?;
+    let LivesEnd { found, files } = lived(alloc, &commands)?;
+    show_lives(alloc, &commands, found.as_slice(), output)?;
+    let Some(files) = files else {
+        bail!("a closing failed");
+    };
+    let images = Images::of(alloc, &files)?;
     rows::show(alloc, &images, output)
 }
 
@@ -44,7 +47,7 @@ fn lived(alloc: Global, commands: &[Items<Command>]) -> Result<LivesEnd<Memory>>
     };
     match lives(alloc, files, Options::new(1), &mut power, commands) {
         Ok(end) => Ok(end),
-        Err(fault) => Err(anyhow!("an opening failed: {fault}")),
+        Err(fault) => Err(anyhow!("the lives failed: {fault}")),
     }
 }
 
@@ -52,11 +55,16 @@ fn lived(alloc: Global, commands: &[Items<Command>]) -> Result<LivesEnd<Memory>>
 fn show_lives<W: Write>(
     alloc: Global,
     commands: &[Items<Command>],
-    outcomes: &[Items<Outcome>],
+    found: &[Found],
     output: &mut W,
 ) -> Result<()> {
-    for (life, answers) in commands.iter().zip(outcomes) {
-        show_outcomes(alloc, life.as_slice(), answers.as_slice(), output)?;
+    for (life, one) in commands.iter().zip(found) {
+        match one {
+            Found::Opened { outcomes, .. } => {
+                show_outcomes(alloc, life.as_slice(), outcomes.as_slice(), output)?;
+            }
+            Found::Refused(fault) => bail!("an opening failed: {fault}"),
+        }
     }
     Ok(())
 }

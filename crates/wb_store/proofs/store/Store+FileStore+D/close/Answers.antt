@@ -8,3 +8,6 @@ returns-clause-either g c = rw (← c.self.view_is) c.close.ensures.either
 
 pub returns-clause-err : goal.returns-clause-err
 returns-clause-err g c = rw (← c.self.view_is) c.close.ensures.err
+
+pub returns-clause-clean : goal.returns-clause-clean
+returns-clause-clean g c = rw (← c.self.view_is) c.close.ensures.clean
