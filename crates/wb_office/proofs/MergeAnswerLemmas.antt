@@ -1,5 +1,5 @@
 -- What is answered to a merge of lists in memory, from what a merge of lists in a transaction makes.
-use Rattle.std.proofs.Common.{◌≡◌, ◌≢◌, ◌⊎◌, ◌∙◌, refl, sym, ap, subst, inl, inr, ℕ, ◌+◌, Bool, true, false, cond, ◌||◌, nat_le, List, [], ◌∷◌, Option, Some, None, Result, Ok, Err, Vec, is_ok}
+use Rattle.std.proofs.Common.{◌≡◌, ◌⊎◌, ◌∙◌, refl, sym, ap, subst, inl, inr, ℕ, ◌+◌, Bool, true, false, cond, ◌||◌, nat_le, List, [], ◌∷◌, Option, Some, None, Result, Ok, Err, Vec, is_ok}
 use Rattle.std.specs.Result.{result_err}
 use Rattle.std.specs.List.{AllZip, list_any}
 use Rattle.std.specs.FinMap as map
@@ -25,8 +25,8 @@ use Rattle.wb_states.specs.Limits.{count_limit}
 use Rattle.wb_states.specs.Machine.{Machine}
 use Rattle.wb_merge.specs.Listing.{ArchiveListing}
 use Rattle.wb_merge.specs.Merged.{Records}
-use Rattle.wb_step.specs.Checks.{MayWantMemory, first_refusal, text_checks, text_refusal, when}
-use Rattle.wb_step.specs.Parts.{end_with, is_good, is_merged, part_listing, part_replies, parts_refusal, records_after, records_with}
+use Rattle.wb_step.specs.Checks.{first_refusal, text_checks, text_refusal, when}
+use Rattle.wb_step.specs.Parts.{end_with, is_good, is_merged, part_listing, part_replies, parts_refusal, records_with}
 use Rattle.wb_step.specs.Step.{Outcome, outcome, step}
 use Rattle.wb_step.proofs.PartLemmas.{first_refusal-Merge}
 use Rattle.wb_step.proofs.PassLemmas.{when-None}
@@ -44,7 +44,7 @@ use Rattle.wb_office.specs.declared.carry.CarryError.{CarryError}
 use Rattle.wb_office.specs.declared.carry.CarryError.TheVariants.{TakenBack, RollBackFailed, InDoubt}
 use Rattle.wb_office.specs.Answers.{Answers, AreOf, IsLeft}
 use Rattle.wb_office.specs.Carried.{LeavesAs}
-use Rattle.wb_office.specs.MergeCarried.{CarriesLists, FailsAsMerge, FailsAtMergeCommit, IsNotMerged, IsCarriedMerge, IsRefusedAndLeft, MergeEndsFor, MergeLeavesAs}
+use Rattle.wb_office.specs.MergeCarried.{CarriesLists, FailsAsMerge, FailsAtMergeCommit, IsNotMerged, IsCarriedMerge, MergeEndsFor, MergeLeavesAs}
 use Rattle.wb_office.specs.MergeLists.{AreListsDone, AreListsToRead, AreTextsDone, IsAcceptedMerge, IsMergedIn, IsRefusedMerge, merged_office, refusal_by, refusal_in}
 use Rattle.wb_office.specs.PartLists.{Stands}
 

@@ -1,6 +1,4 @@
-use Rattle.std.proofs.Common.{sym, subst, ap}
-use Rattle.wb_states.specs.declared.command.Command.TheVariants as of
-use Rattle.wb_office.specs.Answers.{Answers, AreOf}
+use Rattle.wb_office.specs.Answers.{AreOf}
 use Rattle.wb_office.proofs.ReportLemmas.{answers_given, report_refused}
 use Rattle.wb_office.proofs.reporting.answer_report.Goals as goal
 

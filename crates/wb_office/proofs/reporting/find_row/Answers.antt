@@ -1,4 +1,4 @@
-use Rattle.std.proofs.Common.{◌∙◌, ap, Ok, Err}
+use Rattle.std.proofs.Common.{Ok, Err}
 use Rattle.wb_store.proofs.ReadLemmas.{handed_on}
 use Rattle.wb_store.proofs.FindsLemmas.{fails_to_find, finds_looked_up, made_after}
 use Rattle.wb_office.proofs.ReportLemmas.{row_is}

@@ -1,4 +1,4 @@
-use Rattle.std.proofs.Common.{◌≡◌, ◌∙◌, ◌++◌, List, map as each, refl, ap, Ok, Err, Result}
+use Rattle.std.proofs.Common.{◌∙◌, ◌++◌, List, map as each, refl, ap, Ok, Err, Result}
 use Rattle.wb_states.specs.declared.keyed.KeyedRecord.{KeyedRecord}
 use Rattle.wb_states.specs.declared.store_fault.StoreFault.{StoreFault}
 use Rattle.wb_states.specs.declared.store_fault.StoreFault.TheVariants.{Memory}

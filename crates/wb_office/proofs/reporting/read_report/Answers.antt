@@ -1,4 +1,4 @@
-use Rattle.std.proofs.Common.{◌≡◌, ◌∙◌, ap, not, refl, sym, true, false, None, nat_le}
+use Rattle.std.proofs.Common.{◌∙◌, ap, not, refl, sym, true, false, None, nat_le}
 use Rattle.wb_states.specs.Limits.{count_limit}
 use Rattle.wb_states.specs.Names.{is_arch_name}
 use Rattle.wb_merge.specs.Report.{report_of, report_takes_memory}
