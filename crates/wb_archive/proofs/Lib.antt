@@ -1,4 +1,5 @@
 pub mod DecideLemmas
+pub mod EndLemmas
 pub mod FeedReadLemmas
 pub mod FillLemmas
 pub mod FilterLemmas

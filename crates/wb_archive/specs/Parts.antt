@@ -1,11 +1,13 @@
 -- The parts of a merge, each from its own list, one after another.
-use Rattle.std.specs.Prelude.{◌≡◌, ◌⊎◌, ℕ, List, Result, Ok, Err}
+use Rattle.std.specs.Prelude.{◌≡◌, ◌⊎◌, ⊤, ℕ, List, Result, Ok, Err}
 use Rattle.std.specs.Result.{result_map_both}
 use Rattle.deb_control.specs.declared.fault.ControlFault.{ControlFault}
 use Rattle.deb_control.specs.Paragraphs.{ReaderState}
 use Rattle.deb_relations.specs.declared.arch.ArchWords.{ArchWords}
 use Rattle.wb_states.specs.declared.refusal.Refusal.{Refusal}
+use Rattle.wb_states.specs.declared.refusal.Refusal.TheVariants.{BadListing, UnknownArch}
 use Rattle.wb_states.specs.declared.reply.PartEnd.{PartEnd}
+use Rattle.wb_states.specs.declared.reply.PartEnd.TheVariants.{Merged, Refused}
 use Rattle.wb_states.specs.declared.scratch.BinaryRow.{BinaryRow}
 use Rattle.wb_states.specs.declared.scratch.SourceRow.{SourceRow}
 use Rattle.wb_merge.specs.Listing.{ArchiveListing}
@@ -35,3 +37,14 @@ pub record IsPartDone (Gives : Result ArchiveListing Refusal → Type 0) (Holds 
   pub gives : Gives listing
   pub is : end ≡ end_with records arch listing
   pub holds : Holds (records_with records arch listing)
+
+-- the refusal is one of a part: its architecture was never added, or a list is refused
+abbrev pub IsPartRefusal : Refusal → Type 0
+IsPartRefusal UnknownArch = ⊤
+IsPartRefusal (BadListing which paragraph fault) = ⊤
+IsPartRefusal refusal = ⊥
+
+-- a part ends so: it is merged, or refused with a refusal of a part
+abbrev pub IsPartEnd : PartEnd → Type 0
+IsPartEnd (Merged counts) = ⊤
+IsPartEnd (Refused refusal) = IsPartRefusal refusal

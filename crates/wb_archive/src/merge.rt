@@ -7,6 +7,7 @@ ghost use Rattle.wb_step.specs.Parts.{part_listing};
 ghost use Rattle.wb_states.specs.declared.reply.PartEnd.TheVariants.{Refused};
 ghost use Rattle.wb_archive.specs.Faults.{StopsAs, refusal_of};
 ghost use Rattle.wb_archive.specs.Merges.{IsGiven, IsMergeOfLists, IsMergeOfParts, IsPartMerged, IsPartUnread, IsUnread, arch_of, archs_of};
+ghost use Rattle.wb_archive.specs.Parts.{IsPartEnd};
 ghost use Rattle.wb_archive.specs.Sources.{AreAllKnown, AreKnown, HasSources};
 ghost use Rattle.wb_archive.specs.Tables.{Tables, with_binaries, with_records, with_sources};
 
@@ -63,6 +64,7 @@ fn archs_of<R: ReadParagraphs>(
 /// Refuses a part for the fault of a list.
 fn refused(bad: BadList) -> PartEnd
     ensures value { result ≡ Refused (refusal_of bad) }
+    ensures kind { IsPartEnd result }
 {
     PartEnd::Refused {
         refusal: bad.refusal(),
@@ -85,6 +87,7 @@ fn merge_known<T: MergeTables, R: ReadParagraphs>(
         → IfOk result (IsPartMerged R.may_stand_at machine (λ of. IsGiven R.breaks (part_listing machine text of))
         (λ records. T.holds tables.new (with_records records at))
         (record { arch = name.now; words = words.now; packages = packages.old }) at.now.machine.records) }
+    ensures kind { IfOk result IsPartEnd }
     ensures follows { OnOk result (T.follows tables.old tables.new) }
     ensures stops { IfErr result (StopsAs T.follows T.fails tables.old tables.new) }
 {
@@ -115,6 +118,7 @@ fn reply_to<T: MergeTables, R: ReadParagraphs>(
         → IfOk result (λ reply. (reply.arch ≡ part.arch) × IsPartMerged R.may_stand_at machine
         (λ of. IsGiven R.breaks (part_listing machine text of)) (λ records. T.holds tables.new (with_records records at))
         part at.now.machine.records reply.end) }
+    ensures kind { IfOk result (λ reply. IsPartEnd reply.end) }
     ensures follows { OnOk result (T.follows tables.old tables.new) }
     ensures stops { IfErr result (StopsAs T.follows T.fails tables.old tables.new) }
 {
@@ -149,6 +153,7 @@ fn merge_parts<T: MergeTables, R: ReadParagraphs>(
         → IfOk result (λ replies. IsMergeOfParts R.may_stand_at machine
         (λ of. IsGiven R.breaks (part_listing machine text of)) (λ records. T.holds tables.new (with_records records at))
         parts.items at.now.machine.records replies.items) }
+    ensures kinds { IfOk result (λ replies. AllByRecursion (λ reply. IsPartEnd reply.end) replies.items) }
     ensures follows { OnOk result (T.follows tables.old tables.new) }
     ensures stops { IfErr result (StopsAs T.follows T.fails tables.old tables.new) }
 {
@@ -187,6 +192,7 @@ pub fn merge_lists<T: MergeTables, R: ReadParagraphs>(
         → IsUnread R.may_stand_at sources.old → AllByRecursion (IsPartUnread R.may_stand_at machine) parts.items
         → IfOk result (λ replies. IsMergeOfLists R.may_stand_at R.breaks machine
         (λ records. T.holds tables.new (with_records records at)) sources.old parts.items at.now.machine.records replies.items) }
+    ensures kinds { IfOk result (λ replies. AllByRecursion (λ reply. IsPartEnd reply.end) replies.items) }
     ensures follows { OnOk result (T.follows tables.old tables.new) }
     ensures stops { IfErr result (StopsAs T.follows T.fails tables.old tables.new) }
 {

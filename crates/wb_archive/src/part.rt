@@ -8,7 +8,7 @@ ghost use Rattle.wb_merge.specs.Merged.{merge_counts, merged};
 ghost use Rattle.wb_archive.specs.Decides.{listing_at};
 ghost use Rattle.wb_archive.specs.Faults.{StopsAs, refusal_of};
 ghost use Rattle.wb_archive.specs.Fills.{sources_wanted};
-ghost use Rattle.wb_archive.specs.Parts.{IsListing, IsPartDone, listing_from};
+ghost use Rattle.wb_archive.specs.Parts.{IsListing, IsPartDone, IsPartEnd, listing_from};
 ghost use Rattle.wb_archive.specs.Reads.{MayStandWhere};
 ghost use Rattle.wb_archive.specs.Tables.{Contents, Tables, back_at, with_binaries, with_records, with_savepoint, without_savepoint};
 
@@ -66,6 +66,7 @@ fn take_back<T: MergeTables>(tables: &mut T, bad: BadList) -> Result<PartEnd, Me
     ensures value { (at : Tables) (saved : Contents) → T.is_clean tables.new → T.holds tables.old at → at.saved ≡ Some saved
         → OnOk result (T.holds tables.new (without_savepoint (back_at saved at))) }
     ensures end { IfOk result (λ end. end ≡ Refused (refusal_of bad)) }
+    ensures kind { IfOk result IsPartEnd }
     ensures follows { OnOk result (T.follows tables.old tables.new) }
     ensures stops { IfErr result (StopsAs T.follows T.fails tables.old tables.new) }
 {
@@ -87,6 +88,7 @@ fn keep<T: MergeTables>(
         (with_records (merged at.now.machine.records arch.now.name (listing_at arch.now at.now)) at)))) }
     ensures end { (at : Tables) → T.is_clean tables.new → T.holds tables.old at
         → IfOk result (λ end. end ≡ Merged (merge_counts at.now.machine.records arch.now.name (listing_at arch.now at.now))) }
+    ensures kind { IfOk result IsPartEnd }
     ensures follows { OnOk result (T.follows tables.old tables.new) }
     ensures stops { IfErr result (StopsAs T.follows T.fails tables.old tables.new) }
 {
@@ -112,6 +114,7 @@ pub fn merge_part<T: MergeTables, R: ReadParagraphs>(
         → IfOk result (λ end. MayStandWhere R.may_stand_at packages.old (λ place.
         IsPartDone (IsListing R.breaks packages.new (listing_from arch.now rows place))
         (λ records. T.holds tables.new (with_records records at)) at.now.machine.records arch.now.name end)) }
+    ensures kind { IfOk result IsPartEnd }
     ensures follows { OnOk result (T.follows tables.old tables.new) }
     ensures stops { IfErr result (StopsAs T.follows T.fails tables.old tables.new) }
 {

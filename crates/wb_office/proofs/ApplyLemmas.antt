@@ -28,7 +28,8 @@ use Rattle.wb_office.specs.declared.answer.Failure.{Failure}
 use Rattle.wb_office.specs.declared.answer.Failure.TheVariants.{Refused, Unread, Uncommitted}
 use Rattle.wb_office.specs.declared.carry.CarryError.TheVariants.{TakenBack, RollBackFailed, InDoubt}
 use Rattle.wb_office.specs.declared.known.Known.{Known}
-use Rattle.wb_office.specs.Answers.{IsLeft, IsOfStep, Responds}
+use Rattle.wb_office.specs.Answers.{IsLeft, Responds}
+use Rattle.wb_office.specs.Kinds.{IsOfStep}
 use Rattle.wb_office.specs.Failed.{HasFailed}
 use Rattle.wb_office.specs.Standing.{Knows, StandsAt, LeavesOne}
 use Rattle.wb_office.specs.Applies.{refusal_for, refusal_of, CannotBeUsed, IsRefusedIn, Applies, Ends, EndsWith}

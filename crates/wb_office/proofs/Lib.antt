@@ -4,11 +4,8 @@ pub mod AskLemmas
 pub mod CarryLemmas
 pub mod KnownLemmas
 pub mod LifeLemmas
-pub mod MergeAnswerLemmas
 pub mod MergeCarryLemmas
-pub mod MergePartLemmas
-pub mod MergeRecordLemmas
-pub mod MergeWriteLemmas
+pub mod MergeInLemmas
 pub mod ReportLemmas
 pub mod RowsCarryLemmas
 pub mod RowsWriteLemmas

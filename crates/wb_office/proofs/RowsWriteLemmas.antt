@@ -15,7 +15,7 @@ use Rattle.wb_store.specs.Calls.{Becomes, Changes}
 use Rattle.wb_store.specs.Faults.{IsUnfit}
 use Rattle.wb_store.specs.Writes as write
 use Rattle.wb_store.specs.Writes.{OfficeWrite}
-use Rattle.wb_office.specs.MergeWritten.{HasTakeOverLimit, PutsOne}
+use Rattle.wb_office.specs.RowWrites.{HasTakeOverLimit, PutsOne}
 use Rattle.wb_office.specs.Rows.{CannotWriteRows, HaveFit, IsWriteOfRows, WritesRows, rows_written}
 use Rattle.wb_office.specs.Turns.{ChangesInTurn}
 use Rattle.wb_office.proofs.TurnLemmas.{for_more, not_made, one_change, then_changes}

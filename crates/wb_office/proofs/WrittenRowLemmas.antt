@@ -14,7 +14,8 @@ use Rattle.wb_states.specs.Lookups.{entry_of}
 use Rattle.wb_store.specs.Calls.{Changes}
 use Rattle.wb_store.specs.Writes as write
 use Rattle.wb_store.specs.Writes.{OfficeWrite}
-use Rattle.wb_office.specs.MergeWritten.{PutsOne, RemovesOne, with_rows, without_rows}
+use Rattle.wb_merge.specs.Reported.{with_rows}
+use Rattle.wb_office.specs.RowWrites.{PutsOne}
 use Rattle.wb_office.specs.Turns.{ChangesInTurn}
 use Rattle.wb_office.proofs.TurnLemmas.{one_change, then_changes, no_change, failed_alike}
 
@@ -29,23 +30,11 @@ in_place f [] at x within is = absurd (omega (arith, within))
 in_place f (y ∷ xs) zero x within is = inl (ap f is)
 in_place f (y ∷ xs) (suc at) x within is = inr (in_place f xs at x (omega (arith, within)) is)
 
--- an office without the records at the keys of these
-abbrev pub without : List Entry → Machine → Machine
-without entries machine = record machine { records = without_rows machine.records entries }
-
 -- an office with these records
 abbrev pub having : List Entry → Machine → Machine
 having entries machine = record machine { records = with_rows machine.records entries }
 
 module _ {S : Type 0} (g : Ghosts S) {Why : StoreFault → Type 0} (rows : List KeyedRecord) (at : ℕ) where
-  pub removed_next : {old mid : Held S} (row : KeyedRecord) (x : Unit {0}) → at < length rows → row ≡ get_or rows at row
-      → Changes g (write.RemovesRecord (row.arch, row.source)) (λ _. ⊤) (λ machine. record machine { records = map.remove machine.records (row.arch, row.source) }) old mid (Ok x)
-      → (new : Held S) (r : Result (Unit {0}) StoreFault) → ChangesInTurn g (RemovesOne (each entry_of rows)) Why (without (each entry_of (drop (at + 1) rows))) mid new r
-      → ChangesInTurn g (RemovesOne (each entry_of rows)) Why (without (each entry_of (drop at rows))) old new r
-  removed_next {old = old} row x within is made new r later =
-      subst (λ (rest : List KeyedRecord). ChangesInTurn g (RemovesOne (each entry_of rows)) Why (without (each entry_of rest)) old new r) (sym (left_of rows at row within is))
-      (then_changes g x r (one_change g (Ok x) (entry_of row, in_place entry_of rows at row within is, refl) made) later)
-
   pub put_next : {old mid : Held S} (row : KeyedRecord) (x : Unit {0}) → at < length rows → row ≡ get_or rows at row
       → Changes g (write.PutsRecord (entry_of row)) (λ _. ⊤) (λ machine. record machine { records = map.insert machine.records (row.arch, row.source) row.current }) old mid (Ok x)
       → (new : Held S) (r : Result (Unit {0}) StoreFault) → ChangesInTurn g (PutsOne (each entry_of rows)) Why (having (each entry_of (drop (at + 1) rows))) mid new r
@@ -53,10 +42,6 @@ module _ {S : Type 0} (g : Ghosts S) {Why : StoreFault → Type 0} (rows : List 
   put_next {old = old} row x within is made new r later =
       subst (λ (rest : List KeyedRecord). ChangesInTurn g (PutsOne (each entry_of rows)) Why (having (each entry_of rest)) old new r) (sym (left_of rows at row within is))
       (then_changes g x r (one_change g (Ok x) (in_place entry_of rows at row within is) made) later)
-
-  pub removed_all : (held : Held S) → length rows ≤ at → ChangesInTurn g (RemovesOne (each entry_of rows)) Why (without (each entry_of (drop at rows))) held held (Ok (tt {0}))
-  removed_all held past =
-      subst (λ (rest : List KeyedRecord). ChangesInTurn g (RemovesOne (each entry_of rows)) Why (without (each entry_of rest)) held held (Ok (tt {0}))) (sym (drop_all at rows past)) (no_change g (tt {0}))
 
   pub put_all : (held : Held S) → length rows ≤ at → ChangesInTurn g (PutsOne (each entry_of rows)) Why (having (each entry_of (drop at rows))) held held (Ok (tt {0}))
   put_all held past =

@@ -7,18 +7,16 @@ use Rattle.sqlite.specs.State.{HasCleanDisk}
 use Rattle.wb_states.specs.declared.arch.OsCpu.{OsCpu}
 use Rattle.wb_states.specs.declared.command.Command.{Command}
 use Rattle.wb_states.specs.declared.command.Command.TheVariants as of
-use Rattle.wb_states.specs.declared.command.Part.{Part}
+use Rattle.wb_states.specs.declared.command.Merge.{Merge}
 use Rattle.wb_states.specs.declared.command.Report.{Report}
 use Rattle.wb_states.specs.declared.counts.Counts.{Counts}
 use Rattle.wb_states.specs.declared.reply.Reply.{Reply}
 use Rattle.wb_states.specs.declared.reply.Reply.TheVariants as is
 use Rattle.wb_states.specs.declared.refusal.Refusal.TheVariants.{Memory}
-use Rattle.wb_states.specs.Forms.{Merge}
 use Rattle.wb_states.specs.Machine.{Machine, Key, IsConsistent}
 use Rattle.wb_states.specs.Queue.{Entry}
 use Rattle.wb_states.specs.Refusals.{IsOfMachine, is_of_store}
 use Rattle.wb_step.specs.Checks.{MayWantMemory}
-use Rattle.wb_step.specs.MergedParts.{part_for_merge}
 use Rattle.wb_step.specs.Named.{part_named}
 use Rattle.wb_step.specs.Step.{step}
 use Rattle.wb_step.specs.Utf8.{HasUtf8Texts}
@@ -33,8 +31,9 @@ use Rattle.wb_office.specs.Carried.{LeavesAs, EndsFor}
 use Rattle.wb_office.specs.Changed.{IsStepOf}
 use Rattle.wb_store.specs.Finds.{FailsToFind, StaysAs}
 use Rattle.wb_office.specs.Keys.{key_put}
+use Rattle.wb_office.specs.Kinds.{IsOfStep}
 use Rattle.wb_office.specs.MergeCarried.{MergeEndsFor}
-use Rattle.wb_office.specs.MergeWritten.{IsMergeIn}
+use Rattle.wb_office.specs.MergeLists.{AreTextsDone}
 use Rattle.wb_office.specs.Rows.{IsReportIn, RowsEndFor}
 use Rattle.wb_store.specs.Opening.{AreCountsOf}
 use Rattle.wb_office.specs.Standing.{Knows}
@@ -60,11 +59,11 @@ abbrev pub FailsToKeepStep : {S : Type 0} → Ghosts S → Machine → Command �
 FailsToKeepStep {S} g machine command old new failure =
     (at : Held S) × (key : Option Key) × (after : Machine) × StaysAs g old at × IsStepOf machine command key after × EndsFor g command key after machine at new failure
 
--- the command is a merge, and what it changed in the part of the office that it looks at was written in such a transaction
+-- the command is a merge, and its lists were merged in such a transaction
 abbrev pub FailsToKeepMerge : {S : Type 0} → Ghosts S → Machine → Command → Held S → Held S → CarryError → Type 0
 FailsToKeepMerge {S} g machine command old new failure =
-    (at : Held S) × (sources : List ℕ) × (parts : List Part) × (before : Machine) × (after : Machine) × StaysAs g old at × (command ≡ Merge sources parts)
-    × IsMergeIn machine sources parts before after × MergeEndsFor g before after (step machine command).1 at new failure
+    (at : Held S) × (merge : Merge) × (counts : Counts) × StaysAs g old at × (command ≡ of.Merge merge) × AreCountsOf machine counts
+    × MergeEndsFor g (AreTextsDone merge.sources merge.parts) counts machine at new failure
 
 -- the command is a report, and what it changed was written in such a transaction
 abbrev pub FailsToKeepReport : {S : Type 0} → Ghosts S → Machine → Command → Held S → Held S → CarryError → Type 0
@@ -89,12 +88,6 @@ IsLeft g machine command old new (Refused refusal) =
 IsLeft g machine command old new (Unread fault) = FailsToFind g old new fault × IsBackAt machine (state g new)
 IsLeft g machine command old new (Uncommitted failure) = IsUncommitted g machine command old new (Uncommitted failure)
 
--- a failure that is a refusal is one of the step: it says neither that the office is closed nor that its store failed
-abbrev pub IsOfStep : Failure → Type 0
-IsOfStep (Refused refusal) = is_of_store refusal ≡ false
-IsOfStep (Unread fault) = ⊤
-IsOfStep (Uncommitted failure) = ⊤
-
 -- what a step in a part of the office changed, written to the tables of the whole office; if it succeeds, the tables of others keep their rows
 pub record KeepsStep {S A : Type 0} (g : Ghosts S) (command : Command) (key : Option Key) (after : Machine) (old new : Held S) (result : Result A Failure) : Type 0 where
   pub was_clean : HasCleanDisk (state g new) → HasCleanDisk (state g old)
@@ -104,23 +97,6 @@ pub record KeepsStep {S A : Type 0} (g : Ghosts S) (command : Command) (key : Op
   pub err : HasCleanDisk (state g new) → (machine : Machine) → IsSettled machine (state g old) → IsStepOf machine command key after
       → IfErr result (IsUncommitted g machine command old new)
   pub others : HasCleanDisk (state g new) → (machine : Machine) → IsSettled machine (state g old) → IsStepOf machine command key after
-      → OnOk result (KeepsOthers (state g old).now (state g new).now)
-  pub of_step : IfErr result IsOfStep
-
--- both of these are the part of the office that a merge looks at
-abbrev pub AreParts : List Part → Machine → Machine → Machine → Type 0
-AreParts parts before part machine = (before ≡ part_for_merge machine parts) × (part ≡ part_for_merge machine parts)
-
--- what a merge changed, from the one part of the office to the other, written to the tables of the whole office; if it succeeds, the tables of
--- others keep their rows
-pub record KeepsMerge {S A : Type 0} (g : Ghosts S) (sources : List ℕ) (parts : List Part) (before after : Machine) (old new : Held S) (result : Result A Failure) : Type 0 where
-  pub was_clean : HasCleanDisk (state g new) → HasCleanDisk (state g old)
-  pub limit : new.step_limit ≡ old.step_limit
-  pub ok : HasCleanDisk (state g new) → (machine : Machine) → IsSettled machine (state g old) → IsMergeIn machine sources parts before after
-      → OnOk result (IsSettled (step machine (Merge sources parts)).1 (state g new))
-  pub err : HasCleanDisk (state g new) → (machine : Machine) → IsSettled machine (state g old) → IsMergeIn machine sources parts before after
-      → IfErr result (IsUncommitted g machine (Merge sources parts) old new)
-  pub others : HasCleanDisk (state g new) → (machine : Machine) → IsSettled machine (state g old) → IsMergeIn machine sources parts before after
       → OnOk result (KeepsOthers (state g old).now (state g new).now)
   pub of_step : IfErr result IsOfStep
 

@@ -6,11 +6,13 @@ pub mod Changed
 pub mod Failed
 pub mod Files
 pub mod Keys
+pub mod Kinds
 pub mod Lives
 pub mod MergeCarried
-pub mod MergePart
-pub mod MergeWritten
+pub mod MergeLists
 pub mod Offices
+pub mod PartLists
+pub mod RowWrites
 pub mod Rows
 pub mod Sought
 pub mod Standing

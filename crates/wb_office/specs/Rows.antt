@@ -32,7 +32,7 @@ use Rattle.wb_office.specs.declared.carry.CarryError.{CarryError}
 use Rattle.wb_office.specs.declared.carry.CarryError.TheVariants.{TakenBack, RollBackFailed, InDoubt}
 use Rattle.wb_office.specs.Carried.{FailsAtCommit, FailsToRollBack, IsEnded, LeavesAs}
 use Rattle.wb_office.specs.Changed.{IsLeftOrBack}
-use Rattle.wb_office.specs.MergeWritten.{HasTakeOverLimit}
+use Rattle.wb_office.specs.RowWrites.{HasTakeOverLimit}
 use Rattle.wb_office.specs.Turns.{IsNoOffice, StopsWith}
 
 -- ---- what is written

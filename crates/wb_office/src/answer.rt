@@ -2,6 +2,7 @@
 //! on that part of the office in memory, and what it changed is written in one transaction.
 ghost use Rattle.std.specs.Prelude.{◌≡◌, None};
 ghost use Rattle.wb_step.specs.Arguments.{arguments_of};
+ghost use Rattle.wb_step.specs.Checks.{text_refusal};
 ghost use Rattle.wb_office.specs.Answers.{AreOf, Answers, IsNamed, KeepsStep, Responds, is_again};
 
 use crate::carry::{CarryError, carry};
@@ -36,13 +37,14 @@ pub(crate) struct Answered {
     pub(crate) counts: Counts,
 }
 
-/// Carries out a command by what is known of the tables, and takes over what is known then.
+/// Carries out a command whose texts are not refused by what is known of the tables, and takes over what is known then.
 pub(crate) fn answer<S: Alter + Drop>(
     alloc: Global,
     store: &mut Store<S>,
     known: &mut Known,
     command: &Command,
 ) -> Result<Reply, Failure>
+    requires texts { text_refusal command.now ≡ None }
     ensures responds { Responds S.Store command.now known.old store.old known.new store.new result }
 {
     let archs = match find_archs(alloc, store, known) {
@@ -58,7 +60,7 @@ pub(crate) fn answer<S: Alter + Drop>(
     }
 }
 
-/// Carries out a command in an office that has these counts and architectures.
+/// Carries out a command whose texts are not refused in an office that has these counts and architectures.
 fn answer_of<S: Alter + Drop>(
     alloc: Global,
     store: &mut Store<S>,
@@ -66,10 +68,11 @@ fn answer_of<S: Alter + Drop>(
     archs: Vec<(Text, OsCpu)>,
     command: &Command,
 ) -> Result<Answered, Failure>
+    requires texts { text_refusal command.now ≡ None }
     ensures answers { Answers S.Store (AreOf counts archs.items) command.now store.old store.new result }
 {
     match command {
-        Command::Merge(merge) => answer_merge(alloc, store, counts, &archs, command, merge),
+        Command::Merge(merge) => answer_merge(alloc, store, counts, &archs, merge),
         Command::Report(report) => answer_report(alloc, store, counts, &archs, report),
         _ => answer_one(alloc, store, counts, archs, command),
     }

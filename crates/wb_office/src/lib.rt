@@ -10,14 +10,15 @@ mod commands;
 mod history;
 mod known;
 mod life;
-mod merge;
-mod merge_part;
+mod merge_lists;
 mod merging;
 mod named;
 mod office;
+mod part_lists;
 mod power;
 mod query;
 mod reporting;
+mod rows;
 
 pub use commands::Outcome;
 pub use history::{LivesEnd, lives};

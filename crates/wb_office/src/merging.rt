@@ -1,100 +1,106 @@
-//! What the office answers to a merge over its tables: the part of the office that the merge looks at is read, the merge
-//! is carried out on it in memory, and what differs is written in one transaction.
-ghost use Rattle.std.specs.Prelude.{◌≡◌};
+//! What the office answers to a merge over its tables: the lists are read paragraph by paragraph into the tables, and the records
+//! that they change are written, in one transaction.
+ghost use Rattle.std.specs.Prelude.{◌≡◌, None, false};
+ghost use Rattle.sqlite.specs.Held.{state};
+ghost use Rattle.sqlite.specs.State.{Survives};
 ghost use Rattle.wb_states.specs.declared.command.Command.TheVariants as of;
-ghost use Rattle.wb_step.specs.MergedParts.{part_for_merge};
-ghost use Rattle.wb_office.specs.Answers.{Answers, AreOf, AreParts, KeepsMerge};
+ghost use Rattle.wb_step.specs.Checks.{text_refusal};
+ghost use Rattle.wb_office.specs.Answers.{Answers, AreOf};
+ghost use Rattle.wb_office.specs.MergeCarried.{CarriesLists, EndsStopped};
+ghost use Rattle.wb_office.specs.MergeLists.{AreListsDone, AreListsToRead};
 
 use crate::answer::{Answered, Failure};
-use crate::merge::carry_merge;
-use crate::merge_part::part_for_merge;
-use deb_text::Text;
+use crate::carry::{CarryError, failure};
+use crate::merge_lists::{Stop, merge_in};
+use crate::part_lists::part_lists;
+use deb_control::Paragraphs;
+use deb_text::{Items, Text};
 use sqlite::Alter;
 use std::alloc::Global;
+use wb_archive::{PartList, ReadParagraphs};
 use wb_states::command::Merge;
-use wb_states::{Command, Counts, OsCpu, Table};
-use wb_step::{OfficePart, carry_out};
+use wb_states::{Counts, OsCpu, PartReply, Refusal, Reply, StoreFault, Table};
 use wb_store::{Store, unfit};
 
-/// Carries out a merge. The records of its architectures are read twice, to find afterwards which of them differ.
+/// How a merge that stopped failed, after the call that was to take its transaction back. A refused merge leaves the office as it
+/// was if its transaction was taken back and the store can still be used; otherwise it is a failure of the store.
+fn stopped<S: Alter + Drop>(
+    store: &mut Store<S>,
+    stop: Stop,
+    ended: Result<(), StoreFault>,
+) -> Failure
+    ensures ends { EndsStopped S.Store stop ended store.old store.new result }
+    ensures survives { Survives (state S.Store store.old) (state S.Store store.new) (λ _. ⊥) }
+{
+    match stop {
+        Stop::Failed(fault) => Failure::Uncommitted(failure(fault, ended)),
+        Stop::Refused(refusal) => match ended {
+            Ok(()) if store.is_usable() => Failure::Refused(refusal),
+            Ok(()) => Failure::Uncommitted(CarryError::RollBackFailed(StoreFault::Device)),
+            Err(fault) => Failure::Uncommitted(CarryError::RollBackFailed(fault)),
+        },
+    }
+}
+
+/// Merges lists in a transaction of its own, and commits it. If it fails, the office is as it was, unless the commit is in doubt
+/// (this project's own).
+pub(crate) fn carry_lists<S: Alter + Drop, R: ReadParagraphs>(
+    alloc: Global,
+    store: &mut Store<S>,
+    counts: Counts,
+    sources: &mut R,
+    parts: Vec<PartList<R>>,
+) -> Result<Vec<PartReply>, Failure>
+    requires idle { store.old.in_transaction ≡ false }
+    ensures carries { CarriesLists S.Store (AreListsToRead R.may_stand_at sources.old parts.items)
+        (AreListsDone R.may_stand_at R.breaks sources.old parts.items) counts store.old store.new result }
+{
+    let mut writing = store.begin();
+    let replies = match merge_in(alloc, &mut writing, counts, sources, parts) {
+        Ok(replies) => replies,
+        Err(stop) => {
+            let ended = writing.roll_back();
+            return Err(stopped(store, stop, ended));
+        }
+    };
+    match writing.commit() {
+        Ok(()) => Ok(replies),
+        Err(StoreFault::Memory) => {
+            let ended = store.roll_back();
+            Err(Failure::Uncommitted(failure(StoreFault::Memory, ended)))
+        }
+        Err(fault) => Err(Failure::Uncommitted(CarryError::InDoubt(fault))),
+    }
+}
+
+/// Carries out a merge whose lists are in memory.
 pub(crate) fn answer_merge<S: Alter + Drop>(
     alloc: Global,
     store: &mut Store<S>,
     counts: Counts,
     archs: &[(Text, OsCpu)],
-    command: &Command,
     merge: &Merge,
 ) -> Result<Answered, Failure>
-    requires same { command.now ≡ of.Merge merge.now }
+    requires texts { text_refusal (of.Merge merge.now) ≡ None }
     ensures answers { Answers S.Store (AreOf counts archs.now) (of.Merge merge.now) store.old store.new result }
-{
-    match part_for_merge(alloc, store, counts, archs, merge.parts.as_slice()) {
-        Ok(before) => merge_beside(alloc, store, counts, archs, command, merge, &before),
-        Err(fault) => Err(Failure::Unread(fault)),
-    }
-}
-
-/// Carries out a merge beside the part of the office that it looks at.
-fn merge_beside<S: Alter + Drop>(
-    alloc: Global,
-    store: &mut Store<S>,
-    counts: Counts,
-    archs: &[(Text, OsCpu)],
-    command: &Command,
-    merge: &Merge,
-    before: &OfficePart,
-) -> Result<Answered, Failure>
-    requires same { command.now ≡ of.Merge merge.now }
-    ensures answers { Answers S.Store (λ machine. AreOf counts archs.now machine
-        × (before.now ≡ part_for_merge machine merge.now.parts)) (of.Merge merge.now) store.old store.new result }
-{
-    match part_for_merge(alloc, store, counts, archs, merge.parts.as_slice()) {
-        Ok(part) => merge_in(alloc, store, command, merge, before, part),
-        Err(fault) => Err(Failure::Unread(fault)),
-    }
-}
-
-/// Carries out a merge in a part of the office, and keeps what differs from the same part before.
-fn merge_in<S: Alter + Drop>(
-    alloc: Global,
-    store: &mut Store<S>,
-    command: &Command,
-    merge: &Merge,
-    before: &OfficePart,
-    part: OfficePart,
-) -> Result<Answered, Failure>
-    requires same { command.now ≡ of.Merge merge.now }
-    ensures answers { Answers S.Store (AreParts merge.now.parts before.now part)
-        (of.Merge merge.now) store.old store.new result }
-{
-    let mut after = part;
-    let reply = match carry_out(alloc, &mut after, command) {
-        Ok(reply) => reply,
-        Err(refusal) => return Err(Failure::Refused(refusal)),
-    };
-    let counts = after.counts();
-    match keep_merge(alloc, store, merge, before, &after) {
-        Ok(()) => Ok(Answered { reply, counts }),
-        Err(failure) => Err(failure),
-    }
-}
-
-/// Writes what a merge changed in a part of the office to the tables.
-fn keep_merge<S: Alter + Drop>(
-    alloc: Global,
-    store: &mut Store<S>,
-    merge: &Merge,
-    before: &OfficePart,
-    after: &OfficePart,
-) -> Result<(), Failure>
-    ensures keeps { KeepsMerge S.Store merge.now.sources merge.now.parts before.now after.now
-        store.old store.new result }
 {
     if !store.is_idle() {
         return Err(Failure::Unread(unfit(Table::Office)));
     }
-    match carry_merge(alloc, store, merge, before, after) {
-        Ok(()) => Ok(()),
-        Err(failure) => Err(Failure::Uncommitted(failure)),
-    }
+    let Ok(parts) = part_lists(alloc, archs, merge.parts.as_slice()) else {
+        return Err(Failure::Refused(Refusal::Memory));
+    };
+    let mut sources = Paragraphs::of(merge.sources.as_slice());
+    let replies = carry_lists(alloc, store, counts, &mut sources, parts)?;
+    let accepted = counts.accepted + 1;
+    Ok(Answered {
+        reply: Reply::Merged {
+            accepted,
+            parts: Items::from(replies),
+        },
+        counts: Counts {
+            handed: counts.handed,
+            accepted,
+        },
+    })
 }

@@ -23,7 +23,7 @@ ghost use Rattle.wb_office.specs.Rows.{CarriesRows, HaveFit, IsAccepted, WritesR
 
 use crate::answer::{Answered, Failure};
 use crate::carry::{CarryError, failure};
-use crate::merge::put_all;
+use crate::rows::put_all;
 use deb_text::Text;
 use sqlite::Alter;
 use std::alloc::{AllocError, Global};

@@ -83,7 +83,7 @@ module _ (old new : State) where
     others = others_equal old.now new.now same.0.now_is;
   }
 
-  goes_on_becoming : {machine : Machine} {scratch : Scratch} → BecomesWith machine scratch old new → GoesOn old new
+  pub goes_on_becoming : {machine : Machine} {scratch : Scratch} → BecomesWith machine scratch old new → GoesOn old new
   goes_on_becoming made = record {
     was_open = made.shown.was_open;
     is_open = made.shown.is_open;

@@ -1,10 +1,14 @@
-use Rattle.std.proofs.Common.{◌≡◌, [], ◌∷◌, rules, arith}
+use Rattle.std.proofs.Common.{◌≡◌, List, [], ◌∷◌, rules, arith, subst, sym}
 use Rattle.std.proofs.lemmas.Grind.{common_steps}
 use Rattle.std.proofs.lemmas.List.{nil_from_length}
+use Rattle.std.specs.List.{AllByRecursion}
+use Rattle.wb_states.specs.declared.reply.PartReply.{PartReply}
 use Rattle.wb_merge.specs.Merged.{Records}
 use Rattle.wb_step.specs.Parts.{part_listing}
 use Rattle.wb_archive.specs.Merges.{IsGiven}
+use Rattle.wb_archive.specs.Parts.{IsPartEnd}
 use Rattle.wb_archive.specs.Tables.{with_records}
+use Rattle.wb_archive.proofs.EndLemmas.{ends-more}
 use Rattle.wb_archive.proofs.MergeLemmas.{merged-done, merged-start, merged-step}
 use Rattle.wb_archive.proofs.merge.merge_parts.Goals as goal
 
@@ -13,6 +17,7 @@ loop-part-init g c =
     let all : c.into_iter-part-iterator.result.rest.items ≡ c.args.parts.items = search rules in
     record {
       follows = g.met.T.MergeTables.follows_itself c.args.tables.now;
+      kinds = subst (λ (r : List PartReply). AllByRecursion (λ reply. IsPartEnd reply.end) r) (sym c.new-replies.ensures.items) tt;
       half = λ at machine text archs clean holds unsaved empty unread has known.
           merged-start g.R.ReadParagraphs.may_stand_at machine archs (λ of. IsGiven g.R.ReadParagraphs.breaks (part_listing machine text of))
           (λ (records : Records). g.T.MergeTables.holds c.args.tables.now (with_records records at)) at.now.machine.records c.new-replies.result.items
@@ -26,6 +31,8 @@ loop-part-preserved g c =
     let split : c.loop-part.part-iterator.rest.items ≡ c.in-Some.part ∷ c.next.new.self.rest.items = search rules in
     record {
       follows = laws.follows_on c.args.tables.now c.loop-part.tables c.reply_to.new.tables c.loop-part.invariant.follows went;
+      kinds = subst (λ (r : List PartReply). AllByRecursion (λ reply. IsPartEnd reply.end) r) (sym c.in_ok-add_reply.ensures.value)
+          (ends-more c.loop-part.replies.items c.in_ok-reply.reply c.loop-part.invariant.kinds c.in_ok-reply.ensures.kind);
       half = λ at machine text archs clean holds unsaved empty unread has known.
           let half = c.loop-part.invariant.half at machine text archs (laws.clean c.loop-part.tables c.reply_to.new.tables went clean) holds unsaved empty unread has known in
           merged-step g.R.ReadParagraphs.may_stand_at machine archs (λ of. IsGiven g.R.ReadParagraphs.breaks (part_listing machine text of))

@@ -4,6 +4,7 @@ use Rattle.deb_relations.specs.declared.arch.ArchWords.{ArchWords}
 use Rattle.wb_states.specs.Machine.{Machine}
 use Rattle.wb_step.specs.Parts.{part_listing}
 use Rattle.wb_archive.specs.Merges.{IsGiven, IsPartUnread}
+use Rattle.wb_archive.specs.Parts.{IsPartEnd}
 use Rattle.wb_archive.specs.Sources.{AreAllKnown, HasSources}
 use Rattle.wb_archive.specs.Tables.{Tables, with_records}
 use Rattle.wb_archive.proofs.MergeLemmas.{IsHalfMerged}
@@ -12,6 +13,7 @@ use Rattle.wb_archive.proofs.merge.merge_parts.Given as goal
 abbrev pub invariant-loop-part : goal.invariant-loop-part
 invariant-loop-part g l = record {
   follows : g.T.MergeTables.follows l.fn.tables l.tables;
+  kinds : AllByRecursion (λ reply. IsPartEnd reply.end) l.replies.items;
   half : (at : Tables) (machine : Machine) (text : List ℕ) (archs : List ArchWords) → g.T.MergeTables.is_clean l.tables → g.T.MergeTables.holds l.fn.tables at
       → at.saved ≡ None → at.now.binaries ≡ [] → AllByRecursion (IsPartUnread g.R.ReadParagraphs.may_stand_at machine) l.fn.parts.items
       → HasSources g.R.ReadParagraphs.breaks text archs at.now.sources l.bad → AreAllKnown archs l.fn.parts.items

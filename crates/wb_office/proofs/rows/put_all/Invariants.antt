@@ -4,9 +4,10 @@ use Rattle.std.proofs.Common.{map as each}
 use Rattle.sqlite.specs.Held.{Held}
 use Rattle.wb_states.specs.declared.store_fault.StoreFault.{StoreFault}
 use Rattle.wb_states.specs.Lookups.{entry_of}
-use Rattle.wb_office.specs.MergeWritten.{with_rows, HasTakeOverLimit, PutsOne}
+use Rattle.wb_merge.specs.Reported.{with_rows}
+use Rattle.wb_office.specs.RowWrites.{HasTakeOverLimit, PutsOne}
 use Rattle.wb_office.specs.Turns.{ChangesInTurn}
-use Rattle.wb_office.proofs.merge.put_all.Given as goal
+use Rattle.wb_office.proofs.rows.put_all.Given as goal
 
 abbrev pub invariant-loop-row : goal.invariant-loop-row
 invariant-loop-row g l = record {

@@ -2,11 +2,11 @@ use Rattle.std.proofs.Common.{sym, subst, ◌∙◌, map as each}
 use Rattle.std.proofs.lemmas.Bool.{both_ways}
 use Rattle.wb_states.specs.Lookups.{entry_of}
 use Rattle.wb_store.proofs.ReadLemmas.{handed_on}
-use Rattle.wb_office.specs.MergeWritten.{HasTakeOverLimit, PutsOne}
+use Rattle.wb_office.specs.RowWrites.{HasTakeOverLimit, PutsOne}
 use Rattle.wb_office.specs.Turns.{ChangesInTurn}
 use Rattle.wb_office.proofs.TurnLemmas.{not_made}
 use Rattle.wb_office.proofs.WrittenRowLemmas.{fails_among, having, in_place, put_all, put_next}
-use Rattle.wb_office.proofs.merge.put_all.Goals as goal
+use Rattle.wb_office.proofs.rows.put_all.Goals as goal
 
 pub returns-then-not-fits-clause-changes : goal.returns-then-not-fits-clause-changes
 returns-then-not-fits-clause-changes g c =
